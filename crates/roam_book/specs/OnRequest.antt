@@ -156,7 +156,8 @@ new_request c now s entries q =
     else if share_taken c entries q
     then refuses refusal.ShareTaken
     else at_target c now
-    (with_rests s (rests_for c now s.rests (bound_target c s entries q) (new_target c now s entries q (targets c q))))
+    (with_rests s (rests_for c now s.rests (bound_target c s entries q (targets c q))
+    (new_target c now s entries q (targets c q))))
     entries q (new_target c now s entries q (targets c q))
 
 -- the NAK of a reverse request, with its Error-Cause (RFC 5176, sections 2.3 and 3.5)
