@@ -1,6 +1,6 @@
 -- To which link a new request goes: what the code finds by the lanes is what the definition finds by the entries.
-use Rattle.std.proofs.Common.{◌≡◌, ℕ, ◌<◌, ◌&&◌, Bool, true, false, not, List, [], ◌∷◌, Option, Some, None, is_some, option_map, refl, ap, sym, ◌∙◌, subst}
-use Rattle.std.specs.Prelude.{IfSome, if◌then◌else◌}
+use Rattle.std.proofs.Common.{◌≡◌, ℕ, ◌<◌, ◌&&◌, Bool, true, false, not, List, [], ◌∷◌, Option, Some, None, is_some, option_map, refl, ap, sym, ◌∙◌}
+use Rattle.std.specs.Prelude.{if◌then◌else◌}
 use Rattle.std.specs.List.{AllByRecursion, filter, find}
 use Rattle.std.specs.Option.{option_and_then, option_or}
 use Rattle.roam_conf.specs.declared.place.Link.{Link}
@@ -13,11 +13,11 @@ use Rattle.roam_book.specs.Private.NewEntry.{bound_way, freed_link, way_link}
 use Rattle.roam_book.specs.RealmConfig.{RealmConfig, IsLink}
 use Rattle.roam_book.specs.RealmState.{RealmState, Target, chosen_target, first_target, next_toward}
 use Rattle.roam_book.specs.Rests.{has_moment}
-use Rattle.roam_book.specs.Sound.{CountsAsGone, IsEntry, IsSound, chosen_link, cursors_of, gone_ticket, is_open, is_wanted, standing_place, state_of}
+use Rattle.roam_book.specs.Sound.{CountsAsGone, IsEntry, IsSound, cursors_of, gone_ticket, is_open, is_wanted, standing_place, state_of}
 use Rattle.roam_book.specs.declared.rules.replaced.Replaced.{Replaced}
 use Rattle.roam_book.specs.declared.state.realm_numbers.RealmNumbers.{RealmNumbers}
 use Rattle.roam_book.specs.declared.state.rest.Rest.{Rest}
-use Rattle.roam_book.proofs.LaneLemmas.{chosen-by, either, first-next, link-or, next-tells, open-freed, or-same, placed-octet, placeless-done, target-among, target-by, target-next, tells-gone}
+use Rattle.roam_book.proofs.LaneLemmas.{chosen-by, either, first-next, link-or, next-tells, open-freed, or-same, placed-octet, placeless-done, target-among, target-next, tells-gone}
 
 -- ---- which links have a free Identifier
 
