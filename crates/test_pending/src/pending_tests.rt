@@ -229,6 +229,7 @@ fn note_reply<A: Allocator + Copy, E: Entries<A>>(alloc: A, entries: &mut E) {
     let held = Standing::Done(Done {
         reply: Octets::from_vec(Vec::new(alloc)),
         deadline: 600,
+        from: None,
     });
     set_standing(alloc, entries, 3, 5, held);
 }
