@@ -234,28 +234,6 @@ open-freed c es lanes t e l id k list tells link at is octet =
           rw n (ap is_some (next-at c (without t es) lanes k left.in_order stay))
     ]
 
--- the same where an entry counts as gone: the link where it waits is open
-pub target-freed :
-    (c : RealmConfig) (now : ℕ) (rests : List Rest) (n : ℕ) (es : List PlainEntry)
-    (lanes : List LaneState) (links : List Link) (t : ℕ) (e : PlainEntry)
-    (place : Option (Link × ℕ))
-    → IsEntryList es → AllByRecursion (IsEntry c n) es → LanesTell c es lanes
-    → AllByRecursion (IsLink c) links → find_ticket t es ≡ Some e
-    → standing_place e.standing ≡ place
-    → option_map (λ x. x.link) (chosen_target c now rests (cursors_of lanes) (without t es) links)
-    ≡ chosen_link c now rests lanes (option_map (λ p. p.0) place) links
-target-freed c now rests n es lanes links t e None list each tells are at is =
-    let gone = tells-gone c es lanes t e tells at (placeless-done e.standing is) in
-    target-tells c now rests (without t es) lanes links (list-without t es list) gone are
-target-freed c now rests n es lanes links t e (Some (l, id)) list each tells are at is =
-    let entry = all-find (IsEntry c n) (has_ticket t) es e at each in
-    let octet : id < 256 = placed-octet c e.request e.standing l id is entry.standing in
-    let cursors = cursors_of lanes in
-    let p = is_open c lanes (Some l) in
-    chosen-by c now rests cursors (without t es) p links
-    (all-weaker (IsLink c) (λ k. is_some (next_toward c cursors (without t es) k) ≡ p k) links
-    (λ k link. open-freed c es lanes t e l id k list tells link at is octet) are)
-
 next_step :
     (c : RealmConfig) (cursors : List ℕ) (es : List PlainEntry) (l : Link) (target : Target)
     (others : Option Target) (o : Option ℕ)

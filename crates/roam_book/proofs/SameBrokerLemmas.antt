@@ -135,9 +135,6 @@ module _ (c : RealmConfig) where
   rest_same : (rests : List Rest) (l : Link) → rest_of (bare c) rests l ≡ rest_of c rests l
   rest_same rests l = λ i. slice_index_or rests (at l i) awake
 
-  with_same : (rests : List Rest) (l : Link) (r : Rest) → with_rest (bare c) rests l r ≡ with_rest c rests l r
-  with_same rests l r = λ i. slice_set rests (at l i) r
-
   back_same : (now : ℕ) (rests : List Rest) (l : Link) → stands_back (bare c) now rests l ≡ stands_back c now rests l
   back_same now rests l = λ i. is_resting now (rest_same rests l i)
 
