@@ -9,10 +9,10 @@ use Rattle.roam_conf.specs.declared.place.Link.{Link}
 use Rattle.roam_ids.specs.LaneState.{LaneState, is_used}
 use Rattle.roam_ids.specs.NextIdentifier.{next_identifier}
 use Rattle.roam_ids.proofs.NextIdentifierLemmas.{next_identifier-is_next, next_identifier-same}
-use Rattle.roam_pending.specs.PlainEntry.{PlainRequest, PlainEntry, PlainStanding, stands_at, stands_done, waiting, done, waits_at, same_link, is_done, has_ticket}
+use Rattle.roam_pending.specs.PlainEntry.{PlainRequest, PlainEntry, PlainStanding, stands_at, stands_done, waiting, done, waits_at, same_link, is_done}
 use Rattle.roam_pending.specs.EntryList.{IsInOrder, IsEntryList, find_ticket, find_link, without, put}
 use Rattle.roam_pending.specs.Realms.{sent_again, waits_on}
-use Rattle.roam_pending.proofs.TestLemmas.{same, all-find, all-weaker}
+use Rattle.roam_pending.proofs.TestLemmas.{same, all-weaker}
 use Rattle.roam_pending.proofs.OrderLemmas.{list-without, without-absent}
 use Rattle.roam_pending.proofs.ChangeLemmas.{find-passes, found-ticket, find-without, put-without}
 use Rattle.roam_pending.proofs.ClientLemmas.{identifier-used}
@@ -23,7 +23,7 @@ use Rattle.roam_book.specs.RealmConfig.{RealmConfig, IsLink, link_place, links_f
 use Rattle.roam_book.specs.RealmState.{Target, next_toward, chosen_target, first_target, ready_links, this_or, is_used_on}
 use Rattle.roam_book.specs.Rests.{stands_back}
 use Rattle.roam_book.specs.declared.state.rest.Rest.{Rest}
-use Rattle.roam_book.specs.Sound.{IsEntry, StandsWell, TellsAt, LanesTell, lane_of, cursors_of, waits_there, chosen_link, is_open, is_ready, standing_place, no_lane}
+use Rattle.roam_book.specs.Sound.{StandsWell, TellsAt, LanesTell, lane_of, cursors_of, waits_there, chosen_link, is_open, is_ready, standing_place, no_lane}
 use Rattle.roam_book.proofs.WaitingLemmas.{waits_as, without-waits, put-waits, tells-same}
 use Rattle.roam_book.proofs.UsedLemmas.{used-tells, freed-none, free_one}
 
