@@ -67,17 +67,17 @@ module _ (hash : PlainEntry → Option ℕ) where
       | inr ne ↦ moved.kept (round_key q h) u ne (tells.told q u h e (sym (others q u ne) ∙ at) has)
     ];
     only = λ q u h held. elim (place_of r t q u) as
-      (λ _. (e : PlainEntry) × (F q u ≡ Some e) × (hash e ≡ Some h)) [
-        | inl here ↦ (
-            let there : IsIn t (S (round_key r h)) =
-            subst (λ (n : ℕ). IsIn t (S (round_key n h))) here.0
-            (subst (λ (n : ℕ). IsIn n (S (round_key q h))) here.1 held) in
-            let e = some_hash (F r t) h (is ∙ moved.here.only h there) in
-            (e.0, ap (λ (n : ℕ). F n u) here.0 ∙ ap (F r) here.1 ∙ e.1, e.2))
-        | inr ne ↦ (
-            let e = tells.only q u h (moved.only (round_key q h) u ne held) in
-            (e.0, others q u ne ∙ e.1, e.2))
-      ];
+        (λ _. (e : PlainEntry) × (F q u ≡ Some e) × (hash e ≡ Some h)) [
+          | inl here ↦ (
+              let there : IsIn t (S (round_key r h)) =
+              subst (λ (n : ℕ). IsIn t (S (round_key n h))) here.0
+              (subst (λ (n : ℕ). IsIn n (S (round_key q h))) here.1 held) in
+              let e = some_hash (F r t) h (is ∙ moved.here.only h there) in
+              (e.0, ap (λ (n : ℕ). F n u) here.0 ∙ ap (F r) here.1 ∙ e.1, e.2))
+          | inr ne ↦ (
+              let e = tells.only q u h (moved.only (round_key q h) u ne held) in
+              (e.0, others q u ne ∙ e.1, e.2))
+        ];
   }
 
   -- an entry came, went or changed, and what is kept of its ticket is the same

@@ -157,6 +157,17 @@ impl<A: Allocator + Copy> Tables<A> {
         None
     }
 
+    /// At how many entries a look for a peer's round of a State looks, besides the index: those of its hash.
+    pub fn round_looks(&self, realm: u16, peer: u16, state: &[u8]) -> usize
+        ensures { result ≡ 0 → last_round peer state.now (entries_in self.now realm) ≡ None }
+    {
+        let hash = self.key.hash_of(peer, state);
+        match run_of(&self.rounds, RoundKey { realm, hash }) {
+            None => 0,
+            Some(run) => run.tickets.len(),
+        }
+    }
+
     /// Takes out all entries of a realm. Takes no memory.
     pub fn clear(&mut self, realm: u16)
         ensures entries { RealmBecomes realm [] (entries_in self.old) (entries_in self.new) }
