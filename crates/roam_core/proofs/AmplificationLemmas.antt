@@ -136,9 +136,9 @@ module _ (c : RealmConfig) (ends : Ends) (looked : ℕ → Bool) (tries : 1 ≤ 
   due_standing-spends :
       (now : ℕ) (s : RealmState) (e : PlainEntry) (standing : PlainStanding) → e.standing ≡ standing
       → IsIn e s.entries → Spends s e.ticket (due_standing c now s e standing)
-  due_standing-spends now s e (done reply deadline) is at =
+  due_standing-spends now s e (done reply deadline from) is at =
       omega (arith, sum-without weight e s.entries at, nothing (looked e.ticket))
-  due_standing-spends now s e (waiting l id forwarded sends_left deadline) is at =
+  due_standing-spends now s e (waiting l id forwarded sends_left deadline signs) is at =
       let b = looked e.ticket in
       let again = sent_again (now + c.realm.wait) e in
       let replaced = sum-replaced weight again e s.entries refl at in
@@ -151,7 +151,7 @@ module _ (c : RealmConfig) (ends : Ends) (looked : ℕ → Bool) (tries : 1 ≤ 
       t (later-fit c ends l) chosen in
       let over = fail_over-spends now m (given_up_at c now l s e) e next fits in
       let might = may_follow c ends e.request.key e.standing in
-      let old : might ≡ may_follow c ends e.request.key (waiting l id forwarded sends_left deadline) =
+      let old : might ≡ may_follow c ends e.request.key (waiting l id forwarded sends_left deadline signs) =
       ap (may_follow c ends e.request.key) is in
       let enough = more b (c.realm.tries * m + counted_back ends e.request.key) might (omega (arith, old)) in
       elim (cases_Bool (ltb 0 sends_left)) [

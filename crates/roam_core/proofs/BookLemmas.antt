@@ -112,6 +112,11 @@ gives-one (Ok answer) states k new (refuses why) gives = record {
   refusal = gives.refusal;
   states = ap (λ (s : RealmState). set states k s) gives.state ∙ set-get_or states k no_state;
 }
+gives-one (Ok answer) states k new (hears why state) gives = record {
+  packets = gives.packets;
+  refusal = gives.refusal;
+  states = ap (λ (s : RealmState). set states k s) gives.state;
+}
 gives-one (Ok answer) states k new (sends packets state) gives = record {
   packets = gives.packets;
   refusal = gives.refusal;

@@ -122,10 +122,10 @@ module _ (c : RealmConfig) (Kept : List PlainEntry → Type 0) (Good : PlainEntr
   to_standing-keeps :
       (now : ℕ) (s : RealmState) (e : PlainEntry) (reply : Packet) (standing : PlainStanding)
       → Kept s.entries → DoneIsGood now → Keeps s (to_standing c now s e reply standing)
-  to_standing-keeps now s e reply (waiting l id forwarded sends_left deadline) old done_good =
+  to_standing-keeps now s e reply (waiting l id forwarded sends_left deadline signs) old done_good =
       judge-keeps now s e l (packet_of forwarded) reply
       (reply_fault (link_secret c l) (seal_required c l) reply (packet_of forwarded)) old done_good
-  to_standing-keeps now s e reply (done held deadline) old done_good = old
+  to_standing-keeps now s e reply (done held deadline from) old done_good = old
 
   to_entry-keeps :
       (now : ℕ) (s : RealmState) (reply : Packet) (found : Option PlainEntry)
@@ -179,9 +179,9 @@ module _ (c : RealmConfig) (Kept : List PlainEntry → Type 0) (Good : PlainEntr
   due_standing-keeps :
       (now : ℕ) (s : RealmState) (e : PlainEntry) (standing : PlainStanding) → TickIsGood now
       → e.standing ≡ standing → Good e → Kept s.entries → KeepsIn (due_standing c now s e standing)
-  due_standing-keeps now s e (done reply deadline) tick is good old =
+  due_standing-keeps now s e (done reply deadline from) tick is good old =
       less (λ x. not (has_ticket e.ticket x)) s.entries old
-  due_standing-keeps now s e (waiting l id forwarded sends_left deadline) tick is good old =
+  due_standing-keeps now s e (waiting l id forwarded sends_left deadline signs) tick is good old =
       let es = without e.ticket s.entries in
       let rests = after_silence c now s.rests l in
       let next = chosen_target c now rests s.cursors es (later_targets c l) in

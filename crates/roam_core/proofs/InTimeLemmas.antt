@@ -91,8 +91,8 @@ module _ (c : RealmConfig) (gap ticket until : ℕ) (tries : 1 ≤ c.realm.tries
     pub lasts : deadline + gap + left_at c l sends_left * (c.realm.wait + gap) ≤ until
 
   abbrev pub Stands : ℕ → PlainStanding → Type 0
-  Stands tick (waiting l id forwarded sends_left deadline) = Waits tick l sends_left deadline
-  Stands tick (done reply deadline) = Unit {0}
+  Stands tick (waiting l id forwarded sends_left deadline signs) = Waits tick l sends_left deadline
+  Stands tick (done reply deadline from) = Unit {0}
 
   -- if it has the ticket
   abbrev pub IsInTime : ℕ → PlainEntry → Type 0
@@ -150,9 +150,9 @@ module _ (c : RealmConfig) (gap ticket until : ℕ) (tries : 1 ≤ c.realm.tries
   -- what isn't due waits beyond the moment of the tick
   beyond-now : (tick now : ℕ) (standing : PlainStanding) → now < deadline_of standing → Stands tick standing →
       Stands now standing
-  beyond-now tick now (waiting l id forwarded sends_left deadline) later stands =
+  beyond-now tick now (waiting l id forwarded sends_left deadline signs) later stands =
       record { beyond = later; lasts = stands.lasts }
-  beyond-now tick now (done reply deadline) later stands = tt
+  beyond-now tick now (done reply deadline from) later stands = tt
 
   not-due :
       (now : ℕ) (e : PlainEntry) (es : List PlainEntry) → due_list now es ≡ [] → IsIn e es
@@ -198,9 +198,9 @@ module _ (c : RealmConfig) (gap ticket until : ℕ) (tries : 1 ≤ c.realm.tries
   at-end :
       (tick before : ℕ) (standing : PlainStanding) → before ≤ tick + gap → until ≤ before
       → Stands tick standing → stands_done standing ≡ true
-  at-end tick before (waiting l id forwarded sends_left deadline) soon over stands =
+  at-end tick before (waiting l id forwarded sends_left deadline signs) soon over stands =
       absurd (omega (arith, stands.beyond, stands.lasts))
-  at-end tick before (done reply deadline) soon over stands = refl
+  at-end tick before (done reply deadline from) soon over stands = refl
 
   last-later : (tick before : ℕ) (es : List RealmEvent) → AreInTime gap tick before es → before ≤ last_moment before es
   last-later tick before [] h = omega arith

@@ -152,7 +152,7 @@ module _ (b : Stage) (before : List Happening) (at : Stage) (is_at : stage_then 
       (packets_of (to_standing at.config now at.state e (packet_of reply) standing))
       → TurnKeepsIn b (and_reply before now from reply) at.state
       (to_standing at.config now at.state e (packet_of reply) standing)
-  to_standing-keeps e (waiting l id forwarded sends_left deadline) comes waits stands sent =
+  to_standing-keeps e (waiting l id forwarded sends_left deadline signs) comes waits stands sent =
       let tests = both (same_link l from) (eqb id (packet_of reply).id) stands in
       let is = same_link-equal l from tests.0 in
       let asked : (packet_of reply).id ≡ id = let t = tests.1 in grind (arith, nat_tests, t) in
@@ -160,14 +160,14 @@ module _ (b : Stage) (before : List Happening) (at : Stage) (is_at : stage_then 
       let happened = reply_came now from reply in
       let of_link : Link → Type 0 = λ k. AreSentIn b before happened
       (packets_of (to_standing at.config now at.state e (packet_of reply)
-      (waiting k id forwarded sends_left deadline))) in
+      (waiting k id forwarded sends_left deadline signs))) in
       let kept_there : Link → Type 0 = λ k. TurnKeepsIn b (and_reply before now from reply) at.state
-      (to_standing at.config now at.state e (packet_of reply) (waiting k id forwarded sends_left deadline)) in
+      (to_standing at.config now at.state e (packet_of reply) (waiting k id forwarded sends_left deadline signs)) in
       let why = reply_fault (link_secret at.config from) (seal_required at.config from) (packet_of reply)
       (packet_of forwarded) in
       subst kept_there (sym is)
       (judge-keeps e id forwarded why refl comes there asked (subst of_link is sent))
-  to_standing-keeps e (done old deadline) comes waits stands sent =
+  to_standing-keeps e (done old deadline from) comes waits stands sent =
       record { packets = tt; entries = still }
 
   -- the entry that is found there, if one is

@@ -32,13 +32,13 @@ held-origin :
     (b : Stage) (life : List Happening) (c : RealmConfig) (q : PlainRequest) (ticket : ℕ)
     (key : Key) (s : PlainStanding) → q.key ≡ key → b.config.index ≡ c.index
     → StandsFromIn b life q ticket s → EachHasOriginIn b life (held_reply c key s)
-held-origin b life c q ticket key (waiting l id forwarded sends_left deadline) is index h = tt
-held-origin b life c q ticket key (done reply deadline) is index (inl h) =
+held-origin b life c q ticket key (waiting l id forwarded sends_left deadline signs) is index h = tt
+held-origin b life c q ticket key (done reply deadline from) is index (inl h) =
     let there = subst (λ (k : Key). IsReturnedIn b life q ticket (back_to b.config.index k reply)) is h in
     let back : IsReturnedIn b life q ticket (packet_to_requester c key reply) =
     subst (λ (i : ℕ). IsReturnedIn b life q ticket (back_to i key reply)) index there in
     (inr (inl (record { request = q; ticket = ticket; returned = back })), tt)
-held-origin b life c q ticket key (done reply deadline) is index (inr h) =
+held-origin b life c q ticket key (done reply deadline from) is index (inr h) =
     let there = subst (λ (k : Key). IsNakIn b life q (back_to b.config.index k reply)) is h in
     let back : IsNakIn b life q (packet_to_requester c key reply) =
     subst (λ (i : ℕ). IsNakIn b life q (back_to i key reply)) index there in

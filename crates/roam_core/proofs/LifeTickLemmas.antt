@@ -180,8 +180,8 @@ module _ (b : Stage) (before : List Happening) (at : Stage) (is_at : stage_then 
   stands-on :
       (q : PlainRequest) (ticket deadline : ℕ) (standing : PlainStanding)
       → StandsFromIn b life q ticket standing → StandsFromIn b life q ticket (waits_on deadline standing)
-  stands-on q ticket deadline (waiting l id forwarded sends_left old) h = h
-  stands-on q ticket deadline (done reply old) h = h
+  stands-on q ticket deadline (waiting l id forwarded sends_left old signs) h = h
+  stands-on q ticket deadline (done reply old from) h = h
 
   again-known : (e : PlainEntry) (deadline : ℕ) → IsKnown e → IsKnown (sent_again deadline e)
   again-known e deadline h = record {
@@ -197,10 +197,10 @@ module _ (b : Stage) (before : List Happening) (at : Stage) (is_at : stage_then 
       → AreSentIn b before (tick_came now) (due_standing c now s e standing).packets
       → IsOccasion (of_due e.ticket s (due_standing c now s e standing))
       → ProgressKeeps (due_standing c now s e standing)
-  due_standing-keeps s e (done reply deadline) kept known stands sent on =
+  due_standing-keeps s e (done reply deadline from) kept known stands sent on =
       let stays : PlainEntry → Bool = λ x. not (has_ticket e.ticket x) in
       record { packets = tt; entries = all-filter IsKnown stays s.entries kept }
-  due_standing-keeps s e (waiting l id forwarded sends_left deadline) kept known stands sent on =
+  due_standing-keeps s e (waiting l id forwarded sends_left deadline signs) kept known stands sent on =
       let again = sent_again (now + c.realm.wait) e in
       let again_known = again-known e (now + c.realm.wait) known in
       let stays : PlainEntry → Bool = λ x. not (has_ticket e.ticket x) in

@@ -160,20 +160,20 @@ module _ (c : RealmConfig) (start : Start) (before : List RealmEvent) (now : ℕ
       (packets_of (to_standing c now s e (packet_of reply) standing))
       → TurnKeeps c start (and_reply before now from reply) s
       (to_standing c now s e (packet_of reply) standing)
-  to_standing-keeps e (waiting l id forwarded sends_left deadline) comes waits at sent =
+  to_standing-keeps e (waiting l id forwarded sends_left deadline signs) comes waits at sent =
       let tests = both (same_link l from) (eqb id (packet_of reply).id) at in
       let is = same_link-equal l from tests.0 in
       let asked : (packet_of reply).id ≡ id = let t = tests.1 in grind (arith, nat_tests, t) in
       let there = on-same_link c start before e.request e.ticket id forwarded l from is waits in
       let event = reply_came now from reply in
       let of_link : Link → Type 0 = λ k. AreSentBy c start before event
-      (packets_of (to_standing c now s e (packet_of reply) (waiting k id forwarded sends_left deadline))) in
+      (packets_of (to_standing c now s e (packet_of reply) (waiting k id forwarded sends_left deadline signs))) in
       let kept_there : Link → Type 0 = λ k. TurnKeeps c start (and_reply before now from reply) s
-      (to_standing c now s e (packet_of reply) (waiting k id forwarded sends_left deadline)) in
+      (to_standing c now s e (packet_of reply) (waiting k id forwarded sends_left deadline signs)) in
       let why = reply_fault (link_secret c from) (seal_required c from) (packet_of reply) (packet_of forwarded) in
       subst kept_there (sym is)
       (judge-keeps e id forwarded why refl comes there asked (subst of_link is sent))
-  to_standing-keeps e (done old deadline) comes waits at sent =
+  to_standing-keeps e (done old deadline from) comes waits at sent =
       record { packets = tt; entries = still }
 
   -- the entry that is found there, if one is

@@ -29,11 +29,11 @@ held-origin :
     (c : RealmConfig) (start : Start) (events : List RealmEvent) (q : PlainRequest) (ticket : ℕ)
     (key : Key) (s : PlainStanding) → q.key ≡ key → StandsFrom c start events q ticket s
     → EachHasOrigin c start events (held_reply c key s)
-held-origin c start events q ticket key (waiting l id forwarded sends_left deadline) is h = tt
-held-origin c start events q ticket key (done reply deadline) is (inl h) =
+held-origin c start events q ticket key (waiting l id forwarded sends_left deadline signs) is h = tt
+held-origin c start events q ticket key (done reply deadline from) is (inl h) =
     let back = subst (λ (k : Key). IsReturned c start events q ticket (packet_to_requester c k reply)) is h in
     (inr (inl (record { request = q; ticket = ticket; returned = back })), tt)
-held-origin c start events q ticket key (done reply deadline) is (inr h) =
+held-origin c start events q ticket key (done reply deadline from) is (inr h) =
     let back = subst (λ (k : Key). IsNak c start events q (packet_to_requester c k reply)) is h in
     (inr (inr (record { request = q; nak = back })), tt)
 

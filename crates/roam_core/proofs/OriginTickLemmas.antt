@@ -172,8 +172,8 @@ module _ (c : RealmConfig) (start : Start) (before : List RealmEvent) (now : ℕ
       (q : PlainRequest) (ticket deadline : ℕ) (standing : PlainStanding)
       → StandsFrom c start (before ++ tick_came now ∷ []) q ticket standing
       → StandsFrom c start (before ++ tick_came now ∷ []) q ticket (waits_on deadline standing)
-  stands-on q ticket deadline (waiting l id forwarded sends_left old) h = h
-  stands-on q ticket deadline (done reply old) h = h
+  stands-on q ticket deadline (waiting l id forwarded sends_left old signs) h = h
+  stands-on q ticket deadline (done reply old from) h = h
 
   again-known : (e : PlainEntry) (deadline : ℕ) → IsKnown e → IsKnown (sent_again deadline e)
   again-known e deadline h = record {
@@ -190,10 +190,10 @@ module _ (c : RealmConfig) (start : Start) (before : List RealmEvent) (now : ℕ
       → AllByRecursion (DrawsAt c start before (tick_came now))
       (drawn_between s (due_standing c now s e standing).state)
       → ProgressKeeps (due_standing c now s e standing)
-  due_standing-keeps s e (done reply deadline) kept known stands sent drew =
+  due_standing-keeps s e (done reply deadline from) kept known stands sent drew =
       let stays : PlainEntry → Bool = λ x. not (has_ticket e.ticket x) in
       record { packets = tt; entries = all-filter IsKnown stays s.entries kept }
-  due_standing-keeps s e (waiting l id forwarded sends_left deadline) kept known stands sent drew =
+  due_standing-keeps s e (waiting l id forwarded sends_left deadline signs) kept known stands sent drew =
       let again = sent_again (now + c.realm.wait) e in
       let again_known = again-known e (now + c.realm.wait) known in
       let stays : PlainEntry → Bool = λ x. not (has_ticket e.ticket x) in

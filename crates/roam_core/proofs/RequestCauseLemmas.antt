@@ -115,8 +115,8 @@ module _ (c : RealmConfig) (ends : Ends) (looked : ℕ → Bool) (tries : 1 ≤ 
   held-pays :
       (s : RealmState) (q : PlainRequest) (standing : PlainStanding)
       → Pays s q (sends (held_reply c q.key standing) s)
-  held-pays s q (waiting l id forwarded sends_left deadline) = silent-pays s q
-  held-pays s q (done reply deadline) = back-pays s q reply
+  held-pays s q (waiting l id forwarded sends_left deadline signs) = silent-pays s q
+  held-pays s q (done reply deadline from) = back-pays s q reply
 
   of_key-pays :
       (now : ℕ) (s : RealmState) (named : Option ℕ) (q : PlainRequest) (found : Option PlainEntry)
@@ -159,7 +159,7 @@ module _ (c : RealmConfig) (ends : Ends) (looked : ℕ → Bool) (tries : 1 ≤ 
       let answered = with_standing (done back_octets (now + c.realm.hold)) e in
       let replaced = sum-replaced weight answered e s.entries refl at in
       let might = may_follow c ends e.request.key e.standing in
-      let old : might ≡ may_follow c ends e.request.key (waiting l id octets sends_left deadline) =
+      let old : might ≡ may_follow c ends e.request.key (waiting l id octets sends_left deadline signs) =
       ap (may_follow c ends e.request.key) is in
       let sent = ap (guard b) (back_of c ends looked tries e.request.key back_octets) in
       let enough = more b (counted_back ends e.request.key) might (omega (arith, old)) in
@@ -181,10 +181,10 @@ module _ (c : RealmConfig) (ends : Ends) (looked : ℕ → Bool) (tries : 1 ≤ 
   to_standing-answers :
       (now : ℕ) (s : RealmState) (e : PlainEntry) (reply : Packet) (standing : PlainStanding)
       → e.standing ≡ standing → IsIn e s.entries → Answers s (Some e) (to_standing c now s e reply standing)
-  to_standing-answers now s e reply (waiting l id forwarded sends_left deadline) is at =
+  to_standing-answers now s e reply (waiting l id forwarded sends_left deadline signs) is at =
       judge-answers now s e l id forwarded sends_left deadline (packet_of forwarded) reply
       (reply_fault (link_secret c l) (seal_required c l) reply (packet_of forwarded)) is at
-  to_standing-answers now s e reply (done old deadline) is at = refuses-answers s (Some e) refusal.NoEntry
+  to_standing-answers now s e reply (done old deadline from) is at = refuses-answers s (Some e) refusal.NoEntry
 
   to_entry-answers :
       (now : ℕ) (s : RealmState) (reply : Packet) (l : Link) (id : ℕ) (found : Option PlainEntry)

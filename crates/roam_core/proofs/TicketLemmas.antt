@@ -81,10 +81,10 @@ judge-rises c now s e l forwarded reply None =
 
 to_standing-rises : (c : RealmConfig) (now : ℕ) (s : RealmState) (e : PlainEntry) (reply : Packet)
     (standing : PlainStanding) → Rises s (to_standing c now s e reply standing)
-to_standing-rises c now s e reply (waiting l id forwarded sends_left deadline) =
+to_standing-rises c now s e reply (waiting l id forwarded sends_left deadline signs) =
     judge-rises c now s e l (packet_of forwarded) reply
     (reply_fault (link_secret c l) (seal_required c l) reply (packet_of forwarded))
-to_standing-rises c now s e reply (done old deadline) = stays s
+to_standing-rises c now s e reply (done old deadline from) = stays s
 
 to_entry-rises : (c : RealmConfig) (now : ℕ) (s : RealmState) (reply : Packet) (found : Option PlainEntry) →
     Rises s (to_entry c now s reply found)
@@ -108,8 +108,8 @@ fail_over-keeps c now s e (Some target) = refl
 
 due_standing-keeps : (c : RealmConfig) (now : ℕ) (s : RealmState) (e : PlainEntry) (standing : PlainStanding) →
     Keeps s (due_standing c now s e standing)
-due_standing-keeps c now s e (done reply deadline) = refl
-due_standing-keeps c now s e (waiting l id forwarded sends_left deadline) =
+due_standing-keeps c now s e (done reply deadline from) = refl
+due_standing-keeps c now s e (waiting l id forwarded sends_left deadline signs) =
     either (Keeps s) (ltb 0 sends_left) _ _ refl
     (fail_over-keeps c now (given_up_at c now l s e) e (chosen_target c now (after_silence c now s.rests l) s.cursors
     (without e.ticket s.entries) (later_targets c l)))

@@ -25,9 +25,9 @@ use Rattle.roam_route.specs.declared.job.Side.{Side}
 use Rattle.roam_route.specs.declared.job.Side.TheVariants as side
 use Rattle.roam_route.proofs.SenderLemmas.{realm_of_within}
 
--- the arrival of a packet without padding
+-- the arrival of a packet without padding, and without the wall clock's seconds
 abbrev pub without_padding : Arrival → Packet → Arrival
-without_padding a p = record { at = a.at; from = a.from; octets = packet_text p }
+without_padding a p = record { at = a.at; from = a.from; octets = packet_text p; seconds = None }
 
 -- ---- what is admitted of a packet
 

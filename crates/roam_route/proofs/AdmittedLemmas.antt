@@ -175,7 +175,7 @@ as_sent config a p read = ap (read_admission config a) read
 -- what is admitted is right
 sent_right : (config : ConfigView) (a : Arrival) (p : Packet) (job : PlainJob) (o : Option Side)
     → sender config a a.at ≡ o → IsOfRequest job.side → sent_admission config a p o ≡ admitted job
-    → IsJobOf config a p job × IsRightRequest config a.at job.side p job.realm
+    → IsJobOf config a p job × IsRightRequest config a.seconds a.at job.side p job.realm
 sent_right config a p job None from of h = absurd (cc h)
 sent_right config a p job (Some s) from of h =
     let packet = packet_given config a s p job h in
@@ -189,7 +189,7 @@ sent_right config a p job (Some s) from of h =
         octets = is.octets_are;
         named = is.named_is;
       },
-      subst (λ (x : Side). IsRightRequest config a.at x p job.realm) (sym is.side_is) right.1,
+      subst (λ (x : Side). IsRightRequest config a.seconds a.at x p job.realm) (sym is.side_is) right.1,
     )
 
 pub admitted_is_right : AdmittedIsRight

@@ -10,12 +10,14 @@ use Rattle.roam_conf.specs.Config.{ConfigView}
 use Rattle.roam_conf.specs.declared.place.Place.{Place}
 use Rattle.roam_conf.specs.declared.place.Place.TheVariants as place
 use Rattle.roam_route.specs.UserName.{realm_of}
+use Rattle.roam_route.specs.Freshness.{is_fresh}
 use Rattle.roam_route.specs.Shapings.{sent_length}
 use Rattle.roam_route.specs.Admission.{Arrival, PlainJob, Admission, admitted, checked, forwarded_for, route_request, has_few_attributes, is_rightly_signed, is_rightly_sealed, has_needed_seal, has_few_hops, seal_required, peer_secret, home_secret}
 use Rattle.roam_route.specs.AdmittedRequests.{IsRequestAt, HasFewAttributes, IsRightlySigned, sealing_authenticator, HasNeededSeal, HasFewHops, IsRightRequest, IsPassedOn}
 use Rattle.roam_route.specs.declared.job.Side.{Side}
 use Rattle.roam_route.specs.declared.job.Side.TheVariants as side
-use Rattle.roam_route.proofs.RequestTestLemmas.{attributes_decided, is_false, signed_decided, sealed_decided, needed_decided, hops_decided}
+use Rattle.roam_route.proofs.FreshnessLemmas.{fresh_decided}
+use Rattle.roam_route.proofs.RequestTestLemmas.{is_false, signed_decided, sealed_decided, needed_decided, hops_decided, attributes_decided}
 use Rattle.roam_route.proofs.RoutedLemmas.{IsJob, access_admitted, acct_goes, asked_takes, forwarded_admitted, takes_asked, through}
 
 -- ---- a request, from its attributes on
@@ -82,7 +84,7 @@ front_admitted config secret s p further job q =
 -- what a request of a sender gives at a place is right, with the secret that they share
 abbrev pub Right : ConfigView → Arrival → Place → Side → Packet → PlainJob → Type 0
 Right config a at s p job =
-    IsJob a s p (realm_of config p.attributes) job × IsRightRequest config at s p job.realm
+    IsJob a s p (realm_of config p.attributes) job × IsRightRequest config a.seconds at s p job.realm
 
 -- an Access-Request of a peer
 pub auth_admitted : (config : ConfigView) (a : Arrival) (i : ℕ) (p : Packet) (job : PlainJob)
@@ -115,6 +117,7 @@ auth_admitted config a i p job access =
               hops = passed.hops;
               passwords = λ is. passed.passwords;
               realm_is = rest.0;
+              fresh = tt;
               asks = asked_takes config (side.Peer i) (realm_of config p.attributes) job.realm passed.names rest.0;
               accounting = λ is. absurd (omega (arith, access, is));
               size = rest.1.0;
@@ -168,6 +171,7 @@ acct_admitted config a i p job code =
               hops = all.1.0;
               passwords = λ is. absurd (other is);
               realm_is = rest.0;
+              fresh = tt;
               asks = rest.1.0;
               accounting = λ _. rest.1.1.0;
               size = rest.1.1.1.0;
@@ -206,16 +210,17 @@ reverse_admitted config a own i p job code =
     let secret : List ℕ = home_secret config own i in
     let other : p.code ≢ ACCESS_REQUEST = reverse_other own i p.code code in
     let size : ℕ = sent_length config (side.Home i) p own in
-    let goes = forwarded_admitted size a (side.Home i) p own (realm_of config p.attributes) job in
-    let further = through (has_few_hops config.max_hops p) refusal.TooManyHops
-    (forwarded_for size a (side.Home i) p own (realm_of config p.attributes)) job
+    let fresh : Bool = is_fresh config.fresh a.seconds p.attributes in
+    let last : Admission = forwarded_for size a (side.Home i) p own (realm_of config p.attributes) in
+    let goes = through fresh refusal.Stale last job (fresh_decided config a.seconds own p)
+    (forwarded_admitted size a (side.Home i) p own (realm_of config p.attributes) job) in
+    let further = through (has_few_hops config.max_hops p) refusal.TooManyHops (checked fresh refusal.Stale last) job
     (other_hops config.max_hops p other) goes in
     let whole = front_admitted config secret (side.Home i) p
-    (checked (has_few_hops config.max_hops p) refusal.TooManyHops
-    (forwarded_for size a (side.Home i) p own (realm_of config p.attributes))) job further in (
+    (checked (has_few_hops config.max_hops p) refusal.TooManyHops (checked fresh refusal.Stale last)) job further in (
       λ h. (
           let all = whole.0 h in
-          let rest = all.1.1 in (
+          let rest = all.1.1.1 in (
             rest.1.1,
             record {
               code = code;
@@ -226,6 +231,7 @@ reverse_admitted config a own i p job code =
               hops = all.1.0;
               passwords = λ is. absurd (other is);
               realm_is = rest.1.0;
+              fresh = all.1.1.0;
               asks = tt;
               accounting = λ is. absurd (not_accounting own i p.code code is);
               size = rest.0;
@@ -240,6 +246,6 @@ reverse_admitted config a own i p job code =
             well_sealed = r.well_sealed;
             needed_seal = r.needed_seal;
           } in
-          whole.1 (front, (r.hops, (r.size, (r.realm_is, h.0))))
+          whole.1 (front, (r.hops, (r.fresh, (r.size, (r.realm_is, h.0)))))
           ),
     )

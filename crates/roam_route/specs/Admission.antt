@@ -14,7 +14,7 @@ use Rattle.roam_wire.specs.declared.packet_size.TheConstants.{MAX_PACKET_LENGTH}
 use Rattle.roam_auth.specs.Authenticators.{zero_octets}
 use Rattle.roam_auth.specs.Deciding.{is_signed_request, is_well_sealed}
 use Rattle.roam_conf.specs.Config.{ConfigView, PeerView}
-use Rattle.roam_conf.specs.Lookup.{peer_with_ip, link_in, home_in, servers_in}
+use Rattle.roam_conf.specs.Lookup.{peer_with_ip, link_in, home_in}
 use Rattle.roam_conf.specs.Secrets as secrets
 use Rattle.roam_conf.specs.declared.accounting.Accounting.{Accounting}
 use Rattle.roam_conf.specs.declared.accounting.Accounting.TheVariants.{Forwarded, Answered, Dropped}
@@ -23,35 +23,14 @@ use Rattle.roam_conf.specs.declared.place.Link.{Link}
 use Rattle.roam_conf.specs.declared.place.Link.TheVariants as link
 use Rattle.roam_conf.specs.declared.place.Place.{Place}
 use Rattle.roam_conf.specs.declared.place.Place.TheVariants as place
+pub use Rattle.roam_route.specs.Arrivals.{Arrival, PlainJob, PlainOut}
+use Rattle.roam_route.specs.Freshness.{is_fresh}
 use Rattle.roam_route.specs.UserName.{realm_of}
 use Rattle.roam_route.specs.LocalAnswer.{accounting_answer, answer_length, local_reject, status_answer}
 use Rattle.roam_route.specs.LocalReject.{has_too_many_hops, is_rejected, takes_of}
 use Rattle.roam_route.specs.Shapings.{sent_length}
 use Rattle.roam_route.specs.declared.job.Side.{Side}
 use Rattle.roam_route.specs.declared.job.Side.TheVariants as side
-
--- a datagram that arrived: at which place, from where, and its octets
-pub record Arrival : Type 0 where
-  pub at : Place
-  pub from : Endpoint
-  pub octets : List ℕ
-
--- what a realm is given: a request or a reply, with the place and the source, who sent it, the octets
--- up to Length, and the realm that the first User-Name of a request names; none in a reply
-pub record PlainJob : Type 0 where
-  pub realm : ℕ
-  pub place : Place
-  pub from : Endpoint
-  pub side : Side
-  pub octets : List ℕ
-  pub named : Option ℕ
-
--- a packet that leaves: for which realm, from which place, where to, and its octets
-pub record PlainOut : Type 0 where
-  pub realm : Option ℕ
-  pub from : Place
-  pub to : Endpoint
-  pub bytes : List ℕ
 
 -- what an arrival gives; what is rejected is answered by the broker itself, by a local reject or as a
 -- Status-Server
@@ -61,19 +40,20 @@ pub data Admission : Type 0 where
   admitted : PlainJob → Admission
 
 -- who the source is at a place, if it shares a secret with the broker there: a peer by its address, a
--- link of the realm by its endpoint, a home server of the realm by its address (RFC 2865, section 3)
+-- link of the realm by its endpoint, a home server of the realm by its address, or else a `coa_client` of the realm by
+-- its own (RFC 2865, section 3)
 abbrev pub sender : ConfigView → Arrival → Place → Option Side
 sender config a place.Auth = option_map (λ i. side.Peer i) (peer_with_ip config.peers a.from.ip)
 sender config a place.Acct = option_map (λ i. side.Peer i) (peer_with_ip config.peers a.from.ip)
 sender config a (place.Out realm) = option_map (λ l. side.Link l) (link_in config realm a.from)
 sender config a (place.Reverse realm) = option_map (λ i. side.Home i) (home_in config realm a.from.ip)
 
--- the secret shared with a peer; with a realm's home server
+-- the secret shared with a peer; with a source of a realm's reverse requests
 abbrev pub peer_secret : ConfigView → ℕ → List ℕ
 peer_secret config i = secrets.peer_secret config.peers i
 
 abbrev pub home_secret : ConfigView → ℕ → ℕ → List ℕ
-home_secret config realm i = secrets.server_secret (servers_in config realm) i
+home_secret config realm i = secrets.home_secret_in config realm i
 
 -- the codes that a link sends (RFC 2865 section 4, RFC 2866 section 4, RFC 5176 section 2.3)
 abbrev pub is_code_of_link : Link → ℕ → Bool
@@ -226,11 +206,16 @@ is_unnamed attributes = not (is_some (first_value USER_NAME attributes))
 abbrev pub is_answered_unnamed : ConfigView → Packet → Bool
 is_answered_unnamed config p = config.answer_unnamed && is_unnamed p.attributes
 
+-- a request of a home server, for the realm of its place, where it isn't stale
+abbrev pub reversed : ConfigView → Arrival → Side → Packet → ℕ → Admission
+reversed config a s p realm =
+    checked (is_fresh config.fresh a.seconds p.attributes) refusal.Stale
+    (forwarded_for (sent_length config s p realm) a s p realm (realm_of config p.attributes))
+
 -- what a request that passed the checks of its signature and seal gives: to the realm of its place
 -- where it came from a home server; else to the realm that it names
 abbrev pub route_request : ConfigView → List ℕ → Arrival → Side → Packet → Place → Admission
-route_request config secret a s p (place.Reverse realm) =
-    forwarded_for (sent_length config s p realm) a s p realm (realm_of config p.attributes)
+route_request config secret a s p (place.Reverse realm) = reversed config a s p realm
 route_request config secret a s p place.Auth =
     if is_rejected config s p then rejected_for secret a p
     else for_named_realm config a s p (realm_of config p.attributes)
@@ -296,12 +281,13 @@ read_admission config a (Err why) = refused why
 read_admission config a (Ok p) = sent_admission config a p (sender config a a.at)
 
 -- ## Admission
--- What one arrival gives: a refusal, the first of the refusals 1 to 5, 28, 6 to 8, 24, 9, 25, 26 and 10 whose cause holds; a local
+-- What one arrival gives: a refusal, the first of the refusals 1 to 5, 28, 6 to 8, 24, 9, 29, 25, 26 and 10 whose cause
+-- holds; a local
 -- answer: a local reject, for an Access-Request that has too many hops, names no realm that takes its peer's requests
 -- or whose password can't be carried, looked at between 8 and 9, the answer to a Status-Server, or to an
 -- Accounting-Request that isn't forwarded; or an event of a realm: a request from a peer or a home server, or a
 -- reply from a link. It is one function of the configuration and the
--- arrival: of no state, and of no time.
+-- arrival: of no state, and of no time but the wall clock's seconds that came with a reverse request.
 -- Source: RFC 2865 sections 2.3 and 3, RFC 5176; order and causes ours
 -- Rules out: one realm's packets judged by another's secrets; an answer that depends on what came before
 -- Stands in: `roam_route` `Admission.antt`: `admission`, `sender`, `is_taken`; `prepare`

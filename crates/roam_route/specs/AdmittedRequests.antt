@@ -21,6 +21,7 @@ use Rattle.roam_conf.specs.declared.place.Place.TheVariants as place
 use Rattle.roam_fwd.specs.Forwarded.{Forwarding, forwarded}
 use Rattle.roam_fwd.specs.Shaped.{Shaping, shaped}
 use Rattle.roam_route.specs.Admission.{Arrival, PlainJob, accounting_in, admission, admitted, home_secret, is_answered_unnamed, is_status_request, peer_secret, refused, seal_required, sender}
+use Rattle.roam_route.specs.Freshness.{IsFresh}
 use Rattle.roam_route.specs.LocalAnswer.{answer_length}
 use Rattle.roam_route.specs.LocalReject.{asked_realm, takes_of}
 use Rattle.roam_route.specs.Shapings.{sent_length}
@@ -105,10 +106,12 @@ IsForwarded config realm = accounting_in config realm ≡ Forwarded
 -- Access-Request's passwords can be carried: at most one User-Password, of 16 to 128 octets in whole blocks,
 -- and none beside a CHAP-Password. It is for a realm: a home server's for the realm of its place, a peer's for
 -- the one that its User-Name names, which takes that peer's requests and, of an Accounting-Request, has its accounting
--- forwarded. The packet that is forwarded for it has at most 4096 octets: of a peer's request as the peer and the
+-- forwarded. A home server's isn't stale, where the wall clock's seconds came with it. The packet that is forwarded for
+-- it has at most 4096 octets: of a peer's request as the peer and the
 -- realm have it shaped, of a home server's as it came. An arrival gives a realm a request just where it is one; what
--- isn't is refused for the first of these parts that fails, in this order: code, attributes, signature, Message-Authenticator,
--- that there is one where it must be, hops, realm, that it may be asked, its accounting, size. (An Access-Request
+-- isn't is refused for the first of these parts that fails, in this order: code, attributes, signature,
+-- Message-Authenticator, that there is one where it must be, hops, realm, that it is fresh, that it may be asked, its
+-- accounting, size. (An Access-Request
 -- that fails in its realm, passwords or hops is answered by a local reject, whose size is then the last part; an
 -- Accounting-Request without a name, or for a realm that has these answered, may be answered by the broker, and isn't
 -- refused then.)
@@ -121,20 +124,21 @@ IsForwarded config realm = accounting_in config realm ≡ Forwarded
 -- `admitted_requests`
 --
 -- a request that a realm is given
-pub record IsRightRequest (config : ConfigView) (at : Place) (s : Side) (p : Packet) (realm : ℕ) : Type 0
-  where
-    pub code : IsRequestAt at s p.code
-    pub attributes : HasFewAttributes config.max_attributes p
-    pub signed : IsRightlySigned (shared_secret config at s) p
-    pub well_sealed :
-        IsWellSealed (shared_secret config at s) (sealing_authenticator p ∷ []) p
-    pub needed_seal : HasNeededSeal (seal_required config s p) p
-    pub hops : HasFewHops config.max_hops p
-    pub passwords : p.code ≡ ACCESS_REQUEST → HasGoodPasswords p
-    pub realm_is : IsForRealm config at p realm
-    pub asks : MayAsk config s realm
-    pub accounting : p.code ≡ ACCOUNTING_REQUEST → IsForwarded config realm
-    pub size : sent_length config s p realm ≤ MAX_PACKET_LENGTH
+pub record IsRightRequest (config : ConfigView) (seconds : Option ℕ) (at : Place) (s : Side) (p : Packet) (realm : ℕ)
+    : Type 0 where
+  pub code : IsRequestAt at s p.code
+  pub attributes : HasFewAttributes config.max_attributes p
+  pub signed : IsRightlySigned (shared_secret config at s) p
+  pub well_sealed :
+      IsWellSealed (shared_secret config at s) (sealing_authenticator p ∷ []) p
+  pub needed_seal : HasNeededSeal (seal_required config s p) p
+  pub hops : HasFewHops config.max_hops p
+  pub passwords : p.code ≡ ACCESS_REQUEST → HasGoodPasswords p
+  pub realm_is : IsForRealm config at p realm
+  pub fresh : IsFresh config seconds at p
+  pub asks : MayAsk config s realm
+  pub accounting : p.code ≡ ACCOUNTING_REQUEST → IsForwarded config realm
+  pub size : sent_length config s p realm ≤ MAX_PACKET_LENGTH
 
 -- a job is a packet's: from the place, the source and the sender of the arrival, with the packet's octets
 -- without padding, and the realm that its User-Name names
@@ -157,7 +161,7 @@ abbrev pub AdmittedIsRight : Type 0
 AdmittedIsRight = (config : ConfigView) (a : Arrival) (p : Packet) (job : PlainJob) →
     reading a.octets ≡ Ok p → IsOfRequest job.side →
     (admission config a ≡ admitted job)
-    ↔ (IsJobOf config a p job × IsRightRequest config a.at job.side p job.realm)
+    ↔ (IsJobOf config a p job × IsRightRequest config a.seconds a.at job.side p job.realm)
 
 -- a refusal is a part's own where that part doesn't hold, and what follows gives it where it does
 abbrev pub FailsFirst : Type 0 → Refusal → (Refusal → Type 0) → Refusal → Type 0
@@ -200,35 +204,36 @@ FailsForSize config s p None why = ⊥
 FailsForSize config s p (Some realm) why =
     FailsFirst (sent_length config s p realm ≤ MAX_PACKET_LENGTH) refusal.TooLong NothingFails why
 
--- why a request isn't forwarded that is signed and sealed as it must be: its hops, its realm, its size,
+-- why a request isn't forwarded that is signed and sealed as it must be: its hops, its realm, its time, its size,
 -- in this order. An Access-Request fails for the size alone, of its local reject where it gets one
-abbrev pub FailsToGo : ConfigView → Side → Packet → Place → Refusal → Type 0
-FailsToGo config s p place.Auth why =
+abbrev pub FailsToGo : ConfigView → Option ℕ → Side → Packet → Place → Refusal → Type 0
+FailsToGo config seconds s p place.Auth why =
     (IsPassedOn config s p × FailsForSize config s p (realm_of config p.attributes) why)
     ⊎ ((IsPassedOn config s p → ⊥)
     × FailsFirst (answer_length p ≤ MAX_PACKET_LENGTH) refusal.TooLong NothingFails why)
-FailsToGo config s p (place.Reverse own) why =
+FailsToGo config seconds s p (place.Reverse own) why =
     FailsFirst (HasFewHops config.max_hops p) refusal.TooManyHops
-    (FailsFirst (sent_length config s p own ≤ MAX_PACKET_LENGTH) refusal.TooLong NothingFails) why
-FailsToGo config s p _ why =
+    (FailsFirst (IsFresh config seconds (place.Reverse own) p) refusal.Stale
+    (FailsFirst (sent_length config s p own ≤ MAX_PACKET_LENGTH) refusal.TooLong NothingFails)) why
+FailsToGo config seconds s p _ why =
     FailsFirst (HasFewHops config.max_hops p) refusal.TooManyHops (FailsNamed config s p) why
 
 -- why a request of a sender isn't admitted: the first part that fails, of its attributes, its signature, its
 -- Message-Authenticator, that it has one where it must, and what is wanted to forward it (the order is ours)
-abbrev pub FailsFor : ConfigView → Place → Side → Packet → Refusal → Type 0
-FailsFor config at s p why =
+abbrev pub FailsFor : ConfigView → Option ℕ → Place → Side → Packet → Refusal → Type 0
+FailsFor config seconds at s p why =
     FailsFirst (HasFewAttributes config.max_attributes p) refusal.TooManyAttributes
     (FailsFirst (IsRightlySigned (shared_secret config at s) p) refusal.BadAuthenticator
     (FailsFirst (IsWellSealed (shared_secret config at s) (sealing_authenticator p ∷ []) p)
     refusal.BadMessageAuthenticator
     (FailsFirst (HasNeededSeal (seal_required config s p) p) refusal.MissingMessageAuthenticator
-    (FailsToGo config s p at)))) why
+    (FailsToGo config seconds s p at)))) why
 
 -- a request is refused just for the first part that fails
 abbrev pub RefusedFailsFirst : Type 0
 RefusedFailsFirst = (config : ConfigView) (a : Arrival) (p : Packet) (s : Side) (why : Refusal) →
     reading a.octets ≡ Ok p → sender config a a.at ≡ Some s → IsRequestAt a.at s p.code →
-    (admission config a ≡ refused why) ↔ FailsFor config a.at s p why
+    (admission config a ≡ refused why) ↔ FailsFor config a.seconds a.at s p why
 
 -- what is looked at before: an arrival that reads as no packet is refused for what is wrong with it
 abbrev pub UnreadIsRefused : Type 0

@@ -11,13 +11,14 @@ own realm (refused why) = None
 own realm (rejected out) = None
 own realm (admitted job) = if job.realm == realm then Some job else None
 
--- two configurations have the same peers, the same meaning of each name, the same limits of attributes and hops, and the
--- same entry for a realm: its part of the configuration
+-- two configurations have the same peers, the same meaning of each name, the same limits of attributes, of hops and of a
+-- reverse request's age, and the same entry for a realm: its part of the configuration
 pub record HaveSamePart (one other : ConfigView) (realm : ℕ) : Type 0 where
   pub peers : one.peers ≡ other.peers
   pub names : (name : List ℕ) → realm_named one name ≡ realm_named other name
   pub max_attributes : one.max_attributes ≡ other.max_attributes
   pub max_hops : one.max_hops ≡ other.max_hops
+  pub fresh : one.fresh ≡ other.fresh
   pub entry : slice_get one.realms realm ≡ slice_get other.realms realm
 
 -- what an arrival gives to a realm is decided by that part: no other realm's sockets, servers, secrets or

@@ -10,7 +10,8 @@ ghost use Rattle.roam_route.specs.Shown.{IsAdmission, IsHome, Prepares, WantsMem
 
 use crate::answering::status_answer;
 use crate::checks::{
-    has_few_attributes, has_few_hops, has_needed_seal, has_seal, is_rightly_sealed, is_rightly_signed, is_sealed_over,
+    has_few_attributes, has_few_hops, has_needed_seal, has_seal, is_rightly_sealed,
+    is_rightly_signed, is_sealed_over,
 };
 use crate::datagram::{Datagram, Out};
 use crate::job::{Prepared, Side};
@@ -158,7 +159,7 @@ fn sent<A: Allocator + Copy>(
 
 /// What an arrival gives: the event of a realm, with the packet's octets, or a local answer, or the
 /// first of `Short` to `TooLong` whose cause holds, where `TooManyAttributes` stands behind `WrongCode`,
-/// `TooManyHops` between `MissingMessageAuthenticator` and `NoRealm`, and `NotForPeer` and
+/// `TooManyHops` between `MissingMessageAuthenticator` and `NoRealm`, and `Stale`, `NotForPeer` and
 /// `AccountingDropped` behind that.
 /// `NoMemory` comes where a growth was refused, and nowhere else: memory is wanted only for what passes,
 /// and for an answer that is sent.
