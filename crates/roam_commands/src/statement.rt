@@ -1,8 +1,11 @@
 //! A configuration with all its defaults, as a document states it.
 
 use crate::basic_string::BasicString;
-use roam_conf::{Config, Endpoint, ExchangeLines, Peer, Realm, RealmPattern, Server};
+use roam_conf::{
+    Accounting, CoaClient, Config, Endpoint, ExchangeLines, Peer, Realm, RealmPattern, Server,
+};
 use roam_conf_reader::{Settings, StationWord};
+use roam_wire::RemovedAttribute;
 use std::alloc::{AllocError, Global};
 use std::fmt;
 use std::fmt::{Display, Formatter, Write};
@@ -38,6 +41,77 @@ fn state_text(text: &mut String, key: &str, value: &Option<String>) -> Result<()
     }
 }
 
+/// States a pattern of names.
+fn state_pattern(text: &mut String, pattern: &RealmPattern) -> Result<(), AllocError> {
+    match pattern {
+        RealmPattern::Name(name) => write!(text, "\"{}\"", name.as_str()),
+        RealmPattern::Suffix(name) => write!(text, "\"*.{}\"", name.as_str()),
+        RealmPattern::Any => text.push_str("\"*\""),
+    }
+}
+
+/// States patterns of names.
+fn state_patterns(
+    text: &mut String,
+    key: &str,
+    patterns: &[RealmPattern],
+) -> Result<(), AllocError> {
+    write!(text, "{key} = [")?;
+    let mut is_first = true;
+    for pattern in patterns {
+        if !is_first {
+            text.push_str(", ")?;
+        }
+        is_first = false;
+        state_pattern(text, pattern)?;
+    }
+    text.push_str("]\n")
+}
+
+/// States attributes that don't pass.
+fn state_removed(
+    text: &mut String,
+    key: &str,
+    removed: &[RemovedAttribute],
+) -> Result<(), AllocError> {
+    write!(text, "{key} = [")?;
+    let mut is_first = true;
+    for attribute in removed {
+        if !is_first {
+            text.push_str(", ")?;
+        }
+        is_first = false;
+        match attribute {
+            RemovedAttribute::Kind(kind) => write!(text, "\"{kind}\"")?,
+            RemovedAttribute::Vendor(vendor) => write!(text, "\"26.{vendor}\"")?,
+            RemovedAttribute::VendorKind(vendor, kind) => write!(text, "\"26.{vendor}.{kind}\"")?,
+        }
+    }
+    text.push_str("]\n")
+}
+
+/// States a number where there is one.
+fn state_number(text: &mut String, key: &str, number: Option<u16>) -> Result<(), AllocError> {
+    match number {
+        Some(number) => writeln!(text, "{key} = {number}"),
+        None => Ok(()),
+    }
+}
+
+/// States texts.
+fn state_texts(text: &mut String, key: &str, values: &[String]) -> Result<(), AllocError> {
+    write!(text, "{key} = [")?;
+    let mut is_first = true;
+    for value in values {
+        if !is_first {
+            text.push_str(", ")?;
+        }
+        is_first = false;
+        write!(text, "{}", BasicString(value.as_str()))?;
+    }
+    text.push_str("]\n")
+}
+
 /// States 32 octets as hexadecimal digits.
 fn state_seed(text: &mut String, seed: &[u8; 32]) -> Result<(), AllocError> {
     text.push_str("seed = \"")?;
@@ -61,6 +135,7 @@ fn state_top(text: &mut String, config: &Config) -> Result<(), AllocError> {
     if let Some(hops) = config.max_hops {
         writeln!(text, "max_hops = {hops}")?;
     }
+    state_number(text, "max_attributes", config.max_attributes)?;
     writeln!(text, "status_server = {}", config.status_server)?;
     writeln!(text, "spread = {}", config.spread)
 }
@@ -90,34 +165,33 @@ fn state_peer(text: &mut String, peer: &Peer) -> Result<(), AllocError> {
         writeln!(text, "nas_ip = \"{}\"", Address(address))?;
     }
     state_text(text, "nas_id", &peer.nas_id)?;
-    writeln!(text, "require_seal = {}", peer.require_seal)
+    state_texts(text, "nas_ids", peer.nas_ids.as_slice())?;
+    writeln!(text, "require_seal = {}", peer.require_seal)?;
+    writeln!(text, "limit_proxy_state = {}", peer.limit_proxy_state)?;
+    state_text(text, "operator_name", &peer.operator_name)?;
+    writeln!(text, "ask_cui = {}", peer.ask_cui)?;
+    state_removed(text, "request_without", peer.request_without.as_slice())?;
+    state_removed(text, "reply_without", peer.reply_without.as_slice())
 }
 
-/// States what names a realm besides.
-fn state_pattern(text: &mut String, pattern: &RealmPattern) -> Result<(), AllocError> {
-    match pattern {
-        RealmPattern::Name(name) => write!(text, "\"{}\"", name.as_str()),
-        RealmPattern::Suffix(name) => write!(text, "\"*.{}\"", name.as_str()),
-        RealmPattern::Any => text.push_str("\"*\""),
+/// States who may ask for a realm, and what becomes of its requests.
+fn state_policy(text: &mut String, realm: &Realm) -> Result<(), AllocError> {
+    if let Some(peers) = &realm.peers {
+        state_texts(text, "peers", peers.as_slice())?;
     }
-}
-
-/// States what names a realm.
-fn state_names(text: &mut String, realm: &Realm) -> Result<(), AllocError> {
-    write!(
-        text,
-        "\n[[realm]]\nname = \"{}\"\nalso = [",
-        realm.name.as_str()
-    )?;
-    let mut is_first = true;
-    for pattern in &realm.also {
-        if !is_first {
-            text.push_str(", ")?;
-        }
-        is_first = false;
-        state_pattern(text, pattern)?;
-    }
-    text.push_str("]\n")
+    writeln!(text, "loop_prevention = {}", realm.loop_prevention)?;
+    text.push_str(match realm.accounting {
+        Accounting::Forwarded => "accounting = \"forward\"\n",
+        Accounting::Answered => "accounting = \"answer\"\n",
+        Accounting::Dropped => "accounting = \"drop\"\n",
+    })?;
+    state_removed(text, "request_without", realm.request_without.as_slice())?;
+    state_removed(text, "reply_without", realm.reply_without.as_slice())?;
+    state_number(text, "share", realm.share)?;
+    state_number(text, "peer_share", realm.peer_share)?;
+    writeln!(text, "own_names = {}", realm.own_names)?;
+    writeln!(text, "conversations = {}", realm.conversations)?;
+    writeln!(text, "own_sessions = {}", realm.own_sessions)
 }
 
 /// States the limits of a realm.
@@ -138,23 +212,35 @@ fn state_limits(text: &mut String, realm: &Realm) -> Result<(), AllocError> {
 
 /// States a server.
 fn state_server(text: &mut String, server: &Server) -> Result<(), AllocError> {
-    writeln!(
-        text,
-        "\n[[realm.server]]\nauth = \"{}\"\nacct = \"{}\"",
-        server.auth, server.acct
-    )?;
+    writeln!(text, "\n[[realm.server]]\nauth = \"{}\"", server.auth)?;
+    state_endpoint(text, "acct", &server.acct)?;
     writeln!(text, "secret = {}", BasicString(server.secret.as_str()))?;
     writeln!(text, "require_seal = {}", server.require_seal)
 }
 
+/// States a further source of reverse requests.
+fn state_client(text: &mut String, client: &CoaClient) -> Result<(), AllocError> {
+    writeln!(
+        text,
+        "\n[[realm.coa_client]]\nip = \"{}\"",
+        Address(client.ip)
+    )?;
+    writeln!(text, "secret = {}", BasicString(client.secret.as_str()))
+}
+
 /// States a realm.
 fn state_realm(text: &mut String, realm: &Realm) -> Result<(), AllocError> {
-    state_names(text, realm)?;
+    writeln!(text, "\n[[realm]]\nname = \"{}\"", realm.name.as_str())?;
+    state_patterns(text, "also", realm.also.as_slice())?;
+    state_policy(text, realm)?;
     writeln!(text, "out = \"{}\"", realm.out)?;
     state_endpoint(text, "reverse", &realm.reverse)?;
     state_limits(text, realm)?;
     for server in &realm.servers {
         state_server(text, server)?;
+    }
+    for client in &realm.coa_clients {
+        state_client(text, client)?;
     }
     Ok(())
 }
@@ -163,6 +249,10 @@ fn state_realm(text: &mut String, realm: &Realm) -> Result<(), AllocError> {
 fn state(text: &mut String, config: &Config, settings: &Settings) -> Result<(), AllocError> {
     state_top(text, config)?;
     state_settings(text, settings)?;
+    state_patterns(text, "reject", config.reject.as_slice())?;
+    writeln!(text, "well_formed = {}", config.well_formed)?;
+    writeln!(text, "answer_unnamed = {}", config.answer_unnamed)?;
+    state_number(text, "fresh", config.fresh)?;
     for peer in &config.peers {
         state_peer(text, peer)?;
     }

@@ -1,12 +1,12 @@
 -- The index of what reverse requests name a peer by. Ours.
-use Rattle.std.specs.Prelude.{◌≡◌, ℕ, ◌≤◌, Bool, false, List, length, Option, None}
+use Rattle.std.specs.Prelude.{◌≡◌, ℕ, List, Option}
 use Rattle.std.specs.Str.{str_to_ascii_lowercase}
 use Rattle.roam_conf.specs.declared.nas_index.NasIndex.{NasIndex}
 use Rattle.roam_conf.specs.declared.nas_index.NasRef.{NasRef}
 use Rattle.roam_conf.specs.declared.nas_index.NasRef.TheVariants.{Exactly, Begins}
 use Rattle.roam_conf.specs.declared.target_index.TargetIndex.{TargetIndex}
 use Rattle.roam_conf.specs.Config.{PeerView}
-use Rattle.roam_conf.specs.Index.{owners, owner_of, is_marked}
+use Rattle.roam_conf.specs.Index.{owners, owner_of}
 use Rattle.roam_conf.specs.Targets.{NasPattern, exactly, begins, peer_with_nas, peer_with_nas_ip, peer_with_operator, some_operator}
 
 -- a pattern that is noted or looked for
@@ -18,11 +18,6 @@ nas_seen (Begins front) = begins front.now
 abbrev pub nas_owner : NasIndex → NasPattern → Option ℕ
 nas_owner index (exactly name) = owner_of (owners index.identifiers) name
 nas_owner index (begins front) = owner_of (owners index.fronts) front
-
--- of a length of at most 253 octets that isn't marked no front has an owner
-abbrev pub AreLengths : List Bool → List (List ℕ × ℕ) → Type 0
-AreLengths marks entries =
-    (front : List ℕ) → length front ≤ 253 → is_marked marks (length front) ≡ false → owner_of entries front ≡ None
 
 -- the index finds what the look-ups in the list of peers say
 pub record FindsTargets (index : TargetIndex) (peers : List PeerView) : Type 0 where

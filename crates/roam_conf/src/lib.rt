@@ -40,6 +40,7 @@ mod realm;
 mod removed;
 mod server;
 mod target_index;
+mod target_lists;
 mod targets;
 mod well_formed;
 

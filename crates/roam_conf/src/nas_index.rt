@@ -3,9 +3,9 @@
 ghost use Rattle.std.specs.Prelude.{◌≡◌, ℕ, ◌≤◌, ◌^◌, IfOk, OnOk, Some, None, if◌then◌else◌, false, length, map, string_bytes, take};
 ghost use Rattle.std.specs.List.{list_any};
 ghost use Rattle.std.specs.Option.{option_or};
-ghost use Rattle.roam_conf.specs.Index.{owners};
+ghost use Rattle.roam_conf.specs.Index.{owners, AreLengths};
 ghost use Rattle.roam_conf.specs.Parts.{shown_peer};
-ghost use Rattle.roam_conf.specs.TargetIndex.{nas_seen, nas_owner, AreLengths};
+ghost use Rattle.roam_conf.specs.TargetIndex.{nas_seen, nas_owner};
 ghost use Rattle.roam_conf.specs.Targets.{NasPattern, nas_said, has_nas, same_nas, peer_with_nas};
 
 use crate::Peer;

@@ -13,7 +13,7 @@ use Rattle.roam_counters.specs.declared.cell.Subject.TheVariants as subject
 use Rattle.roam_counters.specs.declared.event.CountedEvent.{CountedEvent}
 use Rattle.roam_counters.specs.declared.process.Process.{Process}
 
--- rows of nine, and of ninety-four
+-- rows of nine, and of ninety-eight
 pub nine-apart : (a b m n : ℕ) → m < 9 → n < 9 → 9 * a + m ≡ 9 * b + n → (a ≡ b) × (m ≡ n)
 nine-apart a b m n small_m small_n is =
     elim (cases_lt a b) [
@@ -24,8 +24,8 @@ nine-apart a b m n small_m small_n is =
       ]
     ]
 
-pub ninety_four-apart : (a b m n : ℕ) → m < 94 → n < 94 → 94 * a + m ≡ 94 * b + n → (a ≡ b) × (m ≡ n)
-ninety_four-apart a b m n small_m small_n is =
+pub ninety_eight-apart : (a b m n : ℕ) → m < 98 → n < 98 → 98 * a + m ≡ 98 * b + n → (a ≡ b) × (m ≡ n)
+ninety_eight-apart a b m n small_m small_n is =
     elim (cases_lt a b) [
       | inl less ↦ absurd (omega (arith, small_m, is, less))
       | inr not_less ↦ elim (cases_lt b a) [
@@ -48,7 +48,7 @@ pub processes-apart : (p q : Process) → process_place p ≡ process_place q �
 processes-apart p q same =
     same-at all_processes (process_place p) (process_place q) p q same (process-at_place p) (process-at_place q)
 
-pub event-below : (a : CountedEvent) → event_place a < 94
+pub event-below : (a : CountedEvent) → event_place a < 98
 event-below a = slice_get_within all_events (event_place a) a (event-at_place a)
 
 pub process-below : (p : Process) → process_place p < 19
@@ -89,7 +89,7 @@ row-below l (subject.Peer p) f = omega (arith, f)
 pub are-apart : (l : Layout) → AreApart l
 are-apart l = record {
   subjects = λ s t a b f g is.
-      let both = ninety_four-apart (row_of l s) (row_of l t) (event_place a) (event_place b) (event-below a)
+      let both = ninety_eight-apart (row_of l s) (row_of l t) (event_place a) (event_place b) (event-below a)
       (event-below b)
       (omega (arith, is)) in
       (rows-apart l s t f g both.0, events-apart a b both.1);

@@ -18,7 +18,7 @@ use Rattle.roam_counters.specs.declared.process.Process.{Process}
 --
 -- how many there are
 abbrev pub cells : Layout → ℕ
-cells layout = 19 + 94 * (1 + 9 * layout.realms + layout.peers)
+cells layout = 19 + 98 * (1 + 9 * layout.realms + layout.peers)
 
 -- the row of a subject: one for all, nine for each realm with its home servers, one for each peer
 abbrev pub row_of : Layout → Subject → ℕ
@@ -28,7 +28,7 @@ row_of layout (subject.Server realm server) = 2 + 9 * realm + server
 row_of layout (subject.Peer peer) = 1 + 9 * layout.realms + peer
 
 abbrev pub cell_of : Layout → Subject → CountedEvent → ℕ
-cell_of layout subject event = 19 + 94 * row_of layout subject + event_place event
+cell_of layout subject event = 19 + 98 * row_of layout subject + event_place event
 
 abbrev pub process_cell : Process → ℕ
 process_cell process = process_place process

@@ -2,7 +2,7 @@ use Rattle.std.proofs.Common.{◌≡◌, map, drop}
 use Rattle.std.specs.List.{list_any}
 use Rattle.roam_conf.specs.Duplicates.{same_peer}
 use Rattle.roam_conf.specs.Parts.{shown_peer}
-use Rattle.roam_conf_reader.proofs.duplicates.is_among_peers.Given as goal
+use Rattle.roam_conf_reader.proofs.equal_peers.is_among_peers.Given as goal
 
 abbrev pub invariant-loop-other : goal.invariant-loop-other
 invariant-loop-other l =

@@ -1,7 +1,7 @@
 use Rattle.std.proofs.Common.{◌≡◌, map, drop}
 use Rattle.roam_conf.specs.Duplicates.{has_pair, same_peer}
 use Rattle.roam_conf.specs.Parts.{shown_peer}
-use Rattle.roam_conf_reader.proofs.duplicates.has_duplicate_peer.Given as goal
+use Rattle.roam_conf_reader.proofs.equal_peers.has_equal_peers.Given as goal
 
 abbrev pub invariant-loop-i : goal.invariant-loop-i
 invariant-loop-i l =
