@@ -249,10 +249,10 @@ new-sound c es fs old new e sound ticket request well tells below next position 
 
 -- a request waits well on the link that it was forwarded to
 pub waits-well :
-    (c : RealmConfig) (q : PlainRequest) (l w : Link) (i left deadline : ℕ) (forwarded : List ℕ)
-    (s : PlainStanding) → waiting w i forwarded left deadline ≡ s → standing_place s ≡ Some (l, i)
+    (c : RealmConfig) (q : PlainRequest) (l w : Link) (i left deadline signs : ℕ) (forwarded : List ℕ)
+    (s : PlainStanding) → waiting w i forwarded left deadline signs ≡ s → standing_place s ≡ Some (l, i)
     → IsWaiting c q l i forwarded → StandsWell c q s
-waits-well c q l w i left deadline forwarded s is at h =
+waits-well c q l w i left deadline signs forwarded s is at h =
     let same_link : w ≡ l = link_at (w, i) (l, i) (ap standing_place is ∙ at) in
     let well : StandsWell c q (waiting w i forwarded left deadline signs) =
     subst (λ (x : Link). IsWaiting c q x i forwarded) (sym same_link) h in

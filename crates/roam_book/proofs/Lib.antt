@@ -16,6 +16,7 @@ pub mod NakLemmas
 pub mod RealmLemmas
 pub mod ReloadLemmas
 pub mod ReplyLemmas
+pub mod ConversingLemmas
 pub mod RequestLemmas
 pub mod RestLemmas
 pub mod RoomLemmas

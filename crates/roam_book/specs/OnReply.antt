@@ -1,8 +1,9 @@
 -- What a reply does to its realm: it is returned to the sender of the request, and held (RFC 2865,
 -- section 2.3; how long it is held is ours).
-use Rattle.std.specs.Prelude.{ℕ, ◌+◌, ◌==◌, nat_lt, Bool, true, false, List, [], ◌∷◌, Option, Some, None, if◌then◌else◌}
+use Rattle.std.specs.Prelude.{ℕ, ◌+◌, ◌==◌, nat_lt, Bool, List, [], ◌∷◌, Option, Some, None, if◌then◌else◌}
 use Rattle.roam_wire.specs.Packet.{Packet, packet_text}
 use Rattle.roam_wire.specs.Reading.{packet_of}
+use Rattle.roam_wire.specs.Refusal.{number_of}
 use Rattle.roam_wire.specs.declared.code.TheConstants.{ACCOUNTING_RESPONSE}
 use Rattle.roam_wire.specs.declared.refusal.Refusal.{Refusal}
 use Rattle.roam_wire.specs.declared.refusal.Refusal.TheVariants as refusal
@@ -79,8 +80,7 @@ return_reply c now s e l forwarded reply =
 -- a reply of which this is wrong is a sign of life of its link: it answers what was forwarded, by its code and its
 -- signature, and its seal alone is wrong, or missing
 abbrev pub shows_life : Refusal → Bool
-shows_life refusal.BadReplyMessageAuthenticator = true
-shows_life _ = false
+shows_life why = number_of why == number_of refusal.BadReplyMessageAuthenticator
 
 -- such a reply
 abbrev pub faulted : RealmConfig → RealmState → Link → Refusal → Turn

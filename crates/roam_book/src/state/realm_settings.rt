@@ -21,8 +21,7 @@ use roam_wire::View;
 use std::alloc::Allocator;
 use std::marker::Model;
 
-/// What the rules of one realm read of a configuration: the seed, the realm's index and entry, and
-/// all peers. Contracts see just that.
+/// What the rules of one realm read of a configuration: the seed, its index and entry, and all peers.
 #[derive(Drop)]
 pub struct RealmSettings<'c> {
     config: &'c Config,
@@ -139,6 +138,27 @@ impl<'c> RealmSettings<'c> {
         self.realm().share
     }
 
+    /// How many requests of one peer may wait, if there is a limit.
+    pub(crate) fn peer_share(&self) -> Option<u16>
+        ensures { result ≡ self.now.realm.peer_share }
+    {
+        self.realm().peer_share
+    }
+
+    /// Whether of an Access-Accept own names alone are returned.
+    pub(crate) fn own_names(&self) -> bool
+        ensures { result ≡ self.now.realm.own_names }
+    {
+        self.realm().own_names
+    }
+
+    /// Whether a request that goes on with a conversation goes to the server that has that.
+    pub(crate) fn keeps_conversations(&self) -> bool
+        ensures { result ≡ self.now.realm.conversations }
+    {
+        self.realm().conversations
+    }
+
     /// How many home servers the realm has: at most 8.
     pub(crate) fn server_count(&self) -> usize
         ensures count { result ≡ length self.now.realm.servers }
@@ -211,8 +231,7 @@ impl<'c> RealmSettings<'c> {
         }
     }
 
-    /// The peer that a reverse request is forwarded to, or the Error-Cause of one that can't be forwarded,
-    /// by the realm that it names, if it names one (RFC 5176, section 3.5).
+    /// The peer that a reverse request is for, or the Error-Cause, by the realm that it names (RFC 5176, section 3.5).
     pub(crate) fn route_of<A: Allocator + Copy>(
         &self,
         named: Option<u16>,
