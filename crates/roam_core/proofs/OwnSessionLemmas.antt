@@ -18,7 +18,7 @@ use Rattle.roam_back.proofs.EveryCodeLemmas.{code-returned}
 use Rattle.roam_route.specs.Admission.{PlainOut}
 use Rattle.roam_reverse.specs.CauseLaws.{IsOfOneSession}
 use Rattle.roam_reverse.specs.Causes.{cause}
-use Rattle.roam_reverse.proofs.CauseLemmas.{forwarded_is_of_one_session}
+use Rattle.roam_reverse.proofs.OneSessionLemmas.{forwarded_is_of_one_session}
 use Rattle.roam_pending.specs.ListLaws.{IsIn}
 use Rattle.roam_pending.specs.PlainEntry.{PlainEntry, PlainRequest}
 use Rattle.roam_pending.specs.EntryList.{find_client}
