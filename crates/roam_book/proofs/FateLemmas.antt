@@ -30,7 +30,7 @@ use Rattle.roam_book.specs.declared.state.rest.Rest.{Rest}
 use Rattle.roam_book.specs.OnRequest.{packet_to_link, position_after, forwarded_octets, forwarded_entry}
 use Rattle.roam_book.specs.OnTick.{fail_over, given_up_at, due_standing}
 use Rattle.roam_book.specs.Stays.{RestsBecome}
-use Rattle.roam_book.specs.Sound.{AreLinks, AreOwnLanes, IsEntry, IsWaiting, StandsWell, IsSound, LanesTell, state_of, cursors_of, lane_of, has_free, chosen_link, marks_of}
+use Rattle.roam_book.specs.Sound.{AreOwnLanes, IsEntry, IsWaiting, StandsWell, IsSound, LanesTell, state_of, cursors_of, lane_of, has_free, chosen_link, marks_of}
 use Rattle.roam_book.specs.Private.Fates.{GivesUp, HoldsNoLink, IsHeld, IsFate, KeepsNoLink, fate_entries, once_held}
 use Rattle.roam_book.proofs.SendingLemmas.{position-below}
 use Rattle.roam_book.proofs.SoundLemmas.{kept-put, kept-without, kept-ticket}
@@ -237,7 +237,7 @@ held-done c es e n m (Some d) now l signs held freed none =
     let here : IsEntry c n.ticket new = record {
       ticket = old.ticket;
       request = old.request;
-      standing = subst (AreLinks c) (sym none) tt;
+      standing = tt;
     } in
     let each = kept-put c n.ticket new es here held.sound.each in
     sound-changed c es (put new es) n m held.sound freed.same each

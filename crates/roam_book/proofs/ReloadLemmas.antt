@@ -21,7 +21,7 @@ use Rattle.roam_book.specs.RealmConfig.{RealmConfig, IsLink, IsRequester, link_c
 use Rattle.roam_book.specs.Private.MoreLanes.{AreMoreLanes}
 use Rattle.roam_book.specs.Reload.{Carries}
 use Rattle.roam_book.specs.Shapings.{shaping_from}
-use Rattle.roam_book.specs.Sound.{AreLinks, AreOwnLanes, CanGo, IsEntry, IsSound, LanesTell, Mark, StandsWell, TellsAt, cursors_of, lane_of, mark_of, marks_of, no_lane, own_tags, waits_there}
+use Rattle.roam_book.specs.Sound.{AreOwnLanes, CanGo, IsEntry, IsSound, LanesTell, Mark, StandsWell, TellsAt, cursors_of, lane_of, mark_of, marks_of, no_lane, own_tags, waits_there}
 use Rattle.roam_book.specs.declared.state.realm_numbers.RealmNumbers.{RealmNumbers}
 use Rattle.roam_book.proofs.SoundLemmas.{same_link-equal}
 
@@ -73,16 +73,12 @@ new_or_not b c k (link.Coa p) is =
       )
     ]
 
-links_stay : (b c : RealmConfig) → Carries b c → (from : Option Link) → AreLinks b from → AreLinks c from
-links_stay b c k None w = tt
-links_stay b c k (Some l) w = link_stays b c k l w
-
 -- entries stay well
 standing_stays : (b c : RealmConfig) → Carries b c → (q : PlainRequest) (s : PlainStanding) → StandsWell b q s →
     StandsWell c q s
 standing_stays b c k q (waiting l id forwarded sends_left deadline signs) w =
     record { link = link_stays b c k l w.link; id = w.id; packet = w.packet; size = w.size }
-standing_stays b c k q (done reply deadline from) w = links_stay b c k from w
+standing_stays b c k q (done reply deadline from) w = tt
 
 -- a peer that stays has its requests forwarded as before
 peer_part_of : (peers : List PeerView) (i : ℕ) →

@@ -16,7 +16,7 @@ use Rattle.roam_book.specs.RealmConfig.{RealmConfig, IsLink}
 use Rattle.roam_book.specs.RealmState.{RealmState}
 use Rattle.roam_book.specs.Turn.{Turn, Answers, refuses, hears}
 use Rattle.roam_book.specs.OnReply.{counted_peer, faulted, once_heard_from, passing_to, return_reply, returned_octets, returning, shows_life}
-use Rattle.roam_book.specs.Sound.{AreLinks, AreOwnLanes, IsEntry, IsSound, LanesTell, StandsWell, marks_of}
+use Rattle.roam_book.specs.Sound.{AreOwnLanes, IsEntry, IsSound, LanesTell, StandsWell, marks_of}
 use Rattle.roam_book.specs.Private.Judged.{Judges, returns_octets}
 use Rattle.roam_book.specs.Private.ReplyPlans.{IsHeard, IsReplyPlan, once_heard_by}
 use Rattle.roam_book.specs.declared.rules.replies.Settled.{Settled}
@@ -104,17 +104,16 @@ found-with (Some x) P h = (x, refl, h)
 -- once an entry is done and its Identifier given back, its realm keeps what it kept
 pub done-sound : {A : Type 0} (c : RealmConfig) (t : ℕ) (e : PlainEntry) (es fs : List PlainEntry)
     (reply : List ℕ) (deadline : ℕ) (from : Option Link) (old new : RealmNumbers A) → IsSound c es old
-    → AreLinks c from
     → find_ticket t es ≡ Some e → fs ≡ put (with_standing (done reply deadline from) e) es
     → LanesTell c (without e.ticket es) new.lanes.items
     → length new.lanes.items ≡ length old.lanes.items → new.ticket ≡ old.ticket
     → new.stream_position ≡ old.stream_position
     → marks_of new.lanes.items ≡ marks_of old.lanes.items
     → new.sessions.limit ≡ old.sessions.limit → IsSound c fs new
-done-sound c t e es fs reply deadline from old new sound link at is tells count ticket position marks limit =
+done-sound c t e es fs reply deadline from old new sound at is tells count ticket position marks limit =
     let x = with_standing (done reply deadline from) e in
     let was : IsEntry c old.ticket e = kept-ticket c old.ticket t e es at sound.each in
-    let here : IsEntry c old.ticket x = record { ticket = was.ticket; request = was.request; standing = link } in
+    let here : IsEntry c old.ticket x = record { ticket = was.ticket; request = was.request; standing = tt } in
     record {
       each = rw (is, ticket) (kept-put c old.ticket x es here sound.each);
       ticket = rw ticket sound.ticket;
@@ -171,7 +170,7 @@ pub plan-some : {A : Type 0} (c : RealmConfig) (s : RealmState) (e : PlainEntry)
     → IsReplyPlan c s (record { answer = v.answer; heard = if v.heard then Some d.link else None; settled = Some d })
     turn
 plan-some c s e v turn d is counts link ticket found waits h = record {
-  settles = (link, rw (ticket, found) waits, rw is at h.from);
+  settles = (link, rw (ticket, found) waits);
   hears = link-heard c d.link v.heard link;
   answers = rw (ticket, found) (rw (is, counts) at h.answers);
   silent = λ none. absurd (let k : Some d.done ≡ None = sym is ∙ h.silent none in cc);

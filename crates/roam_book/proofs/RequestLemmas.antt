@@ -14,7 +14,7 @@ use Rattle.roam_pending.proofs.TestLemmas.{differs}
 use Rattle.roam_pending.proofs.ChangeLemmas.{find-passes, found-is}
 use Rattle.roam_pending.proofs.ClientLemmas.{client-without, key-equal, without_client-found}
 use Rattle.roam_book.specs.Private.NewEntry.{HasNext, bound_way, freed_link, target_at, way_link}
-use Rattle.roam_book.specs.Conversing.{bound_link, bound_target, new_target, rests_by, rests_chosen}
+use Rattle.roam_book.specs.Conversing.{bound_target, new_target, rests_by, rests_chosen}
 use Rattle.roam_book.specs.Shares.{share_taken}
 use Rattle.roam_book.specs.OnRequest.{at_target, coa_links, held_reply, is_reverse, new_request, of_key, targets}
 use Rattle.roam_book.specs.RealmConfig.{RealmConfig, IsLink, service_of}
@@ -75,11 +75,10 @@ targets-links c q =
 targets-way :
     {A : Type 0} (c : RealmConfig) (now : ℕ) (es : List PlainEntry) (n : RealmNumbers A) (o : Option Replaced)
     (q : PlainRequest) → IsSound c es n → IsEntryList es → CountsAsGone o es
-    → IfSome (bound_link c q es) (λ l. IsLink c l)
     → option_map (λ t. t.link) (new_target c now (state_of es n) (besides (gone_ticket o) es) q (targets c q))
     ≡ way_link c now n.rests.items n.lanes.items (freed_link o) q es (targets c q)
-targets-way c now es n o q sound list gone bound =
-    way-is c now es n o q (targets c q) sound list gone (targets-links c q) bound
+targets-way c now es n o q sound list gone =
+    way-is c now es n o q (targets c q) sound list gone (targets-links c q)
 
 -- a new request, while there is a ticket
 pub in-else : (b : Bool) (x y : Turn) → b ≡ false → cond b x y ≡ y
@@ -91,7 +90,7 @@ in-then b x y h = rw h refl
 new-request-is :
     (c : RealmConfig) (now : ℕ) (s : RealmState) (es : List PlainEntry) (q : PlainRequest)
     (bound : Bool) (found : Option Target) → s.ticket ≢ 2 ^ 63 → share_taken c es q ≡ false
-    → is_some (bound_target c s es q) ≡ bound
+    → is_some (bound_target c s es q (targets c q)) ≡ bound
     → new_target c now s es q (targets c q) ≡ found
     → new_request c now s es q ≡ at_target c now (with_rests s (rests_by c now s.rests bound found)) es q found
 new-request-is c now s es q bound found ne share bound_is is =
@@ -115,43 +114,42 @@ pub at-open :
     (o : Option Replaced) (q : PlainRequest) (freed : Option Link) (l : Link) (bound : Bool) → IsSound c es n
     → IsEntryList es
     → CountsAsGone o es → n.ticket ≢ 2 ^ 63 → share_taken c (besides (gone_ticket o) es) q ≡ false
-    → IfSome (bound_link c q es) (λ l. IsLink c l)
     → freed ≡ freed_link o
     → Some l ≡ way_link c now n.rests.items n.lanes.items freed q es (targets c q)
-    → bound ≡ is_some (bound_way c n.lanes.items freed q es)
+    → bound ≡ is_some (bound_way c n.rests.items n.lanes.items freed q es (targets c q))
     → (new_request c now (state_of es n) (besides (gone_ticket o) es) q
     ≡ at_target c now (with_rests (state_of es n) (rests_chosen c now n.rests.items bound l))
     (besides (gone_ticket o) es) q
     (Some (target_at c (cursors_of n.lanes.items) (besides (gone_ticket o) es) l)))
     × HasNext c (cursors_of n.lanes.items) (besides (gone_ticket o) es) l
-at-open c now es n o q freed l bound sound list gone ne share link same_freed found bound_there =
+at-open c now es n o q freed l bound sound list gone ne share same_freed found bound_there =
     let mid = besides (gone_ticket o) es in
     let links = targets c q in
     let here : way_link c now n.rests.items n.lanes.items (freed_link o) q es links ≡ Some l =
     subst (λ (x : Option Link). way_link c now n.rests.items n.lanes.items x q es links ≡ Some l) same_freed
     (sym found) in
-    let at = targets-way c now es n o q sound list gone link ∙ here in
+    let at = targets-way c now es n o q sound list gone ∙ here in
     let target = target-is c now (state_of es n) mid q links l _ refl at in
-    let bound_is = bound-is c es n o q sound list gone link
-    ∙ ap (λ (x : Option Link). is_some (bound_way c n.lanes.items x q es)) (sym same_freed) ∙ sym bound_there in
+    let bound_is = bound-is c es n o q links sound list gone (targets-links c q)
+    ∙ ap (λ (x : Option Link). is_some (bound_way c n.rests.items n.lanes.items x q es links)) (sym same_freed)
+    ∙ sym bound_there in
     (new-request-is c now (state_of es n) mid q bound _ ne share bound_is target.0, target.1)
 
 pub at-none :
     {A : Type 0} (c : RealmConfig) (now : ℕ) (es : List PlainEntry) (n : RealmNumbers A)
     (o : Option Replaced) (q : PlainRequest) (freed : Option Link) → IsSound c es n → IsEntryList es
     → CountsAsGone o es → n.ticket ≢ 2 ^ 63 → share_taken c (besides (gone_ticket o) es) q ≡ false
-    → IfSome (bound_link c q es) (λ l. IsLink c l)
     → freed ≡ freed_link o
     → None ≡ way_link c now n.rests.items n.lanes.items freed q es (targets c q)
     → new_request c now (state_of es n) (besides (gone_ticket o) es) q
     ≡ refuses refusal.NoIdentifier
-at-none c now es n o q freed sound list gone ne share link same_freed found =
+at-none c now es n o q freed sound list gone ne share same_freed found =
     let mid = besides (gone_ticket o) es in
     let links = targets c q in
     let here : way_link c now n.rests.items n.lanes.items (freed_link o) q es links ≡ None =
     subst (λ (x : Option Link). way_link c now n.rests.items n.lanes.items x q es links ≡ None) same_freed
     (sym found) in
-    let at = targets-way c now es n o q sound list gone link ∙ here in
+    let at = targets-way c now es n o q sound list gone ∙ here in
     new-request-is c now (state_of es n) mid q _ None ne share refl (no-target _ at)
 
 -- the entry of a request's key counts as gone, and the key is then free

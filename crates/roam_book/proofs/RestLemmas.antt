@@ -1,5 +1,5 @@
 -- What the events of a realm make of how its links rest.
-use Rattle.std.proofs.Common.{◌≡◌, ℕ, zero, suc, ◌+◌, ◌==◌, ◌&&◌, ◌^◌, Bool, true, false, List, [], ◌∷◌, Option, Some, None, refl, ap, sym, ◌∙◌, arith, cond, get_or, set, length, replicate, ltb, not}
+use Rattle.std.proofs.Common.{◌≡◌, ℕ, zero, suc, ◌+◌, ◌==◌, ◌&&◌, ◌^◌, Bool, true, false, List, [], ◌∷◌, Option, Some, None, refl, ap, ◌∙◌, arith, cond, get_or, set, length, replicate, ltb, not}
 use Rattle.std.specs.Prelude.{is_some, nat_eq, option_map}
 use Rattle.std.specs.Cmp.Lexicographic.{pointwise}
 use Rattle.std.specs.List.{AllByRecursion, filter}
@@ -75,9 +75,11 @@ module _ (c : RealmConfig) (K : List Rest → Type 0)
       either (After K s) (s.ticket == 2 ^ 63) _ _ k
       (either (After K s) (share_taken c es q) _ _ k
       (at_target-keeps now s
-      (with_rests s (rests_for c now s.rests (bound_target c s es q) (new_target c now s es q (targets c q)))) es q
+      (with_rests s (rests_for c now s.rests (bound_target c s es q (targets c q))
+      (new_target c now s es q (targets c q)))) es q
       (new_target c now s es q (targets c q)) k
-      (rests_by-keeps now s.rests (is_some (bound_target c s es q)) (new_target c now s es q (targets c q)) k)))
+      (rests_by-keeps now s.rests (is_some (bound_target c s es q (targets c q)))
+      (new_target c now s es q (targets c q)) k)))
   nak_or_new-keeps now s q (Some why) k = k
 
   of_key-keeps : (now : ℕ) (s : RealmState) (named : Option ℕ) (q : PlainRequest)

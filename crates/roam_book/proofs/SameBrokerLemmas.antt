@@ -1,6 +1,6 @@
 -- What names a realm, and whether a peer's Access-Requests need a Message-Authenticator, a realm's written broker
 -- doesn't look at.
-use Rattle.std.proofs.Common.{◌≡◌, ℕ, zero, suc, ◌+◌, ◌-◌, ◌%◌, ◌^◌, ◌==◌, nat_lt, nat_eq, Bool, not, List, [], ◌∷◌, ◌++◌, length, map, Option, Some, None, unwrap_or, slice_get, slice_index, slice_index_or, slice_set, if◌then◌else◌, refl, ap, sym, ◌∙◌, arith, append-nil, append_assoc}
+use Rattle.std.proofs.Common.{◌≡◌, ℕ, zero, suc, ◌+◌, ◌-◌, ◌%◌, ◌^◌, ◌==◌, nat_lt, nat_eq, Bool, not, List, [], ◌∷◌, ◌++◌, length, map, Option, Some, None, unwrap_or, slice_get, slice_index, slice_index_or, slice_set, if◌then◌else◌, refl, ap, sym, ◌∙◌, arith, append-nil, append_assoc, is_some}
 use Rattle.std.proofs.lemmas.List.{length-append, length-map, nil_from_length}
 use Rattle.std.specs.Cmp.Lexicographic.{pointwise}
 use Rattle.std.specs.List.{filter}
@@ -38,15 +38,16 @@ use Rattle.roam_route.specs.Shapings.{shaping_between}
 use Rattle.roam_book.specs.Shapings.{removed_for, shaping_of, shaping_to}
 use Rattle.roam_book.specs.Shares.{share_taken}
 use Rattle.roam_book.specs.OneRealm.{RealmEvent, request_came, reply_came, tick_came, on_event, one_realm_run}
-use Rattle.roam_book.specs.OnReply.{counted, counted_peer, judge, on_reply, once_returned, return_reply, returned_octets, returning, to_entry, to_standing}
+use Rattle.roam_book.specs.OnReply.{counted, counted_peer, judge, on_reply, once_returned, return_reply, returned_octets, returning, to_entry, to_standing, once_heard_from, shows_life}
 use Rattle.roam_book.specs.OnRequest.{admit, at_target, coa_links, first_seen, forwarded_entry, forwarded_octets, is_reverse, make_way, nak_octets, nak_or_new, new_request, of_key, on_request, once_forwarded, packet_to_link, position_after, drawn_at, packet_to_requester, held_reply, reverse_cause, targets}
 use Rattle.roam_book.specs.OnTick.{Progress, as_turn, due_each, due_entry, due_one, due_standing, fail_over, given_up, given_up_at, on_tick, once_refused, silent, without_entry}
 use Rattle.roam_book.specs.RealmConfig.{RealmConfig, later_targets, link_endpoint, link_place, link_secret, links_from, nowhere, requester_secret, seal_required, service_of}
-use Rattle.roam_book.specs.RealmState.{RealmState, Target, chosen_target, first_target, is_used_on, next_toward, ready_links, this_or, with_entries, with_next_ticket}
+use Rattle.roam_book.specs.RealmState.{RealmState, Target, chosen_target, first_target, is_used_on, next_toward, ready_links, this_or, with_entries, with_next_ticket, with_rests}
 use Rattle.roam_book.specs.Reload.{Carries}
-use Rattle.roam_book.specs.Rests.{after_choice, after_silence, awake, is_resting, once_chosen, once_silent, rest_of, stands_back, with_rest}
-use Rattle.roam_book.specs.Turn.{Turn, in_time, packets_of, refuses, sends, state_after}
+use Rattle.roam_book.specs.Rests.{after_choice, after_silence, awake, is_resting, once_chosen, once_silent, rest_of, stands_back, after_sign, has_moment, once_heard, signs_of}
+use Rattle.roam_book.specs.Turn.{Turn, in_time, packets_of, refuses, sends, state_after, hears}
 use Rattle.roam_book.specs.declared.state.rest.Rest.{Rest}
+use Rattle.roam_book.specs.Conversing.{asked_state, bound_link, bound_links, bound_target, new_target, rests_by, rests_chosen, rests_for, untried}
 use Rattle.roam_book.proofs.TargetLemmas.{cause_same, target_same}
 
 -- a part of a configuration without what isn't looked at
@@ -133,9 +134,6 @@ module _ (c : RealmConfig) where
   -- rests
   rest_same : (rests : List Rest) (l : Link) → rest_of (bare c) rests l ≡ rest_of c rests l
   rest_same rests l = λ i. slice_index_or rests (at l i) awake
-
-  with_same : (rests : List Rest) (l : Link) (r : Rest) → with_rest (bare c) rests l r ≡ with_rest c rests l r
-  with_same rests l r = λ i. slice_set rests (at l i) r
 
   back_same : (now : ℕ) (rests : List Rest) (l : Link) → stands_back (bare c) now rests l ≡ stands_back c now rests l
   back_same now rests l = λ i. is_resting now (rest_same rests l i)
@@ -253,9 +251,9 @@ module _ (c : RealmConfig) where
       else links_from c (service_of (packet_of q.octets).code) 0
 
   -- conversations
-  bound_same : (s : RealmState) (entries : List PlainEntry) (q : PlainRequest) →
-      bound_target (bare c) s entries q ≡ bound_target c s entries q
-  bound_same s entries q = first_same s.cursors entries (only_link (bound_link c q s.entries))
+  bound_same : (s : RealmState) (entries : List PlainEntry) (q : PlainRequest) (links : List Link) →
+      bound_target (bare c) s entries q links ≡ bound_target c s entries q links
+  bound_same s entries q links = first_same s.cursors entries (bound_links (bound_link c q s.entries) links)
 
   untried_same : (rests : List Rest) (q : PlainRequest) (links : List Link) →
       untried (bare c) rests q links ≡ untried c rests q links
@@ -269,7 +267,7 @@ module _ (c : RealmConfig) where
       ≡ first_target c s.cursors entries (untried c s.rests q links) =
       ap (first_target (bare c) s.cursors entries) (untried_same s.rests q links)
       ∙ first_same s.cursors entries (untried c s.rests q links) in
-      λ i. option_or (bound_same s entries q i)
+      λ i. option_or (bound_same s entries q links i)
       (option_or (first i) (chosen_same now s.rests s.cursors entries links i))
 
   chosen_by_same : (now : ℕ) (rests : List Rest) (bound : Bool) (l : Link) →
@@ -289,19 +287,19 @@ module _ (c : RealmConfig) where
       ap (new_target (bare c) now s entries q) (targets_same q)
       ∙ new_target_same now s entries q (targets c q) in
       let target : Option Target = new_target c now s entries q (targets c q) in
-      let rests : rests_for (bare c) now s.rests (bound_target (bare c) s entries q)
-      (new_target (bare c) now s entries q (targets (bare c) q))
-      ≡ rests_for c now s.rests (bound_target c s entries q) target =
-      (λ i. rests_for (bare c) now s.rests (bound_same s entries q i) (chosen i))
-      ∙ rests_by_same now s.rests (is_some (bound_target c s entries q)) target in
+      let bound : bound_target (bare c) s entries q (targets (bare c) q) ≡ bound_target c s entries q (targets c q) =
+      ap (bound_target (bare c) s entries q) (targets_same q) ∙ bound_same s entries q (targets c q) in
+      let its : Option Target = bound_target c s entries q (targets c q) in
+      let rests : rests_for (bare c) now s.rests (bound_target (bare c) s entries q (targets (bare c) q))
+      (new_target (bare c) now s entries q (targets (bare c) q)) ≡ rests_for c now s.rests its target =
+      (λ i. rests_for (bare c) now s.rests (bound i) (chosen i)) ∙ rests_by_same now s.rests (is_some its) target in
       let there : at_target (bare c) now (with_rests s (rests_for (bare c) now s.rests
-      (bound_target (bare c) s entries q) (new_target (bare c) now s entries q (targets (bare c) q)))) entries q
+      (bound_target (bare c) s entries q (targets (bare c) q))
+      (new_target (bare c) now s entries q (targets (bare c) q)))) entries q
       (new_target (bare c) now s entries q (targets (bare c) q))
-      ≡ at_target c now (with_rests s (rests_for c now s.rests (bound_target c s entries q) target)) entries q
-      target =
+      ≡ at_target c now (with_rests s (rests_for c now s.rests its target)) entries q target =
       (λ i. at_target (bare c) now (with_rests s (rests i)) entries q (chosen i))
-      ∙ at_target_same now (with_rests s (rests_for c now s.rests (bound_target c s entries q) target)) entries q
-      target in
+      ∙ at_target_same now (with_rests s (rests_for c now s.rests its target)) entries q target in
       λ i. if s.ticket == 2 ^ 63
       then refuses refusal.Exhausted
       else if share_taken c entries q

@@ -53,14 +53,9 @@ pub record IsWaiting (c : RealmConfig) (q : PlainRequest) (l : Link) (i : ℕ) (
   pub packet : IsPacketText forwarded
   pub size : length forwarded ≤ length q.octets + 304
 
--- the link that a held reply came from, if it came from one, is the realm's
-abbrev pub AreLinks : RealmConfig → Option Link → Type 0
-AreLinks c None = Unit {0}
-AreLinks c (Some l) = IsLink c l
-
 abbrev pub StandsWell : RealmConfig → PlainRequest → PlainStanding → Type 0
 StandsWell c q (waiting l id forwarded sends_left deadline signs) = IsWaiting c q l id forwarded
-StandsWell c q (done reply deadline from) = AreLinks c from
+StandsWell c q (done reply deadline from) = Unit {0}
 
 -- an entry of the realm, admitted before the next ticket
 pub record IsEntry (c : RealmConfig) (next : ℕ) (e : PlainEntry) : Type 0 where
@@ -166,9 +161,14 @@ abbrev pub stands_back_at : RealmConfig → Option ℕ → List Rest → Link �
 stands_back_at c None rests l = false
 stands_back_at c (Some now) rests l = stands_back c now rests l
 
--- it is open, and has no moment until which it rests
-abbrev pub is_untried : RealmConfig → List Rest → List LaneState → Option Link → Link → Bool
-is_untried c rests lanes freed l = not (has_moment c rests l) && is_open c lanes freed l
+-- it is the one that alone is wanted; where none is, it has no moment until which it rests
+abbrev pub is_wanted : RealmConfig → List Rest → Option Link → Link → Bool
+is_wanted c rests None l = not (has_moment c rests l)
+is_wanted c rests (Some only) l = same_link only l
+
+-- and it is open
+abbrev pub is_sought : RealmConfig → List Rest → List LaneState → Option Link → Option Link → Link → Bool
+is_sought c rests lanes only freed l = is_wanted c rests only l && is_open c lanes freed l
 
 -- it is open, and doesn't stand back
 abbrev pub is_ready :

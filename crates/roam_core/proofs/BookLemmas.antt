@@ -7,7 +7,7 @@ use Rattle.roam_conf.specs.Config.{ConfigView}
 use Rattle.roam_book.specs.BookView.{BookView, settings_of}
 use Rattle.roam_book.specs.RealmConfig.{RealmConfig, realm_config}
 use Rattle.roam_book.specs.RealmState.{RealmState, opening}
-use Rattle.roam_book.specs.Turn.{Turn, refuses, sends, state_after, Gives}
+use Rattle.roam_book.specs.Turn.{Turn, refuses, sends, state_after, Gives, hears}
 use Rattle.roam_book.specs.OnTick.{on_tick}
 use Rattle.roam_book.specs.declared.packets.answer.Answer.{Answer}
 use Rattle.roam_book.specs.declared.state.start.Start.{Start}

@@ -15,14 +15,15 @@ use Rattle.roam_pending.specs.DueOrder.{due_list}
 use Rattle.roam_pending.specs.PlainEntry.{PlainRequest, PlainStanding, PlainEntry, waiting, done}
 use Rattle.roam_pending.specs.EntryList.{find_client, find_link, find_ticket, first_done, without, without_client}
 use Rattle.roam_book.specs.RealmConfig.{RealmConfig, later_targets, link_endpoint, link_secret, seal_required}
-use Rattle.roam_book.specs.RealmState.{RealmState, Target, chosen_target, opening}
+use Rattle.roam_book.specs.RealmState.{RealmState, Target, chosen_target, opening, with_rests}
 use Rattle.roam_book.specs.Rests.{after_silence}
 use Rattle.roam_book.specs.Turn.{Turn, packets_of, state_after, in_time}
 use Rattle.roam_book.specs.Shares.{share_taken}
 use Rattle.roam_book.specs.OnRequest.{make_way, at_target, is_reverse, nak_or_new, of_key, held_reply, reverse_cause, targets}
-use Rattle.roam_book.specs.OnReply.{judge, passing_to, returning, to_entry, to_standing}
+use Rattle.roam_book.specs.OnReply.{judge, passing_to, returning, to_entry, to_standing, shows_life}
 use Rattle.roam_book.specs.OnTick.{Progress, fail_over, given_up_at, due_standing, due_entry, due_one, due_each}
 use Rattle.roam_book.specs.OneRealm.{RealmEvent, request_came, reply_came, tick_came, on_event, one_realm_run}
+use Rattle.roam_book.specs.Conversing.{bound_target, new_target, rests_for}
 use Rattle.roam_core.specs.Amplification.{Ends, NoAmplification, NoAmplificationFromStart, NoMoreAnswersThanRequests, OnePacketEach, caused_by, counted, counted_links, may_be_caused, may_still_follow, requests_from}
 use Rattle.roam_core.proofs.RequestCauseLemmas.{reply-answers, request-pays}
 use Rattle.roam_core.proofs.SentLemmas.{either}
@@ -188,7 +189,8 @@ due_standing-few : (c : RealmConfig) (now : ℕ) (s : RealmState) (e : PlainEntr
 due_standing-few c now s e (done reply deadline from) = omega arith
 due_standing-few c now s e (waiting l id forwarded sends_left deadline signs) =
     either FewIn (ltb 0 sends_left) _ _ (omega arith)
-    (fail_over-few c now (given_up_at c now l signs s e) e (chosen_target c now (after_silence c now s.rests l signs) s.cursors
+    (fail_over-few c now (given_up_at c now l signs s e) e
+    (chosen_target c now (after_silence c now s.rests l signs) s.cursors
     (without e.ticket s.entries) (later_targets c l)))
 
 due_entry-few : (c : RealmConfig) (now : ℕ) (s : RealmState) (found : Option PlainEntry) →

@@ -19,11 +19,11 @@ use Rattle.roam_pending.specs.PlainEntry.{PlainRequest, PlainStanding, PlainEntr
 use Rattle.roam_pending.proofs.TestLemmas.{compared}
 use Rattle.roam_pending.specs.EntryList.{find_client, find_link, find_ticket, first_done, without_client}
 use Rattle.roam_book.specs.RealmConfig.{RealmConfig}
-use Rattle.roam_book.specs.RealmState.{RealmState, Target, opening}
+use Rattle.roam_book.specs.RealmState.{RealmState, Target, opening, with_rests}
 use Rattle.roam_book.specs.Turn.{Turn, state_after}
 use Rattle.roam_book.specs.Shares.{share_taken}
 use Rattle.roam_book.specs.OnRequest.{draws, make_way, at_target, is_reverse, nak_or_new, new_request, of_key, position_after, reverse_cause}
-use Rattle.roam_book.specs.OnReply.{judge, passing_to, returning, to_entry, to_standing}
+use Rattle.roam_book.specs.OnReply.{judge, passing_to, returning, to_entry, to_standing, shows_life}
 use Rattle.roam_book.specs.OnTick.{Progress, fail_over, once_refused, due_standing, due_entry, due_one, due_each}
 use Rattle.roam_book.specs.OneRealm.{RealmEvent, request_came, reply_came, tick_came, on_event, one_realm_run}
 use Rattle.roam_book.specs.declared.state.start.Start.{Start}
@@ -33,6 +33,7 @@ use Rattle.roam_core.specs.ProvenanceLaws.{DrawsAreApart, WordsAreDrawnInOrder, 
 use Rattle.roam_core.proofs.OriginRequestLemmas.{moves, next_position}
 use Rattle.roam_core.proofs.SentLemmas.{either}
 use Rattle.roam_core.proofs.TicketLemmas.{Places, places, one, later, earlier}
+use Rattle.roam_book.specs.declared.state.rest.Rest.{Rest}
 
 -- the stream stays, or moves on by the words of one draw
 abbrev Moved : ℕ → ℕ → Type 0

@@ -1,5 +1,5 @@
 -- What comes of a reply for the entry that it is for: words of private functions alone (ours).
-use Rattle.std.specs.Prelude.{◌≡◌, ℕ, ◌+◌, Bool, List, [], ◌∷◌, Option, Some, None, IfSome, if◌then◌else◌}
+use Rattle.std.specs.Prelude.{◌≡◌, ℕ, ◌+◌, Bool, List, [], ◌∷◌, Option, Some, None, if◌then◌else◌}
 use Rattle.roam_pending.specs.declared.key.Key.{Key}
 use Rattle.roam_pending.specs.declared.entry.Done.{Done}
 use Rattle.roam_pending.specs.PlainEntry.{PlainEntry, done}
@@ -26,13 +26,11 @@ once_done c s e l heard (Some d) peer = record s {
   rests = after_sign c s.rests l;
 }
 
--- a verdict on an entry's reply from a link does this turn; where nothing is sent the entry isn't done, and where it is
--- done it keeps that link
+-- a verdict on an entry's reply from a link does this turn; where nothing is sent the entry isn't done
 pub record Judges {A : Type 0} (c : RealmConfig) (v : ReplyOutcome A) (e : PlainEntry) (l : Link)
     (s : RealmState) (turn : Turn) : Type 0 where
   pub answers : Answers v.answer s (once_done c s e l v.heard v.done v.counted) turn
   pub silent : packets_of turn ≡ [] → v.done ≡ None
-  pub from : IfSome v.done (λ d. d.from ≡ Some l)
 
 -- it does this turn whatever else the realm holds
 abbrev pub IsVerdict :

@@ -7,14 +7,14 @@ use Rattle.roam_pending.specs.PlainEntry.{PlainEntry, PlainRequest}
 use Rattle.roam_pending.specs.EntryList.{besides, find_client, first_done}
 use Rattle.roam_book.specs.RealmConfig.{RealmConfig, IsLink, links_from}
 use Rattle.std.specs.List.{find}
-use Rattle.std.specs.Option.{option_or}
+use Rattle.std.specs.Option.{option_and_then, option_or}
 use Rattle.roam_ids.specs.LaneState.{LaneState}
-use Rattle.roam_book.specs.Conversing.{asked_state, bound_link, only_link, rests_chosen}
+use Rattle.roam_book.specs.Conversing.{asked_state, bound_link, rests_chosen}
 use Rattle.roam_book.specs.RealmState.{RealmState, Target, next_toward, with_rests}
 use Rattle.roam_book.specs.Shapings.{forwarded_size}
 use Rattle.roam_book.specs.Turn.{Turn, Answers, refuses}
 use Rattle.roam_book.specs.OnRequest.{admit, targets}
-use Rattle.roam_book.specs.Sound.{CountsAsGone, IsRequest, chosen_link, gone_ticket, is_open, is_untried}
+use Rattle.roam_book.specs.Sound.{CountsAsGone, IsRequest, chosen_link, gone_ticket, is_sought}
 use Rattle.roam_book.specs.Private.Memory.{HasBuffers, IsOuts}
 use Rattle.roam_book.specs.declared.state.rest.Rest.{Rest}
 use Rattle.roam_book.specs.declared.rules.admit.Supplies.{Supplies}
@@ -88,23 +88,25 @@ abbrev pub links_of : RealmConfig → Targets → List Link
 links_of c (kind.HomeServers service) = links_from c service 0
 links_of c (kind.AccessServer peer) = link.Coa peer ∷ []
 
--- the link that goes on with a request's conversation, where it is open
+-- the one of some links that goes on with a request's conversation, where it is open
 abbrev pub bound_way :
-    RealmConfig → List LaneState → Option Link → PlainRequest → List PlainEntry → Option Link
-bound_way c lanes freed q entries = find (is_open c lanes freed) (only_link (bound_link c q entries))
+    RealmConfig → List Rest → List LaneState → Option Link → PlainRequest → List PlainEntry → List Link
+    → Option Link
+bound_way c rests lanes freed q entries links =
+    option_and_then (λ bound. find (is_sought c rests lanes (Some bound) freed) links) (bound_link c q entries)
 
 -- the first of some links that is open and has no moment until which it rests, where a request has a conversation
 abbrev pub untried_way :
     RealmConfig → List Rest → List LaneState → Option Link → PlainRequest → List Link → Option Link
 untried_way c rests lanes freed q links =
-    if is_some (asked_state c q) then find (is_untried c rests lanes freed) links else None
+    if is_some (asked_state c q) then find (is_sought c rests lanes None freed) links else None
 
 -- the link of the target of a new request among some links
 abbrev pub way_link :
     RealmConfig → ℕ → List Rest → List LaneState → Option Link → PlainRequest → List PlainEntry → List Link
     → Option Link
 way_link c now rests lanes freed q entries links =
-    option_or (bound_way c lanes freed q entries)
+    option_or (bound_way c rests lanes freed q entries links)
     (option_or (untried_way c rests lanes freed q links) (chosen_link c now rests lanes freed links))
 
 -- the access server among targets is a configured peer

@@ -14,12 +14,11 @@ use Rattle.roam_book.specs.OnReply.{counted, once_heard_from}
 use Rattle.roam_book.specs.declared.rules.replies.Settled.{Settled}
 use Rattle.roam_book.specs.declared.rules.replies.ReplyPlan.{ReplyPlan}
 
--- the entry of the ticket waits on that link of the realm with that Identifier, and is to keep the link
+-- the entry of the ticket waits on that link of the realm with that Identifier
 abbrev pub CanSettle : {A : Type 0} → RealmConfig → List PlainEntry → Option (Settled A) → Type 0
 CanSettle c es None = Unit {0}
 CanSettle c es (Some d) =
     IsLink c d.link × IsSomeAnd (find_ticket d.ticket es) (λ e. waits_at d.link d.id e ≡ true)
-    × (d.done.from ≡ Some d.link)
 
 -- the state once an entry is done: a peer's sessions are counted, if they are, and its link gave a sign of life
 abbrev pub with_done :

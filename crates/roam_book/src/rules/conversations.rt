@@ -3,13 +3,13 @@
 //! A request in the middle of a login goes to the server that sent its Challenge, and isn't used to try whether another
 //! one is back.
 
-ghost use Rattle.std.specs.Prelude.{◌≡◌, ◌∷◌, [], IfSome, is_some, option_map};
+ghost use Rattle.std.specs.Prelude.{◌≡◌, [], IfSome, is_some, option_map};
 ghost use Rattle.std.specs.List.{find};
 ghost use Rattle.roam_book.specs.Conversing.{asked_state, bound_link, round_link, state_in};
 ghost use Rattle.roam_book.specs.Private.NewEntry.{AreConfigured, bound_way, links_of, untried_way, way_link};
 ghost use Rattle.roam_book.specs.RealmConfig.{IsLink};
 ghost use Rattle.roam_book.specs.RealmTurn.{IsRealm, entries};
-ghost use Rattle.roam_book.specs.Sound.{IsRequest, is_open, is_untried, shown_request};
+ghost use Rattle.roam_book.specs.Sound.{IsRequest, is_sought, shown_request};
 
 use crate::packets::forwarding::RequestRef;
 use crate::rules::admit_plan::LinkChoice;
@@ -51,7 +51,6 @@ impl<A: Allocator + Copy, E: Entries<A>> RealmBroker<'_, '_, '_, '_, A, E> {
     fn round_link(&self, requester: Requester, state: &[u8]) -> Option<Link>
         requires realm { IsRealm E.Entries self.now }
         ensures round { result ≡ round_link requester state.now (entries E.Entries self.now) }
-        ensures link { IfSome result (λ l. IsLink self.now.settings.now l) }
     {
         let Requester::Peer(peer) = requester else {
             return None;
@@ -68,7 +67,6 @@ impl<A: Allocator + Copy, E: Entries<A>> RealmBroker<'_, '_, '_, '_, A, E> {
         requires request { IsRequest self.now.settings.now (shown_request asked) }
         ensures bound { result ≡ bound_link self.now.settings.now (shown_request asked.entry)
             (entries E.Entries self.now) }
-        ensures link { IfSome result (λ l. IsLink self.now.settings.now l) }
     {
         match asked_state(self.settings, asked) {
             None => None,
@@ -76,43 +74,28 @@ impl<A: Allocator + Copy, E: Entries<A>> RealmBroker<'_, '_, '_, '_, A, E> {
         }
     }
 
-    /// It, where it has a free Identifier, or is `freed`, whether it stands back or not.
-    fn bound_way(&self, asked: RequestRef<'_>, freed: Option<Link>) -> Option<Link>
-        requires realm { IsRealm E.Entries self.now }
-        requires request { IsRequest self.now.settings.now (shown_request asked) }
-        ensures bound { result ≡ bound_way self.now.settings.now self.now.numbers.now.lanes.items freed
-            (shown_request asked.entry) (entries E.Entries self.now) }
-        ensures link { IfSome result (λ l. IsLink self.now.settings.now l) }
-        ensures bound_is_link { IfSome (bound_link self.now.settings.now (shown_request asked.entry)
-            (entries E.Entries self.now)) (λ l. IsLink self.now.settings.now l) }
-    {
-        match self.bound_link(asked) {
-            None => None,
-            Some(link) => {
-                if self.numbers.is_open(self.settings, freed, link) {
-                    Some(link)
-                } else {
-                    None
-                }
-            }
-        }
-    }
-
-    /// The first of some targets that has a free Identifier, or is `freed`, and no moment until which it rests.
-    fn first_untried(&self, targets: Targets, freed: Option<Link>) -> Option<Link>
+    /// The first of some targets that has a free Identifier, or is `freed`, and is the one that alone is wanted; where
+    /// none is, that has no moment until which it rests.
+    fn first_sought(
+        &self,
+        targets: Targets,
+        only: Option<Link>,
+        freed: Option<Link>,
+    ) -> Option<Link>
         requires realm { IsRealm E.Entries self.now }
         requires targets { AreConfigured self.now.settings.now targets }
-        ensures first { result ≡ find (is_untried self.now.settings.now self.now.numbers.now.rests.items
-            self.now.numbers.now.lanes.items freed) (links_of self.now.settings.now targets) }
+        ensures first { result ≡ find (is_sought self.now.settings.now self.now.numbers.now.rests.items
+            self.now.numbers.now.lanes.items only freed) (links_of self.now.settings.now targets) }
         ensures link { IfSome result (λ l. IsLink self.now.settings.now l) }
     {
         match targets {
             Targets::HomeServers(service) => {
-                self.numbers.first_untried(self.settings, service, freed)
+                self.numbers
+                    .first_sought(self.settings, service, only, freed)
             }
             Targets::AccessServer(peer) => {
                 let link = Link::Coa(peer);
-                if self.numbers.is_untried(self.settings, freed, link) {
+                if self.numbers.is_sought(self.settings, only, freed, link) {
                     Some(link)
                 } else {
                     None
@@ -121,7 +104,30 @@ impl<A: Allocator + Copy, E: Entries<A>> RealmBroker<'_, '_, '_, '_, A, E> {
         }
     }
 
-    /// It, where a request goes on with a conversation.
+    /// The one of a request's targets that goes on with its conversation, where it has a free Identifier, or is
+    /// `freed`, whether it stands back or not.
+    fn bound_way(
+        &self,
+        asked: RequestRef<'_>,
+        targets: Targets,
+        freed: Option<Link>,
+    ) -> Option<Link>
+        requires realm { IsRealm E.Entries self.now }
+        requires request { IsRequest self.now.settings.now (shown_request asked) }
+        requires targets { AreConfigured self.now.settings.now targets }
+        ensures bound { result ≡ bound_way self.now.settings.now self.now.numbers.now.rests.items
+            self.now.numbers.now.lanes.items freed (shown_request asked.entry) (entries E.Entries self.now)
+            (links_of self.now.settings.now targets) }
+        ensures link { IfSome result (λ l. IsLink self.now.settings.now l) }
+    {
+        match self.bound_link(asked) {
+            None => None,
+            Some(link) => self.first_sought(targets, Some(link), freed),
+        }
+    }
+
+    /// The first that has a free Identifier, or is `freed`, and no moment until which it rests, where a request goes on
+    /// with a conversation.
     fn untried_way(
         &self,
         asked: RequestRef<'_>,
@@ -138,13 +144,13 @@ impl<A: Allocator + Copy, E: Entries<A>> RealmBroker<'_, '_, '_, '_, A, E> {
     {
         match asked_state(self.settings, asked) {
             None => None,
-            Some(_) => self.first_untried(targets, freed),
+            Some(_) => self.first_sought(targets, None, freed),
         }
     }
 
-    /// The one of a request's targets that is chosen at a moment, where the Identifiers of `freed` count as free: the one
-    /// that goes on with its conversation; else, where it has one, the first that has no moment until which it rests;
-    /// else the usual one.
+    /// The one of a request's targets that is chosen at a moment, where the Identifiers of `freed` count as free: the
+    /// one that goes on with its conversation; else, where it has one, the first that has no moment until which it
+    /// rests; else the usual one.
     pub(crate) fn chosen_way(
         &self,
         now: u64,
@@ -160,13 +166,12 @@ impl<A: Allocator + Copy, E: Entries<A>> RealmBroker<'_, '_, '_, '_, A, E> {
             self.now.numbers.now.lanes.items freed (shown_request asked.entry) (entries E.Entries self.now)
             (links_of self.now.settings.now targets) }
         ensures bound { IfSome result (λ choice. choice.bound
-            ≡ is_some (bound_way self.now.settings.now self.now.numbers.now.lanes.items freed
-            (shown_request asked.entry) (entries E.Entries self.now))) }
+            ≡ is_some (bound_way self.now.settings.now self.now.numbers.now.rests.items
+            self.now.numbers.now.lanes.items freed (shown_request asked.entry) (entries E.Entries self.now)
+            (links_of self.now.settings.now targets))) }
         ensures link { IfSome result (λ choice. IsLink self.now.settings.now choice.link) }
-        ensures bound_is_link { IfSome (bound_link self.now.settings.now (shown_request asked.entry)
-            (entries E.Entries self.now)) (λ l. IsLink self.now.settings.now l) }
     {
-        if let Some(link) = self.bound_way(asked, freed) {
+        if let Some(link) = self.bound_way(asked, targets, freed) {
             return Some(LinkChoice { link, bound: true });
         }
         if let Some(link) = self.untried_way(asked, targets, freed) {

@@ -4,7 +4,7 @@ ghost use Rattle.std.specs.Prelude.{◌≡◌, ℕ, [], ◌∷◌, true, length,
 ghost use Rattle.std.specs.List.{find};
 ghost use Rattle.roam_book.specs.RealmConfig.{IsLink, link_count, links_from, server_links};
 ghost use Rattle.roam_book.specs.Sound.{AreOwnLanes, lane_of, has_free, is_freed, is_open, marks_of, chosen_link};
-ghost use Rattle.roam_book.specs.Sound.{is_ready, is_untried};
+ghost use Rattle.roam_book.specs.Sound.{is_ready, is_sought};
 
 use crate::state::realm_numbers::RealmNumbers;
 use crate::state::realm_settings::RealmSettings;
@@ -115,22 +115,23 @@ impl<A: Allocator + Copy> RealmNumbers<A> {
         }
     }
 
-    /// The first of the servers' links of a service that has a free Identifier, or that is `freed`, and no
-    /// moment until which it rests.
-    pub(crate) fn first_untried(
+    /// The first of the servers' links of a service that has a free Identifier, or that is `freed`, and is the one
+    /// that alone is wanted; where none is, that has no moment until which it rests.
+    pub(crate) fn first_sought(
         &self,
         settings: &RealmSettings<'_>,
         service: Service,
+        only: Option<Link>,
         freed: Option<Link>,
     ) -> Option<Link>
         requires count { length self.now.lanes.items ≡ link_count settings.now }
-        ensures first { result ≡ find (is_untried settings.now self.now.rests.items
-            self.now.lanes.items freed) (links_from settings.now service 0) }
+        ensures first { result ≡ find (is_sought settings.now self.now.rests.items
+            self.now.lanes.items only freed) (links_from settings.now service 0) }
         ensures link { IfSome result (λ l. IsLink settings.now l) }
     {
         for server in 0..settings.server_count() {
             let link = service.link(server as u8);
-            if self.is_untried(settings, freed, link) {
+            if self.is_sought(settings, only, freed, link) {
                 return Some(link);
             }
         }

@@ -6,7 +6,7 @@ ghost use Rattle.roam_book.specs.RealmConfig.{IsLink, link_count};
 ghost use Rattle.roam_book.specs.Rests.{after_choice, after_sign, after_silence, has_moment, rest_of};
 ghost use Rattle.roam_book.specs.Rests.{signs_of, with_rest};
 ghost use Rattle.roam_book.specs.Stays.{RestsBecome};
-ghost use Rattle.roam_book.specs.Sound.{is_untried, stands_back_at};
+ghost use Rattle.roam_book.specs.Sound.{is_sought, is_wanted, stands_back_at};
 
 use crate::state::realm_numbers::RealmNumbers;
 use crate::state::realm_settings::RealmSettings;
@@ -60,18 +60,30 @@ impl<A: Allocator + Copy> RealmNumbers<A> {
         self.rest_of(settings, link).until.is_some()
     }
 
-    /// Whether a link has a free Identifier, or is `freed`, and no moment until which it rests.
-    pub(crate) fn is_untried(
+    /// Whether a link is the one that alone is wanted; where none is, whether it has no moment until which it rests.
+    fn is_wanted(&self, settings: &RealmSettings<'_>, only: Option<Link>, link: Link) -> bool
+        requires link { IsLink settings.now link }
+        ensures { result ≡ is_wanted settings.now self.now.rests.items only link }
+    {
+        match only {
+            Some(only) => only == link,
+            None => !self.has_moment(settings, link),
+        }
+    }
+
+    /// Whether a link is wanted, and has a free Identifier, or is `freed`.
+    pub(crate) fn is_sought(
         &self,
         settings: &RealmSettings<'_>,
+        only: Option<Link>,
         freed: Option<Link>,
         link: Link,
     ) -> bool
         requires link { IsLink settings.now link }
         requires count { length self.now.lanes.items ≡ link_count settings.now }
-        ensures { result ≡ is_untried settings.now self.now.rests.items self.now.lanes.items freed link }
+        ensures { result ≡ is_sought settings.now self.now.rests.items self.now.lanes.items only freed link }
     {
-        !self.has_moment(settings, link) && self.is_open(settings, freed, link)
+        self.is_wanted(settings, only, link) && self.is_open(settings, freed, link)
     }
 
     /// Writes how a link rests: a peer's `coa` never does, and the rests stay.

@@ -1,7 +1,7 @@
-use Rattle.std.proofs.Common.{Option, ap, sym, ◌∙◌}
+use Rattle.std.proofs.Common.{List, ap, is_some, sym, ◌∙◌}
 use Rattle.roam_conf.specs.declared.place.Link.{Link}
 use Rattle.roam_book.specs.RealmTurn.{entries, state}
-use Rattle.roam_book.specs.Private.NewEntry.{once_gone, way_link}
+use Rattle.roam_book.specs.Private.NewEntry.{bound_way, once_gone, way_link}
 use Rattle.roam_book.specs.Sound.{shown_request}
 use Rattle.roam_book.proofs.RequestLemmas.{at-none, at-open, share-refused}
 use Rattle.roam_book.proofs.WayLemmas.{chosen-same, straight-way}
@@ -23,7 +23,7 @@ returns-in-None g c =
     let q = shown_request c.args.asked in
     at-none r.settings.now c.args.now es n c.args.gone q
     c.freed_link.result c.requires.realm.sound c.requires.realm.list c.requires.gone c.if-self.false
-    (sym c.is_share_taken.ensures ∙ c.if-is_share_taken.false) c.in-None.ensures.bound_is_link c.freed_link.ensures
+    (sym c.is_share_taken.ensures ∙ c.if-is_share_taken.false) c.freed_link.ensures
     (c.in-None.ensures.chosen
     ∙ ap (way_link r.settings.now c.args.now n.rests.items n.lanes.items c.freed_link.result q es)
     c.requires.new.targets)
@@ -40,10 +40,12 @@ returns-in-Some g c =
     let at = at-open r.settings.now c.args.now es n c.args.gone q
     c.freed_link.result c.in-Some.choice.link c.in-Some.choice.bound c.requires.realm.sound c.requires.realm.list
     c.requires.gone c.if-self.false (sym c.is_share_taken.ensures ∙ c.if-is_share_taken.false)
-    c.in-Some.ensures.bound_is_link c.freed_link.ensures
+    c.freed_link.ensures
     (c.in-Some.ensures.chosen
     ∙ ap (way_link r.settings.now c.args.now n.rests.items n.lanes.items c.freed_link.result q es) new.targets)
-    c.in-Some.ensures.bound in
+    (c.in-Some.ensures.bound
+    ∙ ap (λ (links : List Link). is_some (bound_way r.settings.now n.rests.items n.lanes.items c.freed_link.result q es
+    links)) new.targets) in
     let way = straight-way r.settings.now s q c.args.gone c.in-Some.choice.link c.in-Some.choice.bound new.request
     c.requires.realm.sound.ticket c.if-self.false c.requires.gone new.key c.in-Some.ensures.link
     (at.1) in
