@@ -29,7 +29,7 @@ few : (m n : ℕ) → (if nat_lt 1 m || nat_lt 1 n then Some INVALID_REQUEST els
 few m n is =
     elim (cases_Bool (nat_lt 1 m || nat_lt 1 n)) [
       | inl y ↦ absurd (let k : Some INVALID_REQUEST ≡ None = rw y at is in cc k)
-      | inr no ↦ (grind (arith, nat_tests, no), grind (arith, nat_tests, no))
+      | inr n' ↦ (grind (arith, nat_tests, n'), grind (arith, nat_tests, n'))
     ]
 
 -- just one session is meant

@@ -55,9 +55,9 @@ impl Row {
         let mut octets = [0; 768];
         octets[0] = (asked.peer / 256) as u8;
         octets[1] = (asked.peer % 256) as u8;
-        let named = put_part(&mut octets, 2, asked.nas.address);
-        let named = put_part(&mut octets, named, asked.nas.identifier);
-        let len = put_part(&mut octets, named, asked.id);
+        let addressed = put_part(&mut octets, 2, asked.nas.address);
+        let identified = put_part(&mut octets, addressed, asked.nas.identifier);
+        let len = put_part(&mut octets, identified, asked.id);
         Row { octets, len }
     }
 

@@ -78,6 +78,11 @@ ends_behind number None = record { oldest = number; newest = number; count = 1 }
 ends_behind number (Some ends) =
     record { oldest = ends.oldest; newest = number; count = min (ends.count + 1) (2 ^ 64 - 1) }
 
+-- the newest number of a group, by its ends
+abbrev pub newest_of : Option Ends → Option ℕ
+newest_of None = None
+newest_of (Some ends) = Some ends.newest
+
 -- the ends of a group once a number between these went
 abbrev pub ends_between : Option ℕ → Option ℕ → Ends → Option Ends
 ends_between None None ends = None
