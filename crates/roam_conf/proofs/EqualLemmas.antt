@@ -59,7 +59,10 @@ server_decides a b =
       ap (λ (x : ServerView). x.auth) e,
       (
         ap (λ (x : ServerView). x.acct) e,
-        (ap (λ (x : ServerView). x.secret) e, ap (λ (x : ServerView). x.require_seal) e),
+        (
+          ap (λ (x : ServerView). x.secret) e,
+          ap (λ (x : ServerView). x.require_seal) e,
+        ),
       ),
     ))
     (Decides-and _ _ (endpoint_decides a.auth b.auth)
@@ -126,7 +129,10 @@ peer_decides a b =
                         ap (λ (x : PeerView). x.operator_name) e,
                         (
                           ap (λ (x : PeerView). x.ask_cui) e,
-                          (ap (λ (x : PeerView). x.request_without) e, ap (λ (x : PeerView). x.reply_without) e),
+                          (
+                            ap (λ (x : PeerView). x.request_without) e,
+                            ap (λ (x : PeerView). x.reply_without) e,
+                          ),
                         ),
                       ),
                     ),

@@ -142,7 +142,10 @@ realm_decides a b =
                                             ap (λ (x : RealmView). x.max_sessions) e,
                                             (
                                               ap (λ (x : RealmView). x.rest) e,
-                                              (ap (λ (x : RealmView). x.rest_after) e, ap (λ (x : RealmView). x.servers) e),
+                                              (
+                                                ap (λ (x : RealmView). x.rest_after) e,
+                                                ap (λ (x : RealmView). x.servers) e,
+                                              ),
                                             ),
                                           ),
                                         ),
@@ -249,7 +252,10 @@ config_decides a b =
                               ap (λ (x : ConfigView). x.answer_unnamed) e,
                               (
                                 ap (λ (x : ConfigView). x.fresh) e,
-                                (ap (λ (x : ConfigView). x.peers) e, ap (λ (x : ConfigView). x.realms) e),
+                                (
+                                  ap (λ (x : ConfigView). x.peers) e,
+                                  ap (λ (x : ConfigView). x.realms) e,
+                                ),
                               ),
                             ),
                           ),

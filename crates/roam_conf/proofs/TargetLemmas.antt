@@ -5,7 +5,7 @@ use Rattle.std.proofs.lemmas.List.{length-map, map-append}
 use Rattle.std.proofs.lemmas.Slice.Eq.{bytes_eq-Decides}
 use Rattle.std.specs.Char.{to_ascii_lowercase}
 use Rattle.std.specs.List.{list_any, position_from}
-use Rattle.std.specs.Option.{option_or, option_to_list, IfSome}
+use Rattle.std.specs.Option.{option_or, IfSome}
 use Rattle.std.specs.Str.{bytes_eq, str_to_ascii_lowercase}
 use Rattle.std.specs.declared.vec.Vec.{Vec}
 use Rattle.roam_conf.specs.declared.peer.Peer.{Peer}
@@ -14,9 +14,9 @@ use Rattle.roam_conf.specs.Duplicates.{has_pair, nas_texts, nas_texts_of, same_n
 use Rattle.roam_conf.specs.Index.{all_new, is_marked, of_nobody}
 use Rattle.roam_conf.specs.Lookup.{first_place, first_answer}
 use Rattle.roam_conf.specs.Parts.{shown_peer}
-use Rattle.roam_conf.specs.Targets.{NasPattern, exactly, begins, nas_said, has_nas, same_nas, fronts_to, peer_with_nas, peer_with_operator}
+use Rattle.roam_conf.specs.Targets.{NasPattern, begins, nas_said, has_nas, same_nas, fronts_to, peer_with_nas, peer_with_operator}
 use Rattle.roam_conf.proofs.IndexLemmas.{or_more}
-use Rattle.roam_conf.proofs.NameLemmas.{within, any_append, same_entry, new_or_pair, not_not}
+use Rattle.roam_conf.proofs.NameLemmas.{within, same_entry, new_or_pair, not_not}
 use Rattle.roam_conf.proofs.SuffixLemmas.{is_among}
 
 -- a peer that was noted where it passes a test, in front of what is left
@@ -55,12 +55,6 @@ text_at p texts i text within is =
     let here : drop i texts ≡ text ∷ drop (i + 1) texts = drop-cons texts i text within
     ∙ ap (λ n. get_or texts i text ∷ drop n texts) next ∙ ap (λ t. t ∷ drop (i + 1) texts) (sym is) in
     ap (λ ts. list_any (same_nas p) (map nas_said (map string_bytes ts))) here
-
--- a peer is one of whom a pattern is, by its `nas_id` or its `nas_ids`
-pub has_either : (p : NasPattern) (peer : PeerView) →
-    list_any (same_nas p) (map exactly (option_to_list peer.nas_id))
-    || list_any (same_nas p) (map nas_said peer.nas_ids) ≡ has_nas p peer
-has_either p peer = sym (any_append (same_nas p) (map exactly (option_to_list peer.nas_id)) (map nas_said peer.nas_ids))
 
 -- The lengths of fronts.
 

@@ -24,7 +24,7 @@ fn note_nas_ip(index: &mut Index, alloc: Global, peer: &Peer, place: u16) -> Res
 {
     match peer.nas_ip {
         Some(ip) => {
-            let key = row_of(alloc, &ip)?;
+            let key = row_of(alloc, ip.as_slice())?;
             note_key(index, key, place)
         }
         None => Ok(()),

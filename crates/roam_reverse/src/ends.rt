@@ -1,6 +1,6 @@
 //! The ends of groups.
 
-ghost use Rattle.std.specs.Prelude.{◌≡◌, ℕ, ◌<◌, ◌≤◌, ◌+◌, ◌^◌, List, None, Some, IsSome, IfSome, option_map};
+ghost use Rattle.std.specs.Prelude.{◌≡◌, ◌<◌, ◌≤◌, ◌+◌, None, Some, IsSome};
 ghost use Rattle.indexmap.specs.IndexMap.{spare};
 ghost use Rattle.roam_reverse.specs.Private.Groups.{PutsRow, ends_behind, ends_left, larger, newest_of};
 ghost use Rattle.roam_reverse.specs.Maps.{ends_at};

@@ -1,7 +1,7 @@
 //! Numbers in groups. Each group is a chain of its numbers in rising order, so that none of them costs more to take out
 //! than another, and whatever is asked of a group costs the same however many there are.
 
-ghost use Rattle.std.specs.Prelude.{◌≡◌, ℕ, ◌<◌, ◌≤◌, ◌+◌, List, Option, None, Some, IsOk, OnOk, option_map};
+ghost use Rattle.std.specs.Prelude.{◌≡◌, ℕ, ◌<◌, ◌+◌, List, Option, None, Some, IsOk, OnOk, option_map};
 ghost use Rattle.roam_reverse.specs.Private.Groups.{Comes, Goes, IsGrouped, IsLargest, count_of, oldest_of};
 ghost use Rattle.roam_reverse.specs.Maps.{HasRoom, groups_of};
 

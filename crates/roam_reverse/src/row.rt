@@ -1,7 +1,6 @@
 //! What is asked as one row of octets, by which sessions are found.
 
 ghost use Rattle.std.specs.Prelude.{◌≡◌, ◌<◌, ◌≤◌, ◌+◌, ◌++◌, IfOk, length, option_map, take};
-ghost use Rattle.roam_reverse.specs.Private.Masks.{narrow};
 ghost use Rattle.roam_reverse.specs.Private.Row.{part_text, row_text, row_under};
 ghost use Rattle.roam_reverse.specs.Short.{shown_short};
 ghost use Rattle.roam_reverse.specs.Kept.{shown_asked, shown_session};

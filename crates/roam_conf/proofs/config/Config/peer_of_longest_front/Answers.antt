@@ -1,4 +1,4 @@
-use Rattle.std.proofs.Common.{◌≡◌, ◌+◌, ◌-◌, ◌∙◌, suc, length, map, take, None, sym, ap, arith}
+use Rattle.std.proofs.Common.{◌≡◌, ◌+◌, ◌-◌, ◌∙◌, length, map, take, None, sym, ap, arith}
 use Rattle.std.specs.Option.{option_or}
 use Rattle.roam_conf.specs.Lookup.{first_answer}
 use Rattle.roam_conf.specs.Parts.{shown_peer}
