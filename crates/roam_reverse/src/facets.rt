@@ -172,7 +172,8 @@ impl<A: Allocator + Copy> Facets<A> {
         self.groups_for(asked).oldest(Row::of(asked).as_slice())
     }
 
-    /// The ticket of the oldest session of the peer that has most; of several that have most, of the oldest of all theirs.
+    /// The ticket of the oldest session of the peer that has most; of several that have most, of the oldest of
+    /// all theirs.
     pub(crate) fn oldest_of_most(&self) -> Option<u64>
         ensures { IsLargest (groups_of self.now.by_peer) result }
     {

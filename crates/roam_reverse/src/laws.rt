@@ -10,8 +10,8 @@ ghost use Rattle.roam_reverse.specs.SessionLaws.{OthersStayOpen, OthersThanThese
 ghost use Rattle.roam_reverse.specs.TargetLaws.{NamelessIsForNone, NamesAreTheTargets, OperatorNamesTheTarget};
 ghost use Rattle.roam_reverse.specs.TargetLaws.{TargetTakesRequests};
 
-/// The target takes reverse requests and is named: by the Operator-Name, where that counts, else by each name of an access
-/// server that is there.
+/// The target takes reverse requests and is named: by the Operator-Name, where that counts, else by each name of
+/// an access server that is there.
 pub fn target_is_named()
     ensures takes { TargetTakesRequests }
     ensures operator { OperatorNamesTheTarget }

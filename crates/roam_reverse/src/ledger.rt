@@ -80,9 +80,9 @@ impl<A: Allocator + Copy> Sessions<A> {
         self.chain.count(asked)
     }
 
-    /// Makes all growth that the change by an Accounting-Request of a peer wants, where names of access servers count or
-    /// not, and changes no session. Then [`Sessions::apply_prepared`] always answers. Memory is wanted only where the
-    /// request opens a session that isn't there.
+    /// Makes all growth that the change by an Accounting-Request of a peer wants, where names of access servers
+    /// count or not, and changes no session. Then [`Sessions::apply_prepared`] always answers. Memory is wanted
+    /// only where the request opens a session that isn't there.
     pub fn prepare(
         &mut self,
         own: bool,
@@ -185,8 +185,8 @@ impl<A: Allocator + Copy> Sessions<A> {
         }
     }
 
-    /// Adds a session where there is room, last: where there is then one more than may be, the oldest of the peer that has
-    /// most goes.
+    /// Adds a session where there is room, last: where there is then one more than may be, the oldest of the peer
+    /// that has most goes.
     fn open(&mut self, new: NewSession<A>)
         requires { 0 < self.old.spare }
         ensures limit { self.new.limit ≡ self.old.limit }

@@ -45,8 +45,8 @@ fn peer_of_operator(config: &Config, operator: &[u8]) -> Option<u16>
     }
 }
 
-/// The peer that is named: by the Operator-Name, where there is one and some peer has one, else by the names of the access
-/// server.
+/// The peer that is named: by the Operator-Name, where there is one and some peer has one, else by the names of
+/// the access server.
 fn peer_named(config: &Config, operator: Option<&[u8]>, names: NasName<'_>) -> Option<u16>
     ensures { result ≡ peer_named (shown config.now).peers (option_map (λ value. value.now) operator.entry)
         (shown_names names.entry) }
@@ -69,9 +69,9 @@ fn with_coa(config: &Config, peer: Option<u16>) -> Option<u16>
     }
 }
 
-/// The index of the peer that a reverse request is for: the one that its Operator-Name names, where it has one and some peer
-/// has an `operator_name`, else the one that its NAS-IP-Address and its NAS-Identifier name; if that takes reverse
-/// requests. Takes no memory.
+/// The index of the peer that a reverse request is for: the one that its Operator-Name names, where it has one
+/// and some peer has an `operator_name`, else the one that its NAS-IP-Address and its NAS-Identifier name; if
+/// that takes reverse requests. Takes no memory.
 #[tactic(auto, unfolding(crate::specs::Target::target))]
 pub fn target(config: &Config, request: &View<'_>) -> Option<u16>
     ensures value { result ≡ target (shown config.now).peers request.now.attributes }

@@ -13,8 +13,8 @@ use crate::short::{KeptShort, Short};
 use roam_wire::NoMemory;
 use std::alloc::Allocator;
 
-/// An open session: its peer, the names of its access server, where they count, and the octets of its Acct-Session-Id (RFC
-/// 2866, section 5.5).
+/// An open session: its peer, the names of its access server, where they count, and the octets of its
+/// Acct-Session-Id (RFC 2866, section 5.5).
 #[derive(Drop)]
 pub(crate) struct OpenSession<A: Allocator> {
     pub(crate) peer: u16,

@@ -28,7 +28,8 @@ impl Model for Row {
     ghost invariant = { λ r. r.len ≤ 768 };
 }
 
-/// Writes a part behind others: an octet 0 where it isn't there, else its size and 1, and the part. Gives where it ends.
+/// Writes a part behind others: an octet 0 where it isn't there, else its size and 1, and the part. Gives where
+/// it ends.
 fn put_part(buffer: &mut [u8; 768], at: usize, part: Option<Short<'_>>) -> usize
     requires { at ≤ 514 }
     ensures text { take result buffer.new

@@ -1,5 +1,6 @@
-//! Reverse requests to realms with own sessions and without, and what they are told. The requests, the configurations and the
-//! expected answers are those of worked exchanges that were computed apart from the program.
+//! Reverse requests to realms with own sessions and without, and what they are told. The requests, the
+//! configurations and the expected answers are those of worked exchanges that were computed apart from the
+//! program.
 
 use crate::own_rows::ROWS;
 use crate::requests::octets;
@@ -36,8 +37,8 @@ fn counts(config: &Config) -> bool {
     }
 }
 
-/// What a request to a realm is told: the peer that it is forwarded to, or the cause why it isn't. Only the first realm has
-/// a ledger.
+/// What a request to a realm is told: the peer that it is forwarded to, or the cause why it isn't. Only the first
+/// realm has a ledger.
 fn told(
     rt: &impl Abort,
     alloc: Global,

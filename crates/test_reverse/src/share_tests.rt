@@ -1,5 +1,6 @@
-//! Who makes way in a ledger of four at most. What is expected was worked out by hand from the rule: the new session goes last, and
-//! the oldest of the peer that has most makes way, of several that have most the oldest of all theirs.
+//! Who makes way in a ledger of four at most. What is expected was worked out by hand from the rule: the new
+//! session goes last, and the oldest of the peer that has most makes way, of several that have most the oldest of
+//! all theirs.
 
 use crate::requests::{
     INTERIM_01, ON, START_01, START_02, START_03, START_EMPTY, apply, is_open, key,
