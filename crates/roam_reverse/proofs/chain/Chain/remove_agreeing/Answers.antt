@@ -1,4 +1,5 @@
-use Rattle.std.proofs.Common.{◌≡◌, refl, sym, ◌∙◌, arith}
+use Rattle.std.proofs.Common.{◌≡◌, ℕ, List, Option, refl, sym, ap, ◌∙◌, arith}
+use Rattle.std.specs.Prelude.{is_some}
 use Rattle.roam_reverse.specs.Kept.{shown_asked}
 use Rattle.roam_reverse.specs.Stands.{session_at}
 use Rattle.roam_reverse.proofs.NeighbourLemmas.{held-some}
@@ -17,7 +18,7 @@ loop-ticket-init g c = record {
 pub loop-ticket-preserved : goal.loop-ticket-preserved
 loop-ticket-preserved g c =
     let old = c.loop-ticket.invariant in
-    let id = rw c.requires.no_id (sym old.sound.no_ids) in
+    let id = ap (λ (o : Option (List ℕ)). is_some o) c.requires.no_id ∙ sym old.sound.no_ids in
     let one = c.in-Some.ensures (session_at c.loop-ticket.self) old.sound.of_peer id in
     record {
       sound = c.remove.ensures.sound;
@@ -31,13 +32,13 @@ loop-ticket-preserved g c =
 pub remove-requires-clause-held : goal.remove-requires-clause-held
 remove-requires-clause-held g c =
     let old = c.loop-ticket.invariant in
-    let id = rw c.requires.no_id (sym old.sound.no_ids) in
+    let id = ap (λ (o : Option (List ℕ)). is_some o) c.requires.no_id ∙ sym old.sound.no_ids in
     let one = c.in-Some.ensures (session_at c.loop-ticket.self) old.sound.of_peer id in
     held-some (session_at c.loop-ticket.self c.in-Some.ticket) one.0 one.1
 
 pub returns-clause-sessions : goal.returns-clause-sessions
 returns-clause-sessions g c =
     let old = c.loop-ticket.invariant in
-    let id = rw c.requires.no_id (sym old.sound.no_ids) in
+    let id = ap (λ (o : Option (List ℕ)). is_some o) c.requires.no_id ∙ sym old.sound.no_ids in
     sym (none-rest (shown_asked c.args.asked) (session_at c.loop-ticket.self)
     (c.in_default.ensures (session_at c.loop-ticket.self) old.sound.of_peer id)) ∙ old.rest
