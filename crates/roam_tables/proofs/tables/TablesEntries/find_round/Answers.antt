@@ -1,7 +1,6 @@
 use Rattle.std.proofs.Common.{◌∙◌, ap, refl, sym}
 use Rattle.roam_tables.specs.Private.Rounds.{run_at, tickets_of}
 use Rattle.roam_tables.proofs.RoundFoundLemmas.{no_round_found, round_found}
-use Rattle.roam_tables.proofs.TablesLemmas.{tables_list}
 use Rattle.roam_tables.proofs.tables.TablesEntries.find_round.Goals as goal
 
 pub returns-in-None-clause-found : goal.returns-in-None-clause-found
