@@ -30,7 +30,7 @@ rises_at (x ∷ xs) (suc k) (suc i) d rises lt within = rises_at xs k i d rises.
 
 module _ (peer : ℕ) (state : List ℕ) where
   -- the entry of a ticket, where it keeps the round
-  pub round_at : List PlainEntry → ℕ → Option PlainEntry
+  abbrev pub round_at : List PlainEntry → ℕ → Option PlainEntry
   round_at es u = option_and_then (if_round peer state) (find_ticket u es)
 
   front_at : (e : PlainEntry) (es : List PlainEntry) → round_at (e ∷ es) e.ticket ≡ if_round peer state e

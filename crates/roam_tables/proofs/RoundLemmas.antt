@@ -36,7 +36,7 @@ stayed r t R from rise just = record {
 
 module _ (hash : PlainEntry → Option ℕ) where
   -- what an entry has, if there is one
-  pub hash_if : Option PlainEntry → Option ℕ
+  abbrev pub hash_if : Option PlainEntry → Option ℕ
   hash_if o = option_and_then hash o
 
   some_hash : (o : Option PlainEntry) (h : ℕ) → hash_if o ≡ Some h

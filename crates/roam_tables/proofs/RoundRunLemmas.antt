@@ -1,11 +1,13 @@
 -- A ticket that comes into the run of a hash, or goes.
-use Rattle.std.proofs.Common.{◌≡◌, ◌≢◌, ◌⊎◌, ℕ, Bool, true, false, List, Option, Some, None, refl, ap, sym, ◌∙◌, subst, inl, inr}
-use Rattle.std.specs.Prelude.{if◌then◌else◌}
+use Rattle.std.proofs.Common.{◌≡◌, ◌≢◌, ◌⊎◌, ℕ, Bool, true, false, List, [], ◌∷◌, Option, Some, None, Result, Ok, Err, refl, ap, sym, ◌∙◌, subst, inl, inr}
+use Rattle.std.specs.Prelude.{if◌then◌else◌, OnOk}
+use Rattle.indexmap.specs.IndexMap.{IndexMap}
 use Rattle.std.specs.Ordering.{nat_cmp}
 use Rattle.roam_pending.specs.ListLaws.{IsIn}
 use Rattle.roam_tables.specs.declared.round_runs.RoundKey.{RoundKey}
+use Rattle.roam_tables.specs.declared.round_runs.RoundRun.{RoundRun}
 use Rattle.roam_tables.specs.Private.Rising.{Adds, Drops, Rises}
-use Rattle.roam_tables.specs.Private.Rounds.{AllRunsRise, Comes, Goes, IsElsewhere, IsJustIn, Joins, Moved, Parts, round_eq, round_key}
+use Rattle.roam_tables.specs.Private.Rounds.{AllRunsRise, Comes, Goes, IsElsewhere, IsJustIn, Joins, Moved, Parts, round_eq, round_key, run_at, run_found, tickets_of}
 use Rattle.roam_tables.proofs.IndexLemmas.{decide}
 use Rattle.roam_tables.proofs.KeyLemmas.{round_equality}
 
@@ -162,3 +164,60 @@ joins_put R S k t ys puts rises adds =
         by : (b : Bool) → round_eq k q ≡ b → (if b then xs else ys) ≡ ys
         by true h = absurd (ne (round_equality.same k q h))
         by false h = refl
+
+-- the tickets of a run that was put, or of the one that was there
+put_tickets : {A : Type 0} (b : Bool) (w o : Option (RoundRun A))
+    → tickets_of (if b then w else o) ≡ (if b then tickets_of w else tickets_of o)
+put_tickets true w o = refl
+put_tickets false w o = refl
+
+pub runs_put : {A H : Type 0} (m n : IndexMap RoundKey (RoundRun A) H) (k : RoundKey) (w : Option (RoundRun A))
+    → ((q : RoundKey) → run_found n q ≡ (if round_eq k q then w else run_found m q))
+    → (q : RoundKey) → run_at n q ≡ (if round_eq k q then tickets_of w else run_at m q)
+runs_put m n k w puts q = ap tickets_of (puts q) ∙ put_tickets (round_eq k q) w (run_found m q)
+
+other_run : (k q : RoundKey) (xs ys : List ℕ) → k ≢ q → (if round_eq k q then xs else ys) ≡ ys
+other_run k q xs ys ne = by (round_eq k q) refl
+  where
+    by : (b : Bool) → round_eq k q ≡ b → (if round_eq k q then xs else ys) ≡ ys
+    by true h = absurd (ne (round_equality.same k q h))
+    by false h = rw h refl
+
+-- a run of one ticket begins
+pub begun : (R S : RoundKey → List ℕ) (k : RoundKey) (t : ℕ) → R k ≡ []
+    → ((q : RoundKey) → S q ≡ (if round_eq k q then (t ∷ []) else R q)) → Joins k t R S
+begun R S k t none puts =
+    joins_put R S k t (t ∷ []) puts (tt, tt)
+    (subst (λ (xs : List ℕ). Adds xs (t ∷ []) t) (sym none) (record {
+      here = inl refl;
+      keeps = λ d held. absurd held;
+      only = λ d held. elim held as (λ _. (t ≡ d) ⊎ IsIn d []) [ inl e ↦ inl e | inr h ↦ absurd h ];
+    }))
+
+-- a ticket goes out of a run
+pub parts_put : (R S : RoundKey → List ℕ) (k : RoundKey) (t : ℕ) (ys : List ℕ)
+    → ((q : RoundKey) → S q ≡ (if round_eq k q then ys else R q)) → Rises nat_cmp ys → Drops (R k) ys t
+    → Parts k t R S
+parts_put R S k t ys puts rises drops =
+    let here : S k ≡ ys = puts k ∙ rw (round_equality.itself k) refl in
+    record {
+      rises = subst (Rises nat_cmp) (sym here) rises;
+      drops = subst (λ (xs : List ℕ). Drops (R k) xs t) (sym here) drops;
+      others = λ q ne. puts q ∙ other_run k q ys (R q) ne;
+    }
+
+-- and the run of no ticket goes
+pub parts_closed : (R M S : RoundKey → List ℕ) (k : RoundKey) (t : ℕ) → Parts k t R M → M k ≡ []
+    → ((q : RoundKey) → S q ≡ (if round_eq k q then [] else M q)) → Parts k t R S
+parts_closed R M S k t parts none puts =
+    let here : S k ≡ M k = puts k ∙ rw (round_equality.itself k) (sym none) in
+    record {
+      rises = subst (Rises nat_cmp) (sym here) parts.rises;
+      drops = subst (λ (xs : List ℕ). Drops (R k) xs t) (sym here) parts.drops;
+      others = λ q ne. puts q ∙ other_run k q [] (M q) ne ∙ parts.others q ne;
+    }
+
+-- what two clauses say of a call that went well
+pub on_two : {X E : Type 0} (P Q Z : Type 0) (r : Result X E) → (P → Q → Z) → OnOk r P → OnOk r Q → OnOk r Z
+on_two P Q Z (Ok x) f p q = f p q
+on_two P Q Z (Err e) f p q = tt

@@ -1,9 +1,9 @@
 //! Which tickets keep a round of a conversation: a run of them for the hash of each round.
 
-ghost use Rattle.std.specs.Prelude.{◌≡◌, ◌↔◌, None, Some, IfOk, IsSome, IsTrue, OnErr, OnOk, [], ◌∷◌, option_copied};
+ghost use Rattle.std.specs.Prelude.{◌≡◌, None, Some, IfOk, IsSome, IsTrue, OnErr, OnOk, [], ◌∷◌, option_copied};
 ghost use Rattle.std.specs.Ordering.{nat_cmp};
 ghost use Rattle.roam_pending.specs.ListLaws.{IsIn};
-ghost use Rattle.roam_tables.specs.Private.Rising.{Adds, Drops, Rises};
+ghost use Rattle.roam_tables.specs.Private.Rising.{Adds, Rises};
 ghost use Rattle.roam_tables.specs.Private.Rounds.{Joins, Parts, run_at, run_found};
 
 use crate::queue::{add_ticket, drop_ticket, make_room};

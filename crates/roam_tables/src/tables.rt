@@ -1,12 +1,13 @@
 //! The entries of all realms of a shard in one slab, with indexes and runs beside it.
 
-ghost use Rattle.std.specs.Prelude.{◌≡◌, ℕ, ◌<◌, ◌≤◌, ◌+◌, [], None, OnOk, IfNone, IfOk, IfSome, length, option_and_then};
-ghost use Rattle.roam_pending.specs.Conversations.{if_round, kept_state, last_round};
-ghost use Rattle.roam_pending.specs.EntryList.{IsEntryList, IsNew, find_ticket, put};
+ghost use Rattle.std.specs.Prelude.{◌≡◌, ℕ, ◌<◌, ◌≤◌, ◌+◌, [], None, OnOk, IfNone, IfOk, IfSome, length};
+ghost use Rattle.roam_pending.specs.Conversations.{kept_state};
+ghost use Rattle.roam_pending.specs.EntryList.{IsEntryList, IsNew, put};
 ghost use Rattle.roam_pending.specs.Realms.{RealmBecomes};
-ghost use Rattle.roam_pending.specs.Shown.{seen, shown, shown_standing};
-ghost use Rattle.roam_tables.specs.Private.Rounds.{IsLastOf};
+ghost use Rattle.roam_pending.specs.Shown.{shown, shown_standing};
 ghost use Rattle.roam_tables.specs.Stands.{HasTicket, entries_in, room_in};
+
+mod round_search;
 
 use crate::due_mark::mark_of;
 use crate::entry_index::{
@@ -16,12 +17,12 @@ use crate::entry_index::{
 use crate::growth::grow;
 use crate::realm_queues::RealmQueues;
 use crate::realms::{add_at, add_empty, change_at, no_entries, runs_of, take_at};
-use crate::round_runs::{RoundIndex, RoundKey, RoundRun, run_of};
+use crate::round_runs::{RoundIndex, RoundKey, run_of};
 use crate::rounds::{go, hashes_in, kept_hash, move_round};
 use crate::slots::{Slot, entry_in, exchange, put, send_again, take};
 use indexmap::IndexMap;
 use roam_hash::HashKey;
-use roam_pending::{Due, Entries, Entry, Key, Standing, is_round};
+use roam_pending::{Due, Entries, Entry, Key, Standing};
 use roam_wire::NoMemory;
 use slab::Slab;
 use std::alloc::Allocator;
@@ -124,47 +125,6 @@ impl<A: Allocator + Copy> Tables<A> {
                     Some(due) => Some(due.ticket),
                 }
             }
-        }
-    }
-
-    /// The entry of a ticket, where it keeps a peer's round of this State.
-    fn round_of_ticket(&self, realm: u16, ticket: u64, peer: u16, state: &[u8]) -> Option<&Entry<A>>
-        ensures { seen result ≡ option_and_then (if_round peer state.now)
-            (find_ticket ticket (entries_in self.now realm)) }
-    {
-        let entry = self.find_ticket(realm, ticket)?;
-        if is_round(entry, peer, state) {
-            Some(entry)
-        } else {
-            None
-        }
-    }
-
-    /// Of the tickets of a run the last whose entry keeps a peer's round of this State: the run's last, unless
-    /// different rounds have one hash.
-    fn last_of(&self, realm: u16, run: &RoundRun<A>, peer: u16, state: &[u8]) -> Option<&Entry<A>>
-        ensures { IsLastOf (λ ticket. option_and_then (if_round peer state.now)
-            (find_ticket ticket (entries_in self.now realm))) run.now.tickets.items (seen result) }
-    {
-        let mut left = run.tickets.len();
-        while left > 0 {
-            left -= 1;
-            let ticket = run.tickets[left];
-            if let Some(entry) = self.round_of_ticket(realm, ticket, peer, state) {
-                return Some(entry);
-            }
-        }
-        None
-    }
-
-    /// At how many entries a look for a peer's round of a State looks, besides the index: those of its hash.
-    pub fn round_looks(&self, realm: u16, peer: u16, state: &[u8]) -> usize
-        ensures { result ≡ 0 → last_round peer state.now (entries_in self.now realm) ≡ None }
-    {
-        let hash = self.key.hash_of(peer, state);
-        match run_of(&self.rounds, RoundKey { realm, hash }) {
-            None => 0,
-            Some(run) => run.tickets.len(),
         }
     }
 

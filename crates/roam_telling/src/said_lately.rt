@@ -1,6 +1,6 @@
 //! Of which home servers it was said lately that they answer and are refused.
 
-ghost use Rattle.std.specs.Prelude.{◌≡◌, ◌+◌, ◌^◌, ◌<◌, ◌≤◌, IfSome, IsFalse, IsTrue, length, min, true};
+ghost use Rattle.std.specs.Prelude.{◌≡◌, ◌<◌, IfSome, IsFalse, IsTrue, length};
 ghost use Rattle.std.specs.List.{list_any};
 ghost use Rattle.roam_telling.specs.SaidLately.{is_recent};
 

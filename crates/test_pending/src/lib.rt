@@ -2,6 +2,8 @@
 #![tactic(auto)]
 
 #[cfg(test)]
+mod examples;
+#[cfg(test)]
 mod pending_tests;
 #[cfg(test)]
 mod round_tests;

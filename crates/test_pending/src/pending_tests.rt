@@ -2,10 +2,6 @@
 //!
 //! Which entry is expected is read off the tickets, deadlines, keys and links written here.
 
-use crate::round_tests::{
-    a_look_costs_the_same_whatever_is_held, each_growth_of_a_held_challenge,
-    the_last_by_ticket_counts,
-};
 use roam_conf::{Endpoint, Link, Place};
 use roam_pending::{
     Done, Due, Entries, Entry, Key, Pending, Request, Requester, Standing, Waiting, send_again,
@@ -117,7 +113,7 @@ fn tickets<A: Allocator>(pending: &Pending<A>) -> [Option<u64>; 4] {
     ]
 }
 
-fn entries_stand_in_order_of_ticket<R: Abort + AllocGlobal>(rt: &R) -> Result<(), Fail> {
+pub fn entries_stand_in_order_of_ticket<R: Abort + AllocGlobal>(rt: &R) -> Result<(), Fail> {
     let pending = three(rt.alloc())?;
     assert_eq!(rt; tickets(&pending), [Some(2), Some(5), Some(9), None]);
     Ok(())
@@ -135,7 +131,7 @@ fn gap_of_five<A: Allocator>(pending: &mut Pending<A>) -> [Option<u64>; 4] {
     ]
 }
 
-fn the_gap_of_an_entry_closes<R: Abort + AllocGlobal>(rt: &R) -> Result<(), Fail> {
+pub fn the_gap_of_an_entry_closes<R: Abort + AllocGlobal>(rt: &R) -> Result<(), Fail> {
     let mut pending = three(rt.alloc())?;
     let gap = gap_of_five(&mut pending);
     assert_eq!(rt; gap, [Some(5), None, Some(9), None]);
@@ -159,7 +155,7 @@ fn found<A: Allocator>(pending: &Pending<A>) -> [Option<u64>; 6] {
     ]
 }
 
-fn entries_are_found_by_ticket_and_key<R: Abort + AllocGlobal>(rt: &R) -> Result<(), Fail> {
+pub fn entries_are_found_by_ticket_and_key<R: Abort + AllocGlobal>(rt: &R) -> Result<(), Fail> {
     let pending = three(rt.alloc())?;
     assert_eq!(rt;
         found(&pending),
@@ -183,7 +179,7 @@ fn dues<A: Allocator>(pending: &Pending<A>) -> [Option<u64>; 6] {
     ]
 }
 
-fn due_entries_come_by_deadline_and_ticket<R: Abort + AllocGlobal>(rt: &R) -> Result<(), Fail> {
+pub fn due_entries_come_by_deadline_and_ticket<R: Abort + AllocGlobal>(rt: &R) -> Result<(), Fail> {
     let pending = three(rt.alloc())?;
     assert_eq!(rt;
         dues(&pending),
@@ -221,7 +217,7 @@ fn once_sent<A: Allocator + Copy>(alloc: A, pending: &mut Pending<A>) -> [Option
     ]
 }
 
-fn entry_that_was_sent_again_waits_longer<R: Abort + AllocGlobal>(rt: &R) -> Result<(), Fail> {
+pub fn entry_that_was_sent_again_waits_longer<R: Abort + AllocGlobal>(rt: &R) -> Result<(), Fail> {
     let mut pending = three(rt.alloc())?;
     let sent = once_sent(rt.alloc(), &mut pending);
     assert_eq!(rt; sent, [Some(1), Some(2)]);
@@ -250,7 +246,7 @@ fn once_answered<A: Allocator + Copy>(alloc: A, pending: &mut Pending<A>) -> [Op
     ]
 }
 
-fn entry_that_was_answered_is_done<R: Abort + AllocGlobal>(rt: &R) -> Result<(), Fail> {
+pub fn entry_that_was_answered_is_done<R: Abort + AllocGlobal>(rt: &R) -> Result<(), Fail> {
     let mut pending = three(rt.alloc())?;
     let answered = once_answered(rt.alloc(), &mut pending);
     assert_eq!(rt; answered, [None, Some(5), Some(5), None]);
@@ -271,7 +267,7 @@ fn insert_refused<A: Allocator + Copy>(
     Ok((refused, held, ticket_of(pending.at(2))))
 }
 
-fn each_growth_of_an_insert<R: Abort + AllocGlobal>(rt: &R) -> Result<(), Fail> {
+pub fn each_growth_of_an_insert<R: Abort + AllocGlobal>(rt: &R) -> Result<(), Fail> {
     let refusing = Refusing::new(rt.alloc());
     for n in refusing.each_growth() {
         let mut pending = three(&refusing)?;
@@ -290,7 +286,7 @@ fn each_growth_of_an_insert<R: Abort + AllocGlobal>(rt: &R) -> Result<(), Fail> 
     Ok(())
 }
 
-fn each_growth_of_reserve<R: Abort + AllocGlobal>(rt: &R) -> Result<(), Fail> {
+pub fn each_growth_of_reserve<R: Abort + AllocGlobal>(rt: &R) -> Result<(), Fail> {
     let refusing = Refusing::new(rt.alloc());
     for n in refusing.each_growth() {
         let mut pending = three(&refusing)?;
@@ -307,7 +303,7 @@ fn replaced<A: Allocator + Copy>(alloc: A, pending: &mut Pending<A>) -> bool {
     pending.remove(2).is_some() && add(pending, waiting(alloc, 1, 10, 10)).is_ok()
 }
 
-fn removal_makes_room_for_one_insert<R: Abort + AllocGlobal>(rt: &R) -> Result<(), Fail> {
+pub fn removal_makes_room_for_one_insert<R: Abort + AllocGlobal>(rt: &R) -> Result<(), Fail> {
     let refusing = Refusing::new(rt.alloc());
     let mut pending = three(&refusing)?;
     refusing.refuse_nth(1);
@@ -317,23 +313,5 @@ fn removal_makes_room_for_one_insert<R: Abort + AllocGlobal>(rt: &R) -> Result<(
         done && first == Some(1) && refusing.growths() == 0,
         "no growth is asked for"
     );
-    Ok(())
-}
-
-/// All of them, in one test: a test costs the proof more than an example.
-#[test]
-fn all_examples(rt: HostRuntime) -> Result<(), Fail> {
-    entries_stand_in_order_of_ticket(&rt)?;
-    the_gap_of_an_entry_closes(&rt)?;
-    entries_are_found_by_ticket_and_key(&rt)?;
-    due_entries_come_by_deadline_and_ticket(&rt)?;
-    entry_that_was_sent_again_waits_longer(&rt)?;
-    entry_that_was_answered_is_done(&rt)?;
-    each_growth_of_an_insert(&rt)?;
-    each_growth_of_reserve(&rt)?;
-    removal_makes_room_for_one_insert(&rt)?;
-    a_look_costs_the_same_whatever_is_held(&rt)?;
-    the_last_by_ticket_counts(&rt)?;
-    each_growth_of_a_held_challenge(&rt)?;
     Ok(())
 }

@@ -117,8 +117,8 @@ fn held<A: Allocator + Copy>(alloc: A, count: u16) -> Result<Tables<A>, NoMemory
     Ok(tables)
 }
 
-/// How many entries are looked at for the State of a ticket, and which is found; for one that nobody has, and for another
-/// peer.
+/// How many entries are looked at for the State of a ticket, and which is found; for one that nobody has,
+/// and for another peer.
 fn looks<A: Allocator + Copy>(tables: &Tables<A>, ticket: u16) -> [u64; 4] {
     [
         tables.round_looks(REALM, 3, &state_of(ticket)) as u64,

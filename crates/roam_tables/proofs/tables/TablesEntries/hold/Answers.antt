@@ -34,12 +34,79 @@ change_at-requires-clause-enters g c =
     (λ e. refl) (λ e. refl) c.exchange-marks.result.0 c.exchange-marks.result.1 c.exchange-marks.ensures.from
     c.exchange-marks.ensures.to
 
--- the ticket goes out of the run of what it kept
-just : (g : _) (c : goal.After-hashes_in g)
-    → IsJustIn c.args.realm c.args.ticket c.hashes_in.result.0 (run_at c.self.inside.rounds)
-just g c =
+pub invariant_of-self-in-Some : goal.invariant_of-self-in-Some
+invariant_of-self-in-Some g c =
     let i = c.self.inside in
-    stood_just i.slots i.by_ticket i.by_client i.realms.items c.self.invariant.tables c.args.self.now
+    let r = c.args.realm in
+    let n = c.args.ticket in
+    let noted = sym c.ticket_slot.ensures ∙ c.in-Some.is in
+    let change = with_standing (shown_standing c.args.standing.now) in
+    record {
+      tables = change_sound i.slots i.by_ticket i.by_client i.realms.items c.self.invariant.tables
+          c.args.self.now c.self.view_is r n c.in-Some.at noted change
+          (λ e. refl) (λ e. refl) c.exchange-marks.result.0 c.exchange-marks.result.1
+          c.exchange-marks.ensures.from c.exchange-marks.ensures.to c.exchange-marks.new.slots
+          c.change_at.new.realms.items c.exchange-marks.ensures.puts c.change_at.ensures;
+      rounds = change_rounds i.slots i.by_ticket i.by_client i.realms.items c.self.invariant.tables
+          c.args.self.now c.self.view_is r n c.in-Some.at noted change
+          (λ e. refl) (λ e. refl) c.exchange-marks.result.0 c.exchange-marks.result.1
+          c.exchange-marks.ensures.from c.exchange-marks.ensures.to c.exchange-marks.new.slots
+          c.change_at.new.realms.items c.exchange-marks.ensures.puts c.change_at.ensures
+          (kept_hash i.key) (run_at i.rounds) (run_at c.move_round.new.rounds) c.hashes_in-hashes.result.1
+          c.self.invariant.rounds c.in_ok-move_round.ensures.ok
+          (kept_there i.slots i.by_ticket i.by_client i.realms.items c.self.invariant.tables c.args.self.now
+          c.self.view_is r n c.in-Some.at noted (λ e. kept_hash i.key (change e)) c.hashes_in-hashes.result.1
+          c.hashes_in-hashes.ensures.to);
+    }
+
+pub returns-in_ok-move_round-clause-exchanged : goal.returns-in_ok-move_round-clause-exchanged
+returns-in_ok-move_round-clause-exchanged g c =
+    let i = c.self.inside in
+    one_exchanged i.slots i.by_ticket i.by_client i.realms.items c.self.invariant.tables c.args.self.now
     c.self.view_is c.args.realm c.args.ticket c.in-Some.at
-    (sym c.ticket_slot.ensures ∙ c.in-Some.is) (kept_hash i.key) (run_at i.rounds)
-    c.hashes_in.result.0 c.self.invariant.rounds c.hashes_in.ensures.from
+    (sym c.ticket_slot.ensures ∙ c.in-Some.is) (shown_standing c.exchange-marks.new.standing)
+    c.exchange-marks.ensures.exchanged
+
+pub returns-in_ok-move_round-clause-entries : goal.returns-in_ok-move_round-clause-entries
+returns-in_ok-move_round-clause-entries g c =
+    let i = c.self.inside in
+    change_becomes i.slots i.by_ticket i.by_client i.realms.items c.self.invariant.tables c.args.self.now
+    c.self.view_is c.args.realm c.args.ticket c.in-Some.at
+    (sym c.ticket_slot.ensures ∙ c.in-Some.is) (with_standing (shown_standing c.args.standing.now))
+    (λ e. refl) (λ e. refl) c.exchange-marks.result.0 c.exchange-marks.result.1 c.exchange-marks.ensures.from
+    c.exchange-marks.ensures.to c.exchange-marks.new.slots c.change_at.new.realms.items
+    c.exchange-marks.ensures.puts c.change_at.ensures
+
+pub returns-in_ok-move_round-clause-room : goal.returns-in_ok-move_round-clause-room
+returns-in_ok-move_round-clause-room g c =
+    let i = c.self.inside in
+    change_room i.slots i.by_ticket i.by_client i.realms.items c.self.invariant.tables c.args.self.now
+    c.self.view_is c.args.realm c.args.ticket c.in-Some.at
+    (sym c.ticket_slot.ensures ∙ c.in-Some.is) (with_standing (shown_standing c.args.standing.now))
+    (λ e. refl) (λ e. refl) c.exchange-marks.result.0 c.exchange-marks.result.1 c.exchange-marks.ensures.from
+    c.exchange-marks.ensures.to c.exchange-marks.new.slots c.change_at.new.realms.items
+    c.exchange-marks.ensures.puts c.change_at.ensures c.exchange-marks.ensures.room
+
+pub returns-in_ok-move_round-clause-keeps : goal.returns-in_ok-move_round-clause-keeps
+returns-in_ok-move_round-clause-keeps g c =
+    let i = c.self.inside in
+    change_keeps i.slots i.by_ticket i.by_client i.realms.items c.self.invariant.tables c.args.self.now
+    c.self.view_is c.args.realm c.args.ticket c.in-Some.at
+    (sym c.ticket_slot.ensures ∙ c.in-Some.is) (with_standing (shown_standing c.args.standing.now))
+    (λ e. refl) (λ e. refl) c.exchange-marks.result.0 c.exchange-marks.result.1 c.exchange-marks.ensures.from
+    c.exchange-marks.ensures.to c.exchange-marks.new.slots c.change_at.new.realms.items
+    c.exchange-marks.ensures.puts c.change_at.ensures
+
+pub returns-in_default-clause-exchanged : goal.returns-in_default-clause-exchanged
+returns-in_default-clause-exchanged g c =
+    let i = c.self.inside in
+    nothing_exchanged i.slots i.by_ticket i.by_client i.realms.items c.self.invariant.tables c.args.self.now
+    c.self.view_is c.args.realm c.args.ticket (shown_standing c.args.standing.now)
+    (sym c.ticket_slot.ensures ∙ c.in_default.is)
+
+pub returns-in_default-clause-entries : goal.returns-in_default-clause-entries
+returns-in_default-clause-entries g c =
+    let i = c.self.inside in
+    change_nothing i.slots i.by_ticket i.by_client i.realms.items c.self.invariant.tables c.args.self.now
+    c.self.view_is c.args.realm c.args.ticket (with_standing (shown_standing c.args.standing.now))
+    (sym c.ticket_slot.ensures ∙ c.in_default.is)
