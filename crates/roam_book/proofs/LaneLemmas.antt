@@ -9,10 +9,10 @@ use Rattle.roam_conf.specs.declared.place.Link.{Link}
 use Rattle.roam_ids.specs.LaneState.{LaneState, is_used}
 use Rattle.roam_ids.specs.NextIdentifier.{next_identifier}
 use Rattle.roam_ids.proofs.NextIdentifierLemmas.{next_identifier-is_next, next_identifier-same}
-use Rattle.roam_pending.specs.PlainEntry.{PlainRequest, PlainEntry, PlainStanding, stands_at, stands_done, waiting, done, waits_at, same_link, is_done, has_ticket}
+use Rattle.roam_pending.specs.PlainEntry.{PlainRequest, PlainEntry, PlainStanding, stands_at, stands_done, waiting, done, waits_at, same_link, is_done}
 use Rattle.roam_pending.specs.EntryList.{IsInOrder, IsEntryList, find_ticket, find_link, without, put}
 use Rattle.roam_pending.specs.Realms.{sent_again, waits_on}
-use Rattle.roam_pending.proofs.TestLemmas.{same, all-find, all-weaker}
+use Rattle.roam_pending.proofs.TestLemmas.{same, all-weaker}
 use Rattle.roam_pending.proofs.OrderLemmas.{list-without, without-absent}
 use Rattle.roam_pending.proofs.ChangeLemmas.{find-passes, found-ticket, find-without, put-without}
 use Rattle.roam_pending.proofs.ClientLemmas.{identifier-used}
@@ -23,7 +23,7 @@ use Rattle.roam_book.specs.RealmConfig.{RealmConfig, IsLink, link_place, links_f
 use Rattle.roam_book.specs.RealmState.{Target, next_toward, chosen_target, first_target, ready_links, this_or, is_used_on}
 use Rattle.roam_book.specs.Rests.{stands_back}
 use Rattle.roam_book.specs.declared.state.rest.Rest.{Rest}
-use Rattle.roam_book.specs.Sound.{IsEntry, StandsWell, TellsAt, LanesTell, lane_of, cursors_of, waits_there, chosen_link, is_open, is_ready, standing_place, no_lane}
+use Rattle.roam_book.specs.Sound.{StandsWell, TellsAt, LanesTell, lane_of, cursors_of, waits_there, chosen_link, is_open, is_ready, standing_place, no_lane}
 use Rattle.roam_book.proofs.WaitingLemmas.{waits_as, without-waits, put-waits, tells-same}
 use Rattle.roam_book.proofs.UsedLemmas.{used-tells, freed-none, free_one}
 
@@ -31,9 +31,9 @@ use Rattle.roam_book.proofs.UsedLemmas.{used-tells, freed-none, free_one}
 
 done-stands_nowhere :
     (l : Link) (id : ℕ) (s : PlainStanding) → stands_done s ≡ true → stands_at l id s ≡ false
-done-stands_nowhere l id (waiting link i forwarded sends_left deadline) h =
+done-stands_nowhere l id (waiting link i forwarded sends_left deadline signs) h =
     absurd (let k : false ≡ true = h in cc)
-done-stands_nowhere l id (done reply deadline) h = refl
+done-stands_nowhere l id (done reply deadline from) h = refl
 
 done-waits_nowhere :
     (l : Link) (id : ℕ) (e : PlainEntry) → is_done e ≡ true → waits_at l id e ≡ false
@@ -66,8 +66,8 @@ tells-done c es lanes e is tells =
 
 again-stands :
     (l : Link) (id d : ℕ) (s : PlainStanding) → stands_at l id (waits_on d s) ≡ stands_at l id s
-again-stands l id d (waiting link i forwarded sends_left deadline) = refl
-again-stands l id d (done reply deadline) = refl
+again-stands l id d (waiting link i forwarded sends_left deadline signs) = refl
+again-stands l id d (done reply deadline from) = refl
 
 again-waits :
     (l : Link) (id d : ℕ) (e : PlainEntry) → waits_at l id (sent_again d e) ≡ waits_at l id e
@@ -128,7 +128,7 @@ target-by c cursors es p (l ∷ ls) h =
     ∙ rw h.0 (ap (λ (o : Option Link). cond (p l) (Some l) o) (target-by c cursors es p ls h.1))
 
 -- the same among those that pass a test
-target-among :
+pub target-among :
     (c : RealmConfig) (cursors : List ℕ) (es : List PlainEntry) (p q : Link → Bool) (links : List Link)
     → AllByRecursion (λ l. is_some (next_toward c cursors es l) ≡ p l) links
     → option_map (λ t. t.link) (first_target c cursors es (filter q links))
@@ -143,17 +143,17 @@ target-among c cursors es p q (l ∷ ls) h =
     ]
 
 -- the link of one target, or of another where there is none
-link-or :
+pub link-or :
     (a b : Option Target) → option_map (λ t. t.link) (option_or a b)
     ≡ option_or (option_map (λ t. t.link) a) (option_map (λ t. t.link) b)
 link-or None b = refl
 link-or (Some t) b = refl
 
-or-same : (a b d e : Option Link) → a ≡ d → b ≡ e → option_or a b ≡ option_or d e
+pub or-same : (a b d e : Option Link) → a ≡ d → b ≡ e → option_or a b ≡ option_or d e
 or-same a b d e first second = rw (first, second) refl
 
 -- the target that is chosen is the link that is chosen by such a test
-chosen-by :
+pub chosen-by :
     (c : RealmConfig) (now : ℕ) (rests : List Rest) (cursors : List ℕ) (es : List PlainEntry)
     (p : Link → Bool) (links : List Link)
     → AllByRecursion (λ l. is_some (next_toward c cursors es l) ≡ p l) links
@@ -178,35 +178,35 @@ target-tells c now rests es lanes links list tells are =
     (λ l link. ap is_some (next-tells c es lanes l list tells link)) are)
 
 -- where an entry stands
-placeless-done : (s : PlainStanding) → standing_place s ≡ None → stands_done s ≡ true
-placeless-done (waiting l id forwarded sends_left deadline) is =
+pub placeless-done : (s : PlainStanding) → standing_place s ≡ None → stands_done s ≡ true
+placeless-done (waiting l id forwarded sends_left deadline signs) is =
     absurd (let k : Some (l, id) ≡ None = is in cc)
-placeless-done (done reply deadline) is = refl
+placeless-done (done reply deadline from) is = refl
 
 placed-stands :
     (s : PlainStanding) (l : Link) (id : ℕ) → standing_place s ≡ Some (l, id) → (k : Link) (i : ℕ)
     → stands_at k i s ≡ (same_link l k && id == i)
-placed-stands (waiting l' id' forwarded sends_left deadline) l id is k i =
+placed-stands (waiting l' id' forwarded sends_left deadline signs) l id is k i =
     let place : Some (l', id') ≡ Some (l, id) = is in
     let there : Option (Link × ℕ) → Bool =
     λ o. option_map_or (λ (p : Link × ℕ). same_link p.0 k && p.1 == i) o false in
     ap there place
-placed-stands (done reply deadline) l id is k i =
+placed-stands (done reply deadline from) l id is k i =
     absurd (let away : None ≡ Some (l, id) = is in cc)
 
-placed-octet :
+pub placed-octet :
     (c : RealmConfig) (q : PlainRequest) (s : PlainStanding) (l : Link) (id : ℕ)
     → standing_place s ≡ Some (l, id) → StandsWell c q s → id < 256
-placed-octet c q (waiting l' id' forwarded sends_left deadline) l id is well =
+placed-octet c q (waiting l' id' forwarded sends_left deadline signs) l id is well =
     let place : Some (l', id') ≡ Some (l, id) = is in
     let identifier : Option (Link × ℕ) → ℕ = λ o. option_map_or (λ (p : Link × ℕ). p.1) o 0 in
     let same_id : id' ≡ id = ap identifier place in
     rw (← same_id) well.id
-placed-octet c q (done reply deadline) l id is well =
+placed-octet c q (done reply deadline from) l id is well =
     absurd (let away : None ≡ Some (l, id) = is in cc)
 
 -- a link is open once an entry is out: where it waited, or by its lane
-open-freed :
+pub open-freed :
     (c : RealmConfig) (es : List PlainEntry) (lanes : List LaneState) (t : ℕ) (e : PlainEntry) (l : Link)
     (id : ℕ) (k : Link)
     → IsEntryList es → LanesTell c es lanes → IsLink c k → find_ticket t es ≡ Some e
@@ -234,28 +234,6 @@ open-freed c es lanes t e l id k list tells link at is octet =
           rw n (ap is_some (next-at c (without t es) lanes k left.in_order stay))
     ]
 
--- the same where an entry counts as gone: the link where it waits is open
-pub target-freed :
-    (c : RealmConfig) (now : ℕ) (rests : List Rest) (n : ℕ) (es : List PlainEntry)
-    (lanes : List LaneState) (links : List Link) (t : ℕ) (e : PlainEntry)
-    (place : Option (Link × ℕ))
-    → IsEntryList es → AllByRecursion (IsEntry c n) es → LanesTell c es lanes
-    → AllByRecursion (IsLink c) links → find_ticket t es ≡ Some e
-    → standing_place e.standing ≡ place
-    → option_map (λ x. x.link) (chosen_target c now rests (cursors_of lanes) (without t es) links)
-    ≡ chosen_link c now rests lanes (option_map (λ p. p.0) place) links
-target-freed c now rests n es lanes links t e None list each tells are at is =
-    let gone = tells-gone c es lanes t e tells at (placeless-done e.standing is) in
-    target-tells c now rests (without t es) lanes links (list-without t es list) gone are
-target-freed c now rests n es lanes links t e (Some (l, id)) list each tells are at is =
-    let entry = all-find (IsEntry c n) (has_ticket t) es e at each in
-    let octet : id < 256 = placed-octet c e.request e.standing l id is entry.standing in
-    let cursors = cursors_of lanes in
-    let p = is_open c lanes (Some l) in
-    chosen-by c now rests cursors (without t es) p links
-    (all-weaker (IsLink c) (λ k. is_some (next_toward c cursors (without t es) k) ≡ p k) links
-    (λ k link. open-freed c es lanes t e l id k list tells link at is octet) are)
-
 next_step :
     (c : RealmConfig) (cursors : List ℕ) (es : List PlainEntry) (l : Link) (target : Target)
     (others : Option Target) (o : Option ℕ)
@@ -269,7 +247,7 @@ next_step c cursors es l target others (Some id) next later at =
     subst (λ (x : Target). next_toward c cursors es x.link ≡ Some x.id) here next
 
 -- the Identifier of the first target is the next toward its link
-first-next :
+pub first-next :
     (c : RealmConfig) (cursors : List ℕ) (es : List PlainEntry) (links : List Link) (target : Target)
     → first_target c cursors es links ≡ Some target
     → next_toward c cursors es target.link ≡ Some target.id
@@ -279,7 +257,7 @@ first-next c cursors es (l ∷ ls) target at =
     (first-next c cursors es ls target) at
 
 -- what is said of each of two is said of the one, or of the other where it isn't there
-either :
+pub either :
     {X : Type 0} (P : X → Type 0) (a b : Option X) (x : X) → (a ≡ Some x → P x) → (b ≡ Some x → P x)
     → option_or a b ≡ Some x → P x
 either P None b x f g at = g at

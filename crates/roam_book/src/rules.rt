@@ -2,6 +2,7 @@
 
 pub mod admit;
 pub mod admit_plan;
+pub mod conversations;
 pub mod due_action;
 pub mod evict_done;
 pub mod new_requests;

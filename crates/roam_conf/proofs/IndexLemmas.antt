@@ -98,11 +98,16 @@ owner_with_key key entries k o = by_owner (owner_of entries k) refl
     by_owner (Some x) is = ap (λ l. owner_of (if is_none l then entries ++ (k, o) ∷ [] else entries) key) is
         ∙ there x is
 
-or_more : (a : Option ℕ) (b : Bool) (o : ℕ) (rest : Option ℕ) →
+pub or_more : (a : Option ℕ) (b : Bool) (o : ℕ) (rest : Option ℕ) →
     option_or (option_or a (cond b (Some o) None)) rest ≡ option_or a (cond b (Some o) rest)
 or_more None true o rest = refl
 or_more None false o rest = refl
 or_more (Some x) b o rest = refl
+
+-- the owners once a key was noted
+pub noted_key : (entries new : List (List ℕ × ℕ)) (key k : List ℕ) (o : ℕ) → new ≡ with_key entries k o →
+    owner_of new key ≡ option_or (owner_of entries key) (cond (bytes_eq key k) (Some o) None)
+noted_key entries new key k o is = ap (λ l. owner_of l key) is ∙ owner_with_key key entries k o
 
 -- one more key of a list of owners, noted behind those before it
 pub noted_one : (entries new : List (List ℕ × ℕ)) (key k : List ℕ) (o : ℕ) (rest : Option ℕ) →

@@ -11,22 +11,30 @@
 //!   `whole_name_comes_first`, `longest_suffix_comes_next`, `any_name_comes_last`,
 //!   `ill_formed_names_are_matched_whole`, `names_alone_are_matched_whole`
 //! - which peers' requests a realm takes | `takes`, `is_peer_of`
+//! - which peer the names in a reverse request mean: of a NAS-Identifier the one that has it as a whole, else the one
+//!   with the longest pattern; and whose reverse requests come from an address, with the secret shared with them |
+//!   `peer_meant`, `peer_by_nas_ip`, `peer_by_operator`, `home_of`, `secret_of_home`; laws
+//!   `whole_identifier_comes_first`, `longest_front_comes_next`
 #![tactic(auto)]
 
 mod accounting;
 mod asking;
+mod coa_client;
 mod comparison;
 mod config;
 mod decimals;
 mod endpoint;
 mod equality;
 mod exchange_lines;
+mod homes;
 mod index;
 mod indexes;
 mod laws;
 mod list_search;
 mod lookup;
 mod names;
+mod nas_index;
+mod nas_texts;
 mod parts;
 mod pattern;
 mod peer;
@@ -35,9 +43,13 @@ mod place;
 mod realm;
 mod removed;
 mod server;
+mod target_index;
+mod target_lists;
+mod targets;
 mod well_formed;
 
 pub use accounting::Accounting;
+pub use coa_client::CoaClient;
 pub use comparison::{is_same_endpoint, is_same_name};
 pub use config::Config;
 pub use decimals::{address, decimal};
@@ -46,9 +58,10 @@ pub use exchange_lines::ExchangeLines;
 pub use indexes::has_duplicate_realm;
 pub use laws::{
     any_name_comes_last, ill_formed_names_are_matched_whole, link_of_finds_each_link,
-    link_of_finds_its_endpoint, longest_suffix_comes_next, names_alone_are_matched_whole,
-    whole_name_comes_first,
+    link_of_finds_its_endpoint, longest_front_comes_next, longest_suffix_comes_next,
+    names_alone_are_matched_whole, whole_identifier_comes_first, whole_name_comes_first,
 };
+pub use nas_texts::has_duplicate_nas_text;
 pub use parts::ConfigParts;
 pub use pattern::RealmPattern;
 pub use peer::Peer;

@@ -47,7 +47,7 @@ pub struct RefusedText<'n> {
 }
 
 /// The name of the realm of this index; empty where there is none.
-fn name_of(config: &Config, realm: Option<u16>) -> &str
+pub(crate) fn name_of(config: &Config, realm: Option<u16>) -> &str
     ensures { result.now ≡ name_of (shown config.now).realms realm }
 {
     let Some(number) = realm else {
@@ -200,6 +200,8 @@ fn refusal_name(refusal: Refusal) -> &'static str
         Refusal::NotForPeer => "NotForPeer",
         Refusal::AccountingDropped => "AccountingDropped",
         Refusal::ShareTaken => "ShareTaken",
+        Refusal::TooManyAttributes => "TooManyAttributes",
+        Refusal::Stale => "Stale",
     }
 }
 

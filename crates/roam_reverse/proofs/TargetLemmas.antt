@@ -1,88 +1,71 @@
--- The first element of a list that passes a test.
-use Rattle.std.proofs.Common.{◌≡◌, ℕ, zero, suc, ◌+◌, ◌<◌, Bool, true, false, List, [], ◌∷◌, Some, None, refl, sym, ap, ◌∙◌, inl, inr, arith}
-use Rattle.std.specs.Prelude.{◌&&◌, slice_get}
-use Rattle.std.specs.List.{position_from}
+-- Who is named, and takes reverse requests.
+use Rattle.std.proofs.Common.{◌≡◌, ℕ, ◌==◌, Bool, true, false, List, [], ◌∷◌, Option, Some, None, refl, sym, ap, ◌∙◌, subst, inl, inr, arith, eqb-true}
+use Rattle.std.specs.Prelude.{is_some, slice_get, if◌then◌else◌}
+use Rattle.std.specs.Option.{option_map_or}
 use Rattle.std.proofs.lemmas.Bool.{cases_Bool}
-use Rattle.std.proofs.lemmas.Option.{same_Some}
+use Rattle.roam_conf.specs.Config.{PeerView}
+use Rattle.roam_conf.specs.Targets.{peer_meant, peer_with_nas_ip, peer_with_operator}
+use Rattle.roam_reverse.specs.Target.{has_coa, peer_of_nas, peer_of_operator, same_peer, with_coa}
 
--- an element passes, and none before it does
-pub record IsFirstAt {X : Type 0} (test : X → Bool) (xs : List X) (place : ℕ) : Type 0 where
-  pub element : X
-  pub is_there : slice_get xs place ≡ Some element
-  pub passes : test element ≡ true
-  pub none_before : (other : ℕ) (x : X) → other < place → slice_get xs other ≡ Some x → test x ≡ false
+-- what is kept where a test passes
+pub kept : (b : Bool) (found index : ℕ) → (if b then Some found else None) ≡ Some index → (found ≡ index) × (b ≡ true)
+kept true found index h = (cc h, refl)
+kept false found index h = absurd (cc h)
 
-first-here : {X : Type 0} (test : X → Bool) (x : X) (xs : List X) → test x ≡ true
-    → IsFirstAt test (x ∷ xs) zero
-first-here test x xs passes = record {
-  element = x;
-  is_there = refl;
-  passes = passes;
-  none_before = λ other y before at. absurd (omega arith);
-}
+coa-of : (o : Option PeerView) → option_map_or (λ peer. is_some peer.coa) o false ≡ true
+    → (peer : PeerView) × (o ≡ Some peer) × (is_some peer.coa ≡ true)
+coa-of None h = absurd (cc h)
+coa-of (Some peer) h = (peer, refl, h)
 
-first-behind : {X : Type 0} (test : X → Bool) (x : X) (xs : List X) (place : ℕ) → test x ≡ false
-    → IsFirstAt test xs place → IsFirstAt test (x ∷ xs) (suc place)
-first-behind {X} test x xs place fails first = record {
-  element = first.element;
-  is_there = first.is_there;
-  passes = first.passes;
-  none_before = before;
-}
-  where
-    before : (other : ℕ) (y : X) → other < suc place → slice_get (x ∷ xs) other ≡ Some y → test y ≡ false
-    before zero y less at = ap test (sym (same_Some x y at)) ∙ fails
-    before (suc other) y less at = first.none_before other y (omega arith) at
+pub with-coa-is : (peers : List PeerView) (at : Option ℕ) (index : ℕ) → with_coa peers at ≡ Some index
+    → (at ≡ Some index) × (has_coa peers index ≡ true)
+with-coa-is peers None index h = absurd (cc h)
+with-coa-is peers (Some found) index h =
+    let both = kept (has_coa peers found) found index h in
+    (ap (λ (n : ℕ). Some n) both.0, subst (λ (n : ℕ). has_coa peers n ≡ true) both.0 both.1)
 
--- the place that is found, counted from n, is of the first that passes
-pub first-from : {X : Type 0} (test : X → Bool) (n : ℕ) (xs : List X) (i : ℕ)
-    → position_from test n xs ≡ Some i → (place : ℕ) × (i ≡ n + place) × IsFirstAt test xs place
-first-from test n [] i is = absurd (cc)
-first-from test n (x ∷ xs) i is =
-    elim (cases_Bool (test x)) [
-      | inl passes ↦
-          let same : Some n ≡ Some i = rw passes at is in
-          let here : i ≡ n + zero = omega (arith, same_Some n i same) in
-          (zero, here, first-here test x xs passes)
-      | inr fails ↦
-          let rest : position_from test (n + 1) xs ≡ Some i = rw fails at is in
-          let found = first-from test (n + 1) xs i rest in
-          let there : i ≡ n + suc found.0 = omega (arith, found.1) in
-          (suc found.0, there, first-behind test x xs found.0 fails found.2)
-    ]
+pub takes-requests : (peers : List PeerView) (at : Option ℕ) (index : ℕ) → with_coa peers at ≡ Some index
+    → (peer : PeerView) × (slice_get peers index ≡ Some peer) × (is_some peer.coa ≡ true)
+takes-requests peers at index h = coa-of (slice_get peers index) (with-coa-is peers at index h).1
 
--- where no place is found, none passes
-pub none-from : {X : Type 0} (test : X → Bool) (n : ℕ) (xs : List X)
-    → position_from test n xs ≡ None → (place : ℕ) (x : X) → slice_get xs place ≡ Some x
-    → test x ≡ false
-none-from test n [] is place x at = absurd (cc)
-none-from test n (y ∷ ys) is place x at =
-    elim (cases_Bool (test y)) [
-      | inl passes ↦
-          let found : Some n ≡ None = rw passes at is in
-          absurd (cc)
-      | inr fails ↦
-          let rest : position_from test (n + 1) ys ≡ None = rw fails at is in
-          behind place fails at (λ later here. none-from test (n + 1) ys rest later x here)
-    ]
-  where
-    behind : (k : ℕ) → test y ≡ false → slice_get (y ∷ ys) k ≡ Some x
-        → ((later : ℕ) → slice_get ys later ≡ Some x → test x ≡ false) → test x ≡ false
-    behind zero fails here others = ap test (sym (same_Some y x here)) ∙ fails
-    behind (suc k) fails here others = others k here
+-- the peer that an Operator-Name names
+pub operator-names : (peers : List PeerView) (operator : List ℕ) (index : ℕ)
+    → peer_of_operator peers operator ≡ Some index
+    → (name : List ℕ) × (operator ≡ 49 ∷ name) × (peer_with_operator peers name ≡ Some index)
+operator-names peers [] index h = absurd (cc h)
+operator-names peers (space ∷ name) index h = elim (cases_Bool (space == 49)) [
+  | inl is ↦ (name, ap (λ (n : ℕ). n ∷ name) (eqb-true space 49 is), (let k = rw is at h in k))
+  | inr isnt ↦ absurd (let k : None ≡ Some index = rw isnt at h in cc k)
+]
 
--- where no element passes, no place is found
-pub none-found : {X : Type 0} (test : X → Bool) (n : ℕ) (xs : List X) → ((x : X) → test x ≡ false)
-    → position_from test n xs ≡ None
-none-found test n [] none = refl
-none-found test n (x ∷ xs) none = rw (none x) (none-found test (n + 1) xs none)
+-- both name the same one
+same-peer-is : (a b : Option ℕ) (index : ℕ) → same_peer a b ≡ Some index → (a ≡ Some index) × (b ≡ Some index)
+same-peer-is None b index h = absurd (cc h)
+same-peer-is (Some a) None index h = absurd (cc h)
+same-peer-is (Some a) (Some b) index h =
+    let both = kept (a == b) a index h in
+    let same : a ≡ b = eqb-true a b both.1 in
+    (ap (λ (n : ℕ). Some n) both.0, ap (λ (n : ℕ). Some n) (sym same ∙ both.0))
 
--- tests that both pass
-pub both-pass : (p q : Bool) → (p && q) ≡ true → (p ≡ true) × (q ≡ true)
-both-pass true true h = (refl, refl)
-both-pass true false h = absurd (cc)
-both-pass false q h = absurd (cc)
+some-is : (x y : List ℕ) → Some x ≡ Some y → x ≡ y
+some-is x y e = cc e
 
-pub fails-with : (p : Bool) → (p && false) ≡ false
-fails-with true = refl
-fails-with false = refl
+-- each name of an access server that is there names the peer
+pub nas-names : (peers : List PeerView) (ip name : Option (List ℕ)) (index : ℕ)
+    → peer_of_nas peers (ip, name) ≡ Some index
+    → ((x : List ℕ) → ip ≡ Some x → peer_with_nas_ip peers x ≡ Some index)
+    × ((n : List ℕ) → name ≡ Some n → peer_meant peers n ≡ Some index)
+nas-names peers None None index h = absurd (cc h)
+nas-names peers (Some ip) None index h = (
+  λ x is. ap (peer_with_nas_ip peers) (sym (some-is ip x is)) ∙ h,
+  λ n is. absurd (cc is),
+)
+nas-names peers None (Some name) index h = (
+  λ x is. absurd (cc is),
+  λ n is. ap (peer_meant peers) (sym (some-is name n is)) ∙ h,
+)
+nas-names peers (Some ip) (Some name) index h =
+    let both = same-peer-is (peer_with_nas_ip peers ip) (peer_meant peers name) index h in (
+      λ x is. ap (peer_with_nas_ip peers) (sym (some-is ip x is)) ∙ both.0,
+      λ n is. ap (peer_meant peers) (sym (some-is name n is)) ∙ both.1,
+    )

@@ -8,7 +8,7 @@
 //! - each refused arrival or tick is counted in the thread's tallies, and logged a second after the first of
 //!   them: with that the notices that its queue was given and those that it dropped are as many more as were
 //!   tallied, up to 2^64 - 1, and nothing is left to log. A notice of lost packets, of dropped lines, of a
-//!   server that rests or answers, and of a stop is the one that the queue is given, or none is. That the loops
+//!   server that rests, answers or is refused, and of a stop is the one that the queue is given, or none is. That the loops
 //!   call it then, that what is logged is printed, when the logger is woken for lines of exchanges and which of
 //!   them it writes together, no contract says | `Notices::refused`, `tell_refused`, `tell_due`, `time_left`
 #![tactic(auto)]
@@ -22,6 +22,7 @@ mod notice;
 mod notices;
 mod reload_lines;
 mod said;
+mod said_lately;
 
 pub use counted::turn_of;
 pub use counters::{Counters, ThreadCounts};

@@ -46,6 +46,7 @@ fn waiting<A: Allocator + Copy>(alloc: A, ticket: u64, id: u8, deadline: u64) ->
             forwarded: Octets::from_vec(Vec::new(alloc)),
             sends_left: 2,
             deadline,
+            signs: 0,
         }),
     }
 }
@@ -58,6 +59,7 @@ fn done<A: Allocator + Copy>(alloc: A, ticket: u64, id: u8, deadline: u64) -> En
         standing: Standing::Done(Done {
             reply: Octets::from_vec(Vec::new(alloc)),
             deadline,
+            from: None,
         }),
     }
 }
@@ -111,7 +113,7 @@ fn tickets<A: Allocator>(pending: &Pending<A>) -> [Option<u64>; 4] {
     ]
 }
 
-fn entries_stand_in_order_of_ticket<R: Abort + AllocGlobal>(rt: &R) -> Result<(), Fail> {
+pub fn entries_stand_in_order_of_ticket<R: Abort + AllocGlobal>(rt: &R) -> Result<(), Fail> {
     let pending = three(rt.alloc())?;
     assert_eq!(rt; tickets(&pending), [Some(2), Some(5), Some(9), None]);
     Ok(())
@@ -129,7 +131,7 @@ fn gap_of_five<A: Allocator>(pending: &mut Pending<A>) -> [Option<u64>; 4] {
     ]
 }
 
-fn the_gap_of_an_entry_closes<R: Abort + AllocGlobal>(rt: &R) -> Result<(), Fail> {
+pub fn the_gap_of_an_entry_closes<R: Abort + AllocGlobal>(rt: &R) -> Result<(), Fail> {
     let mut pending = three(rt.alloc())?;
     let gap = gap_of_five(&mut pending);
     assert_eq!(rt; gap, [Some(5), None, Some(9), None]);
@@ -153,7 +155,7 @@ fn found<A: Allocator>(pending: &Pending<A>) -> [Option<u64>; 6] {
     ]
 }
 
-fn entries_are_found_by_ticket_and_key<R: Abort + AllocGlobal>(rt: &R) -> Result<(), Fail> {
+pub fn entries_are_found_by_ticket_and_key<R: Abort + AllocGlobal>(rt: &R) -> Result<(), Fail> {
     let pending = three(rt.alloc())?;
     assert_eq!(rt;
         found(&pending),
@@ -177,7 +179,7 @@ fn dues<A: Allocator>(pending: &Pending<A>) -> [Option<u64>; 6] {
     ]
 }
 
-fn due_entries_come_by_deadline_and_ticket<R: Abort + AllocGlobal>(rt: &R) -> Result<(), Fail> {
+pub fn due_entries_come_by_deadline_and_ticket<R: Abort + AllocGlobal>(rt: &R) -> Result<(), Fail> {
     let pending = three(rt.alloc())?;
     assert_eq!(rt;
         dues(&pending),
@@ -215,7 +217,7 @@ fn once_sent<A: Allocator + Copy>(alloc: A, pending: &mut Pending<A>) -> [Option
     ]
 }
 
-fn entry_that_was_sent_again_waits_longer<R: Abort + AllocGlobal>(rt: &R) -> Result<(), Fail> {
+pub fn entry_that_was_sent_again_waits_longer<R: Abort + AllocGlobal>(rt: &R) -> Result<(), Fail> {
     let mut pending = three(rt.alloc())?;
     let sent = once_sent(rt.alloc(), &mut pending);
     assert_eq!(rt; sent, [Some(1), Some(2)]);
@@ -227,6 +229,7 @@ fn note_reply<A: Allocator + Copy, E: Entries<A>>(alloc: A, entries: &mut E) {
     let held = Standing::Done(Done {
         reply: Octets::from_vec(Vec::new(alloc)),
         deadline: 600,
+        from: None,
     });
     set_standing(alloc, entries, 3, 5, held);
 }
@@ -243,7 +246,7 @@ fn once_answered<A: Allocator + Copy>(alloc: A, pending: &mut Pending<A>) -> [Op
     ]
 }
 
-fn entry_that_was_answered_is_done<R: Abort + AllocGlobal>(rt: &R) -> Result<(), Fail> {
+pub fn entry_that_was_answered_is_done<R: Abort + AllocGlobal>(rt: &R) -> Result<(), Fail> {
     let mut pending = three(rt.alloc())?;
     let answered = once_answered(rt.alloc(), &mut pending);
     assert_eq!(rt; answered, [None, Some(5), Some(5), None]);
@@ -264,7 +267,7 @@ fn insert_refused<A: Allocator + Copy>(
     Ok((refused, held, ticket_of(pending.at(2))))
 }
 
-fn each_growth_of_an_insert<R: Abort + AllocGlobal>(rt: &R) -> Result<(), Fail> {
+pub fn each_growth_of_an_insert<R: Abort + AllocGlobal>(rt: &R) -> Result<(), Fail> {
     let refusing = Refusing::new(rt.alloc());
     for n in refusing.each_growth() {
         let mut pending = three(&refusing)?;
@@ -283,7 +286,7 @@ fn each_growth_of_an_insert<R: Abort + AllocGlobal>(rt: &R) -> Result<(), Fail> 
     Ok(())
 }
 
-fn each_growth_of_reserve<R: Abort + AllocGlobal>(rt: &R) -> Result<(), Fail> {
+pub fn each_growth_of_reserve<R: Abort + AllocGlobal>(rt: &R) -> Result<(), Fail> {
     let refusing = Refusing::new(rt.alloc());
     for n in refusing.each_growth() {
         let mut pending = three(&refusing)?;
@@ -300,7 +303,7 @@ fn replaced<A: Allocator + Copy>(alloc: A, pending: &mut Pending<A>) -> bool {
     pending.remove(2).is_some() && add(pending, waiting(alloc, 1, 10, 10)).is_ok()
 }
 
-fn removal_makes_room_for_one_insert<R: Abort + AllocGlobal>(rt: &R) -> Result<(), Fail> {
+pub fn removal_makes_room_for_one_insert<R: Abort + AllocGlobal>(rt: &R) -> Result<(), Fail> {
     let refusing = Refusing::new(rt.alloc());
     let mut pending = three(&refusing)?;
     refusing.refuse_nth(1);
@@ -310,20 +313,5 @@ fn removal_makes_room_for_one_insert<R: Abort + AllocGlobal>(rt: &R) -> Result<(
         done && first == Some(1) && refusing.growths() == 0,
         "no growth is asked for"
     );
-    Ok(())
-}
-
-/// All of them, in one test: a test costs the proof more than an example.
-#[test]
-fn all_examples(rt: HostRuntime) -> Result<(), Fail> {
-    entries_stand_in_order_of_ticket(&rt)?;
-    the_gap_of_an_entry_closes(&rt)?;
-    entries_are_found_by_ticket_and_key(&rt)?;
-    due_entries_come_by_deadline_and_ticket(&rt)?;
-    entry_that_was_sent_again_waits_longer(&rt)?;
-    entry_that_was_answered_is_done(&rt)?;
-    each_growth_of_an_insert(&rt)?;
-    each_growth_of_reserve(&rt)?;
-    removal_makes_room_for_one_insert(&rt)?;
     Ok(())
 }

@@ -4,13 +4,15 @@ ghost use Rattle.std.specs.Prelude.{◌≡◌, ℕ, Some, IfSome, length};
 ghost use Rattle.roam_pending.specs.PlainEntry.{PlainRequest};
 ghost use Rattle.roam_book.specs.Private.NewEntry.{AreConfigured, Chooses, IsNew, IsWay, freed_link, links_of};
 ghost use Rattle.roam_book.specs.Private.NewEntry.{once_gone, straight_after, target_at};
+ghost use Rattle.roam_book.specs.Conversing.{rests_chosen};
 ghost use Rattle.roam_book.specs.OnRequest.{at_target, new_request};
 ghost use Rattle.roam_book.specs.RealmConfig.{IsLink};
+ghost use Rattle.roam_book.specs.RealmState.{with_rests};
 ghost use Rattle.roam_book.specs.RealmTurn.{IsRealm, entries, state};
 ghost use Rattle.roam_book.specs.Sound.{CountsAsGone, chosen_link, gone_ticket, shown_request};
 
 use crate::packets::forwarding::RequestRef;
-use crate::rules::admit_plan::AdmitPlan;
+use crate::rules::admit_plan::{AdmitPlan, LinkChoice};
 use crate::rules::replaced::Replaced;
 use crate::rules::targets::Targets;
 use crate::state::realm_broker::RealmBroker;
@@ -53,22 +55,26 @@ impl<A: Allocator + Copy, E: Entries<A>> RealmBroker<'_, '_, '_, '_, A, E> {
 
     /// A new request for which a link has a free Identifier: it is admitted where there is a place,
     /// or where a done entry makes way.
-    fn plan_at(&self, gone: Option<Replaced>, link: Link) -> Result<AdmitPlan, Refusal>
+    fn plan_at(&self, gone: Option<Replaced>, choice: LinkChoice) -> Result<AdmitPlan, Refusal>
         requires { CountsAsGone gone (entries E.Entries self.now) }
         ensures { (now : ℕ) (q : PlainRequest)
-            → IsWay self.now.settings.now (state E.Entries self.now) q (straight_after gone link)
+            → IsWay self.now.settings.now (state E.Entries self.now) q
+            (straight_after gone choice.link choice.bound)
             → Chooses self.now.settings.now now (state E.Entries self.now) q result
-            (at_target self.now.settings.now now (state E.Entries self.now)
+            (at_target self.now.settings.now now (with_rests (state E.Entries self.now)
+            (rests_chosen self.now.settings.now now (state E.Entries self.now).rests choice.bound choice.link))
             (once_gone gone (entries E.Entries self.now)) q
             (Some (target_at self.now.settings.now (state E.Entries self.now).cursors
-            (once_gone gone (entries E.Entries self.now)) link))) }
+            (once_gone gone (entries E.Entries self.now)) choice.link))) }
     {
+        let LinkChoice { link, bound } = choice;
         let most = usize::from(self.settings.max_pending());
         if self.held_besides(gone) < most {
             return Ok(AdmitPlan {
                 gone,
                 done: None,
                 link,
+                bound,
             });
         }
         match self
@@ -81,6 +87,7 @@ impl<A: Allocator + Copy, E: Entries<A>> RealmBroker<'_, '_, '_, '_, A, E> {
                     gone,
                     done: Some(ticket),
                     link,
+                    bound,
                 })
             }
         }
@@ -88,7 +95,12 @@ impl<A: Allocator + Copy, E: Entries<A>> RealmBroker<'_, '_, '_, '_, A, E> {
 
     /// The one of a request's targets that is chosen at a moment, where the Identifiers of `freed` count
     /// as free.
-    fn chosen_target(&self, now: u64, targets: Targets, freed: Option<Link>) -> Option<Link>
+    pub(crate) fn chosen_target(
+        &self,
+        now: u64,
+        targets: Targets,
+        freed: Option<Link>,
+    ) -> Option<Link>
         requires realm { IsRealm E.Entries self.now }
         requires targets { AreConfigured self.now.settings.now targets }
         ensures chosen { result ≡ chosen_link self.now.settings.now now
@@ -107,8 +119,8 @@ impl<A: Allocator + Copy, E: Entries<A>> RealmBroker<'_, '_, '_, '_, A, E> {
         }
     }
 
-    /// A new request with these targets: there must be a ticket for it, less than its name's share waiting, and a
-    /// target with a free Identifier. The entry of its key, if there is one, counts as gone.
+    /// A new request with these targets: there must be a ticket for it, less than its name's share and than its
+    /// peer's waiting, and a target with a free Identifier. The entry of its key, if there is one, counts as gone.
     pub(crate) fn plan_admit(
         &self,
         now: u64,
@@ -131,9 +143,9 @@ impl<A: Allocator + Copy, E: Entries<A>> RealmBroker<'_, '_, '_, '_, A, E> {
         if self.is_share_taken(asked, gone) {
             return Err(Refusal::ShareTaken);
         }
-        match self.chosen_target(now, targets, freed_link(gone)) {
+        match self.chosen_way(now, asked, targets, freed_link(gone)) {
             None => Err(Refusal::NoIdentifier),
-            Some(link) => self.plan_at(gone, link),
+            Some(choice) => self.plan_at(gone, choice),
         }
     }
 }

@@ -2,12 +2,13 @@
 
 ghost use Rattle.std.specs.Prelude.{◌≡◌, ℕ, [], ◌∷◌, true, length, drop, IfSome};
 ghost use Rattle.std.specs.List.{find};
-ghost use Rattle.roam_book.specs.RealmConfig.{IsLink, link_count, server_links};
-ghost use Rattle.roam_book.specs.Sound.{AreOwnLanes, lane_of, has_free, is_freed, marks_of, chosen_link, is_ready};
+ghost use Rattle.roam_book.specs.RealmConfig.{IsLink, link_count, links_from, server_links};
+ghost use Rattle.roam_book.specs.Sound.{AreOwnLanes, lane_of, has_free, is_freed, is_open, marks_of, chosen_link};
+ghost use Rattle.roam_book.specs.Sound.{is_ready, is_sought};
 
 use crate::state::realm_numbers::RealmNumbers;
 use crate::state::realm_settings::RealmSettings;
-use crate::state::service::ServersFrom;
+use crate::state::service::{ServersFrom, Service};
 use roam_conf::Link;
 use std::alloc::Allocator;
 
@@ -31,6 +32,20 @@ impl<A: Allocator + Copy> RealmNumbers<A> {
         !self.lanes[settings.place_of(link)].is_full()
     }
 
+    /// Whether a link has a free Identifier, or is `freed`.
+    pub(crate) fn is_open(
+        &self,
+        settings: &RealmSettings<'_>,
+        freed: Option<Link>,
+        link: Link,
+    ) -> bool
+        requires link { IsLink settings.now link }
+        requires count { length self.now.lanes.items ≡ link_count settings.now }
+        ensures { result ≡ is_open settings.now self.now.lanes.items freed link }
+    {
+        is_freed(freed, link) || self.has_free(settings, link)
+    }
+
     /// Whether a link has a free Identifier, or is `freed`, and doesn't stand back at a moment, if one
     /// is given.
     fn is_ready(
@@ -45,8 +60,7 @@ impl<A: Allocator + Copy> RealmNumbers<A> {
         ensures { result ≡ is_ready settings.now at self.now.rests.items self.now.lanes.items freed
             link }
     {
-        !self.stands_back(settings, at, link)
-            && (is_freed(freed, link) || self.has_free(settings, link))
+        !self.stands_back(settings, at, link) && self.is_open(settings, freed, link)
     }
 
     /// The first of the servers' links, from a place on, that has a free Identifier, or that is `freed`,
@@ -99,6 +113,29 @@ impl<A: Allocator + Copy> RealmNumbers<A> {
             None => self.first_ready(settings, None, servers, freed),
             ready => ready,
         }
+    }
+
+    /// The first of the servers' links of a service that has a free Identifier, or that is `freed`, and is the one
+    /// that alone is wanted; where none is, that has no moment until which it rests.
+    pub(crate) fn first_sought(
+        &self,
+        settings: &RealmSettings<'_>,
+        service: Service,
+        only: Option<Link>,
+        freed: Option<Link>,
+    ) -> Option<Link>
+        requires count { length self.now.lanes.items ≡ link_count settings.now }
+        ensures first { result ≡ find (is_sought settings.now self.now.rests.items
+            self.now.lanes.items only freed) (links_from settings.now service 0) }
+        ensures link { IfSome result (λ l. IsLink settings.now l) }
+    {
+        for server in 0..settings.server_count() {
+            let link = service.link(server as u8);
+            if self.is_sought(settings, only, freed, link) {
+                return Some(link);
+            }
+        }
+        None
     }
 
     /// A link, which alone is to be chosen from, where it has a free Identifier, or is `freed`.

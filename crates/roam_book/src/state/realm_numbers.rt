@@ -122,7 +122,7 @@ impl<A: Allocator + Copy> RealmNumbers<A> {
             lanes,
             ticket: start.ticket,
             stream_position: start.place,
-            sessions: Sessions::new(alloc, settings.max_sessions()),
+            sessions: Sessions::new(alloc, settings.max_sessions(), settings.hash_key()),
             rests,
         })
     }
@@ -231,20 +231,21 @@ impl<A: Allocator + Copy> RealmNumbers<A> {
         }
     }
 
-    /// Makes all growth of the ledger that an Accounting-Request of a peer wants, and changes no
-    /// session.
+    /// Makes all growth of the ledger that an Accounting-Request of a peer wants, where the names of access
+    /// servers count or not, and changes no session.
     pub(crate) fn prepare_ledger(
         &mut self,
+        own: bool,
         peer: u16,
         request: &View<'_>,
     ) -> Result<PreparedChange<A>, NoMemory>
         ensures change { IfOk result (λ change. IsPrepared self.new.sessions (Some change)
-            (applied self.old.sessions.limit peer request.now.attributes
+            (applied self.old.sessions.limit own peer request.now.attributes
             self.old.sessions.sessions)) }
         ensures sessions { self.new.sessions.sessions ≡ self.old.sessions.sessions }
         ensures keeps { KeepsButSessions self.old self.new }
     {
-        self.sessions.prepare(peer, request)
+        self.sessions.prepare(own, peer, request)
     }
 
     /// Makes a change of the ledger that was prepared, if one was. Takes no memory.

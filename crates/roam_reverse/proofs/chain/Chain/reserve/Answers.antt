@@ -1,62 +1,64 @@
-use Rattle.std.proofs.Common.{◌≡◌, ℕ, List, length, sym, subst, arith}
-use Rattle.std.specs.Prelude.{nat_eq, option_map}
-use Rattle.std.specs.Map.{lookup}
-use Rattle.std.specs.Cmp.Lexicographic.{pointwise}
-use Rattle.std.specs.declared.vec.Vec.{Vec}
-use Rattle.indexmap.specs.IndexMap.{IndexMap}
-use Rattle.roam_reverse.specs.Private.Row.{session_row}
-use Rattle.roam_reverse.specs.Private.Tickets.{IsChain}
+use Rattle.std.proofs.Common.{◌≡◌, refl, sym, ap, ◌∙◌, arith}
 use Rattle.roam_wire.specs.Numbered.{tickets_end}
-use Rattle.roam_reverse.specs.Stands.{chain_of, node_at, shown_node, ticket_at}
-use Rattle.roam_reverse.specs.declared.chain.Chain.{Chain}
-use Rattle.roam_reverse.specs.declared.node.Node.{Node}
+use Rattle.roam_reverse.proofs.GrownLemmas.{grown-sound}
 use Rattle.roam_reverse.proofs.chain.Chain.reserve.Goals as goal
 
--- a chain stays one while its tables grow
-grown : {A H : Type 0} (c : Chain A) (index : IndexMap (Vec ℕ A) ℕ H)
-    (nodes : IndexMap ℕ (Node A) H)
-    → IsChain (chain_of c) → index.entries ≡ c.by_row.entries → nodes.entries ≡ c.nodes.entries
-    → IsChain (record {
-      tickets = ticket_at index;
-      nodes = node_at nodes;
-      oldest = c.oldest;
-      newest = c.newest;
-      next = c.next;
-      count = length nodes.entries;
-    })
-grown {A} c index nodes chain same_index same_nodes =
-    subst (λ (ns : List (ℕ × Node A)). IsChain (record {
-      tickets = ticket_at index;
-      nodes = λ t. option_map shown_node (lookup (nat_eq t) ns);
-      oldest = c.oldest;
-      newest = c.newest;
-      next = c.next;
-      count = length ns;
-    })) (sym same_nodes)
-    (subst (λ (es : List (Vec ℕ A × ℕ)). IsChain (record {
-      tickets = λ s. lookup (λ v. pointwise nat_eq (session_row s.peer s.id) v.items) es;
-      nodes = node_at c.nodes;
-      oldest = c.oldest;
-      newest = c.newest;
-      next = c.next;
-      count = length c.nodes.entries;
-    })) (sym same_index) chain)
+pub returns-in_err-reserve-clause-sound : goal.returns-in_err-reserve-clause-sound
+returns-in_err-reserve-clause-sound g c =
+    let sound = c.requires in
+    grown-sound c.args.self.now _ sound c.reserve.ensures.entries refl (λ F are. are) refl (λ F are. are) refl refl
+    (record {
+      by_ticket = omega (arith, sound.room.by_ticket, c.reserve.ensures.room.0);
+      whole = sound.room.whole;
+      of_peer = sound.room.of_peer;
+      of_id = sound.room.of_id;
+    }) sound.ticket_room
 
 pub returns-in_err-reserve-2-clause-sound : goal.returns-in_err-reserve-2-clause-sound
-returns-in_err-reserve-2-clause-sound g c = record {
-  chain = grown c.args.self.now c.reserve.new.self c.reserve-2.new.self c.requires.chain
-      c.reserve.ensures.entries c.reserve-2.ensures.entries;
-  index_room = omega (arith, c.requires.index_room, c.reserve.ensures.room.0);
-  node_room = omega (arith, c.requires.node_room, c.reserve-2.ensures.room.0);
-  ticket_room = c.requires.ticket_room;
-}
+returns-in_err-reserve-2-clause-sound g c =
+    let sound = c.requires in
+    grown-sound c.args.self.now _ sound c.reserve.ensures.entries c.reserve-2.ensures.same (λ F are. are) refl
+    (λ F are. are) refl refl
+    (record {
+      by_ticket = omega (arith, sound.room.by_ticket, c.reserve.ensures.room.0);
+      whole = c.reserve-2.ensures.room c.args.self.now.spare sound.room.whole;
+      of_peer = sound.room.of_peer;
+      of_id = sound.room.of_id;
+    }) sound.ticket_room
+
+pub returns-in_err-reserve-3-clause-sound : goal.returns-in_err-reserve-3-clause-sound
+returns-in_err-reserve-3-clause-sound g c =
+    let sound = c.requires in
+    grown-sound c.args.self.now _ sound c.reserve.ensures.entries c.reserve-2.ensures.same c.reserve-3.ensures.same
+    c.reserve-3.ensures.with_id (λ F are. are) refl refl
+    (record {
+      by_ticket = omega (arith, sound.room.by_ticket, c.reserve.ensures.room.0);
+      whole = c.reserve-2.ensures.room c.args.self.now.spare sound.room.whole;
+      of_peer = c.reserve-3.ensures.room c.args.self.now.spare sound.room.of_peer;
+      of_id = sound.room.of_id;
+    }) sound.ticket_room
+
+pub returns-in_err-reserve-4-clause-sound : goal.returns-in_err-reserve-4-clause-sound
+returns-in_err-reserve-4-clause-sound g c =
+    let sound = c.requires in
+    grown-sound c.args.self.now _ sound c.reserve.ensures.entries c.reserve-2.ensures.same c.reserve-3.ensures.same
+    c.reserve-3.ensures.with_id c.reserve-4.ensures.same c.reserve-4.ensures.with_id refl
+    (record {
+      by_ticket = omega (arith, sound.room.by_ticket, c.reserve.ensures.room.0);
+      whole = c.reserve-2.ensures.room c.args.self.now.spare sound.room.whole;
+      of_peer = c.reserve-3.ensures.room c.args.self.now.spare sound.room.of_peer;
+      of_id = c.reserve-4.ensures.room c.args.self.now.spare sound.room.of_id;
+    }) sound.ticket_room
 
 pub returns-clause-sound : goal.returns-clause-sound
 unfolding tickets_end
-returns-clause-sound g c = record {
-  chain = grown c.args.self.now c.reserve.new.self c.reserve-2.new.self c.requires.chain
-      c.reserve.ensures.entries c.reserve-2.ensures.entries;
-  index_room = c.in_ok-reserve.ensures.ok;
-  node_room = c.in_ok-reserve-2.ensures.ok;
-  ticket_room = omega (arith, c.requires.ticket_room, c.if-self-gt0.false, c.if-self.false);
-}
+returns-clause-sound g c =
+    let sound = c.requires in
+    grown-sound c.args.self.now _ sound c.reserve.ensures.entries c.reserve-2.ensures.same c.reserve-3.ensures.same
+    c.reserve-3.ensures.with_id c.reserve-4.ensures.same c.reserve-4.ensures.with_id refl
+    (record {
+      by_ticket = c.in_ok-reserve.ensures.ok;
+      whole = c.in_ok-reserve-2.ensures.ok;
+      of_peer = c.in_ok-reserve-3.ensures.ok;
+      of_id = c.in_ok-reserve-4.ensures.ok;
+    }) (omega (arith, sound.ticket_room, c.if-self-gt0.false, c.if-self.false))
