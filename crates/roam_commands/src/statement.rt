@@ -1,8 +1,9 @@
 //! A configuration with all its defaults, as a document states it.
 
 use crate::basic_string::BasicString;
-use roam_conf::{Config, Endpoint, ExchangeLines, Peer, Realm, RealmPattern, Server};
+use roam_conf::{Accounting, Config, Endpoint, ExchangeLines, Peer, Realm, RealmPattern, Server};
 use roam_conf_reader::{Settings, StationWord};
+use roam_wire::RemovedAttribute;
 use std::alloc::{AllocError, Global};
 use std::fmt;
 use std::fmt::{Display, Formatter, Write};
@@ -36,6 +37,55 @@ fn state_text(text: &mut String, key: &str, value: &Option<String>) -> Result<()
         Some(value) => writeln!(text, "{key} = {}", BasicString(value.as_str())),
         None => Ok(()),
     }
+}
+
+/// States a pattern of names.
+fn state_pattern(text: &mut String, pattern: &RealmPattern) -> Result<(), AllocError> {
+    match pattern {
+        RealmPattern::Name(name) => write!(text, "\"{}\"", name.as_str()),
+        RealmPattern::Suffix(name) => write!(text, "\"*.{}\"", name.as_str()),
+        RealmPattern::Any => text.push_str("\"*\""),
+    }
+}
+
+/// States patterns of names.
+fn state_patterns(
+    text: &mut String,
+    key: &str,
+    patterns: &[RealmPattern],
+) -> Result<(), AllocError> {
+    write!(text, "{key} = [")?;
+    let mut is_first = true;
+    for pattern in patterns {
+        if !is_first {
+            text.push_str(", ")?;
+        }
+        is_first = false;
+        state_pattern(text, pattern)?;
+    }
+    text.push_str("]\n")
+}
+
+/// States attributes that don't pass.
+fn state_removed(
+    text: &mut String,
+    key: &str,
+    removed: &[RemovedAttribute],
+) -> Result<(), AllocError> {
+    write!(text, "{key} = [")?;
+    let mut is_first = true;
+    for attribute in removed {
+        if !is_first {
+            text.push_str(", ")?;
+        }
+        is_first = false;
+        match attribute {
+            RemovedAttribute::Kind(kind) => write!(text, "\"{kind}\"")?,
+            RemovedAttribute::Vendor(vendor) => write!(text, "\"26.{vendor}\"")?,
+            RemovedAttribute::VendorKind(vendor, kind) => write!(text, "\"26.{vendor}.{kind}\"")?,
+        }
+    }
+    text.push_str("]\n")
 }
 
 /// States 32 octets as hexadecimal digits.
@@ -90,34 +140,46 @@ fn state_peer(text: &mut String, peer: &Peer) -> Result<(), AllocError> {
         writeln!(text, "nas_ip = \"{}\"", Address(address))?;
     }
     state_text(text, "nas_id", &peer.nas_id)?;
-    writeln!(text, "require_seal = {}", peer.require_seal)
+    writeln!(text, "require_seal = {}", peer.require_seal)?;
+    writeln!(text, "limit_proxy_state = {}", peer.limit_proxy_state)?;
+    state_text(text, "operator_name", &peer.operator_name)?;
+    writeln!(text, "ask_cui = {}", peer.ask_cui)?;
+    state_removed(text, "request_without", peer.request_without.as_slice())?;
+    state_removed(text, "reply_without", peer.reply_without.as_slice())
 }
 
-/// States what names a realm besides.
-fn state_pattern(text: &mut String, pattern: &RealmPattern) -> Result<(), AllocError> {
-    match pattern {
-        RealmPattern::Name(name) => write!(text, "\"{}\"", name.as_str()),
-        RealmPattern::Suffix(name) => write!(text, "\"*.{}\"", name.as_str()),
-        RealmPattern::Any => text.push_str("\"*\""),
-    }
-}
-
-/// States what names a realm.
-fn state_names(text: &mut String, realm: &Realm) -> Result<(), AllocError> {
-    write!(
-        text,
-        "\n[[realm]]\nname = \"{}\"\nalso = [",
-        realm.name.as_str()
-    )?;
+/// States the names of the peers that may ask, where not all may.
+fn state_askers(text: &mut String, peers: &Option<Vec<String>>) -> Result<(), AllocError> {
+    let Some(peers) = peers else {
+        return Ok(());
+    };
+    text.push_str("peers = [")?;
     let mut is_first = true;
-    for pattern in &realm.also {
+    for peer in peers {
         if !is_first {
             text.push_str(", ")?;
         }
         is_first = false;
-        state_pattern(text, pattern)?;
+        write!(text, "{}", BasicString(peer.as_str()))?;
     }
     text.push_str("]\n")
+}
+
+/// States who may ask for a realm, and what becomes of its requests.
+fn state_policy(text: &mut String, realm: &Realm) -> Result<(), AllocError> {
+    state_askers(text, &realm.peers)?;
+    writeln!(text, "loop_prevention = {}", realm.loop_prevention)?;
+    text.push_str(match realm.accounting {
+        Accounting::Forwarded => "accounting = \"forward\"\n",
+        Accounting::Answered => "accounting = \"answer\"\n",
+        Accounting::Dropped => "accounting = \"drop\"\n",
+    })?;
+    state_removed(text, "request_without", realm.request_without.as_slice())?;
+    state_removed(text, "reply_without", realm.reply_without.as_slice())?;
+    match realm.share {
+        Some(share) => writeln!(text, "share = {share}"),
+        None => Ok(()),
+    }
 }
 
 /// States the limits of a realm.
@@ -138,18 +200,17 @@ fn state_limits(text: &mut String, realm: &Realm) -> Result<(), AllocError> {
 
 /// States a server.
 fn state_server(text: &mut String, server: &Server) -> Result<(), AllocError> {
-    writeln!(
-        text,
-        "\n[[realm.server]]\nauth = \"{}\"\nacct = \"{}\"",
-        server.auth, server.acct
-    )?;
+    writeln!(text, "\n[[realm.server]]\nauth = \"{}\"", server.auth)?;
+    state_endpoint(text, "acct", &server.acct)?;
     writeln!(text, "secret = {}", BasicString(server.secret.as_str()))?;
     writeln!(text, "require_seal = {}", server.require_seal)
 }
 
 /// States a realm.
 fn state_realm(text: &mut String, realm: &Realm) -> Result<(), AllocError> {
-    state_names(text, realm)?;
+    writeln!(text, "\n[[realm]]\nname = \"{}\"", realm.name.as_str())?;
+    state_patterns(text, "also", realm.also.as_slice())?;
+    state_policy(text, realm)?;
     writeln!(text, "out = \"{}\"", realm.out)?;
     state_endpoint(text, "reverse", &realm.reverse)?;
     state_limits(text, realm)?;
@@ -163,6 +224,9 @@ fn state_realm(text: &mut String, realm: &Realm) -> Result<(), AllocError> {
 fn state(text: &mut String, config: &Config, settings: &Settings) -> Result<(), AllocError> {
     state_top(text, config)?;
     state_settings(text, settings)?;
+    state_patterns(text, "reject", config.reject.as_slice())?;
+    writeln!(text, "well_formed = {}", config.well_formed)?;
+    writeln!(text, "answer_unnamed = {}", config.answer_unnamed)?;
     for peer in &config.peers {
         state_peer(text, peer)?;
     }
