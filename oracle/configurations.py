@@ -130,6 +130,15 @@ def stated(**keys):
     return "".join(f"{name} = {value}\n" for name, value in values.items())
 
 
+def client(ip, secret):
+    """One that may send Disconnect and CoA for a realm beside its servers."""
+    return f"""
+[[realm.coa_client]]
+ip = "{ip}"
+secret = "{secret}"
+"""
+
+
 def server(ip, secret, auth=":1812", acct=":1813", require_seal=None):
     """A home server; where they aren't said its endpoints have the usual ports."""
     endpoints = (end if end[0] != ":" else ip + end for end in (auth, acct))
@@ -283,7 +292,64 @@ secret = "xyzzy5461"
         seed="b4" * 32, shards=2, max_hops=1, reject=["a.t", "*.o.t"]),
 }
 
-CONFIGURATIONS = POLICIES | {
+# Access servers behind proxies, and who may disconnect whom.
+NAS1_OF = {name: NAS1 + stated(nas_ids=ids) for name, ids in (
+    ("wlc-1*", ["wlc-1*"]), ("nas1b", ["nas1b"]), ("wlc-*", ["wlc-*"]), ("two", ["wlc-1", "wlc-2"]),
+    ("odd", ["w*", "*", "ap*"]))}
+OPERATED = N2_COA + stated(operator_name="inst.example")
+REVERSES = {
+    "nas-identifiers": decided(peers=(NAS1_OF["wlc-1*"], N2_COA + stated(nas_ids=["wlc-*", "wlc-7"]))),
+    "operators-of-access-servers": decided(
+        peers=(NAS1_OF["wlc-1*"], OPERATED + stated(nas_ids=["wlc-*", "wlc-7"]))),
+    "own-sessions": decided(peers=(NAS1_OF["nas1b"],), own_sessions=True, max_sessions=4),
+    "own-sessions-of-many-access-servers": decided(peers=(NAS1_OF["wlc-*"],), own_sessions=True, max_sessions=4),
+    "own-sessions-of-two-access-servers": decided(peers=(NAS1_OF["two"],), own_sessions=True, max_sessions=4),
+    "sessions-of-two-access-servers": decided(peers=(NAS1_OF["two"],), own_sessions=False, max_sessions=4),
+    "own-sessions-behind-an-operator": decided(
+        peers=(NAS1, N2 + stated(coa="192.0.2.2:3799", operator_name="inst.example", nas_ids=["ap-*"])),
+        own_sessions=True, max_sessions=4),
+    "own-sessions-beside-another-realm": decided(
+        second={}, peers=(NAS1, N2 + stated(coa="192.0.2.2:3799", operator_name="Inst.example")), own_sessions=True),
+    "own-sessions-without-a-ledger": decided(own_sessions=True, max_sessions=0),
+    "coa-client": decided(servers_of_first=[*servers(1), client("198.51.100.9", "pc")]),
+    "coa-clients-and-servers": configuration(
+        realm("a.example", servers(1)),
+        realm("b.example", [*servers(1), client("198.51.100.1", "pc"), client("192.0.2.1", "p2")])),
+    "names-of-access-servers-without-coa": decided(peers=(NAS1_OF["odd"], N2 + stated(nas_ids=["wlc*", "wap", "**"]))),
+    "full-ledger": decided(peers=(NAS1_OF["wlc-*"], N2_COA + stated(nas_ids=["ap-*"]), NAS3), own_sessions=True, max_sessions=4),
+    "fresh": decided(top={"fresh": 300}),
+    "fresh-and-old": decided(top={"max_hops": 2}, peers=(NAS1,)),
+}
+# Servers that answer, logins that stay, and shares.
+LOGINS = {
+    "few-attributes": decided(top={"max_attributes": 3, "status_server": True}),
+    "twenty-attributes-and-one-try": decided(
+        top={"max_attributes": 20}, servers_of_first=servers(2), tries=1, rest=10000),
+    "share-of-a-peer": decided(peers=(NAS1, N2), peer_share=2),
+    "shares-of-names-and-peers": decided(peers=(NAS1, N2), peer_share=2, share=3, also=["*"]),
+    "share-of-a-peer-of-256": decided(peers=(NAS1, N2), peer_share=256),
+    "own-names": decided(second={}, own_names=True, also=["*"]),
+    "own-names-and-lists": decided({"reply_without": ["25"]}, own_names=True),
+    "rest-and-seals": decided(servers_of_first=[server(f"198.51.100.{n}", f"h{n}", require_seal=True) for n in (1, 2)], rest=10000),
+    "logins": decided(servers_of_first=servers(2), rest=10000, conversations=True),
+    "logins-held-long": decided(servers_of_first=servers(2), rest=10000, conversations=True, tries=1, hold=20000),
+    "logins-held-longest": decided(servers_of_first=servers(2), rest=10000, conversations=True, tries=1, hold=60000),
+    "logins-of-two-peers": decided(
+        servers_of_first=servers(2), rest=10000, conversations=True, tries=1, hold=60000,
+        peers=(NAS1 + stated(reply_without=["25"]), N2)),
+    "logins-of-four-places": decided(servers_of_first=servers(2), rest=10000, conversations=True, tries=1, max_pending=4),
+    "logins-and-one-try": decided(servers_of_first=servers(2), rest=10000, conversations=True, tries=1),
+    "logins-that-wait-long": decided(
+        servers_of_first=servers(2), rest=10000, conversations=True, tries=1, wait=20000, hold=60000),
+    "logins-at-three-servers": decided(servers_of_first=servers(3), rest=10000, conversations=True, tries=1, hold=60000),
+    "logins-that-move": decided(servers_of_first=servers(2), rest=10000, tries=1, hold=60000),
+    "logins-and-a-share": decided(
+        servers_of_first=servers(2), rest=10000, conversations=True, peer_share=2, tries=1, hold=60000),
+    "logins-and-rest-after-two": decided(
+        servers_of_first=servers(2), rest=10000, rest_after=2, conversations=True, tries=1),
+}
+
+CONFIGURATIONS = POLICIES | REVERSES | LOGINS | {
     "one-server": one(),
     "seal-required": configuration(realm("a.example", servers(1)), peers=(NAS1 + "require_seal = true\n",)),
     "no-session": one(max_sessions=0),
