@@ -11,7 +11,7 @@ import sys
 import tomllib
 from packets import *
 from policy import *
-from sessions import Sessions
+from sessions import START, Sessions
 
 LATEST = 2 ** 62
 LAST_TICKET = 2 ** 63

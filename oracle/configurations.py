@@ -316,9 +316,8 @@ REVERSES = {
         realm("a.example", servers(1)),
         realm("b.example", [*servers(1), client("198.51.100.1", "pc"), client("192.0.2.1", "p2")])),
     "names-of-access-servers-without-coa": decided(peers=(NAS1_OF["odd"], N2 + stated(nas_ids=["wlc*", "wap", "**"]))),
-    "full-ledger": decided(peers=(NAS1_OF["wlc-*"], N2_COA + stated(nas_ids=["ap-*"]), NAS3), own_sessions=True, max_sessions=4),
-    "fresh": decided(top={"fresh": 300}),
-    "fresh-and-old": decided(top={"max_hops": 2}, peers=(NAS1,)),
+    "full-ledger": configuration(realm("a.example", servers(1), max_sessions=4), peers=(NAS1, NAS3, NAS4)),
+    "fresh": decided(top={"fresh": 300, "max_hops": 1}),
 }
 # Servers that answer, logins that stay, and shares.
 LOGINS = {
@@ -341,6 +340,8 @@ LOGINS = {
     "logins-and-one-try": decided(servers_of_first=servers(2), rest=10000, conversations=True, tries=1),
     "logins-that-wait-long": decided(
         servers_of_first=servers(2), rest=10000, conversations=True, tries=1, wait=20000, hold=60000),
+    "logins-of-many-places": decided(
+        servers_of_first=servers(2), rest=10000, conversations=True, tries=1, wait=20000, hold=60000, max_pending=4096),
     "logins-at-three-servers": decided(servers_of_first=servers(3), rest=10000, conversations=True, tries=1, hold=60000),
     "logins-that-move": decided(servers_of_first=servers(2), rest=10000, tries=1, hold=60000),
     "logins-and-a-share": decided(
@@ -349,7 +350,38 @@ LOGINS = {
         servers_of_first=servers(2), rest=10000, rest_after=2, conversations=True, tries=1),
 }
 
-CONFIGURATIONS = POLICIES | REVERSES | LOGINS | {
+RANDOM = {
+    "own": configuration(
+        realm("a", [*servers(1), client("198.51.100.9", "pc"), client("198.51.100.2", "p2")], wait=10, hold=20, tries=1, rest=30,
+              max_pending=6, max_sessions=4, also=["*.a.b"], own_sessions=True, reply_without=["6", "26.9"]),
+        realm("b", [*servers(2), client("198.51.100.1", "zz"), client("192.0.2.1", "p3")], wait=8, hold=10, max_pending=5,
+              max_sessions=3, also=["*.b"]),
+        peers=(NAS1 + stated(nas_ids=["wlc-*", "wlc-7*"]),
+               N2_COA + stated(operator_name="Inst.example", nas_ids=["wlc-7", "ap*", "*"], reply_without=["25"]), NAS4),
+        seed="a7" * 32, fresh=10),
+    "own-in-two-shards": configuration(
+        realm("a", servers(2), wait=10, hold=0, tries=1, max_pending=5, max_sessions=5, own_sessions=True, peers_of="nas1 n2 nas3"),
+        realm("b", [*servers(1), client("198.51.100.7", "pb")], wait=5, hold=20, tries=1, max_pending=4, max_sessions=4,
+              own_sessions=True, also=["*.t"]),
+        realm("c", [NO_ACCT], wait=7, hold=10, max_pending=4, max_sessions=3, accounting="answer", own_sessions=True),
+        peers=(N2_COA + stated(nas_ids=["w*"]), NAS1 + stated(nas_ids=["wlc-1", "wlc-2", "wlc-1*"]), NAS5, NAS3),
+        seed="5d" * 32, shards=2, max_hops=4),
+    "logins-and-shares": configuration(
+        realm("a", [*servers(1), server("198.51.100.2", "h2", require_seal=True), *servers(3)[2:]], wait=10, hold=60, tries=1,
+              max_pending=9, max_sessions=2, rest=60, rest_after=1, also=["*.a", "*"], conversations=True, peer_share=4,
+              own_names=True),
+        realm("b", servers(2), wait=8, hold=30, max_pending=5, max_sessions=1, rest=25, rest_after=2, conversations=True, share=2),
+        peers=(NAS1, N2, HOME1), seed="e9" * 32, max_attributes=8, status_server=True),
+    "logins-in-two-shards": configuration(
+        realm("a", servers(2), wait=10, hold=100, tries=2, max_pending=8, rest=40, rest_after=2, conversations=True, own_names=True,
+              share=3, also=["*.x"]),
+        realm("b", [server("198.51.100.1", "h1", require_seal=True), *servers(3)[1:]], wait=6, hold=40, tries=1, max_pending=6,
+              rest=30, rest_after=3, peer_share=3, own_names=True),
+        realm("c", servers(2), wait=7, hold=50, tries=1, max_pending=6, rest=0, conversations=True, peer_share=2, share=1),
+        peers=(NAS2, NAS1, NAS3), seed="1c" * 32, shards=2, max_attributes=12),
+}
+
+CONFIGURATIONS = POLICIES | REVERSES | LOGINS | RANDOM | {
     "one-server": one(),
     "seal-required": configuration(realm("a.example", servers(1)), peers=(NAS1 + "require_seal = true\n",)),
     "no-session": one(max_sessions=0),

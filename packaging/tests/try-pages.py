@@ -224,12 +224,10 @@ def try_page(name, pages, program, booted, tally):
         editor = editor_for(page, directory)
         if not installed:
             checkout(program, directory)
-        old = re.search(r"^`radsecproxy.conf`:\n\n```text\n(.*?)^```$", page, re.DOTALL | re.MULTILINE)
-        if old:
-            with open("/etc/radsecproxy.conf", "w") as file:
-                file.write(old[1])
         shell = Shell(directory, editor)
         if name == "MIGRATING":
+            # What the page says of it: it stands in examples/migrating.
+            shutil.copy(os.path.join(ROOT, "examples", "migrating", "radsecproxy.conf"), "/etc/radsecproxy.conf")
             shell.run("make -s -C packaging install")
         try_commands(name, page, shell, booted, tally)
         try_configurations(page, program, tally)
