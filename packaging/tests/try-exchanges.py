@@ -357,9 +357,11 @@ def try_silent(program, work, homes):
     server, access = Server(program, work, text, 'silent'), AccessServer(1)
     homes[0].silent = True
     access.sockets[0].send(access_request(1, b's1@a.example'))
-    time.sleep(.1)
-    found = server.metrics()
-    waiting = [server.total(found, *it) for it in [('roam_realm_waiting_requests',), ('roam_server_identifiers_in_use', '28120', 'auth')]]
+    waiting, ends = [], time.monotonic() + 2
+    while waiting != [1, 1] and time.monotonic() < ends:
+        time.sleep(.1)
+        found = server.metrics()
+        waiting = [server.total(found, *it) for it in [('roam_realm_waiting_requests',), ('roam_server_identifiers_in_use', '28120', 'auth')]]
     want(waiting == [1, 1], 'a request that waits is told of its realm, and of the endpoint at which it does')
     is_told = server.tells('home server 127.0.0.1:28120 of a.example keeps silent: it rests')
     rests = server.total(server.metrics(), 'roam_server_rests', '28120', 'auth')
