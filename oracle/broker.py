@@ -57,6 +57,7 @@ class Config:
         self.reject = [name.lower().encode() for name in document.get("reject", [])]
         self.well_formed = document.get("well_formed", False)
         self.answer_unnamed = document.get("answer_unnamed", False)
+        self.auth, self.acct = document["auth"], document["acct"]
         self.peers = document["peer"]
         self.realms = [with_unsaid(realm) for realm in document["realm"]]
         for realm in self.realms:
