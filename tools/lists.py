@@ -21,6 +21,7 @@ HEADS = {
     "peer": "In each table\n.Cm [[peer]] ,\n1 to 1024 of them:",
     "realm": "In each table\n.Cm [[realm]] ,\n1 to 1024 of them:",
     "server": "In each table\n.Cm [[realm.server]] ,\n1 to 8 for each realm, in order of use:",
+    "coa_client": "In each table\n.Cm [[realm.coa_client]] ,\nat most 8 for each realm:",
 }
 # What the manual page doesn't list: no datagram that a server received meets them, or nothing is logged of them.
 NOT_LOGGED = {11, 20, 22, 23}
@@ -72,7 +73,7 @@ def keys_in_mdoc() -> str:
     for table, head in HEADS.items():
         page.append(head + "\n.Bl -tag -width Ds")
         for name, keys, value in rows:
-            if name == table and value.startswith("arrays of tables") is False and keys != "`server`":
+            if name == table and not value.startswith(("array of tables", "arrays of tables")):
                 page.append(".It " + " , ".join("Cm " + it.strip("`") for it in keys.split(", ")))
                 page.append(in_mdoc(as_sentence(value)))
         page.append(".El\n.Pp")
@@ -102,8 +103,8 @@ def keys_of_the_reader() -> dict[str, set[str]]:
     """The keys that the reader knows, by table."""
     text = (ROOT / "crates" / "roam_conf_reader" / "src" / "tables.rt").read_text(encoding="utf-8")
     found: dict[str, set[str]] = {}
-    for table, keys in re.findall(r"const (SERVER|PEER|REALM|TOP)(?:_OPTIONAL)?_KEYS: [^=]*= \[([^\]]*)\]", text):
-        found.setdefault(table.lower(), set()).update(re.findall(r'"([a-z_0-9]+)"', keys))
+    for table, keys in re.findall(r"const (SERVER|CLIENT|PEER|REALM|TOP)(?:_OPTIONAL)?_KEYS: [^=]*= \[([^\]]*)\]", text):
+        found.setdefault({"CLIENT": "coa_client"}.get(table, table.lower()), set()).update(re.findall(r'"([a-z_0-9]+)"', keys))
     return found
 
 

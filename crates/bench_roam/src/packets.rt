@@ -75,6 +75,7 @@ pub(crate) fn request(alloc: Global, realm: u16, number: u64) -> Result<Datagram
             port,
         },
         octets: Octets::from_vec(octets),
+        seconds: None,
     })
 }
 
@@ -89,5 +90,6 @@ pub(crate) fn response(alloc: Global, forwarded: &Out<Global>) -> Result<Datagra
         at: forwarded.from,
         from: forwarded.to,
         octets: Octets::from_vec(octets),
+        seconds: None,
     })
 }

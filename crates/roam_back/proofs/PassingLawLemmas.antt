@@ -1,22 +1,24 @@
 -- Which of a reply's attributes are returned.
-use Rattle.std.proofs.Common.{◌≡◌, Bool, true, List, [], subst, refl, ap, ◌∙◌}
-use Rattle.std.specs.Prelude.{if◌then◌else◌}
+use Rattle.std.proofs.Common.{◌≡◌, ℕ, Bool, true, false, inl, inr, List, [], ◌∷◌, filter, subst, refl, ap, ◌∙◌, arith}
+use Rattle.std.specs.Prelude.{not, if◌then◌else◌}
 use Rattle.std.specs.List.{AllZip}
-use Rattle.std.proofs.lemmas.Bool.{eq-eqb}
-use Rattle.roam_wire.specs.Attributes.{without_kind}
+use Rattle.std.proofs.lemmas.Bool.{cases_Bool, eq-eqb}
+use Rattle.std.proofs.lemmas.Bool.Decides.{nat_tests}
+use Rattle.roam_wire.specs.Attributes.{has_kind, only_kind, without_kind}
 use Rattle.roam_wire.specs.Packet.{Attribute, Packet}
 use Rattle.roam_wire.specs.Codes.{is_access_reply}
-use Rattle.roam_wire.specs.declared.attribute_type.TheConstants.{MESSAGE_AUTHENTICATOR, PROXY_STATE}
+use Rattle.roam_wire.specs.declared.attribute_type.TheConstants.{MESSAGE_AUTHENTICATOR, PROXY_STATE, USER_NAME}
 use Rattle.roam_wire.specs.declared.code.TheConstants.{ACCESS_ACCEPT}
 use Rattle.roam_wire.specs.declared.removed_attribute.RemovedAttribute.{RemovedAttribute}
 use Rattle.roam_filter.specs.Without.{without}
 use Rattle.roam_filter.proofs.WithoutLemmas.{without_kind-without}
 use Rattle.roam_hide.specs.SaltedValues.{IsAttributeAnew}
 use Rattle.roam_back.specs.CarriedLaws.{own_attributes}
-use Rattle.roam_back.specs.PassingLaws.{AcceptCarriesWhatPasses, AccessPasses, NothingNamed, OthersPassWhole}
-use Rattle.roam_back.specs.Returned.{passing, passing_reply}
+use Rattle.roam_back.specs.PassingLaws.{AcceptCarriesWhatPasses, AccessPasses, NothingNamed, OtherAttributesPass, OthersPassWhole, OwnNamesPass}
+use Rattle.roam_route.specs.UserName.{realm_part}
+use Rattle.roam_back.specs.Returned.{is_own, is_same_name, name_part, named, own_of, passing, passing_reply}
 use Rattle.roam_back.proofs.CarriedLemmas.{accept_carries}
-use Rattle.roam_back.proofs.PassingLemmas.{passing-none, passing_reply-none}
+use Rattle.roam_back.proofs.PassingLemmas.{all-kept, named-all, passing-none, passing_reply-none}
 use Rattle.roam_back.proofs.PlainLemmas.{accept_is_access, from_key, to_key}
 
 own-passing : (removed : List RemovedAttribute) (reply : Packet) →
@@ -25,28 +27,78 @@ own-passing removed reply =
     ap (without_kind MESSAGE_AUTHENTICATOR) (without_kind-without removed PROXY_STATE reply.attributes)
     ∙ without_kind-without removed MESSAGE_AUTHENTICATOR (without_kind PROXY_STATE reply.attributes)
 
-chosen : (removed : List RemovedAttribute) (reply : Packet) → is_access_reply reply.code ≡ true →
-    passing_reply removed reply ≡ passing removed reply
-chosen removed reply access =
-    ap (λ (b : Bool). passing (if b then removed else []) reply) access
+chosen : (own : Bool) (request : Packet) (removed : List RemovedAttribute) (reply : Packet) →
+    is_access_reply reply.code ≡ true →
+    passing_reply own request removed reply ≡ passing removed (named (own_of own reply.code) request reply)
+chosen own request removed reply access =
+    ap (λ (b : Bool). passing (if b then removed else []) (named (own_of own reply.code) request reply)) access
 
 pub access_passes : AccessPasses
-access_passes removed reply access = ap own_attributes (chosen removed reply access) ∙ own-passing removed reply
+access_passes own request removed reply access =
+    ap own_attributes (chosen own request removed reply access)
+    ∙ own-passing removed (named (own_of own reply.code) request reply)
 
 pub accept_carries_what_passes : AcceptCarriesWhatPasses
-accept_carries_what_passes r removed reply request is =
+accept_carries_what_passes r own removed reply request is =
     let access = accept_is_access reply (eq-eqb reply.code ACCESS_ACCEPT is) in
-    let all = accept_carries r (passing_reply removed reply) request is in (
+    let all = accept_carries r (passing_reply own request removed reply) request is in (
       all.0,
       all.1,
       all.2,
-      subst (λ (own : List Attribute). AllZip (IsAttributeAnew (from_key r) (to_key r request)) own all.1)
-          (access_passes removed reply access) all.3,
+      subst (λ (owned : List Attribute). AllZip (IsAttributeAnew (from_key r) (to_key r request)) owned all.1)
+          (access_passes own request removed reply access) all.3,
     )
 
+-- no other reply is an Access-Accept
+not-accept : (own : Bool) (code : ℕ) → is_access_reply code ≡ false → own_of own code ≡ false
+not-accept own code other = grind (arith, nat_tests, other)
+
 pub others_pass_whole : OthersPassWhole
-others_pass_whole removed reply other =
-    ap (λ (b : Bool). passing (if b then removed else []) reply) other ∙ passing-none reply
+others_pass_whole own request removed reply other =
+    ap (λ (b : Bool). passing (if b then removed else []) (named (own_of own reply.code) request reply)) other
+    ∙ passing-none (named (own_of own reply.code) request reply)
+    ∙ ap (λ (b : Bool). named b request reply) (not-accept own reply.code other)
+    ∙ named-all request reply
 
 pub nothing_named : NothingNamed
-nothing_named reply = passing_reply-none [] reply refl
+nothing_named request reply = passing_reply-none request [] reply refl
+
+-- ---- own names
+
+own_among : (request : Packet) (all : List Attribute) →
+    only_kind USER_NAME (filter (is_own true request) all)
+    ≡ filter (λ a. is_same_name (realm_part a.value) (name_part request)) (only_kind USER_NAME all)
+unfolding is_own
+own_among request [] = refl
+own_among request (a ∷ all) =
+    elim (cases_Bool (has_kind USER_NAME a)) [
+      | inl name ↦ elim (cases_Bool (is_same_name (realm_part a.value) (name_part request))) [
+        | inl same ↦ rw (name, same) (rw (name, same) (ap (λ (l : List Attribute). a ∷ l) (own_among request all)))
+        | inr foreign ↦ rw (name, foreign) (own_among request all)
+      ]
+      | inr other ↦ rw other (rw other (own_among request all))
+    ]
+
+-- of the User-Names those of the request's name part
+pub own_names_pass : OwnNamesPass
+own_names_pass request reply = own_among request reply.attributes
+
+others_among : (own : Bool) (request : Packet) (all : List Attribute) →
+    without_kind USER_NAME (filter (is_own own request) all) ≡ without_kind USER_NAME all
+unfolding is_own
+others_among false request [] = refl
+others_among false request (a ∷ all) =
+    ap (λ (l : List Attribute). filter (λ x. not (has_kind USER_NAME x)) (a ∷ l)) (all-kept request all)
+others_among true request [] = refl
+others_among true request (a ∷ all) =
+    elim (cases_Bool (has_kind USER_NAME a)) [
+      | inl name ↦ elim (cases_Bool (is_same_name (realm_part a.value) (name_part request))) [
+        | inl same ↦ rw (name, same) (rw name (others_among true request all))
+        | inr foreign ↦ rw (name, foreign) (others_among true request all)
+      ]
+      | inr other ↦ rw other (rw other (ap (λ (l : List Attribute). a ∷ l) (others_among true request all)))
+    ]
+
+-- and all else
+pub other_attributes_pass : OtherAttributesPass
+other_attributes_pass own request reply = others_among own request reply.attributes

@@ -1,11 +1,13 @@
 -- The packet that is returned for a reply (RFC 2865, section 2.3).
-use Rattle.std.specs.Prelude.{◌==◌, ℕ, List, [], ◌∷◌, ◌++◌, map, if◌then◌else◌}
+use Rattle.std.specs.Prelude.{◌==◌, ◌&&◌, ◌||◌, not, ℕ, Bool, false, List, [], ◌∷◌, ◌++◌, Option, Some, None, filter, map, option_and_then, if◌then◌else◌}
+use Rattle.std.specs.Str.{str_eq_ignore_ascii_case}
 use Rattle.roam_wire.specs.Packet.{Attribute, Packet, packet_length}
-use Rattle.roam_wire.specs.Attributes.{only_kind, without_kind}
-use Rattle.roam_wire.specs.declared.attribute_type.TheConstants.{PROXY_STATE, MESSAGE_AUTHENTICATOR}
+use Rattle.roam_wire.specs.Attributes.{first_value, only_kind, without_kind}
+use Rattle.roam_wire.specs.declared.attribute_type.TheConstants.{PROXY_STATE, MESSAGE_AUTHENTICATOR, USER_NAME}
 use Rattle.roam_wire.specs.declared.code.TheConstants.{ACCESS_ACCEPT}
 use Rattle.roam_wire.specs.declared.removed_attribute.RemovedAttribute.{RemovedAttribute}
 use Rattle.roam_filter.specs.Without.{without}
+use Rattle.roam_route.specs.UserName.{realm_part}
 use Rattle.roam_auth.specs.Authenticators.{with_authenticator, response_authenticator}
 use Rattle.roam_auth.specs.MessageAuthenticator.{empty_message_authenticator, with_message_authenticator}
 use Rattle.roam_hide.specs.Hiding.{Key}
@@ -27,6 +29,36 @@ returning forwarded_authenticator home_secret client_secret = record {
   client_secret = client_secret;
 }
 
+-- the name part of a packet: what follows the last `@` of its first User-Name, if there is one
+abbrev pub name_part : Packet → Option (List ℕ)
+name_part p = option_and_then realm_part (first_value USER_NAME p.attributes)
+
+-- two name parts are there, and equal without ASCII case
+abbrev pub is_same_name : Option (List ℕ) → Option (List ℕ) → Bool
+is_same_name (Some a) (Some b) = str_eq_ignore_ascii_case a b
+is_same_name _ _ = false
+
+-- an attribute is a User-Name of the request's name part, or none at all; where own names alone pass
+unfoldable pub is_own : Bool → Packet → Attribute → Bool
+is_own own request a =
+    not own || not (a.kind == USER_NAME) || is_same_name (realm_part a.value) (name_part request)
+
+-- ## Own names
+-- In a realm with `own_names` a User-Name of an Access-Accept is returned where its name part, what follows its own last
+-- `@`, is that of the request, without ASCII case; each other goes, one that has none too. An access server uses that
+-- name in its accounting (RFC 2865, section 5.1).
+-- Source: RFC 2865 section 5.1; ours
+-- Rules out: an Accept of one realm that names a user of another
+-- Stands in: `roam_back` `Returned.antt`: `named`, `is_own`; `back_passing`, the law `own_names`
+--
+-- a reply without the User-Names that don't pass
+abbrev pub named : Bool → Packet → Packet → Packet
+named own request reply = record reply { attributes = filter (is_own own request) reply.attributes }
+
+-- whether own names alone pass of a reply of this code: of an Access-Accept
+abbrev pub own_of : Bool → ℕ → Bool
+own_of own code = own && code == ACCESS_ACCEPT
+
 -- a reply without the attributes that don't pass
 abbrev pub passing : List RemovedAttribute → Packet → Packet
 passing removed reply = record reply { attributes = without removed reply.attributes }
@@ -37,14 +69,16 @@ removed_of removed code = if is_access_reply code then removed else []
 
 -- ## Reply that passes
 -- A reply as it is returned to a peer for a realm: an Access-Accept, -Reject or -Challenge without the attributes that
--- the lists of the two name, in the order of the reply; any other reply whole. What is returned for a reply is what is
+-- the lists of the two name, in the order of the reply, an Access-Accept also without the User-Names that don't pass;
+-- any other reply whole. What is returned for a reply is what is
 -- returned for this.
 -- Source: ours
 -- Rules out: an attribute taken out of another realm's replies; a reply's State or Proxy-State taken for one that goes
 -- Stands in: `roam_back` `Returned.antt`: `passing_reply`; `back_passing`, the law `passing_replies`
 --
-abbrev pub passing_reply : List RemovedAttribute → Packet → Packet
-passing_reply removed reply = passing (removed_of removed reply.code) reply
+abbrev pub passing_reply : Bool → Packet → List RemovedAttribute → Packet → Packet
+passing_reply own request removed reply =
+    passing (removed_of removed reply.code) (named (own_of own reply.code) request reply)
 
 -- a packet's Proxy-States, in their order (RFC 2865, section 5.33)
 abbrev pub proxy_states : Packet → List Attribute

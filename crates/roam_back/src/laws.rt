@@ -6,7 +6,8 @@ ghost use Rattle.roam_back.specs.CarriedLaws.{AcceptCarriesAll, RejectCarriesAll
 ghost use Rattle.roam_back.specs.NakLaws.{NakIsPacket, NakReads, NakHasLength, NakIsShort, NakAnswers};
 ghost use Rattle.roam_back.specs.NakLaws.{NakHasIdentifier, NakIsSigned, NakHasNoSeal, NakHasOneCause, NakTellsCause};
 ghost use Rattle.roam_back.specs.NakLaws.{NakHasProxyStates, NakHasNothingElse, NothingElseCounts};
-ghost use Rattle.roam_back.specs.PassingLaws.{AcceptCarriesWhatPasses, AccessPasses, NothingNamed, OthersPassWhole};
+ghost use Rattle.roam_back.specs.PassingLaws.{AcceptCarriesWhatPasses, AccessPasses, NothingNamed};
+ghost use Rattle.roam_back.specs.PassingLaws.{OtherAttributesPass, OthersPassWhole, OwnNamesPass};
 ghost use Rattle.roam_back.specs.ReturnedLaws.{ReturnedIsPacket, ReturnedReads, ReturnedHasLength, ReturnedIsSigned};
 ghost use Rattle.roam_back.specs.ReturnedLaws.{ReturnedIsWellSealed, AccessIsSealed, AccessReplyHasSealFirst};
 ghost use Rattle.roam_back.specs.ReturnedLaws.{CodeIsTheReplys, IdentifierIsTheRequests, ProxyStatesAreTheRequests};
@@ -48,12 +49,14 @@ pub fn returned_carries()
 {}
 
 /// Which of a reply's attributes are returned: of an Access reply just those that no list names, in their order, and of
-/// any other all.
+/// any other all. Where own names alone pass, an Access-Accept has just the User-Names of the request's name part.
 pub fn passing_replies()
     ensures access { AccessPasses }
     ensures accept { AcceptCarriesWhatPasses }
     ensures others { OthersPassWhole }
     ensures nothing { NothingNamed }
+    ensures own_names { OwnNamesPass }
+    ensures other_attributes { OtherAttributesPass }
 {}
 
 /// A NAK is a packet of the stated size, which reads (RFC 2865, section 3).

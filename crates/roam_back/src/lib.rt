@@ -25,6 +25,7 @@
 
 mod laws;
 mod negative_ack;
+mod own_names;
 mod plain_packet;
 mod reply_check;
 mod returning;

@@ -6,9 +6,10 @@ ghost use Rattle.roam_wire.specs.Packet.{IsPacket, attributes_text, packet_lengt
 ghost use Rattle.roam_wire.specs.Shown.{shown};
 ghost use Rattle.roam_filter.specs.Removal.{removed_by};
 ghost use Rattle.roam_filter.specs.Without.{without};
-ghost use Rattle.roam_back.specs.Returned.{Returning, passing, returned_length};
-ghost use Rattle.roam_back.specs.Private.Plain.{is_carried, first_seal, piece, plain_packet};
+ghost use Rattle.roam_back.specs.Returned.{Returning, is_own, named, passing, returned_length};
+ghost use Rattle.roam_back.specs.Private.Plain.{is_carried, first_seal, own_piece, plain_packet};
 
+use crate::own_names::is_kept;
 use roam_filter::{Removal, append_passed, passed_len};
 use roam_wire::attribute_type::{MESSAGE_AUTHENTICATOR, PROXY_STATE};
 use roam_wire::code::is_access_reply;
@@ -22,7 +23,7 @@ use std::alloc::Allocator;
 /// Whether an attribute of a reply is returned: no Proxy-State is, and no Message-Authenticator of an
 /// Access reply.
 #[tactic(auto, unfolding(crate::specs::Private::Plain::is_carried))]
-fn is_carried(attribute: &Attr<'_>, access: bool) -> bool
+pub(crate) fn is_carried(attribute: &Attr<'_>, access: bool) -> bool
     ensures { result ≡ is_carried access (shown attribute.now) }
 {
     attribute.kind != PROXY_STATE && !(access && attribute.kind == MESSAGE_AUTHENTICATOR)
@@ -40,11 +41,18 @@ fn seal_len(access: bool) -> usize
 }
 
 /// How many octets what is returned of an attribute of a reply takes.
-fn piece_len(attribute: &Attr<'_>, access: bool, removal: &Removal<'_>) -> usize
+fn piece_len(
+    attribute: &Attr<'_>,
+    access: bool,
+    removal: &Removal<'_>,
+    own: bool,
+    request: &View<'_>,
+) -> usize
     requires { length attribute.now.value.now ≤ 253 }
-    ensures { result ≡ length (attributes_text (piece access (removed_by removal.now) (shown attribute.now))) }
+    ensures { result ≡ length (attributes_text (own_piece access (removed_by removal.now)
+        (is_own own request.now) (shown attribute.now))) }
 {
-    if is_carried(attribute, access) {
+    if is_kept(attribute, access, own, request) {
         passed_len(attribute, removal)
     } else {
         0
@@ -52,31 +60,44 @@ fn piece_len(attribute: &Attr<'_>, access: bool, removal: &Removal<'_>) -> usize
 }
 
 /// How many octets the attributes of a reply take that pass and are returned. One pass.
-fn carried_len(reply: &View<'_>, access: bool, removal: &Removal<'_>) -> usize
-    ensures all { result ≡ length (attributes_text
-        (filter (is_carried access) (without (removed_by removal.now) reply.now.attributes))) }
+fn carried_len(
+    reply: &View<'_>,
+    access: bool,
+    removal: &Removal<'_>,
+    own: bool,
+    request: &View<'_>,
+) -> usize
+    ensures all { result ≡ length (attributes_text (filter (is_carried access)
+        (without (removed_by removal.now) (filter (is_own own request.now) reply.now.attributes)))) }
     ensures few { result ≤ 4076 }
     ensures packet { IsPacket reply.now }
 {
     let mut size = 0;
     for attribute in reply.attributes() {
-        size += piece_len(&attribute, access, removal);
+        size += piece_len(&attribute, access, removal, own, request);
     }
     size
 }
 
 /// The size of the packet that is returned, in octets: the header, a Message-Authenticator in an Access
 /// reply, the reply's attributes that pass and are returned, the request's Proxy-States.
-pub(crate) fn returned_len(reply: &View<'_>, request: &View<'_>, removal: &Removal<'_>) -> usize
-    ensures plain { result
-        ≡ packet_length (plain_packet (passing (removed_by removal.now) reply.now) request.now) }
+pub(crate) fn returned_len(
+    reply: &View<'_>,
+    request: &View<'_>,
+    removal: &Removal<'_>,
+    own: bool,
+) -> usize
+    ensures plain { result ≡ packet_length (plain_packet
+        (passing (removed_by removal.now) (named own request.now reply.now)) request.now) }
     ensures returned { (r : Returning) → result
-        ≡ returned_length r (passing (removed_by removal.now) reply.now) request.now }
+        ≡ returned_length r (passing (removed_by removal.now) (named own request.now reply.now)) request.now }
     ensures reply { IsPacket reply.now }
     ensures request { IsPacket request.now }
 {
     let access = is_access_reply(reply.code());
-    20 + seal_len(access) + carried_len(reply, access, removal) + proxy_states_len(request)
+    20 + seal_len(access)
+        + carried_len(reply, access, removal, own, request)
+        + proxy_states_len(request)
 }
 
 /// Appends a Message-Authenticator that is still to be filled in, to an Access reply.
@@ -96,16 +117,18 @@ fn append_piece<A: Allocator>(
     attribute: Attr<'_>,
     access: bool,
     removal: &Removal<'_>,
+    own: bool,
+    request: &View<'_>,
 )
     requires short { length attribute.value.now ≤ 253 }
-    requires room { vec_len out.old
-        + length (attributes_text (piece access (removed_by removal.now) (shown attribute)))
+    requires room { vec_len out.old + length (attributes_text
+        (own_piece access (removed_by removal.now) (is_own own request.now) (shown attribute)))
         ≤ vec_capacity out.old }
-    ensures items { out.new.items ≡ out.old.items
-        ++ attributes_text (piece access (removed_by removal.now) (shown attribute.entry)) }
+    ensures items { out.new.items ≡ out.old.items ++ attributes_text
+        (own_piece access (removed_by removal.now) (is_own own request.now) (shown attribute.entry)) }
     ensures capacity { vec_capacity out.new ≡ vec_capacity out.old }
 {
-    if is_carried(&attribute, access) {
+    if is_kept(&attribute, access, own, request) {
         append_passed(out, attribute, removal);
     }
 }
@@ -116,16 +139,18 @@ fn append_carried<A: Allocator>(
     reply: &View<'_>,
     access: bool,
     removal: &Removal<'_>,
+    own: bool,
+    request: &View<'_>,
 )
-    requires { vec_len out.old + length (attributes_text
-        (filter (is_carried access) (without (removed_by removal.now) reply.now.attributes)))
+    requires { vec_len out.old + length (attributes_text (filter (is_carried access)
+        (without (removed_by removal.now) (filter (is_own own request.now) reply.now.attributes))))
         ≤ vec_capacity out.old }
-    ensures items { out.new.items ≡ out.old.items ++ attributes_text
-        (filter (is_carried access) (without (removed_by removal.now) reply.now.attributes)) }
+    ensures items { out.new.items ≡ out.old.items ++ attributes_text (filter (is_carried access)
+        (without (removed_by removal.now) (filter (is_own own request.now) reply.now.attributes))) }
     ensures capacity { vec_capacity out.new ≡ vec_capacity out.old }
 {
     for next in reply.attributes() {
-        append_piece(out, next, access, removal);
+        append_piece(out, next, access, removal, own, request);
     }
 }
 
@@ -136,14 +161,15 @@ pub(crate) fn append_plain<A: Allocator>(
     reply: &View<'_>,
     request: &View<'_>,
     removal: &Removal<'_>,
+    own: bool,
     size: usize,
 )
-    requires size { size
-        ≡ packet_length (plain_packet (passing (removed_by removal.now) reply.now) request.now) }
+    requires size { size ≡ packet_length (plain_packet
+        (passing (removed_by removal.now) (named own request.now reply.now)) request.now) }
     requires short { size ≤ 4096 }
     requires room { vec_len out.old + size ≤ vec_capacity out.old }
-    ensures { out.new.items ≡ out.old.items
-        ++ packet_text (plain_packet (passing (removed_by removal.now) reply.now) request.now) }
+    ensures { out.new.items ≡ out.old.items ++ packet_text (plain_packet
+        (passing (removed_by removal.now) (named own request.now reply.now)) request.now) }
 {
     let access = is_access_reply(reply.code());
     append_header(
@@ -154,6 +180,6 @@ pub(crate) fn append_plain<A: Allocator>(
         &request.authenticator(),
     );
     append_seal(out, access);
-    append_carried(out, reply, access, removal);
+    append_carried(out, reply, access, removal, own, request);
     append_proxy_states(out, request);
 }

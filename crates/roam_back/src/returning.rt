@@ -6,11 +6,12 @@ ghost use Rattle.roam_wire.specs.Packet.{packet_text};
 ghost use Rattle.roam_wire.specs.Secret.{IsSecret};
 ghost use Rattle.roam_auth.specs.MessageAuthenticator.{HasAtMostOneMessageAuthenticator};
 ghost use Rattle.roam_filter.specs.Removal.{removed_by};
-ghost use Rattle.roam_back.specs.Returned.{passing, passing_reply, removed_of, returning, unsealed_return, returned};
+ghost use Rattle.roam_back.specs.Returned.{named, passing, passing_reply, removed_of, returning, unsealed_return, returned};
 ghost use Rattle.roam_back.specs.Returned.{returned_length};
 ghost use Rattle.roam_back.specs.Private.Plain.{IsPlainText};
 ghost use Rattle.roam_back.specs.Shown.{shown};
 
+use crate::own_names::own_of;
 use crate::plain_packet::{append_plain, returned_len};
 use crate::terms::Returning;
 use roam_auth::seal_and_sign;
@@ -22,9 +23,11 @@ use std::alloc::Allocator;
 
 /// Hides the salted strings of an Access-Accept anew, in place.
 fn rehide_accept(octets: &mut [u8], reply: &View<'_>, request: &View<'_>, returning: &Returning<'_>)
-    requires plain { IsPlainText (passing (removed_by returning.now.removal) reply.now) request.now octets.old }
+    requires plain { IsPlainText (passing (removed_by returning.now.removal)
+        (named returning.now.own request.now reply.now)) request.now octets.old }
     ensures { octets.new ≡ packet_text (unsealed_return (shown returning.now)
-        (passing (removed_by returning.now.removal) reply.now) request.now) }
+        (passing (removed_by returning.now.removal)
+        (named returning.now.own request.now reply.now)) request.now) }
 {
     if reply.code() == ACCESS_ACCEPT {
         let from = HidingKey {
@@ -46,12 +49,15 @@ fn seal_for_requester(
     request: &View<'_>,
     returning: &Returning<'_>,
 )
-    requires plain { IsPlainText (passing (removed_by returning.now.removal) reply.now) request.now octets.old }
+    requires plain { IsPlainText (passing (removed_by returning.now.removal)
+        (named returning.now.own request.now reply.now)) request.now octets.old }
     requires at_most_one { HasAtMostOneMessageAuthenticator
-        (passing (removed_by returning.now.removal) reply.now) }
+        (passing (removed_by returning.now.removal)
+        (named returning.now.own request.now reply.now)) }
     requires secret { IsSecret returning.now.client_secret.now }
     ensures { octets.new ≡ packet_text (returned (shown returning.now)
-        (passing (removed_by returning.now.removal) reply.now) request.now) }
+        (passing (removed_by returning.now.removal)
+        (named returning.now.own request.now reply.now)) request.now) }
 {
     rehide_accept(octets, reply, request, returning);
     seal_and_sign(octets, returning.client_secret, request.authenticator());
@@ -66,14 +72,17 @@ fn seal_appended<A: Allocator>(
     returning: &Returning<'_>,
 )
     requires start { start ≤ vec_len out.old }
-    requires plain { IsPlainText (passing (removed_by returning.now.removal) reply.now) request.now
+    requires plain { IsPlainText (passing (removed_by returning.now.removal)
+        (named returning.now.own request.now reply.now)) request.now
         (drop start out.old.items) }
     requires at_most_one { HasAtMostOneMessageAuthenticator
-        (passing (removed_by returning.now.removal) reply.now) }
+        (passing (removed_by returning.now.removal)
+        (named returning.now.own request.now reply.now)) }
     requires secret { IsSecret returning.now.client_secret.now }
     ensures { out.new.items ≡ take start out.old.items
         ++ packet_text (returned (shown returning.now)
-        (passing (removed_by returning.now.removal) reply.now) request.now) }
+        (passing (removed_by returning.now.removal)
+        (named returning.now.own request.now reply.now)) request.now) }
 {
     seal_for_requester(&mut out[start..], reply, request, returning);
 }
@@ -94,7 +103,8 @@ fn removal_of<'a>(code: u8, removal: &Removal<'a>) -> Removal<'a>
 /// Proxy-States that the reply came with and with the request's own in their place, sealed and signed for
 /// the requester. In an Access reply the Message-Authenticator stands first, and in an Access-Accept salted
 /// strings are hidden anew (RFC 2868, section 3.5; RFC 2548, section 2.4). Of Access replies alone some
-/// attributes may not pass.
+/// attributes may not pass; of an Access-Accept, where own names alone pass, each User-Name of another name
+/// part than the request's.
 ///
 /// `forwarded_authenticator` and `home_secret` are those of the forwarded request and of the link from
 /// which the reply came, `client_secret` is the requester's; secrets have 1 to 64 octets.
@@ -106,6 +116,7 @@ pub fn back_passing<A: Allocator>(
     reply: &View<'_>,
     request: &View<'_>,
     removal: &Removal<'_>,
+    own_names: bool,
     forwarded_authenticator: [u8; 16],
     home_secret: &[u8],
     client_secret: &[u8],
@@ -116,35 +127,37 @@ pub fn back_passing<A: Allocator>(
     requires client_secret { IsSecret client_secret.now }
     ensures ok { OnOk result (out.new.items ≡ out.old.items ++ packet_text (returned
         (returning forwarded_authenticator home_secret.now client_secret.now)
-        (passing_reply (removed_by removal.now) reply.now) request.now)) }
+        (passing_reply own_names request.now (removed_by removal.now) reply.now) request.now)) }
     ensures err { OnErr result (out.new.items ≡ out.old.items) }
     ensures capacity { OnErr result (vec_capacity out.new ≡ vec_capacity out.old) }
 
     // The size is looked at before memory is asked for.
     ensures reply_too_long { IsErrOf result Refusal.ReplyTooLong ↔ (4096 < returned_length
         (returning forwarded_authenticator home_secret.now client_secret.now)
-        (passing_reply (removed_by removal.now) reply.now) request.now) }
+        (passing_reply own_names request.now (removed_by removal.now) reply.now) request.now) }
     ensures causes { IfErr result (λ e. (e ≡ Refusal.ReplyTooLong) ⊎ (e ≡ Refusal.NoMemory)) }
 
     // Memory is wanting only where there was no room for the packet.
     ensures full { IsErrOf result Refusal.NoMemory
         → vec_capacity out.old < vec_len out.old + returned_length
         (returning forwarded_authenticator home_secret.now client_secret.now)
-        (passing_reply (removed_by removal.now) reply.now) request.now }
+        (passing_reply own_names request.now (removed_by removal.now) reply.now) request.now }
 {
     let removal = removal_of(reply.code(), removal);
-    let size = returned_len(reply, request, &removal);
+    let own = own_of(own_names, reply.code());
+    let size = returned_len(reply, request, &removal, own);
     if size > MAX_PACKET_LENGTH {
         return Err(Refusal::ReplyTooLong);
     }
     out.reserve(size).map_err(|_| Refusal::NoMemory)?;
     let start = out.len();
-    append_plain(out, reply, request, &removal, size);
+    append_plain(out, reply, request, &removal, own, size);
     let returning = Returning {
         forwarded_authenticator,
         home_secret,
         client_secret,
         removal,
+        own,
     };
     seal_appended(out, start, reply, request, &returning);
     Ok(())
@@ -195,6 +208,7 @@ pub fn back<A: Allocator>(
         reply,
         request,
         &removal,
+        false,
         forwarded_authenticator,
         home_secret,
         client_secret,

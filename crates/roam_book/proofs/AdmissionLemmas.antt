@@ -45,24 +45,24 @@ id_at a b h = let is : a ≡ b = cc h in ap (λ (p : Link × ℕ). p.1) is
 stands-there :
     (s : PlainStanding) (l : Link) (i : ℕ) → standing_place s ≡ Some (l, i)
     → stands_at l i s ≡ true
-stands-there (waiting link id forwarded sends_left deadline) l i h =
+stands-there (waiting link id forwarded sends_left deadline signs) l i h =
     let same_l : link ≡ l = link_at (link, id) (l, i) h in
     let same_i : id ≡ i = id_at (link, id) (l, i) h in
     rw (same_l, same_i, same_link-self l) (same i i refl)
-stands-there (done reply deadline) l i h = absurd (let k : None ≡ Some (l, i) = h in cc)
+stands-there (done reply deadline from) l i h = absurd (let k : None ≡ Some (l, i) = h in cc)
 
 stands-on_link :
     (c : RealmConfig) (q : PlainRequest) (s : PlainStanding) (l : Link) (i : ℕ)
     → standing_place s ≡ Some (l, i) → StandsWell c q s → IsLink c l
-stands-on_link c q (waiting link id forwarded sends_left deadline) l i h well =
+stands-on_link c q (waiting link id forwarded sends_left deadline signs) l i h well =
     let same_l : link ≡ l = link_at (link, id) (l, i) h in
     subst (λ (x : Link). IsLink c x) same_l well.link
-stands-on_link c q (done reply deadline) l i h well = absurd (let k : None ≡ Some (l, i) = h in cc)
+stands-on_link c q (done reply deadline from) l i h well = absurd (let k : None ≡ Some (l, i) = h in cc)
 
 stands-done : (s : PlainStanding) → standing_place s ≡ None → stands_done s ≡ true
-stands-done (waiting link id forwarded sends_left deadline) h =
+stands-done (waiting link id forwarded sends_left deadline signs) h =
     absurd (let k : Some (link, id) ≡ None = h in cc)
-stands-done (done reply deadline) h = refl
+stands-done (done reply deadline from) h = refl
 
 -- the entry that counts as gone waits on a link of the realm
 pub gone-on_link :
@@ -249,12 +249,12 @@ new-sound c es fs old new e sound ticket request well tells below next position 
 
 -- a request waits well on the link that it was forwarded to
 pub waits-well :
-    (c : RealmConfig) (q : PlainRequest) (l w : Link) (i left deadline : ℕ) (forwarded : List ℕ)
-    (s : PlainStanding) → waiting w i forwarded left deadline ≡ s → standing_place s ≡ Some (l, i)
+    (c : RealmConfig) (q : PlainRequest) (l w : Link) (i left deadline signs : ℕ) (forwarded : List ℕ)
+    (s : PlainStanding) → waiting w i forwarded left deadline signs ≡ s → standing_place s ≡ Some (l, i)
     → IsWaiting c q l i forwarded → StandsWell c q s
-waits-well c q l w i left deadline forwarded s is at h =
+waits-well c q l w i left deadline signs forwarded s is at h =
     let same_link : w ≡ l = link_at (w, i) (l, i) (ap standing_place is ∙ at) in
-    let well : StandsWell c q (waiting w i forwarded left deadline) =
+    let well : StandsWell c q (waiting w i forwarded left deadline signs) =
     subst (λ (x : Link). IsWaiting c q x i forwarded) (sym same_link) h in
     subst (λ (x : PlainStanding). StandsWell c q x) is well
 

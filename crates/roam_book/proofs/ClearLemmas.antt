@@ -7,7 +7,9 @@ use Rattle.roam_book.specs.declared.state.realm_numbers.RealmNumbers.{RealmNumbe
 use Rattle.roam_book.specs.declared.rules.admit_plan.AdmitPlan.{AdmitPlan}
 use Rattle.roam_book.specs.Private.NewEntry.{IsWay, MakesWay, admits, cleared, left_by, once_gone}
 use Rattle.roam_book.specs.RealmConfig.{RealmConfig, IsLink}
-use Rattle.roam_book.specs.RealmState.{next_toward}
+use Rattle.roam_book.specs.Conversing.{rests_chosen}
+use Rattle.roam_book.specs.RealmState.{next_toward, with_rests}
+use Rattle.roam_book.specs.declared.state.rest.Rest.{Rest}
 use Rattle.roam_book.specs.Sound.{IsSameButSlots, IsSound, cursors_of, state_of}
 use Rattle.roam_book.proofs.AdmissionLemmas.{admit-same, client-besides, next-besides, target-same}
 
@@ -54,7 +56,10 @@ clear-turn c es mid fs n m k way h now q is =
     let new = cursors_of k.lanes.items in
     let target = target-same c old new (once_gone way.gone es) fs way.link
     (way-next c es mid fs n m k way h is.done is.link) in
-    admit-same c now q (state_of fs k) (state_of es n) fs (left_by way es) _ _
+    let rests : k.rests.items ≡ n.rests.items = rw h.same h.slots.rests in
+    let chosen : List Rest → List Rest = λ r. rests_chosen c now r way.bound way.link in
+    admit-same c now q (with_rests (state_of fs k) (chosen k.rests.items))
+    (with_rests (state_of es n) (chosen n.rests.items)) fs (left_by way es) _ _
     (rw h.same h.slots.ticket) (rw h.same h.slots.cursors) (rw h.same h.slots.stream_position)
-    (rw h.same (ap (λ (l : Ledger). l.sessions) h.slots.sessions)) (rw h.same h.slots.rests)
+    (rw h.same (ap (λ (l : Ledger). l.sessions) h.slots.sessions)) (ap chosen rests)
     (h.done ∙ ap (λ (xs : List PlainEntry). besides way.done xs) h.gone) target

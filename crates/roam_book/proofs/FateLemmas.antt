@@ -1,5 +1,5 @@
 -- What becomes of a due entry is the definition's step, and the realm stays sound.
-use Rattle.std.proofs.Common.{◌≡◌, ℕ, ◌+◌, ◌%◌, ◌^◌, ◌<◌, true, List, [], ◌∷◌, Option, Some, None, refl, ap, sym, ◌∙◌, subst, arith, length, ltb}
+use Rattle.std.proofs.Common.{◌≡◌, ℕ, ◌+◌, ◌%◌, ◌^◌, ◌<◌, true, List, [], ◌∷◌, Option, Some, None, refl, ap, ap₂, sym, ◌∙◌, subst, arith, length, ltb}
 use Rattle.std.specs.Prelude.{IfSome, option_map, slice_set}
 use Rattle.std.specs.List.{AllByRecursion}
 use Rattle.std.proofs.lemmas.Bool.Decides.{nat_tests}
@@ -25,12 +25,13 @@ use Rattle.roam_book.specs.declared.packets.forwarding.PacketCopies.{PacketCopie
 use Rattle.roam_book.specs.declared.state.service.Service.TheVariants as service
 use Rattle.roam_book.specs.RealmConfig.{RealmConfig, IsLink, link_place, later_targets}
 use Rattle.roam_book.specs.RealmState.{Target, with_entries, next_toward, chosen_target}
-use Rattle.roam_book.specs.Rests.{after_choice, after_silence}
+use Rattle.roam_book.specs.Rests.{after_choice, after_silence, signs_of}
 use Rattle.roam_book.specs.declared.state.rest.Rest.{Rest}
 use Rattle.roam_book.specs.OnRequest.{packet_to_link, position_after, forwarded_octets, forwarded_entry}
 use Rattle.roam_book.specs.OnTick.{fail_over, given_up_at, due_standing}
+use Rattle.roam_book.specs.Stays.{RestsBecome}
 use Rattle.roam_book.specs.Sound.{AreOwnLanes, IsEntry, IsWaiting, StandsWell, IsSound, LanesTell, state_of, cursors_of, lane_of, has_free, chosen_link, marks_of}
-use Rattle.roam_book.specs.Private.Fates.{GivesUp, IsHeld, IsFate, fate_entries, once_held}
+use Rattle.roam_book.specs.Private.Fates.{GivesUp, HoldsNoLink, IsHeld, IsFate, KeepsNoLink, fate_entries, once_held}
 use Rattle.roam_book.proofs.SendingLemmas.{position-below}
 use Rattle.roam_book.proofs.SoundLemmas.{kept-put, kept-without, kept-ticket}
 use Rattle.roam_book.proofs.LaneLemmas.{tells-done, tells-gone, tells-again, chosen-open, target-tells, target-next, links-are}
@@ -77,9 +78,9 @@ same-numbers n =
 
 pub gone-done :
     {A : Type 0} (c : RealmConfig) (now : ℕ) (es : List PlainEntry) (e : PlainEntry) (n : RealmNumbers A)
-    (reply : List ℕ) (deadline : ℕ) → e.standing ≡ done reply deadline → IsHeld c es e n
+    (reply : List ℕ) (deadline : ℕ) (from : Option Link) → e.standing ≡ done reply deadline from → IsHeld c es e n
     → IsFate c now es e n fate.Expired (due_standing c now (state_of es n) e e.standing)
-gone-done {A} c now es e n reply deadline stands held =
+gone-done {A} c now es e n reply deadline from stands held =
     let is : is_done e ≡ true = ap stands_done stands in
     let each = kept-without c n.ticket e.ticket es held.sound.each in
     let tells = tells-gone c es n.lanes.items e.ticket e held.sound.lanes_tell held.found is in
@@ -95,8 +96,8 @@ gone-done {A} c now es e n reply deadline stands held =
 stands-again :
     (c : RealmConfig) (q : PlainRequest) (s : PlainStanding) (d : ℕ) → StandsWell c q s
     → StandsWell c q (waits_on d s)
-stands-again c q (waiting l id forwarded sends_left deadline) d h = h
-stands-again c q (done reply deadline) d h = h
+stands-again c q (waiting l id forwarded sends_left deadline signs) d h = h
+stands-again c q (done reply deadline from) d h = h
 
 entry-again : (c : RealmConfig) (n : ℕ) (e : PlainEntry) (d : ℕ) → IsEntry c n e
     → IsEntry c n (sent_again d e)
@@ -108,11 +109,11 @@ entry-again c n e d h = record {
 
 pub again :
     {A : Type 0} (c : RealmConfig) (now : ℕ) (es : List PlainEntry) (e : PlainEntry) (n : RealmNumbers A)
-    (l : Link) (id : ℕ) (forwarded : List ℕ) (sends_left deadline : ℕ) (sent : PacketCopies A)
-    → e.standing ≡ waiting l id forwarded sends_left deadline → 0 < sends_left
+    (l : Link) (id : ℕ) (forwarded : List ℕ) (sends_left deadline signs : ℕ) (sent : PacketCopies A)
+    → e.standing ≡ waiting l id forwarded sends_left deadline signs → 0 < sends_left
     → shown_out sent.out ≡ packet_to_link c l forwarded → IsHeld c es e n
     → IsFate c now es e n (fate.SentAgain sent) (due_standing c now (state_of es n) e e.standing)
-again c now es e n l id forwarded sends_left deadline sent stands some is held =
+again c now es e n l id forwarded sends_left deadline signs sent stands some is held =
     let d = now + c.realm.wait in
     let left : ltb 0 sends_left ≡ true = grind (arith, nat_tests) in
     let here = entry-again c n.ticket e d
@@ -127,10 +128,10 @@ again c now es e n l id forwarded sends_left deadline sent stands some is held =
 
 -- An entry that isn't sent to its link again: its Identifier was given back, and it was counted there
 
-pub record IsFreed {A : Type 0} (c : RealmConfig) (now : ℕ) (l : Link) (es : List PlainEntry)
+pub record IsFreed {A : Type 0} (c : RealmConfig) (now : ℕ) (l : Link) (signs : ℕ) (es : List PlainEntry)
     (old new : RealmNumbers A) : Type 0 where
   pub cursors : cursors_of new.lanes.items ≡ cursors_of old.lanes.items
-  pub rests : new.rests.items ≡ after_silence c now old.rests.items l
+  pub rests : new.rests.items ≡ after_silence c now old.rests.items l signs
   pub tells : LanesTell c es new.lanes.items
   pub same : IsSameBut old new
 
@@ -148,21 +149,21 @@ pub record IsBack {A : Type 0} (c : RealmConfig) (l : Link) (id : ℕ)
   pub rests : new.rests.items ≡ old.rests.items
   pub marks : marks_of new.lanes.items ≡ marks_of old.lanes.items
 
-pub record IsCounted {A : Type 0} (c : RealmConfig) (now : ℕ) (l : Link)
+pub record IsCounted {A : Type 0} (c : RealmConfig) (now : ℕ) (l : Link) (signs : ℕ)
     (old new : RealmNumbers A) : Type 0 where
   pub lanes : new.lanes.items ≡ old.lanes.items
   pub ticket : new.ticket ≡ old.ticket
   pub stream_position : new.stream_position ≡ old.stream_position
   pub sessions : new.sessions ≡ old.sessions
-  pub rests : new.rests.items ≡ after_silence c now old.rests.items l
+  pub rests : new.rests.items ≡ after_silence c now old.rests.items l signs
 
 pub was-freed :
-    {A : Type 0} (c : RealmConfig) (now : ℕ) (l : Link) (id : ℕ) (es : List PlainEntry)
+    {A : Type 0} (c : RealmConfig) (now : ℕ) (l : Link) (id signs : ℕ) (es : List PlainEntry)
     (e : PlainEntry) (n m k : RealmNumbers A) → IsHeld c es e n → waits_at l id e ≡ true
-    → IsBack c l id n m → IsCounted c now l m k → IsFreed c now l (without e.ticket es) n k
-was-freed c now l id es e n m k held waits back counted = record {
+    → IsBack c l id n m → IsCounted c now l signs m k → IsFreed c now l signs (without e.ticket es) n k
+was-freed c now l id signs es e n m k held waits back counted = record {
   cursors = ap cursors_of counted.lanes ∙ back.cursors;
-  rests = counted.rests ∙ ap (λ (r : List Rest). after_silence c now r l) back.rests;
+  rests = counted.rests ∙ ap (λ (r : List Rest). after_silence c now r l signs) back.rests;
   tells = subst (LanesTell c (without e.ticket es)) (sym counted.lanes)
       (back.tells e es held.sound.lanes_tell held.found waits);
   same = record {
@@ -181,19 +182,19 @@ later-links c (link.Coa peer) = tt
 
 -- the target that is chosen then
 abbrev next_target :
-    {A : Type 0} → RealmConfig → ℕ → List PlainEntry → PlainEntry → RealmNumbers A → Link → Option Target
-next_target c now es e n l =
-    chosen_target c now (after_silence c now n.rests.items l) (cursors_of n.lanes.items)
+    {A : Type 0} → RealmConfig → ℕ → List PlainEntry → PlainEntry → RealmNumbers A → Link → ℕ → Option Target
+next_target c now es e n l signs =
+    chosen_target c now (after_silence c now n.rests.items l signs) (cursors_of n.lanes.items)
     (without e.ticket es) (later_targets c l)
 
 -- it is found by the lanes and the rests
 target-is :
     {A : Type 0} (c : RealmConfig) (now : ℕ) (es : List PlainEntry) (e : PlainEntry) (n m : RealmNumbers A)
-    (l : Link)
-    → IsHeld c es e n → IsFreed c now l (without e.ticket es) n m
-    → option_map (λ t. t.link) (next_target c now es e n l)
+    (l : Link) (signs : ℕ)
+    → IsHeld c es e n → IsFreed c now l signs (without e.ticket es) n m
+    → option_map (λ t. t.link) (next_target c now es e n l signs)
     ≡ chosen_link c now m.rests.items m.lanes.items None (later_targets c l)
-target-is c now es e n m l held freed =
+target-is c now es e n m l signs held freed =
     let told = target-tells c now m.rests.items (without e.ticket es) m.lanes.items (later_targets c l)
     (list-without e.ticket es held.list) freed.tells (later-links c l) in
     rw (freed.cursors) at (ap (λ (rests : List Rest). option_map (λ t. t.link) (chosen_target c now rests
@@ -225,13 +226,13 @@ free-target c now rests lanes links (Some l) h = chosen-open c now rests lanes N
 -- an entry that is done, or gone, in place of one that waited
 held-done :
     {A : Type 0} (c : RealmConfig) (es : List PlainEntry) (e : PlainEntry) (n m : RealmNumbers A)
-    (d : Option (Done A)) (now : ℕ) (l : Link) → IsHeld c es e n
-    → IsFreed c now l (without e.ticket es) n m → IsSound c (once_held e es d) m
-held-done c es e n m None now l held freed =
+    (d : Option (Done A)) (now : ℕ) (l : Link) (signs : ℕ) → IsHeld c es e n
+    → IsFreed c now l signs (without e.ticket es) n m → HoldsNoLink d → IsSound c (once_held e es d) m
+held-done c es e n m None now l signs held freed none =
     let each = kept-without c n.ticket e.ticket es held.sound.each in
     sound-changed c es (without e.ticket es) n m held.sound freed.same each freed.tells
-held-done c es e n m (Some d) now l held freed =
-    let new = with_standing (done d.reply d.deadline) e in
+held-done c es e n m (Some d) now l signs held freed none =
+    let new = with_standing (done d.reply d.deadline d.from) e in
     let old = kept-ticket c n.ticket e.ticket e es held.found held.sound.each in
     let here : IsEntry c n.ticket new = record {
       ticket = old.ticket;
@@ -244,34 +245,35 @@ held-done c es e n m (Some d) now l held freed =
 
 given-sound :
     {A : Type 0} (c : RealmConfig) (now : ℕ) (es : List PlainEntry) (e : PlainEntry)
-    (n m : RealmNumbers A) (l : Link) (f : DueAction A) → IsHeld c es e n
-    → IsFreed c now l (without e.ticket es) n m → GivesUp c now e f
+    (n m : RealmNumbers A) (l : Link) (signs : ℕ) (f : DueAction A) → IsHeld c es e n
+    → IsFreed c now l signs (without e.ticket es) n m → GivesUp c now e f → KeepsNoLink f
     → IsSound c (fate_entries c now e es f) m
-given-sound c now es e n m l fate.Expired held freed given = held-done c es e n m None now l held freed
-given-sound c now es e n m l (fate.Refused sent d) held freed given =
-    held-done c es e n m d now l held freed
-given-sound c now es e n m l (fate.SentAgain sent) held freed given = absurd (given.ends)
-given-sound c now es e n m l (fate.Forwarded sent w) held freed given = absurd (given.ends)
+given-sound c now es e n m l signs fate.Expired held freed given none =
+    held-done c es e n m None now l signs held freed tt
+given-sound c now es e n m l signs (fate.Refused sent d) held freed given none =
+    held-done c es e n m d now l signs held freed none
+given-sound c now es e n m l signs (fate.SentAgain sent) held freed given none = absurd (given.ends)
+given-sound c now es e n m l signs (fate.Forwarded sent w) held freed given none = absurd (given.ends)
 
 -- no later target has a free Identifier: no one answers the request
 pub gone-freed :
     {A : Type 0} (c : RealmConfig) (now : ℕ) (es : List PlainEntry) (e : PlainEntry)
-    (n m : RealmNumbers A) (l : Link) (f : DueAction A)
-    → IsHeld c es e n → IsFreed c now l (without e.ticket es) n m
+    (n m : RealmNumbers A) (l : Link) (signs : ℕ) (f : DueAction A)
+    → IsHeld c es e n → IsFreed c now l signs (without e.ticket es) n m
     → None ≡ chosen_link c now m.rests.items m.lanes.items None (later_targets c l)
-    → GivesUp c now e f
-    → IsFate c now es e m f (fail_over c now (given_up_at c now l (state_of es n) e) e
-    (next_target c now es e n l))
-gone-freed c now es e n m l f held freed none given =
-    let first = no_target (next_target c now es e n l) (target-is c now es e n m l held freed ∙ sym none) in
-    let old = given_up_at c now l (state_of es n) e in
+    → GivesUp c now e f → KeepsNoLink f
+    → IsFate c now es e m f (fail_over c now (given_up_at c now l signs (state_of es n) e) e
+    (next_target c now es e n l signs))
+gone-freed c now es e n m l signs f held freed none given no_link =
+    let first = no_target (next_target c now es e n l signs) (target-is c now es e n m l signs held freed ∙ sym none) in
+    let old = given_up_at c now l signs (state_of es n) e in
     let state : state_of (fate_entries c now e es f) m ≡ with_entries old (fate_entries c now e es f) =
     rw (freed.cursors, freed.same.ticket, freed.same.stream_position, freed.same.sessions, freed.rests)
     refl in
     rw first (record {
       packets = given.packets old;
       state = state ∙ given.state old es refl;
-      sound = given-sound c now es e n m l f held freed given;
+      sound = given-sound c now es e n m l signs f held freed given no_link;
     })
 
 -- where a request is forwarded to
@@ -285,54 +287,66 @@ pub record IsSent {A : Type 0} (c : RealmConfig) (now : ℕ) (es : List PlainEnt
   pub out : shown_out o.out
       ≡ packet_to_link c l (forwarded_octets c q old.stream_position t (target_at l w.id))
   pub standing : shown_standing (standing.Waiting w)
-      ≡ (forwarded_entry c now q old.stream_position t (target_at l w.id)).standing
+      ≡ (forwarded_entry c now (signs_of c old.rests.items l) q old.stream_position t (target_at l w.id)).standing
   pub waits : IsWaiting c q l w.id w.forwarded
   pub cursors : cursors_of new.lanes.items ≡ slice_set (cursors_of old.lanes.items) (link_place c l)
       ((w.id + 1) % 256)
   pub tells : LanesTell c
-      (put (forwarded_entry c now q old.stream_position t (target_at l w.id)) es) new.lanes.items
+      (put (forwarded_entry c now (signs_of c old.rests.items l) q old.stream_position t (target_at l w.id)) es)
+      new.lanes.items
   pub count : length new.lanes.items ≡ length old.lanes.items
   pub ticket : new.ticket ≡ old.ticket
   pub stream_position : new.stream_position ≡ position_after q old.stream_position
   pub sessions : new.sessions ≡ old.sessions
-  pub rests : new.rests.items ≡ after_choice c now old.rests.items l
+  pub rests : new.rests.items ≡ old.rests.items
   pub marks : marks_of new.lanes.items ≡ marks_of old.lanes.items
 
 stands-waiting :
     {A : Type 0} (c : RealmConfig) (q : PlainRequest) (l : Link) (w : Waiting A) (f : List ℕ)
-    (s d : ℕ)
-    → shown_standing (standing.Waiting w) ≡ waiting l w.id f s d → IsWaiting c q l w.id w.forwarded
+    (s d signs : ℕ)
+    → shown_standing (standing.Waiting w) ≡ waiting l w.id f s d signs → IsWaiting c q l w.id w.forwarded
     → StandsWell c q (shown_standing (standing.Waiting w))
-stands-waiting {A} c q l w f s d is waits =
-    let at : w.link ≡ l = let k : waiting w.link w.id w.forwarded w.sends_left w.deadline ≡ waiting
-    l w.id f s d = is in cc in
+stands-waiting {A} c q l w f s d signs is waits =
+    let at : w.link ≡ l =
+    let k : waiting w.link w.id w.forwarded w.sends_left w.deadline w.signs ≡ waiting l w.id f s d signs = is in cc in
     rw at waits
 
--- a later target is chosen: the request goes there under its ticket
+-- a later target is chosen, by which its link's rest is put off: the request goes there under its ticket
 pub forwarded-freed :
     {A : Type 0} (c : RealmConfig) (now : ℕ) (es : List PlainEntry) (e : PlainEntry)
-    (n m k : RealmNumbers A) (l to : Link) (o : PacketCopies A) (w : Waiting A)
-    → IsHeld c es e n → IsFreed c now l (without e.ticket es) n m
+    (n m p k : RealmNumbers A) (l to : Link) (signs : ℕ) (o : PacketCopies A) (w : Waiting A)
+    → IsHeld c es e n → IsFreed c now l signs (without e.ticket es) n m
     → Some to ≡ chosen_link c now m.rests.items m.lanes.items None (later_targets c l)
-    → IsSent c now (without e.ticket es) e.request e.ticket to m k o w
+    → RestsBecome (after_choice c now m.rests.items to) m p
+    → IsSent c now (without e.ticket es) e.request e.ticket to p k o w
     → IsFate c now es e k (fate.Forwarded o w)
-    (fail_over c now (given_up_at c now l (state_of es n) e) e (next_target c now es e n l))
-forwarded-freed c now es e n m k l to o w held freed some sent =
+    (fail_over c now (given_up_at c now l signs (state_of es n) e) e (next_target c now es e n l signs))
+forwarded-freed c now es e n m p k l to signs o w held freed some off sent =
     let others = without e.ticket es in
-    let found = a_target (next_target c now es e n l) to (target-is c now es e n m l held freed ∙ sym some) in
-    let next = target-next c now (after_silence c now n.rests.items l) (cursors_of n.lanes.items) others
+    let found = a_target (next_target c now es e n l signs) to
+    (target-is c now es e n m l signs held freed ∙ sym some) in
+    let next = target-next c now (after_silence c now n.rests.items l signs) (cursors_of n.lanes.items) others
     (later_targets c l) found.0 found.1 in
-    let taken : next_toward c (cursors_of n.lanes.items) others found.0.link ≡ Some w.id = rw
-    (found.2, ← freed.cursors) sent.next in
+    let same_cursors : cursors_of p.lanes.items ≡ cursors_of n.lanes.items = ap cursors_of off.lanes ∙ freed.cursors in
+    let there : next_toward c (cursors_of n.lanes.items) others to ≡ Some w.id =
+    subst (λ (cs : List ℕ). next_toward c cs others to ≡ Some w.id) same_cursors sent.next in
+    let taken : next_toward c (cursors_of n.lanes.items) others found.0.link ≡ Some w.id = rw found.2 there in
     let both : Some found.0.id ≡ Some w.id = sym next ∙ taken in
     let id : found.0.id ≡ w.id = cc in
     let first = found.1 ∙ ap Some (same_target found.0 to w.id found.2 id) in
-    let at = freed.same.stream_position in
-    let new = forwarded_entry c now e.request n.stream_position e.ticket (target_at to w.id) in
+    let at : p.stream_position ≡ n.stream_position = off.stream_position ∙ freed.same.stream_position in
+    let chosen : p.rests.items ≡ after_choice c now (after_silence c now n.rests.items l signs) to =
+    off.rests ∙ ap (λ (r : List Rest). after_choice c now r to) freed.rests in
+    let entry_at : List Rest → ℕ → PlainEntry = λ rests position.
+    forwarded_entry c now (signs_of c rests to) e.request position e.ticket (target_at to w.id) in
+    let new = entry_at (after_choice c now (after_silence c now n.rests.items l signs) to) n.stream_position in
+    let same_entry : entry_at p.rests.items p.stream_position ≡ new = ap₂ entry_at chosen at in
     let out : shown_out o.out
     ≡ packet_to_link c to (forwarded_octets c e.request n.stream_position e.ticket (target_at to w.id)) =
-    rw (← at) sent.out in
-    let stands : shown_standing (standing.Waiting w) ≡ new.standing = rw (← at) sent.standing in
+    sent.out ∙ ap (λ (position : ℕ).
+    packet_to_link c to (forwarded_octets c e.request position e.ticket (target_at to w.id))) at in
+    let stands : shown_standing (standing.Waiting w) ≡ new.standing =
+    sent.standing ∙ ap (λ (x : PlainEntry). x.standing) same_entry in
     let is : with_standing (shown_standing (standing.Waiting w)) e ≡ new = ap
     (λ (s : PlainStanding). with_standing s e) stands in
     let put_is : put (with_standing (shown_standing (standing.Waiting w)) e) es ≡ put new
@@ -341,24 +355,28 @@ forwarded-freed c now es e n m k l to o w held freed some sent =
     let here : IsEntry c n.ticket (with_standing (shown_standing (standing.Waiting w)) e) = record {
       ticket = old.ticket;
       request = old.request;
-      standing = stands-waiting c e.request to w _ _ _ stands sent.waits;
+      standing = stands-waiting c e.request to w _ _ _ _ stands sent.waits;
     } in
     let each = kept-put c n.ticket (with_standing (shown_standing (standing.Waiting w)) e) es here
     held.sound.each in
-    let told : LanesTell c (put new others) k.lanes.items = rw (← at) sent.tells in
+    let told : LanesTell c (put new others) k.lanes.items =
+    subst (λ (x : PlainEntry). LanesTell c (put x others) k.lanes.items) same_entry sent.tells in
     let tells = subst (λ (l : List PlainEntry). LanesTell c l k.lanes.items) (sym put_is) told in
-    let count = sent.count ∙ freed.same.count in
-    let ticket = sent.ticket ∙ freed.same.ticket in
-    let marks = sent.marks ∙ freed.same.marks in
-    let sessions = sent.sessions ∙ freed.same.sessions in
-    let rests : k.rests.items ≡ after_choice c now (after_silence c now n.rests.items l) to =
-    sent.rests ∙ ap (λ (r : List Rest). after_choice c now r to) freed.rests in
+    let count = sent.count ∙ ap length off.lanes ∙ freed.same.count in
+    let ticket = sent.ticket ∙ off.ticket ∙ freed.same.ticket in
+    let marks = sent.marks ∙ ap marks_of off.lanes ∙ freed.same.marks in
+    let sessions = sent.sessions ∙ off.sessions ∙ freed.same.sessions in
+    let rests : k.rests.items ≡ after_choice c now (after_silence c now n.rests.items l signs) to =
+    sent.rests ∙ chosen in
+    let cursors : cursors_of k.lanes.items
+    ≡ slice_set (cursors_of n.lanes.items) (link_place c to) ((w.id + 1) % 256) =
+    sent.cursors ∙ ap (λ (cs : List ℕ). slice_set cs (link_place c to) ((w.id + 1) % 256)) same_cursors in
     let position : k.stream_position ≡ position_after e.request n.stream_position =
-    rw (← at) sent.stream_position in
+    sent.stream_position ∙ ap (position_after e.request) at in
     let below : k.stream_position < 2 ^ 68 =
     rw position (position-below e.request n.stream_position held.sound.stream_position) in
     rw first (record {
       packets = ap (λ (p : PlainOut). p ∷ []) out;
-      state = rw (put_is, sent.cursors, freed.cursors, ticket, position, sessions, rests) refl;
+      state = rw (put_is, cursors, ticket, position, sessions, rests) refl;
       sound = sound-drawn c es _ n k held.sound count ticket below sessions marks each tells;
     })

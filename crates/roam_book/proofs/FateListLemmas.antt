@@ -48,7 +48,7 @@ size-after c now t e es (fate.Forwarded sent w) order found = size-put t
     (with_standing (shown_standing (standing.Waiting w)) e) e es order refl refl found
 size-after c now t e es (fate.Refused sent None) order found = size-without t e.ticket es
 size-after c now t e es (fate.Refused sent (Some d)) order found =
-    size-put t (with_standing (done d.reply d.deadline) e) e es order refl refl found
+    size-put t (with_standing (done d.reply d.deadline d.from) e) e es order refl refl found
 
 -- the list stays one
 list-put :
@@ -68,4 +68,4 @@ list-after c now e es (fate.Forwarded sent w) list found =
     list-put (with_standing (shown_standing (standing.Waiting w)) e) e es list refl refl found
 list-after c now e es (fate.Refused sent None) list found = list-without e.ticket es list
 list-after c now e es (fate.Refused sent (Some d)) list found =
-    list-put (with_standing (done d.reply d.deadline) e) e es list refl refl found
+    list-put (with_standing (done d.reply d.deadline d.from) e) e es list refl refl found

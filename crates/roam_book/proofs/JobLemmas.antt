@@ -1,15 +1,14 @@
 -- An event of a configuration is a job that its realm takes.
 use Rattle.std.proofs.Common.{◌≡◌, ◌⊎◌, ℕ, zero, suc, ◌+◌, ◌<◌, Bool, true, false, cond, List, [], ◌∷◌, length, Option, Some, None, inl, inr, refl, sym, ap, subst, ◌∙◌, arith}
-use Rattle.std.specs.Prelude.{IfSome, slice_get, slice_index_or}
-use Rattle.std.specs.List.{position_from}
+use Rattle.std.specs.Prelude.{slice_get, slice_index_or}
+use Rattle.std.specs.Option.{option_map_or}
 use Rattle.std.proofs.lemmas.Bool.{false≢true}
 use Rattle.std.proofs.lemmas.Bool.Decides.{nat_tests}
 use Rattle.roam_wire.specs.Codes.{is_reverse_request}
 use Rattle.roam_wire.specs.Packet.{AreOctets}
 use Rattle.roam_wire.specs.Reading.{IsPacketText, packet_of}
-use Rattle.roam_wire.specs.Packet.{Attribute}
-use Rattle.roam_conf.specs.Config.{ConfigView, PeerView, RealmView, ServerView}
-use Rattle.roam_conf.specs.Lookup.{servers_of}
+use Rattle.roam_conf.specs.Config.{ConfigView, PeerView, RealmView}
+use Rattle.roam_conf.specs.Lookup.{homes}
 use Rattle.roam_conf.specs.declared.place.Place.{Place}
 use Rattle.roam_conf.specs.declared.place.Place.TheVariants as place
 use Rattle.roam_fwd.specs.Shaped.{CanBeShaped}
@@ -19,42 +18,15 @@ use Rattle.roam_route.specs.Events.{IsConfigured, IsEvent, IsForwardable}
 use Rattle.roam_route.specs.declared.job.Side.{Side}
 use Rattle.roam_route.specs.declared.job.Side.TheVariants as side
 use Rattle.roam_route.proofs.EventLemmas.{event_realm, event_sound}
-use Rattle.roam_reverse.specs.Target as reverse
 use Rattle.roam_book.specs.RealmConfig.{RealmConfig, no_realm, realm_config}
 use Rattle.roam_book.specs.BookView.{EventIsTaken, IsTakenFrom}
 
--- a place that is found lies within the list
-either_some : (b : Bool) (i x : ℕ) (rest : Option ℕ) → cond b (Some i) rest ≡ Some x
-    → (i ≡ x) ⊎ (rest ≡ Some x)
-either_some true i x rest h = inl (cc)
-either_some false i x rest h = inr h
-
-position_within : {K : Type 0} → (test : K → Bool) (i : ℕ) (xs : List K) (x : ℕ)
-    → position_from test i xs ≡ Some x → x < i + length xs
-position_within test i [] x h = absurd (cc)
-position_within test i (y ∷ ys) x h =
-    elim (either_some (test y) i x (position_from test (i + 1) ys) h) [
-      | inl same ↦ omega arith
-      | inr later ↦ let within = position_within test (i + 1) ys x later in omega arith
-    ]
-
-first_within : {X : Type 0} (test : X → Bool) (xs : List X) (o : Option ℕ)
-    → position_from test 0 xs ≡ o → IfSome o (λ place. place < length xs)
-first_within test xs None h = tt
-first_within test xs (Some place) h = let within = position_within test 0 xs place h in omega arith
-
--- the peer that a reverse request is for is a configured one
-pub target-within : (peers : List PeerView) (attributes : List Attribute)
-    → IfSome (reverse.target peers attributes) (λ peer. peer < length peers)
-unfolding reverse.target
-target-within peers attributes = first_within _ peers _ refl
-
--- the servers of a realm are those that a configuration has for its index
-servers-at : (realms : List RealmView) (realm : ℕ)
-    → servers_of (slice_get realms realm) ≡ (slice_index_or realms realm no_realm).servers
-servers-at [] realm = refl
-servers-at (r ∷ rs) zero = refl
-servers-at (r ∷ rs) (suc realm) = servers-at rs realm
+-- a realm has as many sources of reverse requests as a configuration has for its index
+homes-at : (realms : List RealmView) (realm : ℕ)
+    → option_map_or homes (slice_get realms realm) 0 ≡ homes (slice_index_or realms realm no_realm)
+homes-at [] realm = refl
+homes-at (r ∷ rs) zero = refl
+homes-at (r ∷ rs) (suc realm) = homes-at rs realm
 
 -- and its entry is the one that it has
 realm-at : (realms : List RealmView) (realm : ℕ) → realm < length realms
@@ -99,7 +71,7 @@ sound_taken config job (side.Home i) there packet sender code forwardable = reco
     code = home-code job.place i (packet_of job.octets).code code;
     can_be_forwarded = forwardable;
   };
-  requester = subst (λ (all : List ServerView). i < length all) (servers-at config.realms job.realm) sender;
+  requester = subst (λ (n : ℕ). i < n) (homes-at config.realms job.realm) sender;
 }
 
 pub event_taken : EventIsTaken

@@ -31,9 +31,9 @@ use Rattle.roam_book.proofs.UsedLemmas.{used-tells, freed-none, free_one}
 
 done-stands_nowhere :
     (l : Link) (id : ℕ) (s : PlainStanding) → stands_done s ≡ true → stands_at l id s ≡ false
-done-stands_nowhere l id (waiting link i forwarded sends_left deadline) h =
+done-stands_nowhere l id (waiting link i forwarded sends_left deadline signs) h =
     absurd (let k : false ≡ true = h in cc)
-done-stands_nowhere l id (done reply deadline) h = refl
+done-stands_nowhere l id (done reply deadline from) h = refl
 
 done-waits_nowhere :
     (l : Link) (id : ℕ) (e : PlainEntry) → is_done e ≡ true → waits_at l id e ≡ false
@@ -66,8 +66,8 @@ tells-done c es lanes e is tells =
 
 again-stands :
     (l : Link) (id d : ℕ) (s : PlainStanding) → stands_at l id (waits_on d s) ≡ stands_at l id s
-again-stands l id d (waiting link i forwarded sends_left deadline) = refl
-again-stands l id d (done reply deadline) = refl
+again-stands l id d (waiting link i forwarded sends_left deadline signs) = refl
+again-stands l id d (done reply deadline from) = refl
 
 again-waits :
     (l : Link) (id d : ℕ) (e : PlainEntry) → waits_at l id (sent_again d e) ≡ waits_at l id e
@@ -179,30 +179,30 @@ target-tells c now rests es lanes links list tells are =
 
 -- where an entry stands
 placeless-done : (s : PlainStanding) → standing_place s ≡ None → stands_done s ≡ true
-placeless-done (waiting l id forwarded sends_left deadline) is =
+placeless-done (waiting l id forwarded sends_left deadline signs) is =
     absurd (let k : Some (l, id) ≡ None = is in cc)
-placeless-done (done reply deadline) is = refl
+placeless-done (done reply deadline from) is = refl
 
 placed-stands :
     (s : PlainStanding) (l : Link) (id : ℕ) → standing_place s ≡ Some (l, id) → (k : Link) (i : ℕ)
     → stands_at k i s ≡ (same_link l k && id == i)
-placed-stands (waiting l' id' forwarded sends_left deadline) l id is k i =
+placed-stands (waiting l' id' forwarded sends_left deadline signs) l id is k i =
     let place : Some (l', id') ≡ Some (l, id) = is in
     let there : Option (Link × ℕ) → Bool =
     λ o. option_map_or (λ (p : Link × ℕ). same_link p.0 k && p.1 == i) o false in
     ap there place
-placed-stands (done reply deadline) l id is k i =
+placed-stands (done reply deadline from) l id is k i =
     absurd (let away : None ≡ Some (l, id) = is in cc)
 
 placed-octet :
     (c : RealmConfig) (q : PlainRequest) (s : PlainStanding) (l : Link) (id : ℕ)
     → standing_place s ≡ Some (l, id) → StandsWell c q s → id < 256
-placed-octet c q (waiting l' id' forwarded sends_left deadline) l id is well =
+placed-octet c q (waiting l' id' forwarded sends_left deadline signs) l id is well =
     let place : Some (l', id') ≡ Some (l, id) = is in
     let identifier : Option (Link × ℕ) → ℕ = λ o. option_map_or (λ (p : Link × ℕ). p.1) o 0 in
     let same_id : id' ≡ id = ap identifier place in
     rw (← same_id) well.id
-placed-octet c q (done reply deadline) l id is well =
+placed-octet c q (done reply deadline from) l id is well =
     absurd (let away : None ≡ Some (l, id) = is in cc)
 
 -- a link is open once an entry is out: where it waited, or by its lane

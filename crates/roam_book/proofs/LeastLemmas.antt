@@ -13,7 +13,7 @@ use Rattle.roam_pending.proofs.ChangeLemmas.{found-ticket, put-without}
 use Rattle.roam_pending.proofs.DueListLemmas.{due-taken, due-put}
 use Rattle.roam_book.specs.RealmConfig.{RealmConfig, later_targets}
 use Rattle.roam_book.specs.RealmState.{RealmState, Target, chosen_target}
-use Rattle.roam_book.specs.Rests.{after_silence}
+use Rattle.roam_book.specs.Rests.{after_choice, after_silence, signs_of}
 use Rattle.roam_book.specs.OnRequest.{forwarded_entry, is_reverse, nak_octets}
 use Rattle.roam_book.specs.OnTick.{Progress, fail_over, given_up, once_refused, without_entry, due_standing, due_entry, due_one, due_each}
 use Rattle.roam_book.specs.LeastFirst.{least_first}
@@ -38,7 +38,7 @@ rest-held :
     → IsInOrder s.entries
     → IsRest now e.ticket s.entries (once_refused c now (without_entry s e) e octets).entries
 rest-held c now s e octets order =
-    let new = with_standing (done octets (now + c.realm.hold)) e in
+    let new = with_standing (done octets (now + c.realm.hold) None) e in
     elim (cases_Bool (ltb 0 c.realm.hold)) [
       | inl y ↦
           let later : now < now + c.realm.hold = grind (arith, nat_tests, y) in
@@ -63,7 +63,8 @@ rest-failed :
     → IsRest now e.ticket s.entries (fail_over c now (without_entry s e) e o).state.entries
 rest-failed c now s e None wait order = rest-given c now s e order
 rest-failed c now s e (Some target) wait order =
-    let new = forwarded_entry c now e.request s.stream_position e.ticket target in
+    let signs = signs_of c (after_choice c now s.rests target.link) target.link in
+    let new = forwarded_entry c now signs e.request s.stream_position e.ticket target in
     rw (put-without new s.entries) (rest-put now new s.entries order (omega arith))
 
 rest-standing :
@@ -71,16 +72,16 @@ rest-standing :
     → 1 ≤ c.realm.wait
     → IsInOrder s.entries → e.standing ≡ p
     → IsRest now e.ticket s.entries (due_standing c now s e p).state.entries
-rest-standing c now s e (done reply deadline) wait order is = rest-without now e.ticket s.entries
+rest-standing c now s e (done reply deadline from) wait order is = rest-without now e.ticket s.entries
     order
-rest-standing c now s e (waiting l id forwarded sends_left deadline) wait order is =
+rest-standing c now s e (waiting l id forwarded sends_left deadline signs) wait order is =
     elim (cases_Bool (ltb 0 sends_left)) [
       | inl y ↦
           let later : now < deadline_of (sent_again (now + c.realm.wait) e).standing = rw is
           (omega arith) in
           rw y (rest-put now (sent_again (now + c.realm.wait) e) s.entries order later)
       | inr n ↦
-          let rests = after_silence c now s.rests l in
+          let rests = after_silence c now s.rests l signs in
           let counted : RealmState = record s { rests = rests } in
           let next = chosen_target c now rests s.cursors (without e.ticket s.entries) (later_targets c l) in
           rw n (rest-failed c now counted e next wait order)

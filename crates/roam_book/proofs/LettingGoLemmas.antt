@@ -179,8 +179,8 @@ all-without u es (d ∷ ds) h =
 goes-standing :
     (c : RealmConfig) (now : ℕ) (s : RealmState) (e : PlainEntry) (p : PlainStanding)
     → stands_done p ≡ true → due_standing c now s e p ≡ silent (without_entry s e)
-goes-standing c now s e (done reply deadline) h = refl
-goes-standing c now s e (waiting l id forwarded sends_left deadline) h =
+goes-standing c now s e (done reply deadline from) h = refl
+goes-standing c now s e (waiting l id forwarded sends_left deadline signs) h =
     absurd (let bad : false ≡ true = h in cc)
 
 goes-entry :

@@ -16,6 +16,7 @@ pub mod NakLemmas
 pub mod RealmLemmas
 pub mod ReloadLemmas
 pub mod ReplyLemmas
+pub mod ConversingLemmas
 pub mod RequestLemmas
 pub mod RestLemmas
 pub mod RoomLemmas
@@ -26,6 +27,7 @@ pub mod SharingLemmas
 pub mod SilenceLemmas
 pub mod SoundLemmas
 pub mod TakenLaneLemmas
+pub mod TargetLemmas
 pub mod TickLemmas
 pub mod TurnLemmas
 pub mod UsedLemmas

@@ -104,7 +104,7 @@ gives-up {A} c now e sent held reverse out is = record {
     held-state : (s : RealmState) (es : List PlainEntry) → s.entries ≡ without e.ticket es
         → with_entries s (once_held e es (held_for {A = A} c now octets)) ≡ once_refused c now s e octets
     held-state s es rest =
-        let new = with_standing (done octets (now + c.realm.hold)) e in
+        let new = with_standing (done octets (now + c.realm.hold) None) e in
         elim (cases_Bool (ltb 0 c.realm.hold)) [
           | inl y ↦ rw (y, rest) (ap (λ (fs : List PlainEntry). with_entries s fs) (sym (put-without new es)))
           | inr n ↦ rw n (rw (← rest) refl)

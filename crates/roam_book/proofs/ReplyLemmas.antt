@@ -1,9 +1,10 @@
 -- What comes of a reply: why it isn't taken, the turn that it is, and what its realm then keeps.
 use Rattle.std.proofs.Common.{◌≡◌, ℕ, ◌<◌, Bool, true, false, List, Option, Some, None, refl, sym, ◌∙◌, subst, arith, eqb, ltb, length}
-use Rattle.std.specs.Prelude.{IsSomeAnd, ◌&&◌}
+use Rattle.std.specs.Prelude.{IsSomeAnd, ◌&&◌, if◌then◌else◌}
 use Rattle.std.proofs.lemmas.Bool.Decides.{nat_tests}
 use Rattle.roam_wire.specs.Packet.{Packet}
 use Rattle.roam_wire.specs.Reading.{packet_of}
+use Rattle.roam_wire.specs.declared.refusal.Refusal.{Refusal}
 use Rattle.roam_wire.specs.declared.refusal.Refusal.TheVariants as refusal
 use Rattle.roam_back.specs.Returned.{returned_length}
 use Rattle.roam_conf.specs.declared.place.Link.{Link}
@@ -13,11 +14,11 @@ use Rattle.roam_pending.specs.Realms.{with_standing}
 use Rattle.roam_pending.proofs.OrderLemmas.{list-changed}
 use Rattle.roam_book.specs.RealmConfig.{RealmConfig, IsLink}
 use Rattle.roam_book.specs.RealmState.{RealmState}
-use Rattle.roam_book.specs.Turn.{Turn, refuses}
-use Rattle.roam_book.specs.OnReply.{counted_peer, passing_to, return_reply, returned_octets, returning}
+use Rattle.roam_book.specs.Turn.{Turn, Answers, refuses, hears}
+use Rattle.roam_book.specs.OnReply.{counted_peer, faulted, once_heard_from, passing_to, return_reply, returned_octets, returning, shows_life}
 use Rattle.roam_book.specs.Sound.{AreOwnLanes, IsEntry, IsSound, LanesTell, StandsWell, marks_of}
 use Rattle.roam_book.specs.Private.Judged.{Judges, returns_octets}
-use Rattle.roam_book.specs.Private.ReplyPlans.{IsReplyPlan}
+use Rattle.roam_book.specs.Private.ReplyPlans.{IsHeard, IsReplyPlan, once_heard_by}
 use Rattle.roam_book.specs.declared.rules.replies.Settled.{Settled}
 use Rattle.roam_book.specs.declared.rules.reply_outcome.ReplyOutcome.{ReplyOutcome}
 use Rattle.roam_book.specs.declared.state.realm_numbers.RealmNumbers.{RealmNumbers}
@@ -59,7 +60,7 @@ pub long-turn : (c : RealmConfig) (now : ℕ) (s : RealmState) (e : PlainEntry) 
     (forwarded reply : Packet)
     → 4096 < returned_length (returning c e.request l forwarded) (passing_to c e.request reply)
     (packet_of e.request.octets)
-    → refuses refusal.ReplyTooLong ≡ return_reply c now s e l forwarded reply
+    → hears refusal.ReplyTooLong (once_heard_from c s l) ≡ return_reply c now s e l forwarded reply
 long-turn c now s e l forwarded reply lt =
     let size = returned_length (returning c e.request l forwarded) (passing_to c e.request reply)
     (packet_of e.request.octets) in
@@ -81,18 +82,18 @@ verdict-from c v e s turn l k is h = subst (λ (x : Link). Judges c v e x s turn
 
 -- the link on which it waits
 pub link-stands : (l : Link) (i : ℕ) (s : PlainStanding) (at : Link) (id : ℕ) (forwarded : List ℕ)
-    (sends_left deadline : ℕ) → s ≡ waiting at id forwarded sends_left deadline
+    (sends_left deadline signs : ℕ) → s ≡ waiting at id forwarded sends_left deadline signs
     → stands_at l i s ≡ true → at ≡ l
-link-stands l i s at id forwarded sends_left deadline is h =
-    let here : stands_at l i (waiting at id forwarded sends_left deadline) ≡ true = rw is at h in
+link-stands l i s at id forwarded sends_left deadline signs is h =
+    let here : stands_at l i (waiting at id forwarded sends_left deadline signs) ≡ true = rw is at h in
     same_link-equal at l (and_left (same_link at l) (eqb id i) here)
 
 -- an entry that waits on a link waits on a link of the realm
 pub link-of : (c : RealmConfig) (l : Link) (i : ℕ) (q : PlainRequest) (s : PlainStanding)
     → stands_at l i s ≡ true → StandsWell c q s → IsLink c l
-link-of c l i q (waiting link id forwarded sends_left deadline) h well =
+link-of c l i q (waiting link id forwarded sends_left deadline signs) h well =
     subst (IsLink c) (same_link-equal link l (and_left (same_link link l) (eqb id i) h)) well.link
-link-of c l i q (done reply deadline) h well = absurd (let k : false ≡ true = h in cc)
+link-of c l i q (done reply deadline from) h well = absurd (let k : false ≡ true = h in cc)
 
 -- the entry that a fact of the found one speaks of
 pub found-with : {X : Type 0} (o : Option X) (P : X → Type 0) → IsSomeAnd o P
@@ -102,15 +103,15 @@ found-with (Some x) P h = (x, refl, h)
 
 -- once an entry is done and its Identifier given back, its realm keeps what it kept
 pub done-sound : {A : Type 0} (c : RealmConfig) (t : ℕ) (e : PlainEntry) (es fs : List PlainEntry)
-    (reply : List ℕ) (deadline : ℕ) (old new : RealmNumbers A) → IsSound c es old
-    → find_ticket t es ≡ Some e → fs ≡ put (with_standing (done reply deadline) e) es
+    (reply : List ℕ) (deadline : ℕ) (from : Option Link) (old new : RealmNumbers A) → IsSound c es old
+    → find_ticket t es ≡ Some e → fs ≡ put (with_standing (done reply deadline from) e) es
     → LanesTell c (without e.ticket es) new.lanes.items
     → length new.lanes.items ≡ length old.lanes.items → new.ticket ≡ old.ticket
     → new.stream_position ≡ old.stream_position
     → marks_of new.lanes.items ≡ marks_of old.lanes.items
     → new.sessions.limit ≡ old.sessions.limit → IsSound c fs new
-done-sound c t e es fs reply deadline old new sound at is tells count ticket position marks limit =
-    let x = with_standing (done reply deadline) e in
+done-sound c t e es fs reply deadline from old new sound at is tells count ticket position marks limit =
+    let x = with_standing (done reply deadline from) e in
     let was : IsEntry c old.ticket e = kept-ticket c old.ticket t e es at sound.each in
     let here : IsEntry c old.ticket x = record { ticket = was.ticket; request = was.request; standing = tt } in
     record {
@@ -131,13 +132,33 @@ list-standing s e es list found = list-changed (with_standing s e) es list (rw f
 
 -- What a reply is to do
 
+-- a sign of life, if it is one
+link-heard : (c : RealmConfig) (l : Link) (heard : Bool) → IsLink c l → IsHeard c (if heard then Some l else None)
+link-heard c l true link = link
+link-heard c l false link = tt
+
+heard-is : (c : RealmConfig) (s : RealmState) (l : Link) (heard : Bool)
+    → (if heard then once_heard_from c s l else s) ≡ once_heard_by c s (if heard then Some l else None)
+heard-is c s l true = refl
+heard-is c s l false = refl
+
+-- what is wrong with a reply is its turn
+pub faulted-heard : (c : RealmConfig) (s : RealmState) (l : Link) (why : Refusal) → shows_life why ≡ true
+    → hears why (once_heard_from c s l) ≡ faulted c s l why
+faulted-heard c s l why is = rw is refl
+
+pub faulted-only : (c : RealmConfig) (s : RealmState) (l : Link) (why : Refusal) → shows_life why ≡ false
+    → refuses why ≡ faulted c s l why
+faulted-only c s l why is = rw is refl
+
 -- where the reply isn't taken, or its entry is done, the answer's turn is that of the plan
 pub plan-none : {A : Type 0} (c : RealmConfig) (s : RealmState) (e : PlainEntry) (v : ReplyOutcome A)
-    (l : Link) (turn : Turn) → v.done ≡ None → Judges c v e l s turn
-    → IsReplyPlan c s (record { answer = v.answer; settled = None }) turn
-plan-none c s e v l turn is h = record {
+    (l : Link) (turn : Turn) → v.done ≡ None → IsLink c l → Judges c v e l s turn
+    → IsReplyPlan c s (record { answer = v.answer; heard = if v.heard then Some l else None; settled = None }) turn
+plan-none c s e v l turn is link h = record {
   settles = tt;
-  answers = rw is at h.answers;
+  hears = link-heard c l v.heard link;
+  answers = subst (λ (t : RealmState). Answers v.answer s t turn) (heard-is c s l v.heard) (rw is at h.answers);
   silent = λ none. refl;
 }
 
@@ -146,9 +167,11 @@ pub plan-some : {A : Type 0} (c : RealmConfig) (s : RealmState) (e : PlainEntry)
     → d.ticket ≡ e.ticket
     → find_ticket e.ticket s.entries ≡ Some e → waits_at d.link d.id e ≡ true
     → Judges c v e d.link s turn
-    → IsReplyPlan c s (record { answer = v.answer; settled = Some d }) turn
+    → IsReplyPlan c s (record { answer = v.answer; heard = if v.heard then Some d.link else None; settled = Some d })
+    turn
 plan-some c s e v turn d is counts link ticket found waits h = record {
   settles = (link, rw (ticket, found) waits);
+  hears = link-heard c d.link v.heard link;
   answers = rw (ticket, found) (rw (is, counts) at h.answers);
   silent = λ none. absurd (let k : Some d.done ≡ None = sym is ∙ h.silent none in cc);
 }

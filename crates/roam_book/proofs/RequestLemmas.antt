@@ -1,5 +1,5 @@
 -- Which case of a request's definition comes to pass.
-use Rattle.std.proofs.Common.{◌≡◌, ◌≢◌, ℕ, ◌^◌, Bool, true, false, List, [], ◌<◌, length, inl, inr, Option, Some, None, refl, ap, sym, ◌∙◌, subst, cond, eqb, is_some}
+use Rattle.std.proofs.Common.{◌≡◌, ◌≢◌, ℕ, ◌^◌, Bool, true, false, List, [], ◌<◌, length, inl, inr, Option, Some, None, refl, ap, ap₂, sym, ◌∙◌, subst, cond, eqb, is_some}
 use Rattle.std.specs.Prelude.{IfSome, nat_eq, option_map, unwrap_or}
 use Rattle.std.proofs.lemmas.Bool.{cases_Bool}
 use Rattle.std.specs.Cmp.Lexicographic.{pointwise}
@@ -13,18 +13,19 @@ use Rattle.roam_pending.specs.declared.key.Key.{Key}
 use Rattle.roam_pending.proofs.TestLemmas.{differs}
 use Rattle.roam_pending.proofs.ChangeLemmas.{find-passes, found-is}
 use Rattle.roam_pending.proofs.ClientLemmas.{client-without, key-equal, without_client-found}
-use Rattle.roam_book.specs.Private.NewEntry.{HasNext, freed_link, target_at}
+use Rattle.roam_book.specs.Private.NewEntry.{HasNext, bound_way, freed_link, target_at, way_link}
+use Rattle.roam_book.specs.Conversing.{bound_target, new_target, rests_by, rests_chosen}
 use Rattle.roam_book.specs.Shares.{share_taken}
 use Rattle.roam_book.specs.OnRequest.{at_target, coa_links, held_reply, is_reverse, new_request, of_key, targets}
 use Rattle.roam_book.specs.RealmConfig.{RealmConfig, IsLink, service_of}
-use Rattle.roam_book.specs.RealmState.{RealmState, Target, chosen_target, next_toward}
-use Rattle.roam_book.specs.declared.state.rest.Rest.{Rest}
-use Rattle.roam_book.specs.Sound.{CountsAsGone, IsSound, chosen_link, cursors_of, gone_ticket, standing_place, state_of}
+use Rattle.roam_book.specs.RealmState.{RealmState, Target, next_toward, with_rests}
+use Rattle.roam_book.specs.Sound.{CountsAsGone, IsSound, cursors_of, gone_ticket, standing_place, state_of}
 use Rattle.roam_book.specs.Turn.{Turn, refuses, sends}
 use Rattle.roam_book.specs.declared.rules.replaced.Replaced.{Replaced}
 use Rattle.roam_book.specs.declared.state.realm_numbers.RealmNumbers.{RealmNumbers}
-use Rattle.roam_book.proofs.JobLemmas.{target-within}
-use Rattle.roam_book.proofs.LaneLemmas.{links-are, target-freed, target-next, target-tells}
+use Rattle.roam_book.proofs.ConversingLemmas.{bound-is, new-next, way-is}
+use Rattle.roam_book.proofs.TargetLemmas.{target-within}
+use Rattle.roam_book.proofs.LaneLemmas.{links-are}
 
 -- the target is the link that was chosen, with its next free Identifier
 target_of : Link → ℕ → Target
@@ -34,22 +35,22 @@ target-joined : (t l : Link) (i j : ℕ) → t ≡ l → i ≡ j → target_of t
 target-joined t l i j link id = cc (link, id)
 
 target-is :
-    (c : RealmConfig) (now : ℕ) (rests : List Rest) (cursors : List ℕ) (es : List PlainEntry)
+    (c : RealmConfig) (now : ℕ) (s : RealmState) (es : List PlainEntry) (q : PlainRequest)
     (links : List Link) (l : Link) (found : Option Target)
-    → chosen_target c now rests cursors es links ≡ found
+    → new_target c now s es q links ≡ found
     → option_map (λ t. t.link) found ≡ Some l
-    → (chosen_target c now rests cursors es links ≡ Some (target_at c cursors es l))
-    × HasNext c cursors es l
+    → (new_target c now s es q links ≡ Some (target_at c s.cursors es l))
+    × HasNext c s.cursors es l
 unfolding target_of
-target-is c now rests cursors es links l None is at = absurd (let k : None ≡ Some l = at in cc)
-target-is c now rests cursors es links l (Some target) is at =
+target-is c now s es q links l None is at = absurd (let k : None ≡ Some l = at in cc)
+target-is c now s es q links l (Some target) is at =
     let same_link : target.link ≡ l = let k : Some target.link ≡ Some l = at in cc k in
-    let next : next_toward c cursors es l ≡ Some target.id =
-    subst (λ (x : Link). next_toward c cursors es x ≡ Some target.id) same_link
-    (target-next c now rests cursors es links target is) in
-    let id : target.id ≡ unwrap_or (next_toward c cursors es l) 0 =
+    let next : next_toward c s.cursors es l ≡ Some target.id =
+    subst (λ (x : Link). next_toward c s.cursors es x ≡ Some target.id) same_link
+    (new-next c now s es q links target is) in
+    let id : target.id ≡ unwrap_or (next_toward c s.cursors es l) 0 =
     sym (ap (λ (o : Option ℕ). unwrap_or o 0) next) in
-    let joined = target-joined target.link l target.id (unwrap_or (next_toward c cursors es l) 0)
+    let joined = target-joined target.link l target.id (unwrap_or (next_toward c s.cursors es l) 0)
     same_link id in
     (is ∙ ap (λ (t : Target). Some t) joined, ap is_some next)
 
@@ -57,20 +58,6 @@ no-target :
     (found : Option Target) → option_map (λ t. t.link) found ≡ None → found ≡ None
 no-target None h = refl
 no-target (Some target) h = absurd (let k : Some target.link ≡ None = h in cc)
-
--- the link that is chosen is that of the target
-open-is :
-    {A : Type 0} (c : RealmConfig) (now : ℕ) (es : List PlainEntry) (n : RealmNumbers A) (o : Option Replaced)
-    (links : List Link) → IsSound c es n → IsEntryList es → CountsAsGone o es
-    → AllByRecursion (IsLink c) links
-    → option_map (λ t. t.link) (chosen_target c now n.rests.items (cursors_of n.lanes.items)
-    (besides (gone_ticket o) es) links)
-    ≡ chosen_link c now n.rests.items n.lanes.items (freed_link o) links
-open-is c now es n None links sound list gone are =
-    target-tells c now n.rests.items es n.lanes.items links list sound.lanes_tell are
-open-is c now es n (Some g) links sound list gone are =
-    target-freed c now n.rests.items n.ticket es n.lanes.items links g.ticket gone.0 g.waits_at list
-    sound.each sound.lanes_tell are gone.1.found (sym gone.1.place)
 
 -- each target is a link of the realm
 coa-links : (c : RealmConfig) (o : Option ℕ) → IfSome o (λ peer. peer < length c.peers)
@@ -85,14 +72,13 @@ targets-links c q =
       | inr n ↦ rw n (links-are c (service_of (packet_of q.octets).code) 0)
     ]
 
-targets-open :
+targets-way :
     {A : Type 0} (c : RealmConfig) (now : ℕ) (es : List PlainEntry) (n : RealmNumbers A) (o : Option Replaced)
     (q : PlainRequest) → IsSound c es n → IsEntryList es → CountsAsGone o es
-    → option_map (λ t. t.link) (chosen_target c now n.rests.items (cursors_of n.lanes.items)
-    (besides (gone_ticket o) es) (targets c q))
-    ≡ chosen_link c now n.rests.items n.lanes.items (freed_link o) (targets c q)
-targets-open c now es n o q sound list gone =
-    open-is c now es n o (targets c q) sound list gone (targets-links c q)
+    → option_map (λ t. t.link) (new_target c now (state_of es n) (besides (gone_ticket o) es) q (targets c q))
+    ≡ way_link c now n.rests.items n.lanes.items (freed_link o) q es (targets c q)
+targets-way c now es n o q sound list gone =
+    way-is c now es n o q (targets c q) sound list gone (targets-links c q)
 
 -- a new request, while there is a ticket
 pub in-else : (b : Bool) (x y : Turn) → b ≡ false → cond b x y ≡ y
@@ -103,13 +89,15 @@ in-then b x y h = rw h refl
 
 new-request-is :
     (c : RealmConfig) (now : ℕ) (s : RealmState) (es : List PlainEntry) (q : PlainRequest)
-    (found : Option Target) → s.ticket ≢ 2 ^ 63 → share_taken c es q ≡ false
-    → chosen_target c now s.rests s.cursors es (targets c q) ≡ found
-    → new_request c now s es q ≡ at_target c now s es q found
-new-request-is c now s es q found ne share is =
+    (bound : Bool) (found : Option Target) → s.ticket ≢ 2 ^ 63 → share_taken c es q ≡ false
+    → is_some (bound_target c s es q (targets c q)) ≡ bound
+    → new_target c now s es q (targets c q) ≡ found
+    → new_request c now s es q ≡ at_target c now (with_rests s (rests_by c now s.rests bound found)) es q found
+new-request-is c now s es q bound found ne share bound_is is =
     in-else (eqb s.ticket (2 ^ 63)) _ _ (differs s.ticket (2 ^ 63) ne)
     ∙ in-else (share_taken c es q) _ _ share
-    ∙ ap (at_target c now s es q) is
+    ∙ ap₂ (λ (b : Bool) (o : Option Target). at_target c now (with_rests s (rests_by c now s.rests b o)) es q o)
+    bound_is is
 
 -- one whose name's share is taken
 pub share-refused :
@@ -123,42 +111,46 @@ share-refused c now s es q ne share =
 -- a new request for which the code chose a link, or found none
 pub at-open :
     {A : Type 0} (c : RealmConfig) (now : ℕ) (es : List PlainEntry) (n : RealmNumbers A)
-    (o : Option Replaced) (q : PlainRequest) (freed : Option Link) (l : Link) → IsSound c es n → IsEntryList es
+    (o : Option Replaced) (q : PlainRequest) (freed : Option Link) (l : Link) (bound : Bool) → IsSound c es n
+    → IsEntryList es
     → CountsAsGone o es → n.ticket ≢ 2 ^ 63 → share_taken c (besides (gone_ticket o) es) q ≡ false
     → freed ≡ freed_link o
-    → Some l ≡ chosen_link c now n.rests.items n.lanes.items freed (targets c q)
+    → Some l ≡ way_link c now n.rests.items n.lanes.items freed q es (targets c q)
+    → bound ≡ is_some (bound_way c n.rests.items n.lanes.items freed q es (targets c q))
     → (new_request c now (state_of es n) (besides (gone_ticket o) es) q
-    ≡ at_target c now (state_of es n) (besides (gone_ticket o) es) q
+    ≡ at_target c now (with_rests (state_of es n) (rests_chosen c now n.rests.items bound l))
+    (besides (gone_ticket o) es) q
     (Some (target_at c (cursors_of n.lanes.items) (besides (gone_ticket o) es) l)))
     × HasNext c (cursors_of n.lanes.items) (besides (gone_ticket o) es) l
-at-open c now es n o q freed l sound list gone ne share same_freed found =
+at-open c now es n o q freed l bound sound list gone ne share same_freed found bound_there =
     let mid = besides (gone_ticket o) es in
     let links = targets c q in
-    let rests = n.rests.items in
-    let here : chosen_link c now rests n.lanes.items (freed_link o) links ≡ Some l =
-    subst (λ (x : Option Link). chosen_link c now rests n.lanes.items x links ≡ Some l) same_freed
+    let here : way_link c now n.rests.items n.lanes.items (freed_link o) q es links ≡ Some l =
+    subst (λ (x : Option Link). way_link c now n.rests.items n.lanes.items x q es links ≡ Some l) same_freed
     (sym found) in
-    let at = targets-open c now es n o q sound list gone ∙ here in
-    let target = target-is c now rests (cursors_of n.lanes.items) mid links l _ refl at in
-    (new-request-is c now (state_of es n) mid q _ ne share target.0, target.1)
+    let at = targets-way c now es n o q sound list gone ∙ here in
+    let target = target-is c now (state_of es n) mid q links l _ refl at in
+    let bound_is = bound-is c es n o q links sound list gone (targets-links c q)
+    ∙ ap (λ (x : Option Link). is_some (bound_way c n.rests.items n.lanes.items x q es links)) (sym same_freed)
+    ∙ sym bound_there in
+    (new-request-is c now (state_of es n) mid q bound _ ne share bound_is target.0, target.1)
 
 pub at-none :
     {A : Type 0} (c : RealmConfig) (now : ℕ) (es : List PlainEntry) (n : RealmNumbers A)
     (o : Option Replaced) (q : PlainRequest) (freed : Option Link) → IsSound c es n → IsEntryList es
     → CountsAsGone o es → n.ticket ≢ 2 ^ 63 → share_taken c (besides (gone_ticket o) es) q ≡ false
     → freed ≡ freed_link o
-    → None ≡ chosen_link c now n.rests.items n.lanes.items freed (targets c q)
+    → None ≡ way_link c now n.rests.items n.lanes.items freed q es (targets c q)
     → new_request c now (state_of es n) (besides (gone_ticket o) es) q
     ≡ refuses refusal.NoIdentifier
 at-none c now es n o q freed sound list gone ne share same_freed found =
     let mid = besides (gone_ticket o) es in
     let links = targets c q in
-    let rests = n.rests.items in
-    let here : chosen_link c now rests n.lanes.items (freed_link o) links ≡ None =
-    subst (λ (x : Option Link). chosen_link c now rests n.lanes.items x links ≡ None) same_freed
+    let here : way_link c now n.rests.items n.lanes.items (freed_link o) q es links ≡ None =
+    subst (λ (x : Option Link). way_link c now n.rests.items n.lanes.items x q es links ≡ None) same_freed
     (sym found) in
-    let at = targets-open c now es n o q sound list gone ∙ here in
-    new-request-is c now (state_of es n) mid q None ne share (no-target _ at)
+    let at = targets-way c now es n o q sound list gone ∙ here in
+    new-request-is c now (state_of es n) mid q _ None ne share refl (no-target _ at)
 
 -- the entry of a request's key counts as gone, and the key is then free
 pub key-gone :

@@ -1,10 +1,10 @@
 -- What the events of a realm make of how its links rest.
-use Rattle.std.proofs.Common.{◌≡◌, ℕ, zero, suc, ◌==◌, ◌^◌, Bool, true, false, List, [], ◌∷◌, Option, Some, None, refl, ap, sym, ◌∙◌, arith, cond, get_or, set, length, replicate, ltb, not}
-use Rattle.std.specs.Prelude.{nat_eq}
+use Rattle.std.proofs.Common.{◌≡◌, ℕ, zero, suc, ◌+◌, ◌==◌, ◌&&◌, ◌^◌, Bool, true, false, List, [], ◌∷◌, Option, Some, None, refl, ap, sym, ◌∙◌, arith, cond, get_or, set, length, replicate, ltb, not}
+use Rattle.std.specs.Prelude.{is_some, nat_eq, option_map}
 use Rattle.std.specs.Cmp.Lexicographic.{pointwise}
-use Rattle.std.specs.List.{filter}
-use Rattle.std.specs.Option.{option_or}
-use Rattle.std.proofs.lemmas.List.{get_or_past, length-set, length-replicate, set-get_or}
+use Rattle.std.specs.List.{AllByRecursion, filter}
+use Rattle.std.specs.Option.{option_map_or, option_or}
+use Rattle.std.proofs.lemmas.List.{get_or_past, length-set, length-replicate}
 use Rattle.roam_wire.specs.Packet.{Packet}
 use Rattle.roam_wire.specs.Reading.{packet_of}
 use Rattle.roam_wire.specs.declared.refusal.Refusal.{Refusal}
@@ -16,13 +16,14 @@ use Rattle.roam_pending.specs.DueOrder.{due_list}
 use Rattle.roam_pending.specs.PlainEntry.{PlainRequest, PlainStanding, PlainEntry, waiting, done}
 use Rattle.roam_pending.specs.EntryList.{find_client, find_link, find_ticket, first_done, without_client}
 use Rattle.roam_book.specs.RealmConfig.{RealmConfig, link_place, link_secret, seal_required, server_link_count}
-use Rattle.roam_book.specs.RealmState.{RealmState, Target, opening, chosen_target, first_target}
-use Rattle.roam_book.specs.Rests.{after_choice, after_reply, after_silence, all_awake, awake, is_resting, once_chosen, stands_back}
-use Rattle.roam_book.specs.RestLaws.{AccessServersNeverStandBack, AwakeTheFirstIsChosen, WithoutRestAllStayAwake}
+use Rattle.roam_book.specs.RealmState.{RealmState, Target, opening, first_target, with_rests}
+use Rattle.roam_book.specs.Rests.{after_choice, after_sign, after_silence, awake, is_resting, is_silence, once_chosen, once_heard, signs_of, stands_back}
+use Rattle.roam_book.specs.RestLaws.{AccessServersNeverStandBack, IsUp, UpTheFirstIsChosen, WithoutRestAllStayUp}
 use Rattle.roam_book.specs.Turn.{Turn, state_after}
 use Rattle.roam_book.specs.Shares.{share_taken}
+use Rattle.roam_book.specs.Conversing.{bound_target, new_target, rests_by, rests_chosen, rests_for}
 use Rattle.roam_book.specs.OnRequest.{admit, at_target, is_reverse, make_way, nak_or_new, of_key, on_request, reverse_cause, targets}
-use Rattle.roam_book.specs.OnReply.{judge, on_reply, passing_to, reply_fault, returning, to_entry, to_standing}
+use Rattle.roam_book.specs.OnReply.{judge, shows_life, on_reply, passing_to, reply_fault, returning, to_entry, to_standing}
 use Rattle.roam_book.specs.OnTick.{Progress, due_each, due_entry, due_one, due_standing, fail_over, given_up_at, once_refused}
 use Rattle.roam_book.specs.OneRealm.{RealmEvent, on_event, one_realm_run, reply_came, request_came, tick_came}
 use Rattle.roam_book.specs.declared.state.rest.Rest.{Rest}
@@ -43,18 +44,29 @@ Then K p = K p.state.rests
 module _ (c : RealmConfig) (K : List Rest → Type 0)
     (chosen : (now : ℕ) (rests : List Rest) (l : Link) → K rests → K (after_choice c now rests l)) where
   -- a request
-  make_way-keeps : (now : ℕ) (s : RealmState) (es : List PlainEntry) (q : PlainRequest) (t : Target)
-      (o : Option ℕ) → K s.rests → After K s (make_way c now s es q t o)
-  make_way-keeps now s es q t None k = k
-  make_way-keeps now s es q t (Some ticket) k = chosen now s.rests t.link k
+  make_way-keeps : (now : ℕ) (s u : RealmState) (es : List PlainEntry) (q : PlainRequest) (t : Target)
+      (o : Option ℕ) → K s.rests → K u.rests → After K s (make_way c now u es q t o)
+  make_way-keeps now s u es q t None k j = k
+  make_way-keeps now s u es q t (Some ticket) k j = j
 
-  at_target-keeps : (now : ℕ) (s : RealmState) (es : List PlainEntry) (q : PlainRequest)
-      (o : Option Target) → K s.rests → After K s (at_target c now s es q o)
-  at_target-keeps now s es q None k = k
-  at_target-keeps now s es q (Some t) k =
-      either (After K s) (ltb (length es) c.realm.max_pending) (admit c now s es q t)
-      (make_way c now s es q t (first_done es)) (chosen now s.rests t.link k)
-      (make_way-keeps now s es q t (first_done es) k)
+  at_target-keeps : (now : ℕ) (s u : RealmState) (es : List PlainEntry) (q : PlainRequest)
+      (o : Option Target) → K s.rests → K u.rests → After K s (at_target c now u es q o)
+  at_target-keeps now s u es q None k j = k
+  at_target-keeps now s u es q (Some t) k j =
+      either (After K s) (ltb (length es) c.realm.max_pending) (admit c now u es q t)
+      (make_way c now u es q t (first_done es)) j
+      (make_way-keeps now s u es q t (first_done es) k j)
+
+  -- the rests once a target was chosen
+  chosen_by-keeps : (now : ℕ) (rests : List Rest) (bound : Bool) (l : Link) → K rests
+      → K (rests_chosen c now rests bound l)
+  chosen_by-keeps now rests true l k = k
+  chosen_by-keeps now rests false l k = chosen now rests l k
+
+  rests_by-keeps : (now : ℕ) (rests : List Rest) (bound : Bool) (o : Option Target) → K rests
+      → K (rests_by c now rests bound o)
+  rests_by-keeps now rests bound None k = k
+  rests_by-keeps now rests bound (Some t) k = chosen_by-keeps now rests bound t.link k
 
   nak_or_new-keeps : (now : ℕ) (s : RealmState) (q : PlainRequest) (why : Option ℕ) → K s.rests
       → After K s (nak_or_new c now s q why)
@@ -62,7 +74,12 @@ module _ (c : RealmConfig) (K : List Rest → Type 0)
       let es = without_client q.key s.entries in
       either (After K s) (s.ticket == 2 ^ 63) _ _ k
       (either (After K s) (share_taken c es q) _ _ k
-      (at_target-keeps now s es q (chosen_target c now s.rests s.cursors es (targets c q)) k))
+      (at_target-keeps now s
+      (with_rests s (rests_for c now s.rests (bound_target c s es q (targets c q))
+      (new_target c now s es q (targets c q)))) es q
+      (new_target c now s es q (targets c q)) k
+      (rests_by-keeps now s.rests (is_some (bound_target c s es q (targets c q)))
+      (new_target c now s es q (targets c q)) k)))
   nak_or_new-keeps now s q (Some why) k = k
 
   of_key-keeps : (now : ℕ) (s : RealmState) (named : Option ℕ) (q : PlainRequest)
@@ -91,22 +108,23 @@ module _ (c : RealmConfig) (K : List Rest → Type 0)
 
 -- what a reply keeps of them, a reply keeps
 module _ (c : RealmConfig) (K : List Rest → Type 0)
-    (answered : (rests : List Rest) (l : Link) → K rests → K (after_reply c rests l)) where
+    (answered : (rests : List Rest) (l : Link) → K rests → K (after_sign c rests l)) where
   judge-keeps : (now : ℕ) (s : RealmState) (e : PlainEntry) (l : Link) (forwarded reply : Packet)
       (why : Option Refusal) → K s.rests → After K s (judge c now s e l forwarded reply why)
-  judge-keeps now s e l forwarded reply (Some why) k = k
+  judge-keeps now s e l forwarded reply (Some why) k =
+      either (After K s) (shows_life why) _ _ (answered s.rests l k) k
   judge-keeps now s e l forwarded reply None k =
       either (After K s)
       (ltb 4096 (returned_length (returning c e.request l forwarded) (passing_to c e.request reply)
       (packet_of e.request.octets)))
-      _ _ k (answered s.rests l k)
+      _ _ (answered s.rests l k) (answered s.rests l k)
 
   to_standing-keeps : (now : ℕ) (s : RealmState) (e : PlainEntry) (reply : Packet) (p : PlainStanding)
       → K s.rests → After K s (to_standing c now s e reply p)
-  to_standing-keeps now s e reply (waiting l id forwarded sends_left deadline) k =
+  to_standing-keeps now s e reply (waiting l id forwarded sends_left deadline signs) k =
       judge-keeps now s e l (packet_of forwarded) reply
       (reply_fault (link_secret c l) (seal_required c l) reply (packet_of forwarded)) k
-  to_standing-keeps now s e reply (done old deadline) k = k
+  to_standing-keeps now s e reply (done old deadline from) k = k
 
   to_entry-keeps : (now : ℕ) (s : RealmState) (reply : Packet) (o : Option PlainEntry) → K s.rests
       → After K s (to_entry c now s reply o)
@@ -122,14 +140,14 @@ module _ (c : RealmConfig) (K : List Rest → Type 0)
 -- what all three keep, each event keeps
 module _ (c : RealmConfig) (K : List Rest → Type 0)
     (chosen : (now : ℕ) (rests : List Rest) (l : Link) → K rests → K (after_choice c now rests l))
-    (silent : (now : ℕ) (rests : List Rest) (l : Link) → K rests → K (after_silence c now rests l))
-    (answered : (rests : List Rest) (l : Link) → K rests → K (after_reply c rests l)) where
+    (silent : (now : ℕ) (rests : List Rest) (l : Link) (signs : ℕ) → K rests → K (after_silence c now rests l signs))
+    (answered : (rests : List Rest) (l : Link) → K rests → K (after_sign c rests l)) where
   due_standing-keeps : (now : ℕ) (s : RealmState) (e : PlainEntry) (p : PlainStanding) → K s.rests
       → Then K (due_standing c now s e p)
-  due_standing-keeps now s e (done reply deadline) k = k
-  due_standing-keeps now s e (waiting l id forwarded sends_left deadline) k =
+  due_standing-keeps now s e (done reply deadline from) k = k
+  due_standing-keeps now s e (waiting l id forwarded sends_left deadline signs) k =
       either (Then K) (ltb 0 sends_left) _ _ k
-      (fail_over-keeps c K chosen now (given_up_at c now l s e) e _ (silent now s.rests l k))
+      (fail_over-keeps c K chosen now (given_up_at c now l signs s e) e _ (silent now s.rests l signs k))
 
   due_entry-keeps : (now : ℕ) (s : RealmState) (o : Option PlainEntry) → K s.rests
       → Then K (due_entry c now s o)
@@ -156,38 +174,48 @@ module _ (c : RealmConfig) (K : List Rest → Type 0)
 
 -- Where `rest` is 0
 
-awake-at : (n i : ℕ) → get_or (replicate n awake) i awake ≡ awake
-awake-at zero i = refl
-awake-at (suc n) zero = refl
-awake-at (suc n) (suc i) = awake-at n i
+up-at : (rests : List Rest) (i : ℕ) → AllByRecursion IsUp rests → IsUp (get_or rests i awake)
+up-at [] i h = record { until = refl; given_up = refl }
+up-at (r ∷ rs) zero h = h.0
+up-at (r ∷ rs) (suc i) h = up-at rs i h.1
 
-awake-set : (n i : ℕ) → set (replicate n awake) i awake ≡ replicate n awake
-awake-set n i =
-    ap (set (replicate n awake) i) (sym (awake-at n i)) ∙ set-get_or (replicate n awake) i awake
+up-set : (rests : List Rest) (i : ℕ) (r : Rest) → AllByRecursion IsUp rests → IsUp r
+    → AllByRecursion IsUp (set rests i r)
+up-set [] i r h up = tt
+up-set (x ∷ xs) zero r h up = (up, h.1)
+up-set (x ∷ xs) (suc i) r h up = (h.0, up-set xs i r h.1 up)
 
-awake-chosen : (c : RealmConfig) (now : ℕ) (rests : List Rest) (l : Link) → rests ≡ all_awake c
-    → after_choice c now rests l ≡ all_awake c
-awake-chosen c now rests l is =
-    let n = server_link_count c in
-    let place = link_place c l in
-    ap (λ (r : List Rest). after_choice c now r l) is
-    ∙ ap (λ (r : Rest). set (all_awake c) place (once_chosen c now r)) (awake-at n place)
-    ∙ awake-set n place
+up-begin : (n : ℕ) → AllByRecursion IsUp (replicate n awake)
+up-begin zero = tt
+up-begin (suc n) = (record { until = refl; given_up = refl }, up-begin n)
 
-awake-silent : (c : RealmConfig) (now : ℕ) (rests : List Rest) (l : Link) → c.realm.rest ≡ 0
-    → rests ≡ all_awake c → after_silence c now rests l ≡ all_awake c
-awake-silent c now rests l none is = rw none is
+up-chosen : (c : RealmConfig) (now : ℕ) (rests : List Rest) (l : Link) → AllByRecursion IsUp rests
+    → AllByRecursion IsUp (after_choice c now rests l)
+up-chosen c now rests l h =
+    let old = up-at rests (link_place c l) h in
+    up-set rests (link_place c l) (once_chosen c now (get_or rests (link_place c l) awake)) h (record {
+      until = ap (λ (o : Option ℕ). option_map (λ (until : ℕ). now + c.realm.rest) o) old.until;
+      given_up = old.given_up;
+    })
 
-awake-answered : (c : RealmConfig) (rests : List Rest) (l : Link) → rests ≡ all_awake c
-    → after_reply c rests l ≡ all_awake c
-awake-answered c rests l is =
-    ap (λ (r : List Rest). after_reply c r l) is ∙ awake-set (server_link_count c) (link_place c l)
+up-silent : (c : RealmConfig) (now : ℕ) (rests : List Rest) (l : Link) (signs : ℕ) → c.realm.rest ≡ 0
+    → AllByRecursion IsUp rests → AllByRecursion IsUp (after_silence c now rests l signs)
+up-silent c now rests l signs none h =
+    let no : is_silence c rests l signs ≡ false =
+    ap (λ (n : ℕ). ltb 0 n && signs_of c rests l == signs) none in
+    rw no h
 
-pub without-rest : WithoutRestAllStayAwake
+up-heard : (c : RealmConfig) (rests : List Rest) (l : Link) → AllByRecursion IsUp rests
+    → AllByRecursion IsUp (after_sign c rests l)
+up-heard c rests l h =
+    up-set rests (link_place c l) (once_heard (get_or rests (link_place c l) awake)) h
+    (record { until = refl; given_up = refl })
+
+pub without-rest : WithoutRestAllStayUp
 without-rest c start events none =
-    events-keep c (λ (rests : List Rest). rests ≡ all_awake c) (awake-chosen c)
-    (λ now rests l is. awake-silent c now rests l none is) (awake-answered c) (opening c start) events
-    refl
+    events-keep c (AllByRecursion IsUp) (up-chosen c)
+    (λ now rests l signs h. up-silent c now rests l signs none h) (up-heard c) (opening c start) events
+    (up-begin (server_link_count c))
 
 all-ready : (p : Link → Bool) (links : List Link) → ((l : Link) → p l ≡ true) → filter p links ≡ links
 all-ready p [] all = refl
@@ -197,11 +225,12 @@ or-itself : (o : Option Target) → option_or o o ≡ o
 or-itself None = refl
 or-itself (Some t) = refl
 
-pub awake-first : AwakeTheFirstIsChosen
-awake-first c now cursors entries links =
-    let none : (l : Link) → not (stands_back c now (all_awake c) l) ≡ true =
-    λ l. ap (λ (r : Rest). not (is_resting now r)) (awake-at (server_link_count c) (link_place c l)) in
-    let all = all-ready (λ l. not (stands_back c now (all_awake c) l)) links none in
+pub up-first : UpTheFirstIsChosen
+up-first c now rests cursors entries links up =
+    let none : (l : Link) → not (stands_back c now rests l) ≡ true =
+    λ l. ap (λ (o : Option ℕ). not (option_map_or (λ (until : ℕ). ltb now until) o false))
+    (up-at rests (link_place c l) up).until in
+    let all = all-ready (λ l. not (stands_back c now rests l)) links none in
     ap (λ (ks : List Link). option_or (first_target c cursors entries ks)
     (first_target c cursors entries links)) all
     ∙ or-itself (first_target c cursors entries links)
@@ -218,7 +247,7 @@ access-servers c start events now peer =
     let count : length rests ≡ n =
     events-keep c (λ (r : List Rest). length r ≡ n)
     (λ m r l is. set-count r (link_place c l) n _ is)
-    (λ m r l is. either (λ (x : List Rest). length x ≡ n) (ltb 0 c.realm.rest) _ _
+    (λ m r l signs is. either (λ (x : List Rest). length x ≡ n) (is_silence c r l signs) _ _
     (set-count r (link_place c l) n _ is) is)
     (λ r l is. set-count r (link_place c l) n _ is) (opening c start) events (length-replicate n awake) in
     ap (is_resting now) (get_or_past rests (link_place c (link.Coa peer)) awake (omega arith))

@@ -1,11 +1,11 @@
 -- What names a realm, and whether a peer's Access-Requests need a Message-Authenticator, a realm's written broker
 -- doesn't look at.
-use Rattle.std.proofs.Common.{◌≡◌, ℕ, zero, suc, ◌+◌, ◌-◌, ◌%◌, ◌^◌, ◌==◌, nat_lt, nat_eq, Bool, not, List, [], ◌∷◌, ◌++◌, length, map, Option, Some, None, unwrap_or, slice_get, slice_index, slice_index_or, slice_set, if◌then◌else◌, refl, ap, sym, ◌∙◌, arith, append-nil, append_assoc}
+use Rattle.std.proofs.Common.{◌≡◌, ℕ, zero, suc, ◌+◌, ◌-◌, ◌%◌, ◌^◌, ◌==◌, nat_lt, nat_eq, Bool, not, List, [], ◌∷◌, ◌++◌, length, map, Option, Some, None, unwrap_or, slice_get, slice_index, slice_index_or, slice_set, if◌then◌else◌, refl, ap, sym, ◌∙◌, arith, append-nil, append_assoc, is_some}
 use Rattle.std.proofs.lemmas.List.{length-append, length-map, nil_from_length}
 use Rattle.std.specs.Cmp.Lexicographic.{pointwise}
-use Rattle.std.specs.List.{filter, position_from}
+use Rattle.std.specs.List.{filter}
 use Rattle.std.specs.Option.{option_map_or, option_or, option_and_then}
-use Rattle.roam_wire.specs.Packet.{Attribute, Packet, packet_text}
+use Rattle.roam_wire.specs.Packet.{Packet, packet_text}
 use Rattle.roam_wire.specs.Reading.{packet_of}
 use Rattle.roam_wire.specs.declared.code.TheConstants.{COA_REQUEST}
 use Rattle.roam_wire.specs.declared.packet_size.TheConstants.{MAX_PACKET_LENGTH}
@@ -31,25 +31,24 @@ use Rattle.roam_pending.specs.EntryList.{find_client, find_link, find_ticket, fi
 use Rattle.roam_pending.specs.PlainEntry.{PlainEntry, PlainRequest, PlainStanding, waiting, done}
 use Rattle.roam_pending.specs.Realms.{sent_again, with_standing}
 use Rattle.roam_reload.specs.Reload.{peer_part, realm_part}
-use Rattle.roam_reverse.specs.Causes.{cause, cause_at_target}
 use Rattle.roam_reverse.specs.Sessions.{Session}
-use Rattle.roam_reverse.specs.Target as reverse
 use Rattle.roam_reverse.specs.declared.error_cause.TheConstants.{OTHER_PROXY_PROCESSING_ERROR}
 use Rattle.roam_route.specs.Admission.{PlainOut}
 use Rattle.roam_route.specs.Shapings.{shaping_between}
-use Rattle.roam_route.specs.UserName.{nas_of}
 use Rattle.roam_book.specs.Shapings.{removed_for, shaping_of, shaping_to}
 use Rattle.roam_book.specs.Shares.{share_taken}
 use Rattle.roam_book.specs.OneRealm.{RealmEvent, request_came, reply_came, tick_came, on_event, one_realm_run}
-use Rattle.roam_book.specs.OnReply.{counted, counted_peer, judge, on_reply, once_returned, return_reply, returned_octets, returning, to_entry, to_standing}
+use Rattle.roam_book.specs.OnReply.{counted, counted_peer, judge, on_reply, once_returned, return_reply, returned_octets, returning, to_entry, to_standing, once_heard_from, shows_life}
 use Rattle.roam_book.specs.OnRequest.{admit, at_target, coa_links, first_seen, forwarded_entry, forwarded_octets, is_reverse, make_way, nak_octets, nak_or_new, new_request, of_key, on_request, once_forwarded, packet_to_link, position_after, drawn_at, packet_to_requester, held_reply, reverse_cause, targets}
 use Rattle.roam_book.specs.OnTick.{Progress, as_turn, due_each, due_entry, due_one, due_standing, fail_over, given_up, given_up_at, on_tick, once_refused, silent, without_entry}
 use Rattle.roam_book.specs.RealmConfig.{RealmConfig, later_targets, link_endpoint, link_place, link_secret, links_from, nowhere, requester_secret, seal_required, service_of}
-use Rattle.roam_book.specs.RealmState.{RealmState, Target, chosen_target, first_target, is_used_on, next_toward, ready_links, this_or, with_entries, with_next_ticket}
+use Rattle.roam_book.specs.RealmState.{RealmState, Target, chosen_target, first_target, is_used_on, next_toward, ready_links, this_or, with_entries, with_next_ticket, with_rests}
 use Rattle.roam_book.specs.Reload.{Carries}
-use Rattle.roam_book.specs.Rests.{after_choice, after_silence, awake, is_resting, once_chosen, once_silent, rest_of, stands_back, with_rest}
-use Rattle.roam_book.specs.Turn.{Turn, in_time, packets_of, refuses, sends, state_after}
+use Rattle.roam_book.specs.Rests.{after_choice, after_silence, awake, is_resting, once_chosen, once_silent, rest_of, stands_back, with_rest, after_sign, has_moment, once_heard, signs_of}
+use Rattle.roam_book.specs.Turn.{Turn, in_time, packets_of, refuses, sends, state_after, hears}
 use Rattle.roam_book.specs.declared.state.rest.Rest.{Rest}
+use Rattle.roam_book.specs.Conversing.{asked_state, bound_link, bound_links, bound_target, new_target, rests_by, rests_chosen, rests_for, untried}
+use Rattle.roam_book.proofs.TargetLemmas.{cause_same, target_same}
 
 -- a part of a configuration without what isn't looked at
 abbrev pub bare : RealmConfig → RealmConfig
@@ -68,39 +67,6 @@ coa_same : (peers : List PeerView) (p : ℕ) →
 coa_same [] p = refl
 coa_same (x ∷ xs) zero = refl
 coa_same (x ∷ xs) (suc p) = coa_same xs p
-
--- the first peer that passes a test which doesn't look at it either
-place_same : (test : PeerView → Bool) (n : ℕ) (peers : List PeerView) →
-    ((x : PeerView) → test (peer_part x) ≡ test x) →
-    position_from test n (map peer_part peers) ≡ position_from test n peers
-place_same test n [] same = refl
-place_same test n (x ∷ xs) same = λ i. if same x i then Some n else place_same test (n + 1) xs same i
-
-target_same : (peers : List PeerView) (attributes : List Attribute) →
-    reverse.target (map peer_part peers) attributes ≡ reverse.target peers attributes
-unfolding reverse.target
-target_same peers attributes = place_same (reverse.is_target (nas_of attributes)) 0 peers (λ x. refl)
-
--- whether a peer is among the realm's
-is_among_same : (realm : RealmView) (peers : List PeerView) (p : ℕ) →
-    reverse.is_among (Some (realm_part realm)) (map peer_part peers) p ≡ reverse.is_among (Some realm) peers p
-is_among_same realm [] p = refl
-is_among_same realm (x ∷ xs) zero = refl
-is_among_same realm (x ∷ xs) (suc p) = is_among_same realm xs p
-
-among_same : (realm : RealmView) (peers : List PeerView) (o : Option ℕ) →
-    reverse.among (Some (realm_part realm)) (map peer_part peers) o ≡ reverse.among (Some realm) peers o
-among_same realm peers None = refl
-among_same realm peers (Some p) = λ i. if is_among_same realm peers p i then Some p else None
-
-cause_same : (realm : RealmView) (peers : List PeerView) (r : ℕ) (named : Option ℕ) (attributes : List Attribute)
-    (sessions : List Session) → cause (Some (realm_part realm)) (map peer_part peers) r named attributes sessions
-    ≡ cause (Some realm) peers r named attributes sessions
-unfolding cause
-cause_same realm peers r named attributes sessions =
-    ap (λ (o : Option ℕ). cause_at_target r named attributes sessions
-    (reverse.among (Some (realm_part realm)) (map peer_part peers) o)) (target_same peers attributes)
-    ∙ ap (cause_at_target r named attributes sessions) (among_same realm peers (reverse.target peers attributes))
 
 -- how a peer's requests are forwarded, and replies returned to it
 between_same : (realm : RealmView) (peers : List PeerView) (p : ℕ) →
@@ -179,10 +145,20 @@ module _ (c : RealmConfig) where
       after_choice (bare c) now rests l ≡ after_choice c now rests l
   choice_same now rests l = λ i. slice_set rests (at l i) (once_chosen c now (rest_same rests l i))
 
-  silence_same : (now : ℕ) (rests : List Rest) (l : Link) →
-      after_silence (bare c) now rests l ≡ after_silence c now rests l
-  silence_same now rests l = λ i.
-      if nat_lt 0 c.realm.rest then slice_set rests (at l i) (once_silent c now (rest_same rests l i)) else rests
+  signs_same : (rests : List Rest) (l : Link) → signs_of (bare c) rests l ≡ signs_of c rests l
+  signs_same rests l = λ i. (rest_same rests l i).signs
+
+  moment_same : (rests : List Rest) (l : Link) → has_moment (bare c) rests l ≡ has_moment c rests l
+  moment_same rests l = λ i. is_some (rest_same rests l i).until
+
+  silence_same : (now : ℕ) (rests : List Rest) (l : Link) (signs : ℕ) →
+      after_silence (bare c) now rests l signs ≡ after_silence c now rests l signs
+  silence_same now rests l signs = λ i.
+      if nat_lt 0 c.realm.rest && signs_same rests l i == signs
+      then slice_set rests (at l i) (once_silent c now (rest_same rests l i)) else rests
+
+  sign_same : (rests : List Rest) (l : Link) → after_sign (bare c) rests l ≡ after_sign c rests l
+  sign_same rests l = λ i. slice_set rests (at l i) (once_heard (rest_same rests l i))
 
   -- targets
   next_same : (cursors : List ℕ) (entries : List PlainEntry) (l : Link) →
@@ -230,22 +206,22 @@ module _ (c : RealmConfig) where
       packet_text (forwarded f (shaped (shaping_same q.requester (packet_of q.octets).code target.link i)
       (packet_of q.octets)))
 
-  entry_same : (now : ℕ) (q : PlainRequest) (position ticket : ℕ) (target : Target) →
-      forwarded_entry (bare c) now q position ticket target ≡ forwarded_entry c now q position ticket target
-  entry_same now q position ticket target = λ i. record {
+  entry_same : (now : ℕ) (rests : List Rest) (q : PlainRequest) (position ticket : ℕ) (target : Target) →
+      forwarded_entry (bare c) now (signs_of (bare c) rests target.link) q position ticket target
+      ≡ forwarded_entry c now (signs_of c rests target.link) q position ticket target
+  entry_same now rests q position ticket target = λ i. record {
     request = q;
     ticket = ticket;
     standing = waiting target.link target.id (octets_same q position ticket target i) (c.realm.tries - 1)
-        (now + c.realm.wait);
+        (now + c.realm.wait) (signs_same rests target.link i);
   }
 
   once_same : (now : ℕ) (s : RealmState) (q : PlainRequest) (ticket : ℕ) (target : Target) →
       once_forwarded (bare c) now s q ticket target ≡ once_forwarded c now s q ticket target
   once_same now s q ticket target = λ i. record s {
-    entries = put (entry_same now q s.stream_position ticket target i) s.entries;
+    entries = put (entry_same now s.rests q s.stream_position ticket target i) s.entries;
     cursors = slice_set s.cursors (at target.link i) ((target.id + 1) % 256);
     stream_position = position_after q s.stream_position;
-    rests = choice_same now s.rests target.link i;
   }
 
   admit_same : (now : ℕ) (s : RealmState) (entries : List PlainEntry) (q : PlainRequest) (target : Target) →
@@ -277,18 +253,56 @@ module _ (c : RealmConfig) where
       then coa_links (target_same c.peers (packet_of q.octets).attributes i)
       else links_from c (service_of (packet_of q.octets).code) 0
 
+  -- conversations
+  bound_same : (s : RealmState) (entries : List PlainEntry) (q : PlainRequest) (links : List Link) →
+      bound_target (bare c) s entries q links ≡ bound_target c s entries q links
+  bound_same s entries q links = first_same s.cursors entries (bound_links (bound_link c q s.entries) links)
+
+  untried_same : (rests : List Rest) (q : PlainRequest) (links : List Link) →
+      untried (bare c) rests q links ≡ untried c rests q links
+  untried_same rests q links = λ i.
+      if is_some (asked_state c q) then filter (λ l. not (moment_same rests l i)) links else []
+
+  new_target_same : (now : ℕ) (s : RealmState) (entries : List PlainEntry) (q : PlainRequest) (links : List Link) →
+      new_target (bare c) now s entries q links ≡ new_target c now s entries q links
+  new_target_same now s entries q links =
+      let first : first_target (bare c) s.cursors entries (untried (bare c) s.rests q links)
+      ≡ first_target c s.cursors entries (untried c s.rests q links) =
+      ap (first_target (bare c) s.cursors entries) (untried_same s.rests q links)
+      ∙ first_same s.cursors entries (untried c s.rests q links) in
+      λ i. option_or (bound_same s entries q links i)
+      (option_or (first i) (chosen_same now s.rests s.cursors entries links i))
+
+  chosen_by_same : (now : ℕ) (rests : List Rest) (bound : Bool) (l : Link) →
+      rests_chosen (bare c) now rests bound l ≡ rests_chosen c now rests bound l
+  chosen_by_same now rests bound l = λ i. if bound then rests else choice_same now rests l i
+
+  rests_by_same : (now : ℕ) (rests : List Rest) (bound : Bool) (o : Option Target) →
+      rests_by (bare c) now rests bound o ≡ rests_by c now rests bound o
+  rests_by_same now rests bound None = refl
+  rests_by_same now rests bound (Some t) = chosen_by_same now rests bound t.link
+
   new_same : (now : ℕ) (s : RealmState) (entries : List PlainEntry) (q : PlainRequest) →
       new_request (bare c) now s entries q ≡ new_request c now s entries q
   new_same now s entries q =
-      let chosen : chosen_target (bare c) now s.rests s.cursors entries (targets (bare c) q)
-      ≡ chosen_target c now s.rests s.cursors entries (targets c q) =
-      ap (chosen_target (bare c) now s.rests s.cursors entries) (targets_same q)
-      ∙ chosen_same now s.rests s.cursors entries (targets c q) in
-      let there : at_target (bare c) now s entries q
-      (chosen_target (bare c) now s.rests s.cursors entries (targets (bare c) q))
-      ≡ at_target c now s entries q (chosen_target c now s.rests s.cursors entries (targets c q)) =
-      ap (at_target (bare c) now s entries q) chosen
-      ∙ at_target_same now s entries q (chosen_target c now s.rests s.cursors entries (targets c q)) in
+      let chosen : new_target (bare c) now s entries q (targets (bare c) q)
+      ≡ new_target c now s entries q (targets c q) =
+      ap (new_target (bare c) now s entries q) (targets_same q)
+      ∙ new_target_same now s entries q (targets c q) in
+      let target : Option Target = new_target c now s entries q (targets c q) in
+      let bound : bound_target (bare c) s entries q (targets (bare c) q) ≡ bound_target c s entries q (targets c q) =
+      ap (bound_target (bare c) s entries q) (targets_same q) ∙ bound_same s entries q (targets c q) in
+      let its : Option Target = bound_target c s entries q (targets c q) in
+      let rests : rests_for (bare c) now s.rests (bound_target (bare c) s entries q (targets (bare c) q))
+      (new_target (bare c) now s entries q (targets (bare c) q)) ≡ rests_for c now s.rests its target =
+      (λ i. rests_for (bare c) now s.rests (bound i) (chosen i)) ∙ rests_by_same now s.rests (is_some its) target in
+      let there : at_target (bare c) now (with_rests s (rests_for (bare c) now s.rests
+      (bound_target (bare c) s entries q (targets (bare c) q))
+      (new_target (bare c) now s entries q (targets (bare c) q)))) entries q
+      (new_target (bare c) now s entries q (targets (bare c) q))
+      ≡ at_target c now (with_rests s (rests_for c now s.rests its target)) entries q target =
+      (λ i. at_target (bare c) now (with_rests s (rests i)) entries q (chosen i))
+      ∙ at_target_same now (with_rests s (rests_for c now s.rests its target)) entries q target in
       λ i. if s.ticket == 2 ^ 63
       then refuses refusal.Exhausted
       else if share_taken c entries q
@@ -315,8 +329,8 @@ module _ (c : RealmConfig) where
       ap (nak_or_new (bare c) now s q) (cause_of_same s named q) ∙ nak_or_new_same now s q (reverse_cause c s named q)
 
   held_same : (q : PlainRequest) (s : PlainStanding) → held_reply (bare c) q.key s ≡ held_reply c q.key s
-  held_same q (waiting l id forwarded sends_left deadline) = refl
-  held_same q (done reply deadline) = refl
+  held_same q (waiting l id forwarded sends_left deadline signs) = refl
+  held_same q (done reply deadline from) = refl
 
   of_key_same : (now : ℕ) (s : RealmState) (named : Option ℕ) (q : PlainRequest) (e : Option PlainEntry) →
       of_key (bare c) now s named q e ≡ of_key c now s named q e
@@ -341,7 +355,8 @@ module _ (c : RealmConfig) where
   returned_same : (q : PlainRequest) (l : Link) (p reply : Packet) →
       returned_octets (bare c) q l p reply ≡ returned_octets c q l p reply
   returned_same q l p reply = λ i.
-      packet_text (returned (returning_same q l p i) (passing_reply (removed_same q.requester i) reply)
+      packet_text (returned (returning_same q l p i) (passing_reply c.realm.own_names (packet_of q.octets)
+      (removed_same q.requester i) reply)
       (packet_of q.octets))
 
   counted_same : (q : PlainRequest) (peer : Option ℕ) (sessions : List Session) →
@@ -352,10 +367,13 @@ module _ (c : RealmConfig) where
   once_returned_same : (now : ℕ) (s : RealmState) (e : PlainEntry) (l : Link) (reply : Packet) (octets : List ℕ) →
       once_returned (bare c) now s e l reply octets ≡ once_returned c now s e l reply octets
   once_returned_same now s e l reply octets = λ i. record s {
-    entries = put (with_standing (done octets (now + c.realm.hold)) e) s.entries;
+    entries = put (with_standing (done octets (now + c.realm.hold) (Some l)) e) s.entries;
     sessions = counted_same e.request (counted_peer e.request.requester reply) s.sessions i;
-    rests = with_same s.rests l awake i;
+    rests = sign_same s.rests l i;
   }
+
+  heard_same : (s : RealmState) (l : Link) → once_heard_from (bare c) s l ≡ once_heard_from c s l
+  heard_same s l = λ i. with_rests s (sign_same s.rests l i)
 
   return_same : (now : ℕ) (s : RealmState) (e : PlainEntry) (l : Link) (p reply : Packet) →
       return_reply (bare c) now s e l p reply ≡ return_reply c now s e l p reply
@@ -365,26 +383,28 @@ module _ (c : RealmConfig) where
       ap (once_returned (bare c) now s e l reply) (returned_same e.request l p reply)
       ∙ once_returned_same now s e l reply (returned_octets c e.request l p reply) in
       λ i. if nat_lt MAX_PACKET_LENGTH
-      (returned_length (returning_same e.request l p i) (passing_reply (removed_same e.request.requester i) reply)
+      (returned_length (returning_same e.request l p i) (passing_reply c.realm.own_names (packet_of e.request.octets)
+      (removed_same e.request.requester i) reply)
       (packet_of e.request.octets))
-      then refuses refusal.ReplyTooLong
+      then hears refusal.ReplyTooLong (heard_same s l i)
       else sends (packet_to_requester c e.request.key (returned_same e.request l p reply i) ∷ []) (state i)
 
   judge_same : (now : ℕ) (s : RealmState) (e : PlainEntry) (l : Link) (p reply : Packet) (why : Option Refusal) →
       judge (bare c) now s e l p reply why ≡ judge c now s e l p reply why
-  judge_same now s e l p reply (Some why) = refl
+  judge_same now s e l p reply (Some why) = λ i.
+      if shows_life why then hears why (heard_same s l i) else refuses why
   judge_same now s e l p reply None = return_same now s e l p reply
 
   standing_same : (now : ℕ) (s : RealmState) (e : PlainEntry) (reply : Packet) (x : PlainStanding) →
       to_standing (bare c) now s e reply x ≡ to_standing c now s e reply x
-  standing_same now s e reply (waiting l id octets sends_left deadline) =
+  standing_same now s e reply (waiting l id octets sends_left deadline signs) =
       let why : reply_fault (link_secret (bare c) l) (seal_required (bare c) l) reply (packet_of octets)
       ≡ reply_fault (link_secret c l) (seal_required c l) reply (packet_of octets) =
       λ i. reply_fault (secret_of l i) (seal_same l i) reply (packet_of octets) in
       ap (judge (bare c) now s e l (packet_of octets) reply) why
       ∙ judge_same now s e l (packet_of octets) reply
       (reply_fault (link_secret c l) (seal_required c l) reply (packet_of octets))
-  standing_same now s e reply (done old deadline) = refl
+  standing_same now s e reply (done old deadline from) = refl
 
   to_entry_same : (now : ℕ) (s : RealmState) (reply : Packet) (e : Option PlainEntry) →
       to_entry (bare c) now s reply e ≡ to_entry c now s reply e
@@ -415,29 +435,34 @@ module _ (c : RealmConfig) where
       ≡ packet_to_link c t.link (forwarded_octets c e.request s.stream_position e.ticket t) =
       ap (packet_to_link (bare c) t.link) (octets_same e.request s.stream_position e.ticket t)
       ∙ to_same t.link (forwarded_octets c e.request s.stream_position e.ticket t) in
-      λ i. record { packets = packet i ∷ []; state = once_same now s e.request e.ticket t i }
+      let state : once_forwarded (bare c) now (with_rests s (after_choice (bare c) now s.rests t.link)) e.request
+      e.ticket t
+      ≡ once_forwarded c now (with_rests s (after_choice c now s.rests t.link)) e.request e.ticket t =
+      (λ i. once_forwarded (bare c) now (with_rests s (choice_same now s.rests t.link i)) e.request e.ticket t)
+      ∙ once_same now (with_rests s (after_choice c now s.rests t.link)) e.request e.ticket t in
+      λ i. record { packets = packet i ∷ []; state = state i }
 
-  given_up_at_same : (now : ℕ) (l : Link) (s : RealmState) (e : PlainEntry) →
-      given_up_at (bare c) now l s e ≡ given_up_at c now l s e
-  given_up_at_same now l s e = λ i. record (without_entry s e) { rests = silence_same now s.rests l i }
+  given_up_at_same : (now : ℕ) (l : Link) (signs : ℕ) (s : RealmState) (e : PlainEntry) →
+      given_up_at (bare c) now l signs s e ≡ given_up_at c now l signs s e
+  given_up_at_same now l signs s e = λ i. record (without_entry s e) { rests = silence_same now s.rests l signs i }
 
   due_standing_same : (now : ℕ) (s : RealmState) (e : PlainEntry) (x : PlainStanding) →
       due_standing (bare c) now s e x ≡ due_standing c now s e x
-  due_standing_same now s e (done reply deadline) = refl
-  due_standing_same now s e (waiting l id octets sends_left deadline) =
+  due_standing_same now s e (done reply deadline from) = refl
+  due_standing_same now s e (waiting l id octets sends_left deadline signs) =
       let es = without e.ticket s.entries in
-      let chosen : chosen_target (bare c) now (after_silence (bare c) now s.rests l) s.cursors es
+      let chosen : chosen_target (bare c) now (after_silence (bare c) now s.rests l signs) s.cursors es
       (later_targets (bare c) l)
-      ≡ chosen_target c now (after_silence c now s.rests l) s.cursors es (later_targets c l) =
-      (λ i. chosen_target (bare c) now (silence_same now s.rests l i) s.cursors es (later_same l i))
-      ∙ chosen_same now (after_silence c now s.rests l) s.cursors es (later_targets c l) in
-      let over : fail_over (bare c) now (given_up_at (bare c) now l s e) e
-      (chosen_target (bare c) now (after_silence (bare c) now s.rests l) s.cursors es (later_targets (bare c) l))
-      ≡ fail_over c now (given_up_at c now l s e) e
-      (chosen_target c now (after_silence c now s.rests l) s.cursors es (later_targets c l)) =
-      (λ i. fail_over (bare c) now (given_up_at_same now l s e i) e (chosen i))
-      ∙ fail_over_same now (given_up_at c now l s e) e
-      (chosen_target c now (after_silence c now s.rests l) s.cursors es (later_targets c l)) in
+      ≡ chosen_target c now (after_silence c now s.rests l signs) s.cursors es (later_targets c l) =
+      (λ i. chosen_target (bare c) now (silence_same now s.rests l signs i) s.cursors es (later_same l i))
+      ∙ chosen_same now (after_silence c now s.rests l signs) s.cursors es (later_targets c l) in
+      let over : fail_over (bare c) now (given_up_at (bare c) now l signs s e) e
+      (chosen_target (bare c) now (after_silence (bare c) now s.rests l signs) s.cursors es (later_targets (bare c) l))
+      ≡ fail_over c now (given_up_at c now l signs s e) e
+      (chosen_target c now (after_silence c now s.rests l signs) s.cursors es (later_targets c l)) =
+      (λ i. fail_over (bare c) now (given_up_at_same now l signs s e i) e (chosen i))
+      ∙ fail_over_same now (given_up_at c now l signs s e) e
+      (chosen_target c now (after_silence c now s.rests l signs) s.cursors es (later_targets c l)) in
       λ i. if nat_lt 0 sends_left
       then record {
         packets = to_same l octets i ∷ [];

@@ -1,6 +1,6 @@
--- How many requests of one name wait for a service, by the Identifiers in use toward its servers and by the entries.
+-- How many requests of one share wait for a service, by the Identifiers in use toward its servers and by the entries.
 use Rattle.std.proofs.Common.{◌≡◌, ◌≢◌, ℕ, zero, suc, ◌+◌, ◌<◌, ◌≤◌, ◌==◌, ◌&&◌, Bool, true, false, List, [], ◌∷◌, Option, Some, None, length, refl, ap, sym, ◌∙◌, subst, arith, inl, inr, eqb, eqb-true}
-use Rattle.std.specs.Prelude.{not, unwrap_or, if◌then◌else◌}
+use Rattle.std.specs.Prelude.{◌||◌, not, unwrap_or, if◌then◌else◌}
 use Rattle.std.specs.Option.{option_map_or}
 use Rattle.std.specs.List.{AllByRecursion, count_by, filter}
 use Rattle.std.proofs.lemmas.Bool.{cases_Bool, true≢false, false≢true}
@@ -14,9 +14,9 @@ use Rattle.roam_pending.proofs.TestLemmas.{differs, same}
 use Rattle.roam_book.specs.declared.state.realm_numbers.RealmNumbers.{RealmNumbers}
 use Rattle.roam_book.specs.declared.state.service.Service.{Service}
 use Rattle.roam_book.specs.declared.state.service.Service.TheVariants as service
-use Rattle.roam_book.specs.Private.Sharing.{has_part, has_part_below, is_of_part, sum_below}
+use Rattle.roam_book.specs.Private.Sharing.{held_as, held_below, is_kept_as, sum_below}
 use Rattle.roam_book.specs.RealmConfig.{RealmConfig, IsLink, server_link}
-use Rattle.roam_book.specs.Shares.{name_part, same_part, waits_for}
+use Rattle.roam_book.specs.Shares.{waits_for}
 use Rattle.roam_book.specs.Sound.{IsEntry, IsSound, StandsWell, lane_of}
 use Rattle.roam_book.proofs.WaitingLemmas.{parks, waits_as}
 
@@ -118,19 +118,19 @@ at-server : (c : RealmConfig) (asked : Service) (q : Bool) (r : PlainRequest) (s
     sum_below (length c.realm.servers)
     (λ server. sum_below 256 (λ id. one_if (stands_at (server_link asked server) id s && q)))
     ≡ one_if (waits_for asked s && q)
-at-server c asked q r (done reply deadline) well =
+at-server c asked q r (done reply deadline from) well =
     none-in_table (length c.realm.servers) 256 (λ server id. 0) (λ server id. refl)
-at-server c service.Authentication q r (waiting (link.Auth a) id forwarded sends_left deadline) well =
+at-server c service.Authentication q r (waiting (link.Auth a) id forwarded sends_left deadline signs) well =
     one-in_table (length c.realm.servers) 256 a id q well.link well.id
-at-server c service.Authentication q r (waiting (link.Acct a) id forwarded sends_left deadline) well =
+at-server c service.Authentication q r (waiting (link.Acct a) id forwarded sends_left deadline signs) well =
     none-in_table (length c.realm.servers) 256 (λ server id. 0) (λ server id. refl)
-at-server c service.Authentication q r (waiting (link.Coa a) id forwarded sends_left deadline) well =
+at-server c service.Authentication q r (waiting (link.Coa a) id forwarded sends_left deadline signs) well =
     none-in_table (length c.realm.servers) 256 (λ server id. 0) (λ server id. refl)
-at-server c service.Accounting q r (waiting (link.Acct a) id forwarded sends_left deadline) well =
+at-server c service.Accounting q r (waiting (link.Acct a) id forwarded sends_left deadline signs) well =
     one-in_table (length c.realm.servers) 256 a id q well.link well.id
-at-server c service.Accounting q r (waiting (link.Auth a) id forwarded sends_left deadline) well =
+at-server c service.Accounting q r (waiting (link.Auth a) id forwarded sends_left deadline signs) well =
     none-in_table (length c.realm.servers) 256 (λ server id. 0) (λ server id. refl)
-at-server c service.Accounting q r (waiting (link.Coa a) id forwarded sends_left deadline) well =
+at-server c service.Accounting q r (waiting (link.Coa a) id forwarded sends_left deadline signs) well =
     none-in_table (length c.realm.servers) 256 (λ server id. 0) (λ server id. refl)
 
 -- ---- all entries
@@ -303,27 +303,61 @@ count-kept w k s (e ∷ es) =
           )
     ]
 
-count-besides : (asked : Service) (part : Option (List ℕ)) (gone : Option ℕ) (es : List PlainEntry) →
-    count_by (λ e. waits_for asked e.standing && is_of_part part gone e) es
-    ≡ count_by (λ e. waits_for asked e.standing && same_part (name_part e.request.octets) part) (besides gone es)
-count-besides asked part None es = refl
-count-besides asked part (Some t) es =
-    count-kept (λ e. waits_for asked e.standing) (λ e. not (has_ticket t e))
-    (λ e. same_part (name_part e.request.octets) part) es
+count-besides : (asked : Service) (test : PlainEntry → Bool) (gone : Option ℕ) (es : List PlainEntry) →
+    count_by (λ e. waits_for asked e.standing && is_kept_as test gone e) es
+    ≡ count_by (λ e. waits_for asked e.standing && test e) (besides gone es)
+count-besides asked test None es = refl
+count-besides asked test (Some t) es =
+    count-kept (λ e. waits_for asked e.standing) (λ e. not (has_ticket t e)) test es
 
 -- what is counted by the Identifiers is what is counted by the entries
 pub counted-is : {A : Type 0} (c : RealmConfig) (es : List PlainEntry) (n : RealmNumbers A) (asked : Service)
-    (part : Option (List ℕ)) (gone : Option ℕ) → IsSound c es n → IsEntryList es →
-    sum_below (length c.realm.servers) (λ server. has_part_below 256 part gone (server_link asked server) es)
-    ≡ count_by (λ e. waits_for asked e.standing && same_part (name_part e.request.octets) part) (besides gone es)
-counted-is c es n asked part gone sound list =
-    let p : PlainEntry → Bool = is_of_part part gone in
-    sum-same (length c.realm.servers) (λ server. has_part_below 256 part gone (server_link asked server) es)
+    (test : PlainEntry → Bool) (gone : Option ℕ) → IsSound c es n → IsEntryList es →
+    sum_below (length c.realm.servers) (λ server. held_below 256 test gone (server_link asked server) es)
+    ≡ count_by (λ e. waits_for asked e.standing && test e) (besides gone es)
+counted-is c es n asked test gone sound list =
+    let p : PlainEntry → Bool = is_kept_as test gone in
+    sum-same (length c.realm.servers) (λ server. held_below 256 test gone (server_link asked server) es)
     (λ server. sum_below 256 (λ id. count_at p (server_link asked server) id es))
     (λ server within.
-    sum-same 256 (λ id. one_if (has_part part gone (server_link asked server) id es))
+    sum-same 256 (λ id. one_if (held_as test gone (server_link asked server) id es))
     (λ id. count_at p (server_link asked server) id es)
     (λ id octet.
     sym (there c es n p (server_link asked server) id sound list (server-is c asked server within) octet)))
     ∙ by-service c n.ticket asked p es sound.each
-    ∙ count-besides asked part gone es
+    ∙ count-besides asked test gone es
+
+-- ---- the count of both services
+
+-- an entry waits for one of them at most
+waits-apart : (s : PlainStanding) →
+    (waits_for service.Authentication s && waits_for service.Accounting s) ≡ false
+waits-apart (done reply deadline from) = refl
+waits-apart (waiting (link.Auth a) id forwarded sends_left deadline signs) = refl
+waits-apart (waiting (link.Acct a) id forwarded sends_left deadline signs) = refl
+waits-apart (waiting (link.Coa a) id forwarded sends_left deadline signs) = refl
+
+one-of_both : (a b q : Bool) → (a && b) ≡ false → one_if ((a || b) && q) ≡ one_if (a && q) + one_if (b && q)
+one-of_both true true q apart = absurd (true≢false apart)
+one-of_both true false true apart = refl
+one-of_both true false false apart = refl
+one-of_both false true true apart = refl
+one-of_both false true false apart = refl
+one-of_both false false q apart = refl
+
+pub both-services : (test : PlainEntry → Bool) (es : List PlainEntry) →
+    count_by (λ e. (waits_for service.Authentication e.standing || waits_for service.Accounting e.standing) && test e) es
+    ≡ count_by (λ e. waits_for service.Authentication e.standing && test e) es
+    + count_by (λ e. waits_for service.Accounting e.standing && test e) es
+both-services test [] = refl
+both-services test (e ∷ es) =
+    omega (
+      arith,
+      count-cons (λ x. (waits_for service.Authentication x.standing || waits_for service.Accounting x.standing)
+          && test x) e es,
+      count-cons (λ x. waits_for service.Authentication x.standing && test x) e es,
+      count-cons (λ x. waits_for service.Accounting x.standing && test x) e es,
+      one-of_both (waits_for service.Authentication e.standing) (waits_for service.Accounting e.standing) (test e)
+          (waits-apart e.standing),
+      both-services test es,
+    )

@@ -18,12 +18,13 @@ use Rattle.roam_pending.specs.PlainEntry.{PlainStanding, PlainEntry, waiting, do
 use Rattle.roam_pending.specs.EntryList.{find_link, find_ticket}
 use Rattle.roam_book.specs.RealmConfig.{RealmConfig, link_place, link_secret, seal_required}
 use Rattle.roam_book.specs.RealmState.{RealmState, Target, first_target, next_toward, ready_links, this_or}
-use Rattle.roam_book.specs.Rests.{after_choice, after_reply, after_silence, awake, once_chosen, once_silent, one_more, rest_of, stands_back, with_rest}
-use Rattle.roam_book.specs.Turn.{Turn, latest_moment, refusal_of, refuses, state_after}
-use Rattle.roam_book.specs.OnReply.{judge, on_reply, passing_to, reply_fault, returning, to_entry, to_standing}
+use Rattle.roam_book.specs.Rests.{after_choice, after_sign, after_silence, awake, once_chosen, once_heard, once_silent, one_more, rest_of, signs_of, stands_back, with_rest}
+use Rattle.roam_book.specs.Turn.{Turn, latest_moment, hears, refuses, state_after}
+use Rattle.roam_book.specs.OnReply.{judge, once_heard_from, shows_life, on_reply, passing_to, reply_fault, returning, to_entry, to_standing}
 use Rattle.roam_book.specs.OnTick.{Progress, as_turn, due_each, due_entry, due_one, due_standing, given_up_at}
 use Rattle.roam_book.specs.OneRealm.{RealmEvent, one_realm_run, reply_came, request_came, tick_came}
-use Rattle.roam_book.specs.Silence.{ChoiceIsNeverWorse, LinksHaveOwnPlaces, RestsOnlyWhenSilent, ends_at, ends_there, given_up_by, given_up_in, given_up_over, is_link, once_came, taken_in, taken_over}
+use Rattle.roam_book.specs.RestLaws.{IsUp}
+use Rattle.roam_book.specs.Silence.{ChoiceIsNeverWorse, LinksHaveOwnPlaces, RestsOnlyWhenSilent, ends_at, ends_there, given_up_by, given_up_in, given_up_over, is_link, is_sign, once_came, signs_in, signs_over}
 use Rattle.roam_book.specs.declared.state.rest.Rest.{Rest}
 use Rattle.roam_book.proofs.LinkLaneLemmas.{link_place-one}
 use Rattle.roam_book.proofs.RestLemmas.{either, fail_over-keeps, reply-keeps, request-keeps}
@@ -50,6 +51,14 @@ more c n m r least h =
 
 awake-tells : (c : RealmConfig) (n : ℕ) → Tells c n awake
 awake-tells c n = record { counted = omega arith; had = λ is. absurd (cc is) }
+
+heard-tells : (c : RealmConfig) (n : ℕ) (r : Rest) → Tells c n (once_heard r)
+heard-tells c n r = record { counted = omega arith; had = λ is. absurd (cc is) }
+
+up-tells : (c : RealmConfig) (r : Rest) → IsUp r → Tells c 0 r
+up-tells c r up =
+    let none = up.given_up in
+    record { counted = omega (arith, none); had = λ is. absurd (cc (sym (ap is_some up.until) ∙ is)) }
 
 is_some-mapped : (f : ℕ → ℕ) (o : Option ℕ) → is_some (option_map f o) ≡ is_some o
 is_some-mapped f None = refl
@@ -101,10 +110,11 @@ read_set P (x ∷ xs) (suc i) zero r old new = old
 read_set P (x ∷ xs) (suc i) (suc j) r old new =
     read_set P xs i j r old (λ is. new (ap (λ (n : ℕ). suc n) is))
 
-woken_there : (rests : List Rest) (i : ℕ) → get_or (set rests i awake) i awake ≡ awake
-woken_there [] i = refl
-woken_there (x ∷ xs) zero = refl
-woken_there (x ∷ xs) (suc i) = woken_there xs i
+heard_there : (c : RealmConfig) (rests : List Rest) (i : ℕ) (r : Rest) → Tells c 0 r
+    → Tells c 0 (get_or (set rests i r) i awake)
+heard_there c [] i r h = awake-tells c 0
+heard_there c (x ∷ xs) zero r h = h
+heard_there c (x ∷ xs) (suc i) r h = heard_there c xs i r h
 
 -- what is read at an equal place
 same-read : (c : RealmConfig) (n : ℕ) (rests : List Rest) (i j : ℕ) → i ≡ j
@@ -116,7 +126,7 @@ record SilentSince (c : RealmConfig) (l : Link) (s : RealmState) (events : List 
   before : List RealmEvent
   since : List RealmEvent
   all : events ≡ before ++ since
-  no_reply : taken_over c (one_realm_run c s before).state l since ≡ 0
+  no_sign : signs_over c (one_realm_run c s before).state l since ≡ 0
   tells : At c l (given_up_over c (one_realm_run c s before).state l since) (one_realm_run c s events).state.rests
 
 module _ (c : RealmConfig) (l : Link) where
@@ -127,9 +137,10 @@ module _ (c : RealmConfig) (l : Link) where
       (λ is. chosen-tells c n now (rest_of c rests k)
       (same-read c n rests (link_place c k) (link_place c l) is h))
 
-  answered-at : (n : ℕ) (rests : List Rest) (k : Link) → At c l n rests → At c l n (after_reply c rests k)
+  answered-at : (n : ℕ) (rests : List Rest) (k : Link) → At c l n rests → At c l n (after_sign c rests k)
   answered-at n rests k h =
-      read_set (Tells c n) rests (link_place c k) (link_place c l) awake h (λ is. awake-tells c n)
+      read_set (Tells c n) rests (link_place c k) (link_place c l) (once_heard (rest_of c rests k)) h
+      (λ is. heard-tells c n (rest_of c rests k))
 
   -- by whether it is the link
   abbrev one_if : Bool → ℕ
@@ -147,34 +158,54 @@ module _ (c : RealmConfig) (l : Link) where
       (silent-tells c n now (rest_of c rests k)
       (same-read c n rests (link_place c k) (link_place c l) is h)))
 
-  silent-at : (n now : ℕ) (rests : List Rest) (k : Link) → At c l n rests
-      → At c l (n + one_if (is_link c l k)) (after_silence c now rests k)
-  silent-at n now rests k h =
-      either (At c l (n + one_if (is_link c l k))) (nat_lt 0 c.realm.rest)
-      (with_rest c rests k (once_silent c now (rest_of c rests k))) rests (written-at n now rests k h)
-      (more c n (n + one_if (is_link c l k)) (rest_of c rests l) (omega arith) h)
+  -- by whether it is the link, whether links rest at all, and whether no sign of life came since
+  silent-by : (n : ℕ) (rests : List Rest) (here positive none : Bool) (written : List Rest) → At c l n rests
+      → At c l (n + one_if here) written
+      → At c l (n + one_if (here && none)) (if positive && none then written else rests)
+  silent-by n rests true true true written old new = new
+  silent-by n rests false true true written old new = new
+  silent-by n rests true true false written old new = more c n (n + 0) (rest_of c rests l) (omega arith) old
+  silent-by n rests false true false written old new = more c n (n + 0) (rest_of c rests l) (omega arith) old
+  silent-by n rests here false none written old new =
+      more c n (n + one_if (here && none)) (rest_of c rests l) (omega arith) old
+
+  silent-at : (n now : ℕ) (rests : List Rest) (k : Link) (signs : ℕ) → At c l n rests
+      → At c l (n + one_if (is_link c l k && signs_of c rests k == signs)) (after_silence c now rests k signs)
+  silent-at n now rests k signs h =
+      silent-by n rests (is_link c l k) (nat_lt 0 c.realm.rest) (signs_of c rests k == signs)
+      (with_rest c rests k (once_silent c now (rest_of c rests k))) h (written-at n now rests k h)
 
   -- ---- a tick
 
   -- an entry that waits, by whether it has a send left
-  waits-by : (b there : Bool) (n : ℕ) (again over : Progress) → At c l n again.state.rests
-      → At c l (n + one_if there) over.state.rests
-      → At c l (n + one_if (there && not b)) (if b then again else over).state.rests
-  waits-by true true n again over first second = more c n (n + 0) (rest_of c again.state.rests l) (omega arith) first
-  waits-by true false n again over first second = more c n (n + 0) (rest_of c again.state.rests l) (omega arith) first
-  waits-by false true n again over first second = second
-  waits-by false false n again over first second = second
+  waits-by : (b there none : Bool) (n : ℕ) (again over : Progress) → At c l n again.state.rests
+      → At c l (n + one_if (there && none)) over.state.rests
+      → At c l (n + one_if (there && not b && none)) (if b then again else over).state.rests
+  waits-by true true true n again over first second =
+      more c n (n + 0) (rest_of c again.state.rests l) (omega arith) first
+  waits-by true true false n again over first second =
+      more c n (n + 0) (rest_of c again.state.rests l) (omega arith) first
+  waits-by true false true n again over first second =
+      more c n (n + 0) (rest_of c again.state.rests l) (omega arith) first
+  waits-by true false false n again over first second =
+      more c n (n + 0) (rest_of c again.state.rests l) (omega arith) first
+  waits-by false true true n again over first second = second
+  waits-by false true false n again over first second = second
+  waits-by false false true n again over first second = second
+  waits-by false false false n again over first second = second
 
   standing-at : (n now : ℕ) (s : RealmState) (e : PlainEntry) (p : PlainStanding) → At c l n s.rests
-      → At c l (n + one_if (ends_at c l p)) (due_standing c now s e p).state.rests
-  standing-at n now s e (done reply deadline) h = more c n (n + 0) (rest_of c s.rests l) (omega arith) h
-  standing-at n now s e (waiting k id forwarded sends_left deadline) h =
-      let m = n + one_if (is_link c l k) in
-      waits-by (nat_lt 0 sends_left) (is_link c l k) n _ _ h
-      (fail_over-keeps c (At c l m) (chosen-at m) now (given_up_at c now k s e) e _ (silent-at n now s.rests k h))
+      → At c l (n + one_if (ends_at c s.rests l p)) (due_standing c now s e p).state.rests
+  standing-at n now s e (done reply deadline from) h = more c n (n + 0) (rest_of c s.rests l) (omega arith) h
+  standing-at n now s e (waiting k id forwarded sends_left deadline signs) h =
+      let none : Bool = signs_of c s.rests k == signs in
+      let m = n + one_if (is_link c l k && none) in
+      waits-by (nat_lt 0 sends_left) (is_link c l k) none n _ _ h
+      (fail_over-keeps c (At c l m) (chosen-at m) now (given_up_at c now k signs s e) e _
+      (silent-at n now s.rests k signs h))
 
   entry-at : (n now : ℕ) (s : RealmState) (o : Option PlainEntry) → At c l n s.rests
-      → At c l (n + ends_there c l o) (due_entry c now s o).state.rests
+      → At c l (n + ends_there c s.rests l o) (due_entry c now s o).state.rests
   entry-at n now s None h = more c n (n + 0) (rest_of c s.rests l) (omega arith) h
   entry-at n now s (Some e) h = standing-at n now s e e.standing h
 
@@ -182,7 +213,7 @@ module _ (c : RealmConfig) (l : Link) where
       → At c l (n + given_up_by c now s l ds) (due_each c now s ds).state.rests
   each-at n now s [] h = more c n (n + 0) (rest_of c s.rests l) (omega arith) h
   each-at n now s (d ∷ ds) h =
-      let first = ends_there c l (find_ticket d.ticket s.entries) in
+      let first = ends_there c s.rests l (find_ticket d.ticket s.entries) in
       let others = given_up_by c now (due_one c now s d).state l ds in
       more c (n + first + others) (n + (first + others))
       (rest_of c (due_each c now (due_one c now s d).state ds).state.rests l) (omega arith)
@@ -198,9 +229,9 @@ module _ (c : RealmConfig) (l : Link) where
 
   -- ---- a reply
 
-  -- one that is taken wakes its link
+  -- a sign of life wakes its link
   abbrev Wakes : RealmState → Turn → Type 0
-  Wakes s turn = refusal_of turn ≡ None → At c l 0 (state_after s turn).rests
+  Wakes s turn = is_sign turn ≡ true → At c l 0 (state_after s turn).rests
 
   found_is : (p : PlainEntry → Bool) (es : List PlainEntry) (e : PlainEntry) → find p es ≡ Some e
       → p e ≡ true
@@ -239,29 +270,32 @@ module _ (c : RealmConfig) (l : Link) where
   refuses-wakes s why = λ is. absurd (cc is)
 
   woken-at : (rests : List Rest) (k : Link) → link_place c k ≡ link_place c l
-      → At c l 0 (after_reply c rests k)
+      → At c l 0 (after_sign c rests k)
   woken-at rests k is =
-      subst (λ (i : ℕ). Tells c 0 (get_or (set rests (link_place c k) awake) i awake)) is
-      (subst (Tells c 0) (sym (woken_there rests (link_place c k))) (awake-tells c 0))
+      let heard : Rest = once_heard (rest_of c rests k) in
+      subst (λ (i : ℕ). Tells c 0 (get_or (set rests (link_place c k) heard) i awake)) is
+      (heard_there c rests (link_place c k) heard (heard-tells c 0 (rest_of c rests k)))
 
   judge-wakes : (now : ℕ) (s : RealmState) (e : PlainEntry) (k : Link) (forwarded reply : Packet)
       (why : Option Refusal) → link_place c k ≡ link_place c l
       → Wakes s (judge c now s e k forwarded reply why)
-  judge-wakes now s e k forwarded reply (Some why) is = refuses-wakes s why
+  judge-wakes now s e k forwarded reply (Some why) is =
+      either (Wakes s) (shows_life why) (hears why (once_heard_from c s k)) (refuses why)
+      (λ sign. woken-at s.rests k is) (refuses-wakes s why)
   judge-wakes now s e k forwarded reply None is =
       either (Wakes s)
       (ltb 4096 (returned_length (returning c e.request k forwarded) (passing_to c e.request reply)
       (packet_of e.request.octets)))
-      _ _ (refuses-wakes s refusal.ReplyTooLong) (λ taken. woken-at s.rests k is)
+      _ _ (λ sign. woken-at s.rests k is) (λ sign. woken-at s.rests k is)
 
   standing-wakes : (now : ℕ) (s : RealmState) (e : PlainEntry) (from : Link) (id : ℕ) (reply : Packet)
       (p : PlainStanding) → stands_at from id p ≡ true → link_place c from ≡ link_place c l
       → Wakes s (to_standing c now s e reply p)
-  standing-wakes now s e from id reply (waiting k i forwarded sends_left deadline) at is =
+  standing-wakes now s e from id reply (waiting k i forwarded sends_left deadline signs) at is =
       let same = same_place k from (both_true (same_link k from) (i == id) at) in
       judge-wakes now s e k (packet_of forwarded) reply
       (reply_fault (link_secret c k) (seal_required c k) reply (packet_of forwarded)) (same ∙ is)
-  standing-wakes now s e from id reply (done old deadline) at is = refuses-wakes s refusal.NoEntry
+  standing-wakes now s e from id reply (done old deadline from) at is = refuses-wakes s refusal.NoEntry
 
   entry-wakes : (now : ℕ) (s : RealmState) (from : Link) (id : ℕ) (reply : Packet)
       (o : Option PlainEntry) → find_link from id s.entries ≡ o → link_place c from ≡ link_place c l
@@ -280,23 +314,18 @@ module _ (c : RealmConfig) (l : Link) where
 
   -- ---- an event, and a list of them
 
-  none_or_some : (o : Option Refusal) → (o ≡ None) ⊎ (is_some o ≡ true)
-  none_or_some None = inl refl
-  none_or_some (Some why) = inr refl
+  -- how many signs of life there are, by whether it is the link and whether it gave one
+  abbrev sign_if : Bool → Bool → ℕ
+  sign_if here sign = if here && sign then 1 else 0
 
-  -- how many are taken, by whether it is the link and whether it is refused
-  abbrev taken_if : Bool → Option Refusal → ℕ
-  taken_if here why = if here && not (is_some why) then 1 else 0
-
-  none_taken : (here : Bool) (why : Option Refusal) → is_some why ≡ true → taken_if here why ≡ 0
-  none_taken true None is = absurd (cc is)
-  none_taken true (Some why) is = refl
-  none_taken false why is = refl
+  no_sign_given : (here : Bool) → sign_if here false ≡ 0
+  no_sign_given true = refl
+  no_sign_given false = refl
 
   abbrev Steps : ℕ → RealmState → RealmEvent → Type 0
   Steps n s e =
       At c l 0 (once_came c s e).rests
-      ⊎ ((taken_in c s l e ≡ 0) × At c l (n + given_up_in c s l e) (once_came c s e).rests)
+      ⊎ ((signs_in c s l e ≡ 0) × At c l (n + given_up_in c s l e) (once_came c s e).rests)
 
   event-at : (n : ℕ) (s : RealmState) (e : RealmEvent) → At c l n s.rests → Steps n s e
   event-at n s (request_came now named q) h =
@@ -316,18 +345,21 @@ module _ (c : RealmConfig) (l : Link) where
       let kept = reply-keeps c (At c l (n + 0)) (answered-at (n + 0)) now s from octets
       (more c n (n + 0) (rest_of c s.rests l) (omega arith) h) in
       elim (cases_Bool (is_link c l from)) [
-        | inl here ↦ elim (none_or_some (refusal_of turn)) [
-          | inl taken ↦
+        | inl here ↦ elim (cases_Bool (is_sign turn)) [
+          | inl sign ↦
               let place = (Decides-eqb (link_place c from) (link_place c l)).0 here in
-              inl (reply-wakes now s from octets place taken)
-          | inr refused ↦ inr (none_taken (is_link c l from) (refusal_of turn) refused, kept)
+              inl (reply-wakes now s from octets place sign)
+          | inr none ↦ inr (
+            ap (sign_if (is_link c l from)) none ∙ no_sign_given (is_link c l from),
+            kept,
+          )
         ]
-        | inr elsewhere ↦ inr (ap (λ (b : Bool). taken_if b (refusal_of turn)) elsewhere, kept)
+        | inr elsewhere ↦ inr (ap (λ (b : Bool). sign_if b (is_sign turn)) elsewhere, kept)
       ]
 
   abbrev SilentAll : ℕ → RealmState → List RealmEvent → Type 0
   SilentAll n s events =
-      (taken_over c s l events ≡ 0)
+      (signs_over c s l events ≡ 0)
       × At c l (n + given_up_over c s l events) (one_realm_run c s events).state.rests
 
   later : (s : RealmState) (e : RealmEvent) (es : List RealmEvent) → SilentSince c l (once_came c s e) es
@@ -336,7 +368,7 @@ module _ (c : RealmConfig) (l : Link) where
     before = e ∷ h.before;
     since = h.since;
     all = ap (λ (xs : List RealmEvent). e ∷ xs) h.all;
-    no_reply = h.no_reply;
+    no_sign = h.no_sign;
     tells = h.tells;
   }
 
@@ -352,7 +384,7 @@ module _ (c : RealmConfig) (l : Link) where
             before = e ∷ [];
             since = es;
             all = refl;
-            no_reply = silent.0;
+            no_sign = silent.0;
             tells = more c (0 + given_up_over c next l es) (given_up_over c next l es) left (omega arith) silent.1;
           })
           | inr since ↦ inr (later s e es since)
@@ -388,14 +420,14 @@ enough c n now r h is =
     omega (arith, counted, had)
 
 pub rests-only_when_silent : RestsOnlyWhenSilent
-rests-only_when_silent c s l events now wakes stands =
+rests-only_when_silent c s l events now up stands =
     let left : Rest = rest_of c (one_realm_run c s events).state.rests l in
-    elim (events-at c l 0 s events (subst (Tells c 0) (sym wakes) (awake-tells c 0))) [
+    elim (events-at c l 0 s events (up-tells c (rest_of c s.rests l) up)) [
       | inl silent ↦ record {
         before = [];
         since = events;
         all = refl;
-        no_reply = silent.0;
+        no_sign = silent.0;
         given_up = enough c (given_up_over c s l events) now left
             (more c (0 + given_up_over c s l events) (given_up_over c s l events) left (omega arith) silent.1) stands;
       }
@@ -403,7 +435,7 @@ rests-only_when_silent c s l events now wakes stands =
         before = silent.before;
         since = silent.since;
         all = silent.all;
-        no_reply = silent.no_reply;
+        no_sign = silent.no_sign;
         given_up = enough c (given_up_over c (one_realm_run c s silent.before).state l silent.since) now left
             silent.tells stands;
       }

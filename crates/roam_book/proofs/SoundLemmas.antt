@@ -1,5 +1,5 @@
 -- What a realm keeps of each entry, through the changes of its list.
-use Rattle.std.proofs.Common.{◌≡◌, ℕ, ◌≤◌, true, false, List, [], ◌∷◌, Some, None, refl, ap, arith}
+use Rattle.std.proofs.Common.{◌≡◌, ℕ, ◌<◌, ◌≤◌, ◌^◌, true, false, List, [], ◌∷◌, Some, None, length, refl, ap, sym, subst, ◌∙◌, arith}
 use Rattle.std.specs.Prelude.{not}
 use Rattle.std.specs.List.{AllByRecursion}
 use Rattle.std.proofs.lemmas.Bool.Decides.{nat_tests}
@@ -10,7 +10,12 @@ use Rattle.roam_pending.specs.EntryList.{find_link, find_ticket, put, without}
 use Rattle.roam_pending.proofs.TestLemmas.{differs, all-filter, all-find, all-weaker}
 use Rattle.roam_pending.proofs.OrderLemmas.{all-put}
 use Rattle.roam_book.specs.RealmConfig.{RealmConfig}
-use Rattle.roam_book.specs.Sound.{IsEntry}
+use Rattle.roam_ids.specs.LaneState.{LaneState}
+use Rattle.roam_reverse.specs.Shown.{Ledger}
+use Rattle.roam_book.specs.Sound.{AreOwnLanes, IsEntry, IsSound, LanesTell, marks_of}
+use Rattle.roam_book.specs.Stays.{RestsBecome}
+use Rattle.roam_book.specs.declared.state.realm_numbers.RealmNumbers.{RealmNumbers}
+use Rattle.roam_book.specs.declared.state.rest.Rest.{Rest}
 
 -- an entry is put in order of ticket; one is taken out
 pub kept-put :
@@ -46,6 +51,20 @@ pub kept-later :
     (c : RealmConfig) (n m : ℕ) (es : List PlainEntry) → n ≤ m → AllByRecursion (IsEntry c n) es
     → AllByRecursion (IsEntry c m) es
 kept-later c n m es le h = all-weaker (IsEntry c n) (IsEntry c m) es (later c n m le) h
+
+-- what a realm keeps is kept where its links rest otherwise
+pub rests-sound :
+    {A : Type 0} (c : RealmConfig) (es : List PlainEntry) (rests : List Rest) (old new : RealmNumbers A)
+    → IsSound c es old → RestsBecome rests old new → IsSound c es new
+rests-sound c es rests old new sound is = record {
+  each = subst (λ (n : ℕ). AllByRecursion (IsEntry c n) es) (sym is.ticket) sound.each;
+  ticket = subst (λ (n : ℕ). n ≤ 2 ^ 63) (sym is.ticket) sound.ticket;
+  stream_position = subst (λ (n : ℕ). n < 2 ^ 68) (sym is.stream_position) sound.stream_position;
+  lane_count = ap length is.lanes ∙ sound.lane_count;
+  lanes = subst (λ (ls : List LaneState). AreOwnLanes c (marks_of ls)) (sym is.lanes) sound.lanes;
+  lanes_tell = subst (LanesTell c es) (sym is.lanes) sound.lanes_tell;
+  ledger = ap (λ (l : Ledger). l.limit) is.sessions ∙ sound.ledger;
+}
 
 -- no entry has the next ticket
 pub unheld-ticket :

@@ -171,8 +171,8 @@ both false b h = absurd (let k : false ≡ true = h in cc)
 stands-once :
     (s : PlainStanding) (l : Link) (id : ℕ) (k : Link) (i : ℕ) → stands_at l id s ≡ true
     → stands_at k i s ≡ true → (l ≡ k) × (id ≡ i)
-stands-once (done reply deadline) l id k i h j = absurd (let n : false ≡ true = h in cc)
-stands-once (waiting x n forwarded sends_left deadline) l id k i h j =
+stands-once (done reply deadline from) l id k i h j = absurd (let n : false ≡ true = h in cc)
+stands-once (waiting x n forwarded sends_left deadline signs) l id k i h j =
     let one = both (same_link x l) (n == id) h in
     let other = both (same_link x k) (n == i) j in
     let links = sym (same_link-equal x l one.0) ∙ same_link-equal x k other.0 in

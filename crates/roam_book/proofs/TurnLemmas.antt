@@ -2,6 +2,7 @@
 use Rattle.std.proofs.Common.{◌≡◌, [], Option, ap, refl, ◌∙◌}
 use Rattle.std.specs.Prelude.{IsErr, IsOk, Result, Ok, Err}
 use Rattle.roam_wire.specs.declared.refusal.NoMemory.{NoMemory}
+use Rattle.roam_conf.specs.declared.place.Link.{Link}
 use Rattle.roam_pending.specs.declared.entries.Entries.{Ghosts}
 use Rattle.roam_book.specs.declared.packets.answer.Answer.{Answer}
 use Rattle.roam_book.specs.declared.packets.answer.Twin.{Twin}
@@ -52,15 +53,15 @@ turns-lost_twice g old new r turn err same sends rest = record {
 -- an entry was settled, once the ledger had its memory
 pub turns-settled :
     {A E : Type 0} (g : Ghosts E A) (old made new : RealmBroker A E) (answer : Answer A)
-    (settled : Option (Settled A)) (turn : RealmState → Turn)
-    → IsReplyPlan old.settings.now (state g old) (record { answer = answer; settled = settled })
+    (heard : Option Link) (settled : Option (Settled A)) (turn : RealmState → Turn)
+    → IsReplyPlan old.settings.now (state g old) (record { answer = answer; heard = heard; settled = settled })
     (turn (state g old))
     → state g made ≡ state g old → Keeps g old made
-    → state g new ≡ once_settled made.settings.now (state g made) settled → Keeps g made new
+    → state g new ≡ once_settled made.settings.now (state g made) heard settled → Keeps g made new
     → Turns g old new (Ok answer) turn
-turns-settled g old made new answer settled turn plan same first is then =
-    let at = is ∙ ap (λ (c : RealmConfig). once_settled c (state g made) settled) first.loans.settings
-    ∙ ap (λ (s : RealmState). once_settled old.settings.now s settled) same in
+turns-settled g old made new answer heard settled turn plan same first is then =
+    let at = is ∙ ap (λ (c : RealmConfig). once_settled c (state g made) heard settled) first.loans.settings
+    ∙ ap (λ (s : RealmState). once_settled old.settings.now s heard settled) same in
     record {
       gives = record {
         packets = plan.answers.packets;

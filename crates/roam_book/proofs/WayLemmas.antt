@@ -1,5 +1,5 @@
 -- The way that is chosen for a new request, and the plan that it makes.
-use Rattle.std.proofs.Common.{◌≡◌, ◌≢◌, ℕ, ◌≤◌, ◌^◌, false, List, [], Option, Some, None, Result, Ok, Err, refl, ap, ◌∙◌, arith, ltb, length}
+use Rattle.std.proofs.Common.{◌≡◌, ◌≢◌, ℕ, ◌≤◌, ◌^◌, Bool, false, List, [], Option, Some, None, Result, Ok, Err, refl, ap, ◌∙◌, arith, ltb, length}
 use Rattle.std.proofs.lemmas.Bool.Decides.{nat_tests}
 use Rattle.roam_wire.specs.declared.refusal.Refusal.{Refusal}
 use Rattle.roam_wire.specs.declared.refusal.Refusal.TheVariants as refusal
@@ -7,10 +7,12 @@ use Rattle.roam_conf.specs.declared.place.Link.{Link}
 use Rattle.roam_route.specs.Admission.{PlainOut}
 use Rattle.roam_pending.specs.PlainEntry.{PlainEntry, PlainRequest}
 use Rattle.roam_pending.specs.EntryList.{find_client, first_done}
-use Rattle.roam_book.specs.Private.NewEntry.{Chooses, HasNext, IsChosen, IsWay, once_gone, straight_after, target_at}
+use Rattle.roam_book.specs.Private.NewEntry.{Chooses, HasNext, IsChosen, IsWay, cleared, once_gone, straight_after, straight_to, target_at}
 use Rattle.roam_book.specs.OnRequest.{at_target, make_way}
 use Rattle.roam_book.specs.RealmConfig.{RealmConfig, IsLink}
-use Rattle.roam_book.specs.RealmState.{RealmState, Target}
+use Rattle.roam_book.specs.Conversing.{rests_chosen}
+use Rattle.roam_book.specs.RealmState.{RealmState, Target, with_rests}
+use Rattle.roam_book.specs.declared.state.rest.Rest.{Rest}
 use Rattle.roam_book.specs.Sound.{CountsAsGone, IsRequest}
 use Rattle.roam_book.specs.Turn.{Turn, Answers, refuses, sends, shown_outs}
 use Rattle.roam_book.specs.declared.packets.answer.Answer.{Answer}
@@ -32,13 +34,13 @@ no-place c now s q es t full none =
 -- there is none, and one does
 pub place-made :
     (c : RealmConfig) (now : ℕ) (s : RealmState) (q : PlainRequest) (gone : Option Replaced) (l : Link)
-    (t : ℕ)
+    (bound : Bool) (t : ℕ)
     → c.realm.max_pending ≤ length (once_gone gone s.entries)
-    → first_done (once_gone gone s.entries) ≡ Some t → IsWay c s q (straight_after gone l)
-    → IsChosen c now s q (record { gone = gone; done = Some t; link = l })
-    (at_target c now s (once_gone gone s.entries) q
+    → first_done (once_gone gone s.entries) ≡ Some t → IsWay c s q (straight_after gone l bound)
+    → IsChosen c now s q (record { gone = gone; done = Some t; link = l; bound = bound })
+    (at_target c now (with_rests s (rests_chosen c now s.rests bound l)) (once_gone gone s.entries) q
     (Some (target_at c s.cursors (once_gone gone s.entries) l)))
-place-made c now s q gone l t full some way =
+place-made c now s q gone l bound t full some way =
     let es = once_gone gone s.entries in
     let target = target_at c s.cursors es l in
     let no : ltb (length es) c.realm.max_pending ≡ false = grind (arith, nat_tests, full) in
@@ -52,7 +54,7 @@ place-made c now s q gone l t full some way =
         link = way.link;
         free = way.free;
       };
-      does = in-else _ _ _ no ∙ ap (make_way c now s es q target) some;
+      does = in-else _ _ _ no ∙ ap (make_way c now (with_rests s (rests_chosen c now s.rests bound l)) es q target) some;
     }
 
 -- what is chosen for a turn is chosen for the same turn
@@ -64,11 +66,11 @@ chosen-same c now s q (Err why) turn other is h = is ∙ h
 
 -- a link has a free Identifier for a request whose key is free once an entry is gone
 pub straight-way :
-    (c : RealmConfig) (s : RealmState) (q : PlainRequest) (gone : Option Replaced) (l : Link)
+    (c : RealmConfig) (s : RealmState) (q : PlainRequest) (gone : Option Replaced) (l : Link) (bound : Bool)
     → IsRequest c q → s.ticket ≤ 2 ^ 63 → s.ticket ≢ 2 ^ 63 → CountsAsGone gone s.entries
     → find_client q.key (once_gone gone s.entries) ≡ None → IsLink c l
-    → HasNext c s.cursors (once_gone gone s.entries) l → IsWay c s q (straight_after gone l)
-straight-way c s q gone l request most below counts key link free = record {
+    → HasNext c s.cursors (once_gone gone s.entries) l → IsWay c s q (straight_after gone l bound)
+straight-way c s q gone l bound request most below counts key link free = record {
   request = request;
   ticket = omega (arith, most, below);
   gone = counts;
@@ -76,6 +78,20 @@ straight-way c s q gone l request most below counts key link free = record {
   done = tt;
   link = link;
   free = free;
+}
+
+-- once its link was chosen, and those that had to go are gone, the way is straight
+pub way-chosen :
+    (c : RealmConfig) (s : RealmState) (q : PlainRequest) (way : AdmitPlan) (rests : List Rest)
+    → IsWay c s q (cleared way) → IsWay c (with_rests s rests) q (straight_to way.link false)
+way-chosen c s q way rests h = record {
+  request = h.request;
+  ticket = h.ticket;
+  gone = tt;
+  key = h.key;
+  done = tt;
+  link = h.link;
+  free = h.free;
 }
 
 -- a refusal is a plan for the turn that is that refusal

@@ -5,6 +5,7 @@ pub mod Rests
 pub mod RealmState
 pub mod Turn
 pub mod Shares
+pub mod Conversing
 pub mod OnRequest
 pub mod OnReply
 pub mod OnTick

@@ -23,10 +23,11 @@ use Rattle.roam_pending.specs.declared.key.Key.{Key}
 use Rattle.roam_pending.specs.PlainEntry.{PlainRequest, PlainStanding, PlainEntry, waiting, done}
 use Rattle.roam_pending.specs.EntryList.{find_client, first_done, without, without_client, put}
 use Rattle.roam_book.specs.RealmConfig.{RealmConfig, link_secret, requester_secret, link_endpoint, link_place, links_from, service_of}
-use Rattle.roam_book.specs.RealmState.{RealmState, Target, with_entries, with_next_ticket, chosen_target}
-use Rattle.roam_book.specs.Rests.{after_choice}
+use Rattle.roam_book.specs.RealmState.{RealmState, Target, with_entries, with_next_ticket, with_rests}
+use Rattle.roam_book.specs.Rests.{signs_of}
 use Rattle.roam_book.specs.Shapings.{shaping}
 use Rattle.roam_book.specs.Shares.{share_taken}
+use Rattle.roam_book.specs.Conversing.{bound_target, new_target, rests_for}
 use Rattle.roam_book.specs.Turn.{Turn, refuses, sends, in_time}
 
 -- a packet of the realm toward a link, and one back to the sender of a request
@@ -81,24 +82,23 @@ forwarded_octets c q position ticket target =
     packet_text
     (forwarded (forwarding c q position ticket target) (shaped (shaping c q target.link) (packet_of q.octets)))
 
--- a request that was forwarded just now: it waits for its reply, and may be sent `tries - 1` times more
-abbrev pub forwarded_entry : RealmConfig → ℕ → PlainRequest → ℕ → ℕ → Target → PlainEntry
-forwarded_entry c now q position ticket target = record {
+-- a request that was forwarded just now: it waits for its reply, may be sent `tries - 1` times more, and keeps how many
+-- signs of life the link has given so far
+abbrev pub forwarded_entry : RealmConfig → ℕ → ℕ → PlainRequest → ℕ → ℕ → Target → PlainEntry
+forwarded_entry c now signs q position ticket target = record {
   request = q;
   ticket = ticket;
   standing = waiting target.link target.id (forwarded_octets c q position ticket target)
-      (c.realm.tries - 1) (now + c.realm.wait);
+      (c.realm.tries - 1) (now + c.realm.wait) signs;
 }
 
 -- the state once a request was forwarded: its entry waits, the link's cursor stands one past the
--- Identifier, cyclic, the words that it drew are spent, and where the link has a moment until which it
--- rests, that is `now + rest` from now on
+-- Identifier, cyclic, and the words that it drew are spent
 abbrev pub once_forwarded : RealmConfig → ℕ → RealmState → PlainRequest → ℕ → Target → RealmState
 once_forwarded c now s q ticket target = record s {
-  entries = put (forwarded_entry c now q s.stream_position ticket target) s.entries;
+  entries = put (forwarded_entry c now (signs_of c s.rests target.link) q s.stream_position ticket target) s.entries;
   cursors = slice_set s.cursors (link_place c target.link) ((target.id + 1) % 256);
   stream_position = position_after q s.stream_position;
-  rests = after_choice c now s.rests target.link;
 }
 
 -- a new request beside these entries: it takes the next ticket and is forwarded
@@ -147,16 +147,18 @@ targets c q =
     then coa_links (reverse.target c.peers (packet_of q.octets).attributes)
     else links_from c (service_of (packet_of q.octets).code) 0
 
--- a new request beside these entries: there is a ticket, its name's share isn't taken, a target is chosen, and there
--- is a place
+-- a new request beside these entries: there is a ticket, neither its name's share nor its peer's is taken, a target is
+-- chosen, by which that is put off until which its link rests, and there is a place
 abbrev pub new_request : RealmConfig → ℕ → RealmState → List PlainEntry → PlainRequest → Turn
 new_request c now s entries q =
     if s.ticket == 2 ^ 63
     then refuses refusal.Exhausted
     else if share_taken c entries q
     then refuses refusal.ShareTaken
-    else at_target c now s entries q
-    (chosen_target c now s.rests s.cursors entries (targets c q))
+    else at_target c now
+    (with_rests s (rests_for c now s.rests (bound_target c s entries q (targets c q))
+    (new_target c now s entries q (targets c q))))
+    entries q (new_target c now s entries q (targets c q))
 
 -- the NAK of a reverse request, with its Error-Cause (RFC 5176, sections 2.3 and 3.5)
 abbrev pub nak_octets : RealmConfig → PlainRequest → ℕ → List ℕ
@@ -190,8 +192,8 @@ first_seen c now s named q = nak_or_new c now s q (reverse_cause c s named q)
 
 -- what a duplicate gets: nothing while its request waits, else the reply that is held, once more
 abbrev pub held_reply : RealmConfig → Key → PlainStanding → List PlainOut
-held_reply c key (waiting l id forwarded sends_left deadline) = []
-held_reply c key (done reply deadline) = packet_to_requester c key reply ∷ []
+held_reply c key (waiting l id forwarded sends_left deadline signs) = []
+held_reply c key (done reply deadline from) = packet_to_requester c key reply ∷ []
 
 -- a request whose key an entry has: a duplicate where the octets are equal too, and the state stays as
 -- it is
@@ -206,8 +208,8 @@ of_key c now s named q (Some e) =
 -- ## Answer to a request
 -- Above time 2^62: Moment. Same key and same octets: nothing while it waits, the held reply once it is done,
 -- and nothing changes. A reverse request that isn't forwarded: its NAK, and nothing changes. Else the entry of
--- that key counts as gone; Exhausted at ticket 2^63; ShareTaken where its name's share is; the target is the chosen one
--- of the request's links, else NoIdentifier; with `max_pending` entries the done one of least ticket makes way, else
+-- that key counts as gone; Exhausted at ticket 2^63; ShareTaken where its name's share is, or its peer's; the target is
+-- the one that goes on with its conversation, else the chosen one of the request's links, else NoIdentifier; with `max_pending` entries the done one of least ticket makes way, else
 -- Busy; then the new entry stands last, its forwarded packet is sent, with `tries - 1` sends left and deadline
 -- `now + wait`.
 -- Source: RFC 2865 sections 2.3 and 2.5, RFC 5176; numbers ours

@@ -10,8 +10,8 @@ use Rattle.roam_pending.specs.Realms.{sent_again, with_standing}
 use Rattle.roam_reverse.specs.declared.error_cause.TheConstants.{OTHER_PROXY_PROCESSING_ERROR}
 use Rattle.roam_conf.specs.declared.place.Link.{Link}
 use Rattle.roam_book.specs.RealmConfig.{RealmConfig, later_targets}
-use Rattle.roam_book.specs.RealmState.{RealmState, Target, with_entries, chosen_target}
-use Rattle.roam_book.specs.Rests.{after_silence}
+use Rattle.roam_book.specs.RealmState.{RealmState, Target, with_entries, with_rests, chosen_target}
+use Rattle.roam_book.specs.Rests.{after_choice, after_silence}
 use Rattle.roam_book.specs.Turn.{Turn, sends, in_time}
 use Rattle.roam_book.specs.OnRequest.{packet_to_link, packet_to_requester, forwarded_octets, is_reverse, nak_octets, once_forwarded}
 
@@ -29,7 +29,7 @@ silent s = record { packets = []; state = s }
 abbrev pub once_refused : RealmConfig → ℕ → RealmState → PlainEntry → List ℕ → RealmState
 once_refused c now s e octets =
     if nat_lt 0 c.realm.hold
-    then with_entries s (put (with_standing (done octets (now + c.realm.hold)) e) s.entries)
+    then with_entries s (put (with_standing (done octets (now + c.realm.hold) None) e) s.entries)
     else s
 
 -- ## Reverse request given up
@@ -54,37 +54,37 @@ given_up c now s e =
 
 -- a request that isn't sent to its link again: its Identifier there is free. It goes to the next target
 -- under the same ticket, with words drawn anew, where there is one, else it is given up. (`s` is the
--- state without the entry, in which the silence of its link is counted.)
+-- state without the entry, in which the silence of its link is counted, if it is one.)
 abbrev pub fail_over : RealmConfig → ℕ → RealmState → PlainEntry → Option Target → Progress
 fail_over c now s e None = given_up c now s e
 fail_over c now s e (Some target) = record {
   packets = packet_to_link c target.link
       (forwarded_octets c e.request s.stream_position e.ticket target) ∷ [];
-  state = once_forwarded c now s e.request e.ticket target;
+  state = once_forwarded c now (with_rests s (after_choice c now s.rests target.link)) e.request e.ticket target;
 }
 
 -- the state without an entry
 abbrev pub without_entry : RealmState → PlainEntry → RealmState
 without_entry s e = with_entries s (without e.ticket s.entries)
 
--- the state without an entry that was given up at a link, which is counted there
-abbrev pub given_up_at : RealmConfig → ℕ → Link → RealmState → PlainEntry → RealmState
-given_up_at c now l s e =
-    record (without_entry s e) { rests = after_silence c now s.rests l }
+-- the state without an entry that was given up at a link, which is counted there where it is a silence
+abbrev pub given_up_at : RealmConfig → ℕ → Link → ℕ → RealmState → PlainEntry → RealmState
+given_up_at c now l signs s e =
+    record (without_entry s e) { rests = after_silence c now s.rests l signs }
 
 -- a due entry, by how it stands: a done one goes; one with sends left sends the same octets again, and
 -- waits until `now + wait`; one with none left is given up at its link, and goes to the target that is
 -- then chosen among the later ones
 abbrev pub due_standing : RealmConfig → ℕ → RealmState → PlainEntry → PlainStanding → Progress
-due_standing c now s e (done reply deadline) = silent (without_entry s e)
-due_standing c now s e (waiting l id forwarded sends_left deadline) =
+due_standing c now s e (done reply deadline from) = silent (without_entry s e)
+due_standing c now s e (waiting l id forwarded sends_left deadline signs) =
     if nat_lt 0 sends_left
     then record {
       packets = packet_to_link c l forwarded ∷ [];
       state = with_entries s (put (sent_again (now + c.realm.wait) e) s.entries);
     }
-    else fail_over c now (given_up_at c now l s e) e
-    (chosen_target c now (after_silence c now s.rests l) s.cursors (without e.ticket s.entries)
+    else fail_over c now (given_up_at c now l signs s e) e
+    (chosen_target c now (after_silence c now s.rests l signs) s.cursors (without e.ticket s.entries)
     (later_targets c l))
 
 -- the entry of a due ticket
@@ -110,7 +110,7 @@ as_turn p = sends p.packets p.state
 -- ## Answer to a tick
 -- Above time 2^62: Moment. The entries whose deadline has come, in order of deadline and ticket, each once:
 -- done, it goes; with sends left, the same octets again, one fewer, deadline `now + wait`; with none left, its
--- link is one silence further, and it moves to the chosen one of its later targets, built anew under the same
+-- link is one silence further, where it gave no sign of life since that packet was built, and it moves to the chosen one of its later targets, built anew under the same
 -- ticket; without one it is given up and goes.
 -- Source: RFC 2865 section 2.5; failover ours
 -- Rules out: an order by place in a table; two packets for one entry

@@ -3,7 +3,7 @@ use Rattle.std.specs.Prelude.{ℕ, ◌+◌, ◌<◌, ◌==◌, Bool, false, List
 use Rattle.std.specs.Option.{option_map_or}
 use Rattle.roam_wire.specs.declared.code.TheConstants.{ACCESS_REQUEST}
 use Rattle.roam_conf.specs.Config.{ConfigView, PeerView, RealmView, ServerView}
-use Rattle.roam_conf.specs.Lookup.{endpoint_of}
+use Rattle.roam_conf.specs.Lookup.{endpoint_of, homes}
 use Rattle.roam_conf.specs.Secrets as secrets
 use Rattle.roam_conf.specs.declared.accounting.Accounting.TheVariants.{Forwarded}
 use Rattle.roam_conf.specs.declared.endpoint.Endpoint.{Endpoint}
@@ -49,6 +49,11 @@ no_realm = record {
   request_without = [];
   reply_without = [];
   share = None;
+  peer_share = None;
+  own_names = false;
+  conversations = false;
+  own_sessions = false;
+  coa_clients = [];
   rest = 0;
   rest_after = 0;
   servers = [];
@@ -67,6 +72,10 @@ realm_config config index = record {
 abbrev pub server_secret : RealmConfig → ℕ → List ℕ
 server_secret c server = secrets.server_secret c.realm.servers server
 
+-- with a source of its reverse requests: a server, or a `coa_client`
+abbrev pub home_secret : RealmConfig → ℕ → List ℕ
+home_secret c home = secrets.home_secret c.realm home
+
 abbrev pub peer_secret : RealmConfig → ℕ → List ℕ
 peer_secret c peer = secrets.peer_secret c.peers peer
 
@@ -76,7 +85,7 @@ link_secret c l = secrets.link_secret c.peers c.realm.servers l
 
 abbrev pub requester_secret : RealmConfig → Requester → List ℕ
 requester_secret c (requester.Peer peer) = peer_secret c peer
-requester_secret c (requester.Home server) = server_secret c server
+requester_secret c (requester.Home home) = home_secret c home
 
 -- whether a reply from a link has to have a Message-Authenticator, whatever its code: one from the
 -- `auth` of a home server that requires it (which code asks for it is said where replies are checked)
@@ -110,10 +119,10 @@ IsLink c (link.Auth server) = server < length c.realm.servers
 IsLink c (link.Acct server) = server < length c.realm.servers
 IsLink c (link.Coa peer) = peer < length c.peers
 
--- a sender of requests: a peer, or a home server of the realm
+-- a sender of requests: a peer, or a source of the realm's reverse requests
 abbrev pub IsRequester : RealmConfig → Requester → Type 0
 IsRequester c (requester.Peer peer) = peer < length c.peers
-IsRequester c (requester.Home server) = server < length c.realm.servers
+IsRequester c (requester.Home home) = home < homes c.realm
 
 -- a server's endpoint of a service: its `auth`, or its `acct`
 abbrev pub server_link : Service → ℕ → Link

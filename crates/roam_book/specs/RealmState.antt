@@ -16,7 +16,8 @@ use Rattle.roam_book.specs.declared.state.start.Start.{Start}
 -- Entries in order of ticket; the next ticket; a cursor for each link; a rest for each server's link; the
 -- stream position, modulo 2^68; the ledger of sessions. An entry has its key (place, source endpoint and
 -- Identifier of its request), its request, its ticket, and is waiting (link, Identifier, forwarded packet,
--- sends left, deadline) or done (reply, deadline). There are no lanes, indexes or deadline lists.
+-- sends left, deadline, the link's count of signs of life when that packet was built) or done (reply, deadline, and the
+-- link from which the reply came, if it came from one). There are no lanes, indexes or deadline lists.
 -- Source: RFC 2865 section 2.5 (duplicates), ours
 -- Rules out: state of one realm that another's traffic reaches
 -- Stands in: `roam_book` `RealmState.antt`: `RealmState`, `opening`; `Book::new`
@@ -44,9 +45,12 @@ opening c start = record {
   rests = all_awake c;
 }
 
--- the same state with other entries; with the next ticket
+-- the same state with other entries; with other rests; with the next ticket
 abbrev pub with_entries : RealmState → List PlainEntry → RealmState
 with_entries s entries = record s { entries = entries }
+
+abbrev pub with_rests : RealmState → List Rest → RealmState
+with_rests s rests = record s { rests = rests }
 
 abbrev pub with_next_ticket : RealmState → RealmState
 with_next_ticket s = record s { ticket = s.ticket + 1 }

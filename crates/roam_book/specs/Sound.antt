@@ -18,7 +18,7 @@ use Rattle.roam_pending.specs.PlainEntry.{PlainRequest, PlainStanding, PlainEntr
 use Rattle.roam_pending.specs.EntryList.{find_ticket}
 use Rattle.roam_book.specs.RealmConfig.{RealmConfig, IsLink, IsRequester, link_place, link_count}
 use Rattle.roam_book.specs.RealmState.{RealmState}
-use Rattle.roam_book.specs.Rests.{stands_back}
+use Rattle.roam_book.specs.Rests.{has_moment, stands_back}
 use Rattle.roam_book.specs.Shapings.{shaping_from}
 use Rattle.roam_book.specs.declared.rules.replaced.Replaced.{Replaced}
 use Rattle.roam_book.specs.declared.packets.forwarding.RequestRef.{RequestRef}
@@ -54,8 +54,8 @@ pub record IsWaiting (c : RealmConfig) (q : PlainRequest) (l : Link) (i : ℕ) (
   pub size : length forwarded ≤ length q.octets + 304
 
 abbrev pub StandsWell : RealmConfig → PlainRequest → PlainStanding → Type 0
-StandsWell c q (waiting l id forwarded sends_left deadline) = IsWaiting c q l id forwarded
-StandsWell c q (done reply deadline) = Unit {0}
+StandsWell c q (waiting l id forwarded sends_left deadline signs) = IsWaiting c q l id forwarded
+StandsWell c q (done reply deadline from) = Unit {0}
 
 -- an entry of the realm, admitted before the next ticket
 pub record IsEntry (c : RealmConfig) (next : ℕ) (e : PlainEntry) : Type 0 where
@@ -161,6 +161,15 @@ abbrev pub stands_back_at : RealmConfig → Option ℕ → List Rest → Link �
 stands_back_at c None rests l = false
 stands_back_at c (Some now) rests l = stands_back c now rests l
 
+-- it is the one that alone is wanted; where none is, it has no moment until which it rests
+abbrev pub is_wanted : RealmConfig → List Rest → Option Link → Link → Bool
+is_wanted c rests None l = not (has_moment c rests l)
+is_wanted c rests (Some only) l = same_link only l
+
+-- and it is open
+abbrev pub is_sought : RealmConfig → List Rest → List LaneState → Option Link → Option Link → Link → Bool
+is_sought c rests lanes only freed l = is_wanted c rests only l && is_open c lanes freed l
+
 -- it is open, and doesn't stand back
 abbrev pub is_ready :
     RealmConfig → Option ℕ → List Rest → List LaneState → Option Link → Link → Bool
@@ -183,8 +192,8 @@ shown_request q = record { key = q.key; requester = q.requester; octets = q.octe
 
 -- the entry that counts as gone: its ticket, and where it waits, if it does
 abbrev pub standing_place : PlainStanding → Option (Link × ℕ)
-standing_place (waiting l id forwarded sends_left deadline) = Some (l, id)
-standing_place (done reply deadline) = None
+standing_place (waiting l id forwarded sends_left deadline signs) = Some (l, id)
+standing_place (done reply deadline from) = None
 
 pub record IsGone (g : Replaced) (entries : List PlainEntry) (e : PlainEntry) : Type 0 where
   pub found : find_ticket g.ticket entries ≡ Some e

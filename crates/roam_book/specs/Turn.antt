@@ -10,29 +10,35 @@ use Rattle.roam_book.specs.RealmState.{RealmState}
 use Rattle.roam_book.specs.declared.packets.answer.Answer.{Answer}
 
 -- ## Turn
--- What an event does to its realm: it is refused, which sends nothing and leaves the state; or packets are
--- sent, and a state follows. Above time 2^62 each event is refused.
+-- What an event does to its realm: it is refused, which sends nothing and leaves the state; or it is a reply that is
+-- refused and yet a sign of life, which sends nothing, and a state follows; or packets are sent, and a state follows.
+-- Above time 2^62 each event is refused.
 -- Source: ours
 -- Rules out: a refusal that changed something
 -- Stands in: `roam_book` `Turn.antt`: `Turn`, `packets_of`, `state_after`, `in_time`, `Gives`; `Book::request`,
 -- `reply`, `tick`
 --
--- a refusal sends nothing and leaves the state as it was
+-- a refusal sends nothing and leaves the state as it was; that of a reply which shows that its home server is there
+-- leaves the state that says so
 pub data Turn : Type 0 where
   refuses : Refusal → Turn
+  hears : Refusal → RealmState → Turn
   sends : List PlainOut → RealmState → Turn
 
 -- what is sent, why nothing is, and the state that follows
 abbrev pub packets_of : Turn → List PlainOut
 packets_of (refuses why) = []
+packets_of (hears why state) = []
 packets_of (sends packets state) = packets
 
 abbrev pub refusal_of : Turn → Option Refusal
 refusal_of (refuses why) = Some why
+refusal_of (hears why state) = Some why
 refusal_of (sends packets state) = None
 
 abbrev pub state_after : RealmState → Turn → RealmState
 state_after old (refuses why) = old
+state_after old (hears why state) = state
 state_after old (sends packets state) = state
 
 -- the latest moment of an event, in milliseconds: so no deadline passes 2^64

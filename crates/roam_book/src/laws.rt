@@ -5,7 +5,7 @@
 ghost use Rattle.roam_book.specs.BookView.{EventIsTaken};
 ghost use Rattle.roam_book.specs.LeastFirst.{LeastDueFirst, NoneIsDueAfter};
 ghost use Rattle.roam_book.specs.LostTicks.{NothingIsLost, OnlyDoneGo};
-ghost use Rattle.roam_book.specs.RestLaws.{AccessServersNeverStandBack, AwakeTheFirstIsChosen, WithoutRestAllStayAwake};
+ghost use Rattle.roam_book.specs.RestLaws.{AccessServersNeverStandBack, UpTheFirstIsChosen, WithoutRestAllStayUp};
 ghost use Rattle.roam_book.specs.Silence.{ChoiceIsNeverWorse, LinksHaveOwnPlaces, RestsOnlyWhenSilent};
 
 /// A tick takes the least due entry, until none is due. Each due entry is taken once, since what waits
@@ -24,13 +24,13 @@ pub fn events()
 /// Where a realm's `rest` is 0, no link ever has a moment until which it rests, or a count of silences,
 /// and then the first target that has a free Identifier is chosen. A peer's `coa` never stands back.
 pub fn silent_servers()
-    ensures none { WithoutRestAllStayAwake }
-    ensures first { AwakeTheFirstIsChosen }
+    ensures none { WithoutRestAllStayUp }
+    ensures first { UpTheFirstIsChosen }
     ensures access_servers { AccessServersNeverStandBack }
 {}
 
-/// A link stands back only where it kept silent: of its requests at least `rest_after` were given up, and no
-/// reply from it was taken since. That links stand back leaves no request without a target: one is chosen
+/// A link stands back only where it kept silent: of its requests at least `rest_after` were given up, and it gave
+/// no sign of life since their packets were built, nor since. That links stand back leaves no request without a target: one is chosen
 /// just where some link has a free Identifier.
 pub fn rests()
     ensures places { LinksHaveOwnPlaces }

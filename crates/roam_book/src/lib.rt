@@ -59,6 +59,7 @@ pub use rules::evict_done::only_done_due;
 pub use rules::reload::carried_realms_go_on;
 pub use rules::requests::LATEST;
 pub use state::gauges::{Gauges, SERVER_LINKS, waiting_at};
+pub use state::hash_key::{HASH_STREAM, hash_key};
 pub use state::realm_broker::RealmBroker;
 pub use state::realm_numbers::RealmNumbers;
 pub use state::realm_settings::RealmSettings;

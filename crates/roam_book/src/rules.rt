@@ -2,8 +2,10 @@
 
 pub mod admit;
 pub mod admit_plan;
+pub mod conversations;
 pub mod due_action;
 pub mod evict_done;
+pub mod new_requests;
 pub mod reload;
 pub mod replaced;
 pub mod replies;

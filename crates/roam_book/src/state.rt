@@ -1,6 +1,9 @@
 //! What the broker of one realm keeps, and what it reads of its configuration.
 
 pub mod gauges;
+pub mod hash_key;
+pub mod link_choice;
+pub mod link_rests;
 pub mod realm_broker;
 pub mod realm_numbers;
 pub mod realm_settings;

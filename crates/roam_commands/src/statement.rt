@@ -1,7 +1,9 @@
 //! A configuration with all its defaults, as a document states it.
 
 use crate::basic_string::BasicString;
-use roam_conf::{Accounting, Config, Endpoint, ExchangeLines, Peer, Realm, RealmPattern, Server};
+use roam_conf::{
+    Accounting, CoaClient, Config, Endpoint, ExchangeLines, Peer, Realm, RealmPattern, Server,
+};
 use roam_conf_reader::{Settings, StationWord};
 use roam_wire::RemovedAttribute;
 use std::alloc::{AllocError, Global};
@@ -88,6 +90,28 @@ fn state_removed(
     text.push_str("]\n")
 }
 
+/// States a number where there is one.
+fn state_number(text: &mut String, key: &str, number: Option<u16>) -> Result<(), AllocError> {
+    match number {
+        Some(number) => writeln!(text, "{key} = {number}"),
+        None => Ok(()),
+    }
+}
+
+/// States texts.
+fn state_texts(text: &mut String, key: &str, values: &[String]) -> Result<(), AllocError> {
+    write!(text, "{key} = [")?;
+    let mut is_first = true;
+    for value in values {
+        if !is_first {
+            text.push_str(", ")?;
+        }
+        is_first = false;
+        write!(text, "{}", BasicString(value.as_str()))?;
+    }
+    text.push_str("]\n")
+}
+
 /// States 32 octets as hexadecimal digits.
 fn state_seed(text: &mut String, seed: &[u8; 32]) -> Result<(), AllocError> {
     text.push_str("seed = \"")?;
@@ -111,6 +135,7 @@ fn state_top(text: &mut String, config: &Config) -> Result<(), AllocError> {
     if let Some(hops) = config.max_hops {
         writeln!(text, "max_hops = {hops}")?;
     }
+    state_number(text, "max_attributes", config.max_attributes)?;
     writeln!(text, "status_server = {}", config.status_server)?;
     writeln!(text, "spread = {}", config.spread)
 }
@@ -140,6 +165,7 @@ fn state_peer(text: &mut String, peer: &Peer) -> Result<(), AllocError> {
         writeln!(text, "nas_ip = \"{}\"", Address(address))?;
     }
     state_text(text, "nas_id", &peer.nas_id)?;
+    state_texts(text, "nas_ids", peer.nas_ids.as_slice())?;
     writeln!(text, "require_seal = {}", peer.require_seal)?;
     writeln!(text, "limit_proxy_state = {}", peer.limit_proxy_state)?;
     state_text(text, "operator_name", &peer.operator_name)?;
@@ -148,26 +174,11 @@ fn state_peer(text: &mut String, peer: &Peer) -> Result<(), AllocError> {
     state_removed(text, "reply_without", peer.reply_without.as_slice())
 }
 
-/// States the names of the peers that may ask, where not all may.
-fn state_askers(text: &mut String, peers: &Option<Vec<String>>) -> Result<(), AllocError> {
-    let Some(peers) = peers else {
-        return Ok(());
-    };
-    text.push_str("peers = [")?;
-    let mut is_first = true;
-    for peer in peers {
-        if !is_first {
-            text.push_str(", ")?;
-        }
-        is_first = false;
-        write!(text, "{}", BasicString(peer.as_str()))?;
-    }
-    text.push_str("]\n")
-}
-
 /// States who may ask for a realm, and what becomes of its requests.
 fn state_policy(text: &mut String, realm: &Realm) -> Result<(), AllocError> {
-    state_askers(text, &realm.peers)?;
+    if let Some(peers) = &realm.peers {
+        state_texts(text, "peers", peers.as_slice())?;
+    }
     writeln!(text, "loop_prevention = {}", realm.loop_prevention)?;
     text.push_str(match realm.accounting {
         Accounting::Forwarded => "accounting = \"forward\"\n",
@@ -176,10 +187,11 @@ fn state_policy(text: &mut String, realm: &Realm) -> Result<(), AllocError> {
     })?;
     state_removed(text, "request_without", realm.request_without.as_slice())?;
     state_removed(text, "reply_without", realm.reply_without.as_slice())?;
-    match realm.share {
-        Some(share) => writeln!(text, "share = {share}"),
-        None => Ok(()),
-    }
+    state_number(text, "share", realm.share)?;
+    state_number(text, "peer_share", realm.peer_share)?;
+    writeln!(text, "own_names = {}", realm.own_names)?;
+    writeln!(text, "conversations = {}", realm.conversations)?;
+    writeln!(text, "own_sessions = {}", realm.own_sessions)
 }
 
 /// States the limits of a realm.
@@ -206,6 +218,16 @@ fn state_server(text: &mut String, server: &Server) -> Result<(), AllocError> {
     writeln!(text, "require_seal = {}", server.require_seal)
 }
 
+/// States a further source of reverse requests.
+fn state_client(text: &mut String, client: &CoaClient) -> Result<(), AllocError> {
+    writeln!(
+        text,
+        "\n[[realm.coa_client]]\nip = \"{}\"",
+        Address(client.ip)
+    )?;
+    writeln!(text, "secret = {}", BasicString(client.secret.as_str()))
+}
+
 /// States a realm.
 fn state_realm(text: &mut String, realm: &Realm) -> Result<(), AllocError> {
     writeln!(text, "\n[[realm]]\nname = \"{}\"", realm.name.as_str())?;
@@ -217,6 +239,9 @@ fn state_realm(text: &mut String, realm: &Realm) -> Result<(), AllocError> {
     for server in &realm.servers {
         state_server(text, server)?;
     }
+    for client in &realm.coa_clients {
+        state_client(text, client)?;
+    }
     Ok(())
 }
 
@@ -227,6 +252,7 @@ fn state(text: &mut String, config: &Config, settings: &Settings) -> Result<(), 
     state_patterns(text, "reject", config.reject.as_slice())?;
     writeln!(text, "well_formed = {}", config.well_formed)?;
     writeln!(text, "answer_unnamed = {}", config.answer_unnamed)?;
+    state_number(text, "fresh", config.fresh)?;
     for peer in &config.peers {
         state_peer(text, peer)?;
     }

@@ -1,107 +1,99 @@
--- What the derived `==` of the configuration's types says: that what is shown is equal.
-use Rattle.std.proofs.Common.{◌≡◌, Bool, true, false, eqb, ◌&&◌, string_bytes, Decides, ap}
+-- What the derived `==` of a server, a `coa_client` and a peer says: that what is shown is equal.
+use Rattle.std.proofs.Common.{◌≡◌, Bool, eqb, ◌&&◌, string_bytes, Decides, ap}
 use Rattle.std.proofs.Math.Bool.{beq}
-use Rattle.std.proofs.lemmas.Bool.Decides.{Decides-and, Decides-like, Decides-eqb}
+use Rattle.std.proofs.lemmas.Bool.Decides.{Decides-and, Decides-like}
 use Rattle.std.proofs.lemmas.Slice.Eq.{bytes_eq-Decides}
 use Rattle.std.specs.Cmp.{booleans_Decides}
 use Rattle.std.specs.Cmp.Lexicographic.{pointwise}
 use Rattle.std.specs.Option.{option_eq}
 use Rattle.std.specs.String.{string_eq}
-use Rattle.roam_conf.specs.declared.config.Config.{Config}
+use Rattle.roam_conf.specs.declared.coa_client.CoaClient.{CoaClient}
 use Rattle.roam_conf.specs.declared.peer.Peer.{Peer}
-use Rattle.roam_conf.specs.declared.realm.Realm.{Realm}
 use Rattle.roam_conf.specs.declared.server.Server.{Server}
-use Rattle.roam_conf.specs.Config.{ServerView, PeerView, RealmView, ConfigView}
-use Rattle.roam_conf.specs.Parts.{shown_server, shown_names, shown_peer, shown_realm}
-use Rattle.roam_conf.specs.Patterns.{shown_pattern}
-use Rattle.roam_conf.specs.Shown.{shown}
-use Rattle.roam_conf.proofs.EqualPartsLemmas.{list_decides, whole_list_decides, option_decides, whole_option_decides, text_decides, endpoint_eq, endpoint_decides, removed_eq, removed_decides, accounting_eq, accounting_decides, pattern_eq, pattern_decides, names_eq, names_decides}
+use Rattle.roam_conf.specs.Config.{ServerView, CoaClientView, PeerView}
+use Rattle.roam_conf.specs.Parts.{shown_server, shown_client, shown_peer}
+use Rattle.roam_conf.proofs.EqualPartsLemmas.{list_decides, whole_list_decides, option_decides, whole_option_decides, text_decides, endpoint_eq, endpoint_decides, removed_eq, removed_decides}
 
 -- the tests as the derives write them
 abbrev pub server_eq : Server → Server → Bool
 server_eq a b =
-    endpoint_eq a.auth b.auth && (option_eq endpoint_eq a.acct b.acct &&
-    (string_eq a.secret b.secret && (beq a.require_seal b.require_seal)))
+    endpoint_eq a.auth b.auth &&
+    (option_eq endpoint_eq a.acct b.acct &&
+    (string_eq a.secret b.secret &&
+    (beq a.require_seal b.require_seal)))
+
+abbrev pub client_eq : CoaClient → CoaClient → Bool
+client_eq a b =
+    pointwise eqb a.ip b.ip &&
+    (string_eq a.secret b.secret)
 
 abbrev pub peer_eq : Peer → Peer → Bool
 peer_eq a b =
-    string_eq a.name b.name && (pointwise eqb a.ip b.ip &&
+    string_eq a.name b.name &&
+    (pointwise eqb a.ip b.ip &&
     (string_eq a.secret b.secret &&
     (option_eq endpoint_eq a.coa b.coa &&
     (option_eq (pointwise eqb) a.nas_ip b.nas_ip &&
     (option_eq string_eq a.nas_id b.nas_id &&
+    (pointwise string_eq a.nas_ids.items b.nas_ids.items &&
     (beq a.require_seal b.require_seal &&
     (beq a.limit_proxy_state b.limit_proxy_state &&
     (option_eq string_eq a.operator_name b.operator_name &&
-    (beq a.ask_cui b.ask_cui && (pointwise removed_eq a.request_without.items b.request_without.items &&
-    (pointwise removed_eq a.reply_without.items b.reply_without.items)))))))))))
-
-abbrev pub realm_eq : Realm → Realm → Bool
-realm_eq a b =
-    string_eq a.name b.name && (pointwise pattern_eq a.also.items b.also.items &&
-    (option_eq names_eq a.peers b.peers &&
-    (beq a.loop_prevention b.loop_prevention &&
-    (accounting_eq a.accounting b.accounting &&
+    (beq a.ask_cui b.ask_cui &&
     (pointwise removed_eq a.request_without.items b.request_without.items &&
-    (pointwise removed_eq a.reply_without.items b.reply_without.items &&
-    (option_eq eqb a.share b.share &&
-    (endpoint_eq a.out b.out && (option_eq endpoint_eq a.reverse b.reverse &&
-    (eqb a.tries b.tries && (eqb a.wait b.wait &&
-    (eqb a.hold b.hold && (eqb a.max_pending b.max_pending &&
-    (eqb a.max_sessions b.max_sessions &&
-    (eqb a.rest b.rest && (eqb a.rest_after b.rest_after &&
-    (pointwise server_eq a.servers.items b.servers.items)))))))))))))))))
-
-abbrev pub config_eq : Config → Config → Bool
-config_eq a b =
-    eqb a.shards b.shards && (pointwise eqb a.seed b.seed &&
-    (endpoint_eq a.auth b.auth && (endpoint_eq a.acct b.acct &&
-    (eqb a.trace_limit b.trace_limit &&
-    (eqb a.trace_octets b.trace_octets &&
-    (option_eq eqb a.max_hops b.max_hops &&
-    (beq a.status_server b.status_server &&
-    (beq a.spread b.spread && (pointwise pattern_eq a.reject.items b.reject.items &&
-    (beq a.well_formed b.well_formed &&
-    (beq a.answer_unnamed b.answer_unnamed &&
-    (pointwise peer_eq a.peers.items b.peers.items &&
-    (pointwise realm_eq a.realms.items b.realms.items && (true))))))))))))))
+    (pointwise removed_eq a.reply_without.items b.reply_without.items))))))))))))
 
 pub server_decides : (a b : Server) → Decides (server_eq a b) (shown_server a ≡ shown_server b)
 server_decides a b =
     let v = shown_server a in
     let w = shown_server b in
     Decides-like {P = (v.auth ≡ w.auth)
-    × ((v.acct ≡ w.acct) × ((v.secret ≡ w.secret) × ((v.require_seal ≡ w.require_seal))))} _
+    × ((v.acct ≡ w.acct)
+    × ((v.secret ≡ w.secret)
+    × ((v.require_seal ≡ w.require_seal))))} _
     (λ p. λ i. record {
       auth = p.0 i;
       acct = p.1.0 i;
       secret = p.1.1.0 i;
       require_seal = p.1.1.1 i;
     })
-    (λ e. (
-      ap (λ (x : ServerView). x.auth) e,
-      (
-        ap (λ (x : ServerView). x.acct) e,
-        (ap (λ (x : ServerView). x.secret) e, ap (λ (x : ServerView). x.require_seal) e),
-      ),
-    ))
+    (λ e. (ap (λ (x : ServerView). x.auth) e, (ap (λ (x : ServerView). x.acct) e, (ap (λ (x : ServerView). x.secret) e, ap (λ (x : ServerView). x.require_seal) e))))
     (Decides-and _ _ (endpoint_decides a.auth b.auth)
     (Decides-and _ _ (whole_option_decides endpoint_eq endpoint_decides a.acct b.acct)
     (Decides-and _ _ (text_decides a.secret b.secret)
     (booleans_Decides a.require_seal b.require_seal))))
+
+pub client_decides : (a b : CoaClient) → Decides (client_eq a b) (shown_client a ≡ shown_client b)
+client_decides a b =
+    let v = shown_client a in
+    let w = shown_client b in
+    Decides-like {P = (v.ip ≡ w.ip)
+    × ((v.secret ≡ w.secret))} _
+    (λ p. λ i. record {
+      ip = p.0 i;
+      secret = p.1 i;
+    })
+    (λ e. (ap (λ (x : CoaClientView). x.ip) e, ap (λ (x : CoaClientView). x.secret) e))
+    (Decides-and _ _ (bytes_eq-Decides a.ip b.ip)
+    (text_decides a.secret b.secret))
 
 pub peer_decides : (a b : Peer) → Decides (peer_eq a b) (shown_peer a ≡ shown_peer b)
 peer_decides a b =
     let v = shown_peer a in
     let w = shown_peer b in
     Decides-like {P = (v.name ≡ w.name)
-    × ((v.ip ≡ w.ip) × ((v.secret ≡ w.secret)
-    × ((v.coa ≡ w.coa) × ((v.nas_ip ≡ w.nas_ip)
-    × ((v.nas_id ≡ w.nas_id) × ((v.require_seal ≡ w.require_seal)
+    × ((v.ip ≡ w.ip)
+    × ((v.secret ≡ w.secret)
+    × ((v.coa ≡ w.coa)
+    × ((v.nas_ip ≡ w.nas_ip)
+    × ((v.nas_id ≡ w.nas_id)
+    × ((v.nas_ids ≡ w.nas_ids)
+    × ((v.require_seal ≡ w.require_seal)
     × ((v.limit_proxy_state ≡ w.limit_proxy_state)
     × ((v.operator_name ≡ w.operator_name)
-    × ((v.ask_cui ≡ w.ask_cui) × ((v.request_without ≡ w.request_without)
-    × ((v.reply_without ≡ w.reply_without))))))))))))} _
+    × ((v.ask_cui ≡ w.ask_cui)
+    × ((v.request_without ≡ w.request_without)
+    × ((v.reply_without ≡ w.reply_without)))))))))))))} _
     (λ p. λ i. record {
       name = p.0 i;
       ip = p.1.0 i;
@@ -109,243 +101,25 @@ peer_decides a b =
       coa = p.1.1.1.0 i;
       nas_ip = p.1.1.1.1.0 i;
       nas_id = p.1.1.1.1.1.0 i;
-      require_seal = p.1.1.1.1.1.1.0 i;
-      limit_proxy_state = p.1.1.1.1.1.1.1.0 i;
-      operator_name = p.1.1.1.1.1.1.1.1.0 i;
-      ask_cui = p.1.1.1.1.1.1.1.1.1.0 i;
-      request_without = p.1.1.1.1.1.1.1.1.1.1.0 i;
-      reply_without = p.1.1.1.1.1.1.1.1.1.1.1 i;
+      nas_ids = p.1.1.1.1.1.1.0 i;
+      require_seal = p.1.1.1.1.1.1.1.0 i;
+      limit_proxy_state = p.1.1.1.1.1.1.1.1.0 i;
+      operator_name = p.1.1.1.1.1.1.1.1.1.0 i;
+      ask_cui = p.1.1.1.1.1.1.1.1.1.1.0 i;
+      request_without = p.1.1.1.1.1.1.1.1.1.1.1.0 i;
+      reply_without = p.1.1.1.1.1.1.1.1.1.1.1.1 i;
     })
-    (λ e. (
-      ap (λ (x : PeerView). x.name) e,
-      (
-        ap (λ (x : PeerView). x.ip) e,
-        (
-          ap (λ (x : PeerView). x.secret) e,
-          (
-            ap (λ (x : PeerView). x.coa) e,
-            (
-              ap (λ (x : PeerView). x.nas_ip) e,
-              (
-                ap (λ (x : PeerView). x.nas_id) e,
-                (
-                  ap (λ (x : PeerView). x.require_seal) e,
-                  (
-                    ap (λ (x : PeerView). x.limit_proxy_state) e,
-                    (
-                      ap (λ (x : PeerView). x.operator_name) e,
-                      (
-                        ap (λ (x : PeerView). x.ask_cui) e,
-                        (ap (λ (x : PeerView). x.request_without) e, ap (λ (x : PeerView). x.reply_without) e),
-                      ),
-                    ),
-                  ),
-                ),
-              ),
-            ),
-          ),
-        ),
-      ),
-    ))
+    (λ e. (ap (λ (x : PeerView). x.name) e, (ap (λ (x : PeerView). x.ip) e, (ap (λ (x : PeerView). x.secret) e, (ap (λ (x : PeerView). x.coa) e, (ap (λ (x : PeerView). x.nas_ip) e, (ap (λ (x : PeerView). x.nas_id) e, (ap (λ (x : PeerView). x.nas_ids) e, (ap (λ (x : PeerView). x.require_seal) e, (ap (λ (x : PeerView). x.limit_proxy_state) e, (ap (λ (x : PeerView). x.operator_name) e, (ap (λ (x : PeerView). x.ask_cui) e, (ap (λ (x : PeerView). x.request_without) e, ap (λ (x : PeerView). x.reply_without) e)))))))))))))
     (Decides-and _ _ (text_decides a.name b.name)
     (Decides-and _ _ (bytes_eq-Decides a.ip b.ip)
     (Decides-and _ _ (text_decides a.secret b.secret)
     (Decides-and _ _ (whole_option_decides endpoint_eq endpoint_decides a.coa b.coa)
     (Decides-and _ _ (whole_option_decides (pointwise eqb) bytes_eq-Decides a.nas_ip b.nas_ip)
     (Decides-and _ _ (option_decides string_eq string_bytes text_decides a.nas_id b.nas_id)
+    (Decides-and _ _ (list_decides string_eq string_bytes text_decides a.nas_ids.items b.nas_ids.items)
     (Decides-and _ _ (booleans_Decides a.require_seal b.require_seal)
     (Decides-and _ _ (booleans_Decides a.limit_proxy_state b.limit_proxy_state)
     (Decides-and _ _ (option_decides string_eq string_bytes text_decides a.operator_name b.operator_name)
     (Decides-and _ _ (booleans_Decides a.ask_cui b.ask_cui)
     (Decides-and _ _ (whole_list_decides removed_eq removed_decides a.request_without.items b.request_without.items)
-    (whole_list_decides removed_eq removed_decides a.reply_without.items b.reply_without.items))))))))))))
-
-pub realm_decides : (a b : Realm) → Decides (realm_eq a b) (shown_realm a ≡ shown_realm b)
-realm_decides a b =
-    let v = shown_realm a in
-    let w = shown_realm b in
-    Decides-like {P = (v.name ≡ w.name)
-    × ((v.also ≡ w.also) × ((v.peers ≡ w.peers)
-    × ((v.loop_prevention ≡ w.loop_prevention)
-    × ((v.accounting ≡ w.accounting)
-    × ((v.request_without ≡ w.request_without)
-    × ((v.reply_without ≡ w.reply_without)
-    × ((v.share ≡ w.share) × ((v.out ≡ w.out)
-    × ((v.reverse ≡ w.reverse) × ((v.tries ≡ w.tries)
-    × ((v.wait ≡ w.wait) × ((v.hold ≡ w.hold)
-    × ((v.max_pending ≡ w.max_pending)
-    × ((v.max_sessions ≡ w.max_sessions)
-    × ((v.rest ≡ w.rest) × ((v.rest_after ≡ w.rest_after) × ((v.servers ≡ w.servers))))))))))))))))))} _
-    (λ p. λ i. record {
-      name = p.0 i;
-      also = p.1.0 i;
-      peers = p.1.1.0 i;
-      loop_prevention = p.1.1.1.0 i;
-      accounting = p.1.1.1.1.0 i;
-      request_without = p.1.1.1.1.1.0 i;
-      reply_without = p.1.1.1.1.1.1.0 i;
-      share = p.1.1.1.1.1.1.1.0 i;
-      out = p.1.1.1.1.1.1.1.1.0 i;
-      reverse = p.1.1.1.1.1.1.1.1.1.0 i;
-      tries = p.1.1.1.1.1.1.1.1.1.1.0 i;
-      wait = p.1.1.1.1.1.1.1.1.1.1.1.0 i;
-      hold = p.1.1.1.1.1.1.1.1.1.1.1.1.0 i;
-      max_pending = p.1.1.1.1.1.1.1.1.1.1.1.1.1.0 i;
-      max_sessions = p.1.1.1.1.1.1.1.1.1.1.1.1.1.1.0 i;
-      rest = p.1.1.1.1.1.1.1.1.1.1.1.1.1.1.1.0 i;
-      rest_after = p.1.1.1.1.1.1.1.1.1.1.1.1.1.1.1.1.0 i;
-      servers = p.1.1.1.1.1.1.1.1.1.1.1.1.1.1.1.1.1 i;
-    })
-    (λ e. (
-      ap (λ (x : RealmView). x.name) e,
-      (
-        ap (λ (x : RealmView). x.also) e,
-        (
-          ap (λ (x : RealmView). x.peers) e,
-          (
-            ap (λ (x : RealmView). x.loop_prevention) e,
-            (
-              ap (λ (x : RealmView). x.accounting) e,
-              (
-                ap (λ (x : RealmView). x.request_without) e,
-                (
-                  ap (λ (x : RealmView). x.reply_without) e,
-                  (
-                    ap (λ (x : RealmView). x.share) e,
-                    (
-                      ap (λ (x : RealmView). x.out) e,
-                      (
-                        ap (λ (x : RealmView). x.reverse) e,
-                        (
-                          ap (λ (x : RealmView). x.tries) e,
-                          (
-                            ap (λ (x : RealmView). x.wait) e,
-                            (
-                              ap (λ (x : RealmView). x.hold) e,
-                              (
-                                ap (λ (x : RealmView). x.max_pending) e,
-                                (
-                                  ap (λ (x : RealmView). x.max_sessions) e,
-                                  (
-                                    ap (λ (x : RealmView). x.rest) e,
-                                    (ap (λ (x : RealmView). x.rest_after) e, ap (λ (x : RealmView). x.servers) e),
-                                  ),
-                                ),
-                              ),
-                            ),
-                          ),
-                        ),
-                      ),
-                    ),
-                  ),
-                ),
-              ),
-            ),
-          ),
-        ),
-      ),
-    ))
-    (Decides-and _ _ (text_decides a.name b.name)
-    (Decides-and _ _ (list_decides pattern_eq shown_pattern pattern_decides a.also.items b.also.items)
-    (Decides-and _ _ (option_decides names_eq shown_names names_decides a.peers b.peers)
-    (Decides-and _ _ (booleans_Decides a.loop_prevention b.loop_prevention)
-    (Decides-and _ _ (accounting_decides a.accounting b.accounting)
-    (Decides-and _ _ (whole_list_decides removed_eq removed_decides a.request_without.items b.request_without.items)
-    (Decides-and _ _ (whole_list_decides removed_eq removed_decides a.reply_without.items b.reply_without.items)
-    (Decides-and _ _ (whole_option_decides eqb Decides-eqb a.share b.share)
-    (Decides-and _ _ (endpoint_decides a.out b.out)
-    (Decides-and _ _ (whole_option_decides endpoint_eq endpoint_decides a.reverse b.reverse)
-    (Decides-and _ _ (Decides-eqb a.tries b.tries)
-    (Decides-and _ _ (Decides-eqb a.wait b.wait)
-    (Decides-and _ _ (Decides-eqb a.hold b.hold)
-    (Decides-and _ _ (Decides-eqb a.max_pending b.max_pending)
-    (Decides-and _ _ (Decides-eqb a.max_sessions b.max_sessions)
-    (Decides-and _ _ (Decides-eqb a.rest b.rest)
-    (Decides-and _ _ (Decides-eqb a.rest_after b.rest_after)
-    (list_decides server_eq shown_server server_decides a.servers.items b.servers.items))))))))))))))))))
-
--- what is always true tells nothing more
-still_decides : {P : Type 0} (b : Bool) → Decides b P → Decides (b && true) P
-still_decides true decides = decides
-still_decides false decides = decides
-
--- two configurations are equal by `==` exactly where they show the same
-pub config_decides : (a b : Config) → Decides (config_eq a b) (shown a ≡ shown b)
-config_decides a b =
-    let v = shown a in
-    let w = shown b in
-    Decides-like {P = (v.shards ≡ w.shards)
-    × ((v.seed ≡ w.seed) × ((v.auth ≡ w.auth)
-    × ((v.acct ≡ w.acct) × ((v.trace_limit ≡ w.trace_limit)
-    × ((v.trace_octets ≡ w.trace_octets)
-    × ((v.max_hops ≡ w.max_hops) × ((v.status_server ≡ w.status_server)
-    × ((v.spread ≡ w.spread) × ((v.reject ≡ w.reject)
-    × ((v.well_formed ≡ w.well_formed)
-    × ((v.answer_unnamed ≡ w.answer_unnamed) × ((v.peers ≡ w.peers) × ((v.realms ≡ w.realms))))))))))))))} _
-    (λ p. λ i. record {
-      shards = p.0 i;
-      seed = p.1.0 i;
-      auth = p.1.1.0 i;
-      acct = p.1.1.1.0 i;
-      trace_limit = p.1.1.1.1.0 i;
-      trace_octets = p.1.1.1.1.1.0 i;
-      max_hops = p.1.1.1.1.1.1.0 i;
-      status_server = p.1.1.1.1.1.1.1.0 i;
-      spread = p.1.1.1.1.1.1.1.1.0 i;
-      reject = p.1.1.1.1.1.1.1.1.1.0 i;
-      well_formed = p.1.1.1.1.1.1.1.1.1.1.0 i;
-      answer_unnamed = p.1.1.1.1.1.1.1.1.1.1.1.0 i;
-      peers = p.1.1.1.1.1.1.1.1.1.1.1.1.0 i;
-      realms = p.1.1.1.1.1.1.1.1.1.1.1.1.1 i;
-    })
-    (λ e. (
-      ap (λ (x : ConfigView). x.shards) e,
-      (
-        ap (λ (x : ConfigView). x.seed) e,
-        (
-          ap (λ (x : ConfigView). x.auth) e,
-          (
-            ap (λ (x : ConfigView). x.acct) e,
-            (
-              ap (λ (x : ConfigView). x.trace_limit) e,
-              (
-                ap (λ (x : ConfigView). x.trace_octets) e,
-                (
-                  ap (λ (x : ConfigView). x.max_hops) e,
-                  (
-                    ap (λ (x : ConfigView). x.status_server) e,
-                    (
-                      ap (λ (x : ConfigView). x.spread) e,
-                      (
-                        ap (λ (x : ConfigView). x.reject) e,
-                        (
-                          ap (λ (x : ConfigView). x.well_formed) e,
-                          (
-                            ap (λ (x : ConfigView). x.answer_unnamed) e,
-                            (ap (λ (x : ConfigView). x.peers) e, ap (λ (x : ConfigView). x.realms) e),
-                          ),
-                        ),
-                      ),
-                    ),
-                  ),
-                ),
-              ),
-            ),
-          ),
-        ),
-      ),
-    ))
-    (Decides-and _ _ (Decides-eqb a.shards b.shards)
-    (Decides-and _ _ (bytes_eq-Decides a.seed b.seed)
-    (Decides-and _ _ (endpoint_decides a.auth b.auth)
-    (Decides-and _ _ (endpoint_decides a.acct b.acct)
-    (Decides-and _ _ (Decides-eqb a.trace_limit b.trace_limit)
-    (Decides-and _ _ (Decides-eqb a.trace_octets b.trace_octets)
-    (Decides-and _ _ (whole_option_decides eqb Decides-eqb a.max_hops b.max_hops)
-    (Decides-and _ _ (booleans_Decides a.status_server b.status_server)
-    (Decides-and _ _ (booleans_Decides a.spread b.spread)
-    (Decides-and _ _ (list_decides pattern_eq shown_pattern pattern_decides a.reject.items b.reject.items)
-    (Decides-and _ _ (booleans_Decides a.well_formed b.well_formed)
-    (Decides-and _ _ (booleans_Decides a.answer_unnamed b.answer_unnamed)
-    (Decides-and _ _ (list_decides peer_eq shown_peer peer_decides a.peers.items b.peers.items)
-    (still_decides _ (list_decides realm_eq shown_realm realm_decides a.realms.items b.realms.items)))))))))))))))
+    (whole_list_decides removed_eq removed_decides a.reply_without.items b.reply_without.items)))))))))))))

@@ -98,7 +98,7 @@ owner_with_key key entries k o = by_owner (owner_of entries k) refl
     by_owner (Some x) is = ap (λ l. owner_of (if is_none l then entries ++ (k, o) ∷ [] else entries) key) is
         ∙ there x is
 
-or_more : (a : Option ℕ) (b : Bool) (o : ℕ) (rest : Option ℕ) →
+pub or_more : (a : Option ℕ) (b : Bool) (o : ℕ) (rest : Option ℕ) →
     option_or (option_or a (cond b (Some o) None)) rest ≡ option_or a (cond b (Some o) rest)
 or_more None true o rest = refl
 or_more None false o rest = refl

@@ -1,5 +1,6 @@
 pub mod EqualLemmas
 pub mod EqualPartsLemmas
+pub mod EqualRealmLemmas
 pub mod IndexLemmas
 pub mod LinkLemmas
 pub mod LookupLaws
@@ -9,4 +10,5 @@ pub mod OneServerLemmas
 pub mod PeerLemmas
 pub mod ShortNameLemmas
 pub mod SuffixLemmas
+pub mod TargetLemmas
 pub mod TextLemmas

@@ -9,9 +9,9 @@ use Rattle.roam_conf.specs.declared.place.Link.{Link}
 use Rattle.roam_conf.specs.declared.place.Link.TheVariants.{Auth, Acct, Coa}
 use Rattle.roam_conf.specs.declared.realm.Realm.{Realm}
 use Rattle.roam_conf.specs.Parts.{shown_realm}
-use Rattle.roam_conf.specs.Config.{ServerView, PeerView, RealmView, ConfigView}
-use Rattle.roam_conf.specs.Duplicates.{has_pair, same_endpoint, is_among, server_endpoints, coa_endpoints, some_server_at, has_duplicate_server, has_duplicate_link}
-use Rattle.roam_conf.specs.Lookup.{endpoint_of, link_at, is_there, is_coa, first_place, link_in, endpoint_in_realm, servers_in, IsLinkIn, server_with_ip, reverse_home, home_in}
+use Rattle.roam_conf.specs.Config.{ServerView, CoaClientView, PeerView, RealmView, ConfigView}
+use Rattle.roam_conf.specs.Duplicates.{has_pair, same_endpoint, is_among, server_endpoints, coa_endpoints, some_server_at, same_client, has_pair_of_servers, has_duplicate_server, has_duplicate_link}
+use Rattle.roam_conf.specs.Lookup.{endpoint_of, link_at, is_there, is_coa, first_place, link_in, endpoint_in_realm, servers_in, IsLinkIn, server_with_ip, client_with_ip, home_with_ip, reverse_home, home_in, homes, homes_in}
 use Rattle.roam_conf.proofs.LinkLemmas.{link_found, link_in_found}
 use Rattle.roam_conf.proofs.OneServerLemmas.{same_itself, among_more, among_first, once_more, once_first, option_source, then_source, part_of, part_apart, auth_part, one_server}
 
@@ -147,8 +147,8 @@ once_in config realm r servers links at =
     let parts = or_parts (has_pair same_endpoint (coa_endpoints config.peers))
     (list_any (λ (x : RealmView). some_server_at (coa_endpoints config.peers) x.servers) config.realms) links in
     record {
-      of_servers = none_passes (λ (x : RealmView). has_pair same_endpoint (server_endpoints x.servers)) config.realms
-          realm r servers at;
+      of_servers = (or_parts (has_pair same_endpoint (server_endpoints r.servers))
+          (has_pair same_client r.coa_clients) (none_passes has_pair_of_servers config.realms realm r servers at)).0;
       of_peers = parts.0;
       apart = none_passes (λ (x : RealmView). some_server_at (coa_endpoints config.peers) x.servers) config.realms
           realm r parts.1 at;
@@ -198,22 +198,39 @@ place_within test n (x ∷ xs) i is =
           omega (arith, place_within test (n + 1) xs i rest))
     ]
 
-pub home_in_bound : (config : ConfigView) (realm : ℕ) (ip : List ℕ) (i : ℕ) → home_in config realm ip ≡ Some i →
-    i < length (servers_in config realm)
+-- a source that is found is one of the realm's servers, or of its further sources behind them
+server_bound : (servers : List ServerView) (ip : List ℕ) (i : ℕ) → server_with_ip servers ip ≡ Some i →
+    i < length servers
 unfolding server_with_ip
+server_bound servers ip i is = let within = place_within _ 0 servers i is in omega arith
+
+client_bound : (clients : List CoaClientView) (ip : List ℕ) (k : ℕ) → client_with_ip clients ip ≡ Some k →
+    k < length clients
+unfolding client_with_ip
+client_bound clients ip k is = let within = place_within _ 0 clients k is in omega arith
+
+home_bound : (r : RealmView) (ip : List ℕ) (i : ℕ) (server client : Option ℕ) → server_with_ip r.servers ip ≡ server →
+    client_with_ip r.coa_clients ip ≡ client →
+    option_or server (option_map (λ k. length r.servers + k) client) ≡ Some i → i < homes r
+home_bound r ip i (Some j) client at behind is =
+    omega (arith, server_bound r.servers ip j at, same_Some j i is)
+home_bound r ip i None (Some k) at behind is =
+    omega (arith, client_bound r.coa_clients ip k behind, same_Some (length r.servers + k) i is)
+home_bound r ip i None None at behind is = cc
+
+pub home_in_bound : (config : ConfigView) (realm : ℕ) (ip : List ℕ) (i : ℕ) → home_in config realm ip ≡ Some i →
+    i < homes_in config realm
 home_in_bound config realm ip i is = by_realm (slice_get config.realms realm) refl is
   where
-    by_reverse : (reverse : Option Endpoint) (servers : List ServerView) →
-        option_and_then (λ own. server_with_ip servers ip) reverse ≡ Some i → i < length servers
-    by_reverse None servers is = cc
-    by_reverse (Some own) servers is =
-        let within = place_within _ 0 servers i is in
-        omega arith
+    by_reverse : (reverse : Option Endpoint) (r : RealmView) →
+        option_and_then (λ own. home_with_ip r ip) reverse ≡ Some i → i < homes r
+    by_reverse None r is = cc
+    by_reverse (Some own) r is = home_bound r ip i _ _ refl refl is
 
     by_realm : (found : Option RealmView) → slice_get config.realms realm ≡ found →
-        option_and_then (λ r. reverse_home r ip) found ≡ Some i → i < length (servers_in config realm)
+        option_and_then (λ r. reverse_home r ip) found ≡ Some i → i < homes_in config realm
     by_realm None at is = cc
-    by_realm (Some r) at is = rw at (by_reverse r.reverse r.servers is)
+    by_realm (Some r) at is = rw at (by_reverse r.reverse r is)
 
 -- the same of what a look-up gave
 pub link_in_bounds : (config : ConfigView) (realm : ℕ) (e : Endpoint) (found : Option Link) →
@@ -222,7 +239,7 @@ link_in_bounds config realm e None is = tt
 link_in_bounds config realm e (Some link) is = link_in_bound config realm e link (sym is)
 
 pub home_in_bounds : (config : ConfigView) (realm : ℕ) (ip : List ℕ) (found : Option ℕ) →
-    found ≡ home_in config realm ip → IfSome found (λ server. server < length (servers_in config realm))
+    found ≡ home_in config realm ip → IfSome found (λ home. home < homes_in config realm)
 home_in_bounds config realm ip None is = tt
 home_in_bounds config realm ip (Some i) is = home_in_bound config realm ip i (sym is)
 

@@ -12,6 +12,11 @@ pub record ServerView : Type 0 where
   pub secret : List ℕ
   pub require_seal : Bool
 
+-- a further source of a realm's reverse requests: its address, and the secret shared with it
+pub record CoaClientView : Type 0 where
+  pub ip : List ℕ
+  pub secret : List ℕ
+
 -- an access server, or the proxy of a visited network: how it is known and named, what its Access-Requests need, what
 -- is added to its requests, and what is taken out of them and of what is sent to it
 pub record PeerView : Type 0 where
@@ -21,6 +26,7 @@ pub record PeerView : Type 0 where
   pub coa : Option Endpoint
   pub nas_ip : Option (List ℕ)
   pub nas_id : Option (List ℕ)
+  pub nas_ids : List (List ℕ)
   pub require_seal : Bool
   pub limit_proxy_state : Bool
   pub operator_name : Option (List ℕ)
@@ -35,8 +41,10 @@ pub data PatternView : Type 0 where
   any : PatternView
 
 -- a realm with the names of the peers that may ask it (where not all may), what becomes of its accounting, what is
--- taken out of its requests and replies, its own sockets (that for reverse requests where it takes them), its limits,
--- and its servers in the order of their use
+-- taken out of its requests and replies, its shares of names and of peers, which names its replies may have, whether
+-- conversations stay at their server, whether reverse requests name one of its own sessions, from where these come
+-- beside its servers, its own sockets (that for reverse requests where it takes them), its limits, and its servers in
+-- the order of their use
 pub record RealmView : Type 0 where
   pub name : List ℕ
   pub also : List PatternView
@@ -46,6 +54,11 @@ pub record RealmView : Type 0 where
   pub request_without : List RemovedAttribute
   pub reply_without : List RemovedAttribute
   pub share : Option ℕ
+  pub peer_share : Option ℕ
+  pub own_names : Bool
+  pub conversations : Bool
+  pub own_sessions : Bool
+  pub coa_clients : List CoaClientView
   pub out : Endpoint
   pub reverse : Option Endpoint
   pub tries : ℕ
@@ -59,10 +72,10 @@ pub record RealmView : Type 0 where
 
 -- ## Configuration
 -- The operator's values as a record: shards, seed, the broker's endpoints, the limits of a trace in steps and
--- in octets, the limit of hops, whether a Status-Server is answered, whether the workers share `auth` and `acct`,
--- which names no realm has, whether names have to be well formed, whether unnamed accounting is answered, the
--- peers, and the realms with their servers in order of use. Each value is in its range, nothing stands twice that
--- may not, and no peer is named that isn't there.
+-- in octets, the limits of hops and of attributes, whether a Status-Server is answered, whether the workers share
+-- `auth` and `acct`, which names no realm has, whether names have to be well formed, whether unnamed accounting is
+-- answered, how old a reverse request may be, the peers, and the realms with their servers in order of use. Each value
+-- is in its range, nothing stands twice that may not, and no peer is named that isn't there.
 -- Source: ours
 -- Rules out: a realm without servers; an empty secret; two realms of one name; a realm whose requests are
 -- accounted for at a server that takes none
@@ -78,10 +91,12 @@ pub record ConfigView : Type 0 where
   pub trace_limit : ℕ
   pub trace_octets : ℕ
   pub max_hops : Option ℕ
+  pub max_attributes : Option ℕ
   pub status_server : Bool
   pub spread : Bool
   pub reject : List PatternView
   pub well_formed : Bool
   pub answer_unnamed : Bool
+  pub fresh : Option ℕ
   pub peers : List PeerView
   pub realms : List RealmView

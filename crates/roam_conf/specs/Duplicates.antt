@@ -4,7 +4,7 @@ use Rattle.std.specs.List.{list_any, filter_map, flat_map, cons_option}
 use Rattle.std.specs.Option.{option_to_list, option_map_or}
 use Rattle.std.specs.Str.{bytes_eq, str_eq_ignore_ascii_case}
 use Rattle.roam_conf.specs.declared.endpoint.Endpoint.{Endpoint}
-use Rattle.roam_conf.specs.Config.{ServerView, PeerView, PatternView, RealmView}
+use Rattle.roam_conf.specs.Config.{ServerView, CoaClientView, PeerView, PatternView, RealmView}
 use Rattle.roam_conf.specs.Patterns.{same_pattern, patterns_of}
 
 -- two elements, at different places of the list, are the same by the test
@@ -30,11 +30,22 @@ abbrev pub same_name_if_there : Option (List ℕ) → Option (List ℕ) → Bool
 same_name_if_there (Some a) (Some b) = str_eq_ignore_ascii_case a b
 same_name_if_there _ _ = false
 
--- equal names, addresses, NAS-IP-Addresses, NAS-Identifiers or, without ASCII case, Operator-Names
+-- equal names, addresses, NAS-IP-Addresses or, without ASCII case, Operator-Names
 abbrev pub same_peer : PeerView → PeerView → Bool
 same_peer a b =
-    bytes_eq a.name b.name || bytes_eq a.ip b.ip || same_if_there a.nas_ip b.nas_ip || same_if_there a.nas_id b.nas_id
+    bytes_eq a.name b.name || bytes_eq a.ip b.ip || same_if_there a.nas_ip b.nas_ip
     || same_name_if_there a.operator_name b.operator_name
+
+-- the texts of a peer's `nas_id` and `nas_ids`; those of all peers
+abbrev pub nas_texts_of : PeerView → List (List ℕ)
+nas_texts_of peer = option_to_list peer.nas_id ++ peer.nas_ids
+
+abbrev pub nas_texts : List PeerView → List (List ℕ)
+nas_texts peers = flat_map nas_texts_of peers
+
+-- equal addresses
+abbrev pub same_client : CoaClientView → CoaClientView → Bool
+same_client a b = bytes_eq a.ip b.ip
 
 -- where the broker's own sockets of a realm are: its `out`, and its `reverse` where it has one
 abbrev pub realm_endpoints : RealmView → List Endpoint
@@ -62,17 +73,21 @@ some_server_at endpoints servers =
 unfoldable pub has_duplicate_realm : List RealmView → List PatternView → Bool
 has_duplicate_realm realms reject = has_pair same_pattern (flat_map patterns_of realms ++ reject)
 
--- two peers are equal in one of the five
+-- two peers are equal in one of the four, or two texts of `nas_id` and `nas_ids` of all peers are equal
 unfoldable pub has_duplicate_peer : List PeerView → Bool
-has_duplicate_peer peers = has_pair same_peer peers
+has_duplicate_peer peers = has_pair same_peer peers || has_pair bytes_eq (nas_texts peers)
 
 -- two of the broker's own sockets are at one endpoint
 unfoldable pub has_duplicate_endpoint : Endpoint → Endpoint → List RealmView → Bool
 has_duplicate_endpoint auth acct realms = has_pair same_endpoint (own_endpoints auth acct realms)
 
--- two endpoints of one realm's servers are equal; two realms may have the same servers
+-- two endpoints of one realm's servers are equal, or two addresses of its `coa_client`s; two realms may have the same
+abbrev pub has_pair_of_servers : RealmView → Bool
+has_pair_of_servers realm =
+    has_pair same_endpoint (server_endpoints realm.servers) || has_pair same_client realm.coa_clients
+
 unfoldable pub has_duplicate_server : List RealmView → Bool
-has_duplicate_server realms = list_any (λ realm. has_pair same_endpoint (server_endpoints realm.servers)) realms
+has_duplicate_server realms = list_any has_pair_of_servers realms
 
 -- two peers take reverse requests at one endpoint, or a peer does at a server's
 unfoldable pub has_duplicate_link : List PeerView → List RealmView → Bool

@@ -49,6 +49,10 @@ pattern_seen Any = any
 abbrev pub of_owner : ℕ → PatternView → List ℕ × ℕ
 of_owner owner pattern = (pattern_key pattern, owner)
 
+-- a text that nobody owns: the owners of such an index don't count
+abbrev pub of_nobody : List ℕ → List ℕ × ℕ
+of_nobody text = (text, 0)
+
 -- all patterns of these lists, of which the first has this owner
 abbrev pub all_patterns : ℕ → List (List PatternView) → List (List ℕ × ℕ)
 all_patterns i [] = []
@@ -66,3 +70,8 @@ HasMark marks key = (name : List ℕ) → key ≡ 46 ∷ name → length name �
 abbrev pub AreMarked : List Bool → List (List ℕ × ℕ) → Type 0
 AreMarked marks entries =
     (name : List ℕ) → length name ≤ 253 → is_marked marks (length name) ≡ false → owner_of entries (46 ∷ name) ≡ None
+
+-- of a length of at most 253 octets that isn't marked no front has an owner
+abbrev pub AreLengths : List Bool → List (List ℕ × ℕ) → Type 0
+AreLengths marks entries =
+    (front : List ℕ) → length front ≤ 253 → is_marked marks (length front) ≡ false → owner_of entries front ≡ None

@@ -9,5 +9,7 @@ pub mod Parts
 pub mod Patterns
 pub mod Secrets
 pub mod Shown
+pub mod TargetIndex
+pub mod Targets
 pub mod Texts
 pub mod WellFormed

@@ -1,12 +1,12 @@
 -- Look-ups in a configuration. Ours.
-use Rattle.std.specs.Prelude.{◌≡◌, ◌≢◌, ℕ, ◌<◌, ◌==◌, ◌||◌, not, nat_lt, if◌then◌else◌, Bool, false, List, [], ◌∷◌, ◌++◌, length, map, Option, Some, None, option_map, option_and_then, slice_get}
+use Rattle.std.specs.Prelude.{◌≡◌, ◌≢◌, ℕ, ◌+◌, ◌<◌, ◌==◌, ◌||◌, not, nat_lt, if◌then◌else◌, Bool, false, List, [], ◌∷◌, ◌++◌, length, map, Option, Some, None, option_map, option_and_then, slice_get}
 use Rattle.std.specs.List.{list_any, position_from}
 use Rattle.std.specs.Option.{option_or, option_map_or}
 use Rattle.std.specs.Str.{bytes_eq}
 use Rattle.roam_conf.specs.declared.endpoint.Endpoint.{Endpoint}
 use Rattle.roam_conf.specs.declared.place.Link.{Link}
 use Rattle.roam_conf.specs.declared.place.Link.TheVariants.{Auth, Acct, Coa}
-use Rattle.roam_conf.specs.Config.{ServerView, PeerView, PatternView, whole, suffix, any, RealmView, ConfigView}
+use Rattle.roam_conf.specs.Config.{ServerView, CoaClientView, PeerView, PatternView, whole, suffix, any, RealmView, ConfigView}
 use Rattle.roam_conf.specs.Duplicates.{same_endpoint}
 use Rattle.roam_conf.specs.Patterns.{same_pattern, patterns_of}
 use Rattle.roam_conf.specs.WellFormed.{is_well_formed}
@@ -95,9 +95,19 @@ server_with_ip servers ip =
     first_place (λ server. bytes_eq server.auth.ip ip || option_map_or (λ e. bytes_eq e.ip ip) server.acct false)
     servers
 
--- the server of a realm whose reverse requests come from the address; none where the realm takes no reverse requests
+-- the first `coa_client` that has the address
+unfoldable pub client_with_ip : List CoaClientView → List ℕ → Option ℕ
+client_with_ip clients ip = first_place (λ client. bytes_eq client.ip ip) clients
+
+-- the source that has the address, by its number: a server's place, or else behind the servers a `coa_client`'s
+abbrev pub home_with_ip : RealmView → List ℕ → Option ℕ
+home_with_ip realm ip =
+    option_or (server_with_ip realm.servers ip)
+    (option_map (λ k. length realm.servers + k) (client_with_ip realm.coa_clients ip))
+
+-- whose reverse requests come to a realm from the address; nobody's where the realm takes none
 abbrev pub reverse_home : RealmView → List ℕ → Option ℕ
-reverse_home realm ip = option_and_then (λ own. server_with_ip realm.servers ip) realm.reverse
+reverse_home realm ip = option_and_then (λ own. home_with_ip realm ip) realm.reverse
 
 -- the endpoint of a link of a realm, where there is such a link
 abbrev pub endpoint_of : List PeerView → RealmView → Link → Option Endpoint
@@ -149,12 +159,20 @@ servers_of (Some realm) = realm.servers
 abbrev pub servers_in : ConfigView → ℕ → List ServerView
 servers_in config realm = servers_of (slice_get config.realms realm)
 
+-- how many sources of reverse requests a realm has: its servers and its `coa_client`s; and a realm by its index
+abbrev pub homes : RealmView → ℕ
+homes realm = length realm.servers + length realm.coa_clients
+
+abbrev pub homes_in : ConfigView → ℕ → ℕ
+homes_in config realm = option_map_or homes (slice_get config.realms realm) 0
+
 -- ## Look-ups
 -- The realm that a name means; the first peer of an address; the link of a realm that an endpoint is; the first
--- home server of an address; the shard of a realm, its index modulo their number. What is found is configured,
--- and each link of a realm is the one that its endpoint finds.
+-- home server of an address, or else the `coa_client`; the shard of a realm, its index modulo their number. What is
+-- found is configured, and each link of a realm is the one that its endpoint finds.
 -- Source: ours
--- Rules out: the last server taken for the first; a link past the last server; a link that no packet reaches
+-- Rules out: the last server taken for the first; a `coa_client` that takes a server's place; a link past the last
+-- server; a link that no packet reaches
 -- Stands in: `roam_conf` `Lookup.antt`: `IsLinkIn` and others; `realm_index`, `peer_by_ip`, `link_of`,
 -- `home_of`, `shard_of`, the laws `link_of_finds_its_endpoint`, `link_of_finds_each_link`
 --

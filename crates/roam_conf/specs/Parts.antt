@@ -2,10 +2,11 @@
 use Rattle.std.specs.Prelude.{ℕ, List, map, option_map, string_bytes, String}
 use Rattle.std.specs.declared.alloc.Global.{Global}
 use Rattle.std.specs.declared.vec.Vec.{Vec}
+use Rattle.roam_conf.specs.declared.coa_client.CoaClient.{CoaClient}
 use Rattle.roam_conf.specs.declared.peer.Peer.{Peer}
 use Rattle.roam_conf.specs.declared.realm.Realm.{Realm}
 use Rattle.roam_conf.specs.declared.server.Server.{Server}
-use Rattle.roam_conf.specs.Config.{ServerView, PeerView, RealmView}
+use Rattle.roam_conf.specs.Config.{ServerView, CoaClientView, PeerView, RealmView}
 use Rattle.roam_conf.specs.Patterns.{shown_pattern}
 
 abbrev pub shown_server : Server → ServerView
@@ -16,6 +17,12 @@ shown_server server = record {
   require_seal = server.require_seal;
 }
 
+abbrev pub shown_client : CoaClient → CoaClientView
+shown_client client = record { ip = client.ip; secret = string_bytes client.secret }
+
+abbrev pub shown_names : Vec (String Global) Global → List (List ℕ)
+shown_names names = map string_bytes names.items
+
 abbrev pub shown_peer : Peer → PeerView
 shown_peer peer = record {
   name = string_bytes peer.name;
@@ -24,6 +31,7 @@ shown_peer peer = record {
   coa = peer.coa;
   nas_ip = peer.nas_ip;
   nas_id = option_map string_bytes peer.nas_id;
+  nas_ids = map string_bytes peer.nas_ids.items;
   require_seal = peer.require_seal;
   limit_proxy_state = peer.limit_proxy_state;
   operator_name = option_map string_bytes peer.operator_name;
@@ -31,9 +39,6 @@ shown_peer peer = record {
   request_without = peer.request_without.items;
   reply_without = peer.reply_without.items;
 }
-
-abbrev pub shown_names : Vec (String Global) Global → List (List ℕ)
-shown_names names = map string_bytes names.items
 
 abbrev pub shown_realm : Realm → RealmView
 shown_realm realm = record {
@@ -45,6 +50,11 @@ shown_realm realm = record {
   request_without = realm.request_without.items;
   reply_without = realm.reply_without.items;
   share = realm.share;
+  peer_share = realm.peer_share;
+  own_names = realm.own_names;
+  conversations = realm.conversations;
+  own_sessions = realm.own_sessions;
+  coa_clients = map shown_client realm.coa_clients.items;
   out = realm.out;
   reverse = realm.reverse;
   tries = realm.tries;

@@ -15,11 +15,13 @@ shown config = record {
   trace_limit = config.trace_limit;
   trace_octets = config.trace_octets;
   max_hops = config.max_hops;
+  max_attributes = config.max_attributes;
   status_server = config.status_server;
   spread = config.spread;
   reject = map shown_pattern config.reject.items;
   well_formed = config.well_formed;
   answer_unnamed = config.answer_unnamed;
+  fresh = config.fresh;
   peers = map shown_peer config.peers.items;
   realms = map shown_realm config.realms.items;
 }
@@ -34,11 +36,13 @@ shown_parts parts = record {
   trace_limit = parts.trace_limit;
   trace_octets = parts.trace_octets;
   max_hops = parts.max_hops;
+  max_attributes = parts.max_attributes;
   status_server = parts.status_server;
   spread = parts.spread;
   reject = map shown_pattern parts.reject.items;
   well_formed = parts.well_formed;
   answer_unnamed = parts.answer_unnamed;
+  fresh = parts.fresh;
   peers = map shown_peer parts.peers.items;
   realms = map shown_realm parts.realms.items;
 }

@@ -10,6 +10,7 @@ ghost use Rattle.roam_conf.specs.Index.{owners, owner_of, all_patterns};
 ghost use Rattle.roam_conf.specs.Lookup.{peer_with_ip, pattern_lists};
 ghost use Rattle.roam_conf.specs.Parts.{shown_peer, shown_realm};
 ghost use Rattle.roam_conf.specs.Patterns.{is_reject, shown_pattern};
+ghost use Rattle.roam_conf.specs.TargetIndex.{FindsTargets};
 
 use crate::indexes::Indexes;
 use crate::{ConfigParts, Endpoint, Peer, Realm, RealmPattern};
@@ -35,6 +36,8 @@ pub struct Config {
     pub trace_octets: u32,
     /// How many attributes Proxy-State (type 33) a request may have, where that is limited: 1 to 100.
     pub max_hops: Option<u8>,
+    /// How many attributes a request may have, where that is limited: 1 to 2000.
+    pub max_attributes: Option<u16>,
     /// Whether Status-Server (RFC 5997) is answered.
     pub status_server: bool,
     /// Whether each worker has an `auth` and an `acct` socket of its own.
@@ -45,6 +48,9 @@ pub struct Config {
     pub well_formed: bool,
     /// Whether an Accounting-Request without a User-Name is answered by the broker itself.
     pub answer_unnamed: bool,
+    /// By how many seconds the Event-Timestamp of a reverse request may differ from the clock, where it is looked
+    /// at: 10 to 3600.
+    pub fresh: Option<u16>,
     /// 1 to 1024 peers.
     pub peers: Vec<Peer>,
     /// 1 to 1024 realms.
@@ -56,6 +62,8 @@ pub struct Config {
     ghost trace_limit_range: { (1 ≤ trace_limit) × (trace_limit ≤ 1000000) },
     ghost trace_octets_range: { (1 ≤ trace_octets) × (trace_octets ≤ 1073741824) },
     ghost max_hops_range: { ForSome max_hops (λ n. (1 ≤ n) × (n ≤ 100)) },
+    ghost max_attributes_range: { ForSome max_attributes (λ n. (1 ≤ n) × (n ≤ 2000)) },
+    ghost fresh_range: { ForSome fresh (λ n. (10 ≤ n) × (n ≤ 3600)) },
     ghost reject_count: { vec_len reject ≤ 1024 },
     ghost reject_names: { list_all is_reject (map shown_pattern reject.items) ≡ true },
     ghost peer_count: { (1 ≤ vec_len peers) × (vec_len peers ≤ 1024) },
@@ -64,6 +72,7 @@ pub struct Config {
         ≡ all_patterns 0 (pattern_lists (map shown_realm realms.items) (map shown_pattern reject.items)) },
     ghost ips_noted: { (ip : List ℕ)
         → owner_of (owners found_by.ips) ip ≡ peer_with_ip (map shown_peer peers.items) ip },
+    ghost targets_noted: { FindsTargets found_by.targets (map shown_peer peers.items) },
     ghost distinct_realms: { has_duplicate_realm (map shown_realm realms.items)
         (map shown_pattern reject.items) ≡ false },
     ghost distinct_peers: { has_duplicate_peer (map shown_peer peers.items) ≡ false },
@@ -92,11 +101,13 @@ impl Config {
             trace_limit,
             trace_octets,
             max_hops,
+            max_attributes,
             status_server,
             spread,
             reject,
             well_formed,
             answer_unnamed,
+            fresh,
             peers,
             realms,
         } = parts;
@@ -114,11 +125,13 @@ impl Config {
             trace_limit,
             trace_octets,
             max_hops,
+            max_attributes,
             status_server,
             spread,
             reject,
             well_formed,
             answer_unnamed,
+            fresh,
             peers,
             realms,
             found_by,

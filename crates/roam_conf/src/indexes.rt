@@ -6,9 +6,11 @@ ghost use Rattle.roam_conf.specs.Index.{owners, owner_of, all_patterns, AreMarke
 ghost use Rattle.roam_conf.specs.Lookup.{peer_with_ip, pattern_lists};
 ghost use Rattle.roam_conf.specs.Parts.{shown_peer, shown_realm};
 ghost use Rattle.roam_conf.specs.Patterns.{shown_pattern};
+ghost use Rattle.roam_conf.specs.TargetIndex.{FindsTargets};
 
 use crate::index::{Index, note, row_of};
 use crate::names::{note_all, suffix_lengths};
+use crate::target_index::TargetIndex;
 use crate::{Peer, Realm, RealmPattern};
 use indexmap::IndexMap;
 use std::alloc::{AllocError, Global};
@@ -22,6 +24,8 @@ pub(crate) struct Indexes {
     pub(crate) suffix_lengths: [bool; 254],
     /// The peer of each address.
     pub(crate) ips: Index,
+    /// The peers that reverse requests name.
+    pub(crate) targets: TargetIndex,
     ghost marked: { AreMarked suffix_lengths (owners names) },
 }
 
@@ -54,15 +58,18 @@ impl Indexes {
             ≡ all_patterns 0 (pattern_lists (map shown_realm realms.now) (map shown_pattern reject.now))) }
         ensures ips { IfOk result (λ indexes. (ip : List ℕ)
             → owner_of (owners indexes.ips) ip ≡ peer_with_ip (map shown_peer peers.now) ip) }
+        ensures targets { IfOk result (λ indexes. FindsTargets indexes.targets (map shown_peer peers.now)) }
     {
         let mut names = IndexMap::new(alloc);
         note_all(&mut names, alloc, realms, reject)?;
         let suffix_lengths = suffix_lengths(&names);
         let ips = ips_of(alloc, peers)?;
+        let targets = TargetIndex::new(alloc, peers)?;
         Ok(Indexes {
             names,
             suffix_lengths,
             ips,
+            targets,
         })
     }
 }

@@ -15,18 +15,22 @@
 
 mod accounting;
 mod asking;
+mod coa_client;
 mod comparison;
 mod config;
 mod decimals;
 mod endpoint;
 mod equality;
 mod exchange_lines;
+mod homes;
 mod index;
 mod indexes;
 mod laws;
 mod list_search;
 mod lookup;
 mod names;
+mod nas_index;
+mod nas_texts;
 mod parts;
 mod pattern;
 mod peer;
@@ -35,9 +39,13 @@ mod place;
 mod realm;
 mod removed;
 mod server;
+mod target_index;
+mod target_lists;
+mod targets;
 mod well_formed;
 
 pub use accounting::Accounting;
+pub use coa_client::CoaClient;
 pub use comparison::{is_same_endpoint, is_same_name};
 pub use config::Config;
 pub use decimals::{address, decimal};
@@ -49,6 +57,7 @@ pub use laws::{
     link_of_finds_its_endpoint, longest_suffix_comes_next, names_alone_are_matched_whole,
     whole_name_comes_first,
 };
+pub use nas_texts::has_duplicate_nas_text;
 pub use parts::ConfigParts;
 pub use pattern::RealmPattern;
 pub use peer::Peer;

@@ -4,11 +4,11 @@ ghost use Rattle.std.specs.Prelude.{◌≡◌, ◌<◌, ◌^◌, IfSome, false, 
 ghost use Rattle.std.specs.Option.{option_map_or};
 ghost use Rattle.std.specs.Str.{bytes_eq};
 ghost use Rattle.roam_conf.specs.Duplicates.{same_endpoint};
-ghost use Rattle.roam_conf.specs.Lookup.{server_with_ip, first_place, is_there, is_coa};
-ghost use Rattle.roam_conf.specs.Parts.{shown_server, shown_peer};
+ghost use Rattle.roam_conf.specs.Lookup.{client_with_ip, server_with_ip, first_place, is_there, is_coa};
+ghost use Rattle.roam_conf.specs.Parts.{shown_client, shown_server, shown_peer};
 
 use crate::comparison::is_same_endpoint;
-use crate::{Endpoint, Link, Peer, Server};
+use crate::{CoaClient, Endpoint, Link, Peer, Server};
 
 /// Whether the endpoint is there, and at the address.
 fn is_at(ip: [u8; 4], endpoint: Option<Endpoint>) -> bool
@@ -29,6 +29,20 @@ pub(crate) fn server_with_ip(servers: &[Server], ip: [u8; 4]) -> Option<usize>
     for place in 0..servers.len() {
         if servers[place].auth.ip == ip || is_at(ip, servers[place].acct) {
             return Some(place);
+        }
+    }
+    None
+}
+
+/// The first `coa_client` that has the address.
+#[tactic(auto, unfolding(crate::specs::Lookup::client_with_ip))]
+pub(crate) fn client_with_ip(clients: &[CoaClient], ip: [u8; 4]) -> Option<usize>
+    ensures value { result ≡ client_with_ip (map shown_client clients.now) ip }
+    ensures bound { IfSome result (λ i. i < length clients.now) }
+{
+    for (i, client) in clients.iter().enumerate() {
+        if client.ip == ip {
+            return Some(i);
         }
     }
     None

@@ -9,7 +9,7 @@ use crate::{Config, Endpoint, Link, Peer, Realm, list_search};
 
 impl Realm {
     ghost use Rattle.std.specs.Prelude.{◌≡◌, ◌≤◌, length, map};
-    ghost use Rattle.roam_conf.specs.Lookup.{reverse_home, link_at, acct_or_coa_at};
+    ghost use Rattle.roam_conf.specs.Lookup.{link_at, acct_or_coa_at};
     ghost use Rattle.roam_conf.specs.Parts.{shown_peer, shown_realm};
 
     /// The link that the endpoint is, of this realm among these peers.
@@ -34,19 +34,6 @@ impl Realm {
             None => list_search::link_to_peer(list_search::coa_at(peers, endpoint)),
         }
     }
-
-    /// The first server with the address, where the realm takes reverse requests.
-    fn home_of(&self, ip: [u8; 4]) -> Option<u8>
-        ensures { result ≡ reverse_home (shown_realm self.now) ip }
-    {
-        if self.reverse.is_none() {
-            return None;
-        }
-        match list_search::server_with_ip(self.servers.as_slice(), ip) {
-            Some(server) => Some(server as u8),
-            None => None,
-        }
-    }
 }
 
 /// The octets from a place on.
@@ -66,7 +53,7 @@ impl Config {
     ghost use Rattle.roam_conf.specs.Index.{pattern_key, pattern_seen};
     ghost use Rattle.roam_conf.specs.Lookup.{realm_named, realm_owning, owner_with, may_fit, patterns_for, after_dots};
     ghost use Rattle.roam_conf.specs.Lookup.{further_patterns, first_answer};
-    ghost use Rattle.roam_conf.specs.Lookup.{peer_with_ip, link_in, home_in, servers_in, IsLinkIn};
+    ghost use Rattle.roam_conf.specs.Lookup.{peer_with_ip, link_in, IsLinkIn};
     ghost use Rattle.roam_conf.specs.Shown.{shown};
 
     /// Whose a pattern is; none has a name of more than 253 octets in it.
@@ -244,19 +231,6 @@ impl Config {
     {
         match self.realms.get(usize::from(realm)) {
             Some(realm) => realm.link_at(self.peers.as_slice(), endpoint),
-            None => None,
-        }
-    }
-
-    /// Whose reverse requests come to a realm from the address: the first server, in the order of use, that
-    /// has it in its `auth` or its `acct` endpoint; `None` also where the realm takes no reverse requests, or
-    /// isn't configured.
-    pub fn home_of(&self, realm: u16, ip: [u8; 4]) -> Option<u8>
-        ensures value { result ≡ home_in (shown self.now) realm ip }
-        ensures bound { IfSome result (λ server. server < length (servers_in (shown self.now) realm)) }
-    {
-        match self.realms.get(usize::from(realm)) {
-            Some(realm) => realm.home_of(ip),
             None => None,
         }
     }

@@ -40,6 +40,17 @@ fn key_of(alloc: Global, kind: u8, name: &[u8]) -> Result<Vec<u8>, AllocError>
     Ok(key)
 }
 
+/// A text in lower case.
+pub(crate) fn lower_row(alloc: Global, text: &[u8]) -> Result<Vec<u8>, AllocError>
+    ensures { IfOk result (λ row. row.items ≡ str_to_ascii_lowercase text.now) }
+{
+    let mut row = Vec::new(alloc);
+    for octet in text {
+        row.push(octet.to_ascii_lowercase())?;
+    }
+    Ok(row)
+}
+
 /// The key of a pattern.
 fn pattern_key(alloc: Global, pattern: &RealmPattern) -> Result<Vec<u8>, AllocError>
     ensures { IfOk result (λ key. key.items ≡ pattern_key (shown_pattern pattern.now)) }

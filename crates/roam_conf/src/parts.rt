@@ -27,6 +27,8 @@ pub struct ConfigParts {
     pub trace_octets: u32,
     /// How many attributes Proxy-State (type 33) a request may have, where that is limited: 1 to 100.
     pub max_hops: Option<u8>,
+    /// How many attributes a request may have, where that is limited: 1 to 2000.
+    pub max_attributes: Option<u16>,
     /// Whether Status-Server (RFC 5997) is answered.
     pub status_server: bool,
     /// Whether each worker has an `auth` and an `acct` socket of its own.
@@ -37,6 +39,9 @@ pub struct ConfigParts {
     pub well_formed: bool,
     /// Whether an Accounting-Request without a User-Name is answered by the broker itself.
     pub answer_unnamed: bool,
+    /// By how many seconds the Event-Timestamp of a reverse request may differ from the clock, where it is looked
+    /// at: 10 to 3600.
+    pub fresh: Option<u16>,
     /// 1 to 1024 peers.
     pub peers: Vec<Peer>,
     /// 1 to 1024 realms.
@@ -46,6 +51,8 @@ pub struct ConfigParts {
     ghost trace_limit_range: { (1 ≤ trace_limit) × (trace_limit ≤ 1000000) },
     ghost trace_octets_range: { (1 ≤ trace_octets) × (trace_octets ≤ 1073741824) },
     ghost max_hops_range: { ForSome max_hops (λ n. (1 ≤ n) × (n ≤ 100)) },
+    ghost max_attributes_range: { ForSome max_attributes (λ n. (1 ≤ n) × (n ≤ 2000)) },
+    ghost fresh_range: { ForSome fresh (λ n. (10 ≤ n) × (n ≤ 3600)) },
     ghost reject_count: { vec_len reject ≤ 1024 },
     ghost reject_names: { list_all is_reject (map shown_pattern reject.items) ≡ true },
     ghost peer_count: { (1 ≤ vec_len peers) × (vec_len peers ≤ 1024) },

@@ -1,8 +1,8 @@
 //! An access server, or the proxy of a visited network.
 
-ghost use Rattle.std.specs.Prelude.{◌≤◌, length, string_bytes, ◌≡◌, true, vec_len};
+ghost use Rattle.std.specs.Prelude.{◌≤◌, length, map, string_bytes, ◌≡◌, true, vec_len};
 ghost use Rattle.std.specs.List.{list_all};
-ghost use Rattle.roam_conf.specs.Letters.{is_peer_letter};
+ghost use Rattle.roam_conf.specs.Letters.{is_nas_text, is_peer_letter};
 ghost use Rattle.std.specs.Option.{ForSome};
 ghost use Rattle.roam_wire.specs.RemovedAttributes.{is_removal_in_requests, is_removal_in_replies};
 
@@ -23,6 +23,9 @@ pub struct Peer {
     pub nas_ip: Option<[u8; 4]>,
     /// The NAS-Identifier by which a reverse request names the peer: 1 to 253 octets.
     pub nas_id: Option<String>,
+    /// Further NAS-Identifiers of what stands behind the peer, at most 1024, each of 1 to 253 octets. One that ends in
+    /// `*` behind at least one octet stands for all that begin with what is before it.
+    pub nas_ids: Vec<String>,
     /// Whether each Access-Request of the peer needs a Message-Authenticator.
     pub require_seal: bool,
     /// Whether an Access-Request of the peer with a Proxy-State needs a Message-Authenticator.
@@ -40,6 +43,8 @@ pub struct Peer {
     ghost secret_length: { (1 ≤ length (string_bytes secret)) × (length (string_bytes secret) ≤ 64) },
     ghost nas_id_length: { ForSome nas_id
         (λ s. (1 ≤ length (string_bytes s)) × (length (string_bytes s) ≤ 253)) },
+    ghost nas_ids_count: { vec_len nas_ids ≤ 1024 },
+    ghost nas_ids_lengths: { list_all is_nas_text (map string_bytes nas_ids.items) ≡ true },
     ghost operator_name_length: { ForSome operator_name
         (λ s. (1 ≤ length (string_bytes s)) × (length (string_bytes s) ≤ 252)) },
     ghost few_without: { (vec_len request_without ≤ 64) × (vec_len reply_without ≤ 64) },

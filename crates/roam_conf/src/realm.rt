@@ -9,7 +9,7 @@ ghost use Rattle.roam_conf.specs.declared.accounting.Accounting.TheVariants.{For
 ghost use Rattle.roam_conf.specs.declared.server.Server.{Server};
 ghost use Rattle.roam_conf.specs.Patterns.{is_pattern, shown_pattern};
 
-use crate::{Accounting, Endpoint, RealmPattern, Server};
+use crate::{Accounting, CoaClient, Endpoint, RealmPattern, Server};
 use roam_wire::RemovedAttribute;
 
 /// A realm: its home servers, and the sockets that the broker keeps for it.
@@ -31,6 +31,16 @@ pub struct Realm {
     pub reply_without: Vec<RemovedAttribute>,
     /// How many requests of one code for one name may wait, where that is limited: 1 to 4096.
     pub share: Option<u16>,
+    /// How many requests of one peer may wait, where that is limited: 1 to 4096.
+    pub peer_share: Option<u16>,
+    /// Whether an Access-Accept keeps only those User-Names that name the realm part that the request named.
+    pub own_names: bool,
+    /// Whether the rounds of a login go to the server that sent its last Access-Challenge.
+    pub conversations: bool,
+    /// Whether a reverse request is forwarded only where it names one session of the realm's own.
+    pub own_sessions: bool,
+    /// From where reverse requests come beside the realm's servers: at most 8.
+    pub coa_clients: Vec<CoaClient>,
     /// The broker's socket from which the realm's packets are forwarded; its port isn't 0.
     pub out: Endpoint,
     /// The broker's socket that takes the realm's reverse requests (RFC 5176), where it takes them; its port
@@ -62,6 +72,8 @@ pub struct Realm {
     ghost request_removals: { list_all is_removal_in_requests request_without.items ≡ true },
     ghost reply_removals: { list_all is_removal_in_replies reply_without.items ≡ true },
     ghost share_range: { ForSome share (λ n. (1 ≤ n) × (n ≤ 4096)) },
+    ghost peer_share_range: { ForSome peer_share (λ n. (1 ≤ n) × (n ≤ 4096)) },
+    ghost coa_client_count: { vec_len coa_clients ≤ 8 },
     ghost accounted: { accounting ≡ Forwarded → list_all (λ (s : Server). is_some s.acct) servers.items ≡ true },
     ghost ports: { (1 ≤ out.port) × ForSome reverse (λ e. 1 ≤ e.port) },
     ghost tries_range: { (1 ≤ tries) × (tries ≤ 10) },

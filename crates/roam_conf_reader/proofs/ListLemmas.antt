@@ -14,12 +14,13 @@ use Rattle.roam_wire.specs.RemovedAttributes.{is_removal, is_removal_in_requests
 use Rattle.roam_conf.specs.declared.accounting.Accounting.{Accounting}
 use Rattle.roam_conf.specs.declared.server.Server.{Server}
 use Rattle.roam_conf.specs.Config.{ServerView, PatternView, whole, suffix, any, RealmView}
+use Rattle.roam_conf.specs.Letters.{is_nas_text}
 use Rattle.roam_conf.specs.Parts.{shown_names, shown_server}
 use Rattle.roam_conf.specs.Patterns.{is_realm_name, is_pattern, is_reject}
 use Rattle.roam_conf.specs.Texts.{removed_in}
 use Rattle.roam_conf_reader.specs.declared.values.Letters.TheVariants.{Any}
 use Rattle.roam_conf_reader.specs.Document.{StatesEach, StatesTables, StatesServer, StatesRealm, are_accounted}
-use Rattle.roam_conf_reader.specs.Values.{accounting, array_of, value_at, pattern_in, pattern, each_of, cons_if_both, list_of, passing, rejects, removed, peer_names, text, letters_of, if_there, item_count}
+use Rattle.roam_conf_reader.specs.Values.{accounting, array_of, value_at, pattern_in, pattern, each_of, cons_if_both, list_of, passing, rejects, removed, peer_names, text, letters_of, if_there, item_count, text_fits}
 use Rattle.roam_conf_reader.specs.declared.removed.Removals.{Removals}
 use Rattle.roam_conf_reader.specs.declared.removed.Removals.TheVariants.{OfRequests, OfReplies}
 use Rattle.roam_conf_reader.specs.Removals.{kept_of, may_name}
@@ -82,6 +83,16 @@ stated_removed may_name (string octets) r is = by_text (removed_in octets) is
         let both = cond_some (may_name x) x r h in
         rw (← both.1) both.0
 stated_removed may_name found r is = cc
+
+-- a text that an attribute has room for
+pub stated_nas_text : (found : Data) (octets : List ℕ) → text 253 (letters_of Any) found ≡ Some octets →
+    is_nas_text octets ≡ true
+unfolding text text_fits is_nas_text
+stated_nas_text (string found) octets is =
+    let size : Bool = nat_le 1 (length found) && nat_le (length found) 253 in
+    let both = cond_some (size && list_all (letters_of Any) found) found octets is in
+    rw (← both.1) (and_parts size (list_all (letters_of Any) found) both.0).0
+stated_nas_text found octets is = cc
 
 -- so many values, each of which passes
 record Pass {V : Type 0} (test : V → Bool) (n : ℕ) (values : List V) : Type 0 where

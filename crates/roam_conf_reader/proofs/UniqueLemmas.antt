@@ -1,10 +1,10 @@
 -- A document states one configuration at most.
-use Rattle.std.proofs.Common.{◌≡◌, codes, List, [], ◌∷◌, Option, Some, None, refl, subst, sym, ◌∙◌}
+use Rattle.std.proofs.Common.{◌≡◌, ℕ, codes, List, [], ◌∷◌, Option, Some, None, refl, subst, sym, ◌∙◌}
 use Rattle.std.proofs.lemmas.Option.{same_Some}
-use Rattle.toml.specs.Data.{table, Items, no_items, item, Members, get_member}
+use Rattle.toml.specs.Data.{Data, table, array, Items, no_items, item, Members, get_member}
 use Rattle.roam_conf.specs.declared.endpoint.Endpoint.{Endpoint}
-use Rattle.roam_conf.specs.Config.{ServerView, PeerView, RealmView, ConfigView}
-use Rattle.roam_conf_reader.specs.Document.{StatesEach, StatesTables, StatesServer, StatesPeer, StatesRealm, StatesConfig, sessions_unless_said}
+use Rattle.roam_conf.specs.Config.{ServerView, CoaClientView, PeerView, RealmView, ConfigView}
+use Rattle.roam_conf_reader.specs.Document.{StatesEach, StatesFew, StatesTables, StatesClient, StatesServer, StatesPeer, StatesRealm, StatesConfig, sessions_unless_said}
 use Rattle.roam_conf_reader.specs.Values.{number_or}
 
 -- two values that one option states are one
@@ -31,6 +31,19 @@ tables_unique : {V : Type 0} (States : Members → V → Type 0) →
 tables_unique States unique None xs ys p q = absurd p
 tables_unique States unique (Some items) xs ys p q = each_unique States unique items xs ys p q
 
+few_unique : {V : Type 0} (States : Members → V → Type 0) →
+    ((members : Members) (a b : V) → States members a → States members b → a ≡ b) → (most : ℕ) (found : Option Data)
+    (xs ys : List V) → StatesFew States most found xs → StatesFew States most found ys → xs ≡ ys
+few_unique States unique most None xs ys p q = p ∙ sym q
+few_unique States unique most (Some (array items)) xs ys p q = each_unique States unique items xs ys p.1 q.1
+few_unique States unique most (Some found) xs ys p q = absurd p
+
+pub client_unique : (members : Members) (a b : CoaClientView) → StatesClient members a → StatesClient members b → a ≡ b
+client_unique ms a b p q =
+    let ip = same_value _ a.ip b.ip p.ip q.ip in
+    let secret = same_value _ a.secret b.secret p.secret q.secret in
+    λ i. record { ip = ip i; secret = secret i }
+
 pub server_unique : (members : Members) (a b : ServerView) → StatesServer members a → StatesServer members b → a ≡ b
 server_unique ms a b p q =
     let auth = same_value _ a.auth b.auth p.auth q.auth in
@@ -47,6 +60,7 @@ peer_unique ms a b p q =
     let coa = same_value _ a.coa b.coa p.coa q.coa in
     let nas_ip = same_value _ a.nas_ip b.nas_ip p.nas_ip q.nas_ip in
     let nas_id = same_value _ a.nas_id b.nas_id p.nas_id q.nas_id in
+    let nas_ids = same_value _ a.nas_ids b.nas_ids p.nas_ids q.nas_ids in
     let require_seal = same_value _ a.require_seal b.require_seal p.require_seal q.require_seal in
     let limit_proxy_state = same_value _ a.limit_proxy_state b.limit_proxy_state p.limit_proxy_state
     q.limit_proxy_state in
@@ -61,6 +75,7 @@ peer_unique ms a b p q =
       coa = coa i;
       nas_ip = nas_ip i;
       nas_id = nas_id i;
+      nas_ids = nas_ids i;
       require_seal = require_seal i;
       limit_proxy_state = limit_proxy_state i;
       operator_name = operator_name i;
@@ -79,6 +94,12 @@ realm_unique ms a b p q =
     let request_without = same_value _ a.request_without b.request_without p.request_without q.request_without in
     let reply_without = same_value _ a.reply_without b.reply_without p.reply_without q.reply_without in
     let share = same_value _ a.share b.share p.share q.share in
+    let peer_share = same_value _ a.peer_share b.peer_share p.peer_share q.peer_share in
+    let own_names = same_value _ a.own_names b.own_names p.own_names q.own_names in
+    let conversations = same_value _ a.conversations b.conversations p.conversations q.conversations in
+    let own_sessions = same_value _ a.own_sessions b.own_sessions p.own_sessions q.own_sessions in
+    let coa_clients = few_unique StatesClient client_unique 8 _ a.coa_clients b.coa_clients p.coa_clients
+    q.coa_clients in
     let out = same_value _ a.out b.out p.out q.out in
     let reverse = same_value _ a.reverse b.reverse p.reverse q.reverse in
     let tries = same_value _ a.tries b.tries p.tries q.tries in
@@ -100,6 +121,11 @@ realm_unique ms a b p q =
       request_without = request_without i;
       reply_without = reply_without i;
       share = share i;
+      peer_share = peer_share i;
+      own_names = own_names i;
+      conversations = conversations i;
+      own_sessions = own_sessions i;
+      coa_clients = coa_clients i;
       out = out i;
       reverse = reverse i;
       tries = tries i;
@@ -121,11 +147,13 @@ config_unique ms a b p q =
     let trace_limit = same_value _ a.trace_limit b.trace_limit p.trace_limit q.trace_limit in
     let trace_octets = same_value _ a.trace_octets b.trace_octets p.trace_octets q.trace_octets in
     let max_hops = same_value _ a.max_hops b.max_hops p.max_hops q.max_hops in
+    let max_attributes = same_value _ a.max_attributes b.max_attributes p.max_attributes q.max_attributes in
     let status_server = same_value _ a.status_server b.status_server p.status_server q.status_server in
     let spread = same_value _ a.spread b.spread p.spread q.spread in
     let reject = same_value _ a.reject b.reject p.reject q.reject in
     let well_formed = same_value _ a.well_formed b.well_formed p.well_formed q.well_formed in
     let answer_unnamed = same_value _ a.answer_unnamed b.answer_unnamed p.answer_unnamed q.answer_unnamed in
+    let fresh = same_value _ a.fresh b.fresh p.fresh q.fresh in
     let peers = tables_unique StatesPeer peer_unique _ a.peers b.peers p.peers q.peers in
     let realms = tables_unique StatesRealm realm_unique _ a.realms b.realms p.realms q.realms in
     λ i. record {
@@ -136,11 +164,13 @@ config_unique ms a b p q =
       trace_limit = trace_limit i;
       trace_octets = trace_octets i;
       max_hops = max_hops i;
+      max_attributes = max_attributes i;
       status_server = status_server i;
       spread = spread i;
       reject = reject i;
       well_formed = well_formed i;
       answer_unnamed = answer_unnamed i;
+      fresh = fresh i;
       peers = peers i;
       realms = realms i;
     }

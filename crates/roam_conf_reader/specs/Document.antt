@@ -1,5 +1,5 @@
 -- What a TOML document states, table by table and key by key: the configuration format. Ours.
-use Rattle.std.specs.Prelude.{◌≡◌, ℕ, codes, ◌&&◌, ◌||◌, not, Bool, true, false, List, [], ◌∷◌, Option, Some, None, is_some}
+use Rattle.std.specs.Prelude.{◌≡◌, ◌≤◌, ℕ, codes, ◌&&◌, ◌||◌, not, Bool, true, false, List, [], ◌∷◌, Option, Some, None, is_some}
 use Rattle.std.specs.List.{list_any, list_all}
 use Rattle.std.specs.Str.{bytes_eq}
 use Rattle.toml.specs.Data.{Data, string, array, table, Items, no_items, item, Members, no_members, member, get_member}
@@ -8,16 +8,19 @@ use Rattle.roam_wire.specs.RemovedAttributes.{is_removal_in_requests, is_removal
 use Rattle.roam_conf.specs.declared.accounting.Accounting.{Accounting}
 use Rattle.roam_conf.specs.declared.accounting.Accounting.TheVariants as kinds
 use Rattle.roam_conf.specs.declared.endpoint.Endpoint.{Endpoint}
-use Rattle.roam_conf.specs.Config.{ServerView, PeerView, RealmView, ConfigView}
-use Rattle.roam_conf_reader.specs.Values.{number, letters_of, text, address, endpoint, seed_or_zeros, flag, exchange_lines, station_word, number_or, pattern, list_of, rejects, removed, peer_names, accounting, array_of, value_at, optional_at, socket_path}
+use Rattle.roam_conf.specs.Config.{ServerView, CoaClientView, PeerView, RealmView, ConfigView}
+use Rattle.roam_conf_reader.specs.Values.{number, letters_of, text, address, endpoint, seed_or_zeros, flag, exchange_lines, station_word, number_or, pattern, list_of, rejects, removed, nas_ids, peer_names, accounting, array_of, item_count, value_at, optional_at, socket_path}
 
--- the required keys of the four tables
+-- the required keys of the five tables
 abbrev pub server_required : List (List ℕ)
 server_required = codes "auth" ∷ codes "secret" ∷ []
 
 -- what such a table needs besides, where the realm's accounting is forwarded
 abbrev pub accounted_required : List (List ℕ)
 accounted_required = codes "acct" ∷ []
+
+abbrev pub client_required : List (List ℕ)
+client_required = codes "ip" ∷ codes "secret" ∷ []
 
 abbrev pub peer_required : List (List ℕ)
 peer_required = codes "name" ∷ codes "ip" ∷ codes "secret" ∷ []
@@ -30,27 +33,28 @@ abbrev pub top_required : List (List ℕ)
 top_required =
     codes "auth" ∷ codes "acct" ∷ codes "peer" ∷ codes "realm" ∷ []
 
--- the keys that the four may have besides
+-- the keys that they may have besides; a `coa_client` none
 abbrev pub server_optional : List (List ℕ)
 server_optional = codes "acct" ∷ codes "require_seal" ∷ []
 
 abbrev pub peer_optional : List (List ℕ)
 peer_optional =
-    codes "coa" ∷ codes "nas_ip" ∷ codes "nas_id" ∷ codes "require_seal" ∷ codes "limit_proxy_state"
+    codes "coa" ∷ codes "nas_ip" ∷ codes "nas_id" ∷ codes "nas_ids" ∷ codes "require_seal" ∷ codes "limit_proxy_state"
     ∷ codes "operator_name" ∷ codes "ask_cui" ∷ codes "request_without" ∷ codes "reply_without" ∷ []
 
 abbrev pub realm_optional : List (List ℕ)
 realm_optional =
     codes "also" ∷ codes "peers" ∷ codes "loop_prevention" ∷ codes "accounting" ∷ codes "request_without"
-    ∷ codes "reply_without" ∷ codes "share" ∷ codes "reverse" ∷ codes "tries" ∷ codes "wait" ∷ codes "hold"
+    ∷ codes "reply_without" ∷ codes "share" ∷ codes "peer_share" ∷ codes "own_names" ∷ codes "conversations"
+    ∷ codes "own_sessions" ∷ codes "coa_client" ∷ codes "reverse" ∷ codes "tries" ∷ codes "wait" ∷ codes "hold"
     ∷ codes "max_pending" ∷ codes "max_sessions" ∷ codes "rest" ∷ codes "rest_after" ∷ []
 
 abbrev pub top_optional : List (List ℕ)
 top_optional =
-    codes "shards" ∷ codes "seed" ∷ codes "trace_limit" ∷ codes "max_hops" ∷ codes "status_server" ∷ codes
-    "trace_octets" ∷ codes "spread" ∷ codes "metrics"
+    codes "shards" ∷ codes "seed" ∷ codes "trace_limit" ∷ codes "max_hops" ∷ codes "max_attributes"
+    ∷ codes "status_server" ∷ codes "trace_octets" ∷ codes "spread" ∷ codes "metrics"
     ∷ codes "control" ∷ codes "log_exchanges" ∷ codes "log_station" ∷ codes "reject" ∷ codes "well_formed"
-    ∷ codes "answer_unnamed" ∷ []
+    ∷ codes "answer_unnamed" ∷ codes "fresh" ∷ []
 
 -- the key is one of these
 abbrev pub is_one_of : List (List ℕ) → List ℕ → Bool
@@ -81,6 +85,18 @@ pub record StatesServer (members : Members) (server : ServerView) : Type 0 where
   pub require_seal : flag (get_member (codes "require_seal") members) ≡ Some server.require_seal
   pub no_other_key : has_only server_required server_optional members ≡ true
 
+-- the same of at most so many tables, and none where the array is absent
+abbrev pub StatesFew : {V : Type 0} → (Members → V → Type 0) → ℕ → Option Data → List V → Type 0
+StatesFew States most None values = values ≡ []
+StatesFew States most (Some (array items)) values = (item_count items ≤ most) × StatesEach States items values
+StatesFew States most (Some _) values = ⊥
+
+-- a table of the array `coa_client` of a realm
+pub record StatesClient (members : Members) (client : CoaClientView) : Type 0 where
+  pub ip : value_at address (codes "ip") members ≡ Some client.ip
+  pub secret : value_at (text 64 (letters_of Any)) (codes "secret") members ≡ Some client.secret
+  pub no_other_key : has_only client_required [] members ≡ true
+
 -- a table of the array `peer`
 pub record StatesPeer (members : Members) (peer : PeerView) : Type 0 where
   pub name : value_at (text 64 (letters_of PeerName)) (codes "name") members ≡ Some peer.name
@@ -89,6 +105,7 @@ pub record StatesPeer (members : Members) (peer : PeerView) : Type 0 where
   pub coa : optional_at endpoint (codes "coa") members ≡ Some peer.coa
   pub nas_ip : optional_at address (codes "nas_ip") members ≡ Some peer.nas_ip
   pub nas_id : optional_at (text 253 (letters_of Any)) (codes "nas_id") members ≡ Some peer.nas_id
+  pub nas_ids : nas_ids (get_member (codes "nas_ids") members) ≡ Some peer.nas_ids
   pub require_seal : flag (get_member (codes "require_seal") members) ≡ Some peer.require_seal
   pub limit_proxy_state : flag (get_member (codes "limit_proxy_state") members) ≡ Some peer.limit_proxy_state
   pub operator_name : optional_at (text 252 (letters_of Any)) (codes "operator_name") members ≡ Some peer.operator_name
@@ -126,6 +143,11 @@ pub record StatesRealm (members : Members) (realm : RealmView) : Type 0 where
   pub reply_without :
       list_of (removed is_removal_in_replies) 64 (get_member (codes "reply_without") members) ≡ Some realm.reply_without
   pub share : optional_at (number 1 4096) (codes "share") members ≡ Some realm.share
+  pub peer_share : optional_at (number 1 4096) (codes "peer_share") members ≡ Some realm.peer_share
+  pub own_names : flag (get_member (codes "own_names") members) ≡ Some realm.own_names
+  pub conversations : flag (get_member (codes "conversations") members) ≡ Some realm.conversations
+  pub own_sessions : flag (get_member (codes "own_sessions") members) ≡ Some realm.own_sessions
+  pub coa_clients : StatesFew StatesClient 8 (get_member (codes "coa_client") members) realm.coa_clients
   pub out : value_at endpoint (codes "out") members ≡ Some realm.out
   pub reverse : optional_at endpoint (codes "reverse") members ≡ Some realm.reverse
   pub tries : number_or 3 1 10 (get_member (codes "tries") members) ≡ Some realm.tries
@@ -162,11 +184,13 @@ pub record StatesConfig (members : Members) (config : ConfigView) : Type 0 where
   pub trace_octets :
       number_or 67108864 1 1073741824 (get_member (codes "trace_octets") members) ≡ Some config.trace_octets
   pub max_hops : optional_at (number 1 100) (codes "max_hops") members ≡ Some config.max_hops
+  pub max_attributes : optional_at (number 1 2000) (codes "max_attributes") members ≡ Some config.max_attributes
   pub status_server : flag (get_member (codes "status_server") members) ≡ Some config.status_server
   pub spread : flag (get_member (codes "spread") members) ≡ Some config.spread
   pub reject : rejects (get_member (codes "reject") members) ≡ Some config.reject
   pub well_formed : flag (get_member (codes "well_formed") members) ≡ Some config.well_formed
   pub answer_unnamed : flag (get_member (codes "answer_unnamed") members) ≡ Some config.answer_unnamed
+  pub fresh : optional_at (number 10 3600) (codes "fresh") members ≡ Some config.fresh
   pub peers : StatesTables StatesPeer (value_at (array_of 1024) (codes "peer") members) config.peers
   pub realms : StatesTables StatesRealm (value_at (array_of 1024) (codes "realm") members) config.realms
   -- what serves isn't the broker's: here it only has to be such a value
@@ -201,11 +225,12 @@ forwards None = true
 forwards (Some (string octets)) = bytes_eq octets (codes "forward")
 forwards (Some _) = false
 
--- one of the required keys is absent from a realm's table, or from one of its servers'
+-- one of the required keys is absent from a realm's table, or from one of its servers' or of its `coa_client`s
 unfoldable pub realm_misses : Members → Bool
 realm_misses members =
     misses realm_required members
     || within (misses server_required) (get_member (codes "server") members)
+    || within (misses client_required) (get_member (codes "coa_client") members)
     || forwards (get_member (codes "accounting") members)
     && within (misses accounted_required) (get_member (codes "server") members)
 

@@ -5,15 +5,16 @@ use Rattle.toml.specs.Data.{Members, get_member}
 use Rattle.toml.specs.View.{array_view}
 use Rattle.roam_wire.specs.RemovedAttributes.{is_removal_in_requests, is_removal_in_replies}
 use Rattle.roam_wire.specs.declared.removed_attribute.RemovedAttribute.{RemovedAttribute}
-use Rattle.roam_conf.specs.Config.{ServerView, PeerView, PatternView, whole, suffix, any, RealmView, ConfigView}
+use Rattle.roam_conf.specs.Config.{ServerView, CoaClientView, PeerView, PatternView, whole, suffix, any, RealmView, ConfigView}
+use Rattle.roam_conf_reader.specs.declared.coa_client.ClientText.{ClientText}
 use Rattle.roam_conf_reader.specs.declared.server.ServerText.{ServerText}
 use Rattle.roam_conf_reader.specs.declared.pattern.PatternText.{PatternText}
 use Rattle.roam_conf_reader.specs.declared.pattern.PatternText.TheVariants.{Name, Suffix, Any}
 use Rattle.roam_conf_reader.specs.declared.peer.PeerText.{PeerText}
 use Rattle.roam_conf_reader.specs.declared.realm.RealmText.{RealmText}
 use Rattle.roam_conf_reader.specs.declared.stated.TopText.{TopText}
-use Rattle.roam_conf_reader.specs.Document.{StatesEach, StatesServer, StatesPeer, StatesRealm, StatesConfig, are_accounted}
-use Rattle.roam_conf_reader.specs.Values.{pattern, list_of, rejects, removed, peer_names, optional_at}
+use Rattle.roam_conf_reader.specs.Document.{StatesEach, StatesFew, StatesClient, StatesServer, StatesPeer, StatesRealm, StatesConfig, are_accounted}
+use Rattle.roam_conf_reader.specs.Values.{pattern, list_of, rejects, removed, nas_ids, peer_names, optional_at}
 
 -- a text of `also`
 abbrev pub pattern_said : PatternText → PatternView
@@ -29,15 +30,19 @@ server_in text = record {
   require_seal = text.require_seal;
 }
 
--- with these lists of attributes to remove
-abbrev pub peer_in : PeerText → List RemovedAttribute → List RemovedAttribute → PeerView
-peer_in text request reply = record {
+abbrev pub client_in : ClientText → CoaClientView
+client_in text = record { ip = text.ip; secret = text.secret.now }
+
+-- with these NAS-Identifiers and lists of attributes to remove
+abbrev pub peer_in : PeerText → List (List ℕ) → List RemovedAttribute → List RemovedAttribute → PeerView
+peer_in text identifiers request reply = record {
   name = text.name.now;
   ip = text.ip;
   secret = text.secret.now;
   coa = text.coa;
   nas_ip = text.nas_ip;
   nas_id = option_copied text.nas_id;
+  nas_ids = identifiers;
   require_seal = text.require_seal;
   limit_proxy_state = text.limit_proxy_state;
   operator_name = option_copied text.operator_name;
@@ -46,19 +51,20 @@ peer_in text request reply = record {
   reply_without = reply;
 }
 
--- the table states a peer, whatever attributes to remove its arrays state
+-- the table states a peer, whatever NAS-Identifiers and attributes to remove its arrays state
 abbrev pub StatesPeerBesideLists : Members → PeerText → Type 0
 StatesPeerBesideLists members text =
-    (request : List RemovedAttribute) → (reply : List RemovedAttribute)
+    (identifiers : List (List ℕ)) → (request : List RemovedAttribute) → (reply : List RemovedAttribute)
+    → nas_ids (get_member (codes "nas_ids") members) ≡ Some identifiers
     → list_of (removed is_removal_in_requests) 64 (get_member (codes "request_without") members) ≡ Some request
     → list_of (removed is_removal_in_replies) 64 (get_member (codes "reply_without") members) ≡ Some reply
-    → StatesPeer members (peer_in text request reply)
+    → StatesPeer members (peer_in text identifiers request reply)
 
 -- with these lists
 abbrev pub realm_in :
     RealmText → List PatternView → Option (List (List ℕ)) → List RemovedAttribute → List RemovedAttribute
-    → List ServerView → RealmView
-realm_in text also peers request reply servers = record {
+    → List CoaClientView → List ServerView → RealmView
+realm_in text also peers request reply clients servers = record {
   name = text.name.now;
   also = also;
   peers = peers;
@@ -67,6 +73,11 @@ realm_in text also peers request reply servers = record {
   request_without = request;
   reply_without = reply;
   share = text.share;
+  peer_share = text.peer_share;
+  own_names = text.own_names;
+  conversations = text.conversations;
+  own_sessions = text.own_sessions;
+  coa_clients = clients;
   out = text.out;
   reverse = text.reverse;
   tries = text.tries;
@@ -83,14 +94,15 @@ realm_in text also peers request reply servers = record {
 abbrev pub StatesBesideLists : Members → RealmText → Type 0
 StatesBesideLists members text =
     (also : List PatternView) → (peers : Option (List (List ℕ))) → (request : List RemovedAttribute)
-    → (reply : List RemovedAttribute) → (servers : List ServerView)
+    → (reply : List RemovedAttribute) → (clients : List CoaClientView) → (servers : List ServerView)
     → list_of pattern 256 (get_member (codes "also") members) ≡ Some also
     → optional_at peer_names (codes "peers") members ≡ Some peers
     → list_of (removed is_removal_in_requests) 64 (get_member (codes "request_without") members) ≡ Some request
     → list_of (removed is_removal_in_replies) 64 (get_member (codes "reply_without") members) ≡ Some reply
+    → StatesFew StatesClient 8 (get_member (codes "coa_client") members) clients
     → StatesEach StatesServer (array_view text.servers.now) servers
     → are_accounted text.accounting servers ≡ true
-    → StatesRealm members (realm_in text also peers request reply servers)
+    → StatesRealm members (realm_in text also peers request reply clients servers)
 
 -- with these names to reject, peers and realms
 abbrev pub config_in : TopText → List PatternView → List PeerView → List RealmView → ConfigView
@@ -102,11 +114,13 @@ config_in text reject peers realms = record {
   trace_limit = text.trace_limit;
   trace_octets = text.trace_octets;
   max_hops = text.max_hops;
+  max_attributes = text.max_attributes;
   status_server = text.status_server;
   spread = text.spread;
   reject = reject;
   well_formed = text.well_formed;
   answer_unnamed = text.answer_unnamed;
+  fresh = text.fresh;
   peers = peers;
   realms = realms;
 }

@@ -155,6 +155,10 @@ unfoldable pub removed : (RemovedAttribute → Bool) → Data → Option Removed
 removed may_name (string octets) = passing may_name (removed_in octets)
 removed may_name _ = None
 
+-- the further NAS-Identifiers of a peer: at most 1024 texts of 1 to 253 octets; none where they are absent
+abbrev pub nas_ids : Option Data → Option (List (List ℕ))
+nas_ids found = list_of (text 253 (letters_of Any)) 1024 found
+
 -- the names of peers: an array of 1 to 1024 texts of 1 to 64 octets
 unfoldable pub peer_names : Data → Option (List (List ℕ))
 peer_names (array items) =

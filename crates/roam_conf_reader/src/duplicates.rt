@@ -1,31 +1,31 @@
 //! What may not stand twice in a configuration.
 //!
-//! Names and patterns of realms, which may be many, are found by an index. The other searches compare all
-//! pairs: of at most 1024 peers, 2050 sockets of the broker, 16 endpoints of one realm's servers, and of
+//! Names and patterns of realms, and NAS-Identifiers, which may be many, are found by an index. The other searches
+//! compare all pairs: of at most 1024 peers, 8 `coa_client`s of a realm, 2050 sockets of the broker, 16 endpoints of one realm's servers, and of
 //! 1024 endpoints of peers with 16384 of servers.
 
 ghost use Rattle.std.specs.Prelude.{◌≡◌, ◌≤◌, ◌+◌, ◌||◌, Some, None, IfOk, false, length, map, drop};
 ghost use Rattle.std.specs.List.{list_any};
 ghost use Rattle.std.specs.Option.{option_map_or};
-ghost use Rattle.roam_conf.specs.Duplicates.{has_pair, same_endpoint, is_among, same_if_there, same_name_if_there};
-ghost use Rattle.roam_conf.specs.Duplicates.{same_peer};
+ghost use Rattle.roam_conf.specs.Duplicates.{has_pair, same_endpoint, is_among, same_client, has_pair_of_servers};
 ghost use Rattle.roam_conf.specs.Duplicates.{own_endpoints, server_endpoints, coa_endpoints, some_server_at};
-ghost use Rattle.roam_conf.specs.Duplicates.{has_duplicate_peer, has_duplicate_endpoint, has_duplicate_server};
+ghost use Rattle.roam_conf.specs.Duplicates.{has_duplicate_endpoint, has_duplicate_server};
 ghost use Rattle.roam_conf.specs.Duplicates.{has_duplicate_link};
-ghost use Rattle.roam_conf.specs.Parts.{shown_server, shown_peer, shown_realm};
+ghost use Rattle.roam_conf.specs.Parts.{shown_server, shown_client, shown_peer, shown_realm};
 ghost use Rattle.roam_conf.specs.Shown.{shown_parts};
 ghost use Rattle.roam_conf_reader.specs.Faults.{first_duplicate};
 ghost use Rattle.roam_conf_reader.specs.Reading.{IsMemoryFault};
 
 use crate::ConfFault;
+use crate::equal_peers::has_duplicate_peer;
 use roam_conf::{
-    ConfigParts, Endpoint, Peer, Realm, Server, has_duplicate_realm, has_unknown_peer,
-    is_same_endpoint, is_same_name,
+    CoaClient, ConfigParts, Endpoint, Peer, Realm, Server, has_duplicate_realm, has_unknown_peer,
+    is_same_endpoint,
 };
 use std::alloc::Global;
 
 /// The items from a place on.
-fn from_place<T>(items: &[T], place: usize) -> &[T]
+pub(crate) fn from_place<T>(items: &[T], place: usize) -> &[T]
     requires { place ≤ length items.now }
     ensures { result.now ≡ drop place items.now }
 {
@@ -47,67 +47,6 @@ fn has_equal_endpoints(endpoints: &[Endpoint]) -> bool
 {
     for i in 0..endpoints.len() {
         if is_among(from_place(endpoints, i + 1), endpoints[i]) {
-            return true;
-        }
-    }
-    false
-}
-
-fn have_same_ip(a: Option<[u8; 4]>, b: Option<[u8; 4]>) -> bool
-    ensures { result ≡ same_if_there a b }
-{
-    match (a, b) {
-        (Some(a), Some(b)) => a == b,
-        _ => false,
-    }
-}
-
-fn have_same_id(a: &Peer, b: &Peer) -> bool
-    ensures { result ≡ same_if_there (shown_peer a.now).nas_id (shown_peer b.now).nas_id }
-{
-    match (&a.nas_id, &b.nas_id) {
-        (Some(a), Some(b)) => a.as_str() == b.as_str(),
-        _ => false,
-    }
-}
-
-fn have_same_operator(a: &Peer, b: &Peer) -> bool
-    ensures { result ≡ same_name_if_there (shown_peer a.now).operator_name (shown_peer b.now).operator_name }
-{
-    match (&a.operator_name, &b.operator_name) {
-        (Some(a), Some(b)) => is_same_name(a.as_bytes(), b.as_bytes()),
-        _ => false,
-    }
-}
-
-fn is_same_peer(a: &Peer, b: &Peer) -> bool
-    ensures { result ≡ same_peer (shown_peer a.now) (shown_peer b.now) }
-{
-    a.name.as_str() == b.name.as_str()
-        || a.ip == b.ip
-        || have_same_ip(a.nas_ip, b.nas_ip)
-        || have_same_id(a, b)
-        || have_same_operator(a, b)
-}
-
-fn is_among_peers(peer: &Peer, others: &[Peer]) -> bool
-    ensures { result ≡ list_any (same_peer (shown_peer peer.now)) (map shown_peer others.now) }
-{
-    for other in others {
-        if is_same_peer(peer, other) {
-            return true;
-        }
-    }
-    false
-}
-
-/// Whether two peers are equal in their name, address, NAS-IP-Address, NAS-Identifier or Operator-Name.
-#[tactic(auto, unfolding(roam_conf::specs::Duplicates::has_duplicate_peer))]
-fn has_duplicate_peer(peers: &[Peer]) -> bool
-    ensures { result ≡ has_duplicate_peer (map shown_peer peers.now) }
-{
-    for i in 0..peers.len() {
-        if is_among_peers(&peers[i], from_place(peers, i + 1)) {
             return true;
         }
     }
@@ -214,15 +153,46 @@ fn has_duplicate_endpoint(
     Ok(has_equal_endpoints(endpoints.as_slice()))
 }
 
-/// Whether two endpoints of one realm's servers are equal.
+fn is_among_clients(client: &CoaClient, others: &[CoaClient]) -> bool
+    ensures { result ≡ list_any (same_client (shown_client client.now)) (map shown_client others.now) }
+{
+    for other in others {
+        if client.ip == other.ip {
+            return true;
+        }
+    }
+    false
+}
+
+/// Whether two of the `coa_client`s have one address.
+fn has_equal_clients(clients: &[CoaClient]) -> bool
+    ensures { result ≡ has_pair same_client (map shown_client clients.now) }
+{
+    for i in 0..clients.len() {
+        if is_among_clients(&clients[i], from_place(clients, i + 1)) {
+            return true;
+        }
+    }
+    false
+}
+
+/// Whether two endpoints of a realm's servers are equal, or two addresses of its `coa_client`s.
+fn has_pair_of_servers(alloc: Global, realm: &Realm) -> Result<bool, ConfFault>
+    ensures ok { IfOk result (λ b. b ≡ has_pair_of_servers (shown_realm realm.now)) }
+    ensures causes { IsMemoryFault result }
+{
+    let endpoints = server_endpoints(alloc, realm.servers.as_slice())?;
+    Ok(has_equal_endpoints(endpoints.as_slice()) || has_equal_clients(realm.coa_clients.as_slice()))
+}
+
+/// Whether that is so of one of the realms.
 #[tactic(auto, unfolding(roam_conf::specs::Duplicates::has_duplicate_server))]
 fn has_duplicate_server(alloc: Global, realms: &[Realm]) -> Result<bool, ConfFault>
     ensures ok { IfOk result (λ b. b ≡ has_duplicate_server (map shown_realm realms.now)) }
     ensures causes { IsMemoryFault result }
 {
     for realm in realms {
-        let endpoints = server_endpoints(alloc, realm.servers.as_slice())?;
-        if has_equal_endpoints(endpoints.as_slice()) {
+        if has_pair_of_servers(alloc, realm)? {
             return Ok(true);
         }
     }
@@ -254,7 +224,7 @@ pub(crate) fn first_duplicate(
     if has_duplicate_realm(alloc, realms, parts.reject.as_slice())? {
         return Ok(Some(ConfFault::DuplicateRealm));
     }
-    if has_duplicate_peer(peers) {
+    if has_duplicate_peer(alloc, peers)? {
         return Ok(Some(ConfFault::DuplicatePeer));
     }
     if has_duplicate_endpoint(alloc, parts.auth, parts.acct, realms)? {

@@ -21,11 +21,12 @@ pub enum ConfFault {
     BadValue,
     /// Two names, two suffixes `*.` and a name, or two `*` of realms and of `reject` are equal without ASCII case.
     DuplicateRealm,
-    /// Two peers have equal names, addresses, NAS-IP-Addresses, NAS-Identifiers or, without ASCII case, Operator-Names.
+    /// Two peers have equal names, addresses, NAS-IP-Addresses or, without ASCII case, Operator-Names, or two texts of
+    /// `nas_id` and `nas_ids` of all peers are equal.
     DuplicatePeer,
     /// Two of the broker's own sockets are at one endpoint.
     DuplicateEndpoint,
-    /// Two endpoints of one realm's servers are equal.
+    /// Two endpoints of one realm's servers are equal, or two addresses of its `coa_client`s.
     DuplicateServer,
     /// A peer's `coa` endpoint is another peer's or a server's.
     DuplicateLink,

@@ -87,12 +87,14 @@ pub(crate) fn optional_octet(table: &Table, key: &str, most: u8) -> Option<Optio
     }
 }
 
-/// The same, of up to 16 bits.
-pub(crate) fn optional_count(table: &Table, key: &str, most: u16) -> Option<Option<u16>>
-    ensures { result ≡ optional_at (spec.number 1 most) key.now (table_view table.now) }
+/// The same, of up to 16 bits, and from `least` on.
+pub(crate) fn optional_count(table: &Table, key: &str, least: u16, most: u16) -> Option<Option<u16>>
+    ensures { result ≡ optional_at (spec.number least most) key.now (table_view table.now) }
 {
     match value(table, key) {
-        Some(value) => Some(Some(values::number_of(value, 1, u32::from(most))? as u16)),
+        Some(value) => Some(Some(
+            values::number_of(value, u32::from(least), u32::from(most))? as u16,
+        )),
         None => Some(None),
     }
 }

@@ -11,9 +11,11 @@
 //!   (`roam_trace`), `AuditFault` (`roam_audit`) and `HubFault` (`roam_hub`)
 #![tactic(auto)]
 
+mod coa_client;
 mod config;
 mod document;
 mod duplicates;
+mod equal_peers;
 mod fault;
 mod keys;
 mod names;

@@ -1,6 +1,7 @@
-//! The names of peers that tables state.
+//! The names of peers, and of what stands behind them, that tables state.
 
 ghost use Rattle.std.specs.Prelude.{◌≡◌, codes, Err, IfOk, None, Some, map, option_map, string_bytes};
+ghost use Rattle.toml.specs.Data.{get_member};
 ghost use Rattle.toml.specs.View.{array_view, table_view, view};
 ghost use Rattle.roam_conf.specs.Parts.{shown_names};
 ghost use Rattle.roam_conf_reader.specs.Reading.{IsValueFault};
@@ -13,31 +14,31 @@ use std::alloc::Global;
 use toml::value::Array;
 use toml::{Table, Value};
 
-/// The name that a value states.
-fn from_value(alloc: Global, value: &Value) -> Result<String, ConfFault>
+/// The text of 1 to `most` octets that a value states.
+fn from_value(alloc: Global, value: &Value, most: usize) -> Result<String, ConfFault>
     ensures ok { IfOk result
-        (λ name. spec.text 64 (letters_of Letters.Any) (view value.now) ≡ Some (string_bytes name)) }
+        (λ name. spec.text most (letters_of Letters.Any) (view value.now) ≡ Some (string_bytes name)) }
     ensures bad { result ≡ Err ConfFault.BadValue
-        → spec.text 64 (letters_of Letters.Any) (view value.now) ≡ None }
+        → spec.text most (letters_of Letters.Any) (view value.now) ≡ None }
     ensures causes { IsValueFault result }
 {
-    match text_of(value, 64, Letters::Any) {
+    match text_of(value, most, Letters::Any) {
         Some(text) => Ok(String::from_str(alloc, text)?),
         None => Err(ConfFault::BadValue),
     }
 }
 
-/// The names that the texts of an array state, in its order.
-fn each_from(alloc: Global, items: &Array) -> Result<Vec<String>, ConfFault>
-    ensures ok { IfOk result (λ v. spec.each_of (spec.text 64 (letters_of Letters.Any)) (array_view items.now)
+/// The texts of 1 to `most` octets that an array states, in its order.
+fn each_from(alloc: Global, items: &Array, most: usize) -> Result<Vec<String>, ConfFault>
+    ensures ok { IfOk result (λ v. spec.each_of (spec.text most (letters_of Letters.Any)) (array_view items.now)
         ≡ Some (map string_bytes v.items)) }
     ensures bad { result ≡ Err ConfFault.BadValue
-        → spec.each_of (spec.text 64 (letters_of Letters.Any)) (array_view items.now) ≡ None }
+        → spec.each_of (spec.text most (letters_of Letters.Any)) (array_view items.now) ≡ None }
     ensures causes { IsValueFault result }
 {
     let mut all = Vec::new(alloc);
     for value in items {
-        let name = from_value(alloc, value)?;
+        let name = from_value(alloc, value, most)?;
         all.push(name)?;
     }
     Ok(all)
@@ -55,7 +56,7 @@ fn names_from(alloc: Global, value: &Value) -> Result<Vec<String>, ConfFault>
             if items.is_empty() || items.len() > 1024 {
                 return Err(ConfFault::BadValue);
             }
-            each_from(alloc, items)
+            each_from(alloc, items, 64)
         }
         None => Err(ConfFault::BadValue),
     }
@@ -72,5 +73,28 @@ pub(crate) fn of_peers(alloc: Global, table: &Table) -> Result<Option<Vec<String
     match value(table, "peers") {
         Some(value) => Ok(Some(names_from(alloc, value)?)),
         None => Ok(None),
+    }
+}
+
+/// The further NAS-Identifiers that a peer's table states; none where the key is absent.
+#[tactic(auto, using(crate::proofs::ArrayLemmas::item_count_of), unfolding(crate::specs::Values::list_of))]
+pub(crate) fn of_access_servers(alloc: Global, table: &Table) -> Result<Vec<String>, ConfFault>
+    ensures ok { IfOk result (λ v. spec.nas_ids (get_member (codes "nas_ids") (table_view table.now))
+        ≡ Some (map string_bytes v.items)) }
+    ensures bad { result ≡ Err ConfFault.BadValue
+        → spec.nas_ids (get_member (codes "nas_ids") (table_view table.now)) ≡ None }
+    ensures causes { IsValueFault result }
+{
+    let Some(value) = value(table, "nas_ids") else {
+        return Ok(Vec::new(alloc));
+    };
+    match value.as_array() {
+        Some(items) => {
+            if items.len() > 1024 {
+                return Err(ConfFault::BadValue);
+            }
+            each_from(alloc, items, 253)
+        }
+        None => Err(ConfFault::BadValue),
     }
 }

@@ -12,13 +12,13 @@ ghost use Rattle.roam_conf_reader.specs.Texts.{StatesPeerBesideLists};
 
 use crate::tables::{PEER_KEYS, PEER_OPTIONAL_KEYS, has_only};
 use crate::values::Letters;
-use crate::{ConfFault, keys, removed};
+use crate::{ConfFault, keys, names, removed};
 use roam_conf::{Endpoint, Peer};
 use std::alloc::Global;
 use toml::Table;
 use toml::value::Array;
 
-/// What a table states of a peer, beside the attributes to remove. Its texts still stand in the document.
+/// What a table states of a peer, beside its lists. Its texts still stand in the document.
 #[derive(Clone, Copy)]
 struct PeerText<'a> {
     name: &'a str,
@@ -86,6 +86,7 @@ fn from_table(alloc: Global, table: &Table) -> Result<Peer, ConfFault>
         coa: text.coa,
         nas_ip: text.nas_ip,
         nas_id: copied(alloc, text.nas_id)?,
+        nas_ids: names::of_access_servers(alloc, table)?,
         require_seal: text.require_seal,
         limit_proxy_state: text.limit_proxy_state,
         operator_name: copied(alloc, text.operator_name)?,

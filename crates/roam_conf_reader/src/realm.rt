@@ -14,7 +14,7 @@ ghost use Rattle.roam_conf_reader.specs.Values.{accounting, array_of, value_at};
 
 use crate::tables::{REALM_KEYS, REALM_OPTIONAL_KEYS, has_only};
 use crate::values::Letters;
-use crate::{ConfFault, keys, names, pattern, removed, server};
+use crate::{ConfFault, coa_client, keys, names, pattern, removed, server};
 use roam_conf::{Accounting, Endpoint, Realm, Server};
 use std::alloc::Global;
 use toml::Table;
@@ -27,6 +27,10 @@ struct RealmText<'a> {
     loop_prevention: bool,
     accounting: Accounting,
     share: Option<u16>,
+    peer_share: Option<u16>,
+    own_names: bool,
+    conversations: bool,
+    own_sessions: bool,
     out: Endpoint,
     reverse: Option<Endpoint>,
     tries: u8,
@@ -66,7 +70,11 @@ fn realm_text(table: &Table) -> Option<RealmText<'_>>
         name: keys::text(table, "name", 253, Letters::RealmName)?,
         loop_prevention: keys::flag(table, "loop_prevention")?,
         accounting: keys::accounting(table, "accounting")?,
-        share: keys::optional_count(table, "share", 4096)?,
+        share: keys::optional_count(table, "share", 1, 4096)?,
+        peer_share: keys::optional_count(table, "peer_share", 1, 4096)?,
+        own_names: keys::flag(table, "own_names")?,
+        conversations: keys::flag(table, "conversations")?,
+        own_sessions: keys::flag(table, "own_sessions")?,
         out: keys::endpoint(table, "out")?,
         reverse,
         tries: keys::number_or(table, "tries", 3, 1, 10)? as u8,
@@ -133,6 +141,11 @@ fn from_table(alloc: Global, table: &Table) -> Result<Realm, ConfFault>
         request_without: removed::of_requests(alloc, table)?,
         reply_without: removed::of_replies(alloc, table)?,
         share: text.share,
+        peer_share: text.peer_share,
+        own_names: text.own_names,
+        conversations: text.conversations,
+        own_sessions: text.own_sessions,
+        coa_clients: coa_client::all_from(alloc, table)?,
         out: text.out,
         reverse: text.reverse,
         tries: text.tries,

@@ -20,14 +20,18 @@ const ACCOUNTED_KEYS: [&str; 1] = ["acct"];
 /// The keys that a home server's table may have besides.
 pub(crate) const SERVER_OPTIONAL_KEYS: [&str; 2] = ["acct", "require_seal"];
 
+/// The keys that a `coa_client` of a realm must have; it may have no other.
+pub(crate) const CLIENT_KEYS: [&str; 2] = ["ip", "secret"];
+
 /// The keys that a peer's table must have.
 pub(crate) const PEER_KEYS: [&str; 3] = ["name", "ip", "secret"];
 
 /// The keys that a peer's table may have besides.
-pub(crate) const PEER_OPTIONAL_KEYS: [&str; 9] = [
+pub(crate) const PEER_OPTIONAL_KEYS: [&str; 10] = [
     "coa",
     "nas_ip",
     "nas_id",
+    "nas_ids",
     "require_seal",
     "limit_proxy_state",
     "operator_name",
@@ -40,7 +44,7 @@ pub(crate) const PEER_OPTIONAL_KEYS: [&str; 9] = [
 pub(crate) const REALM_KEYS: [&str; 3] = ["name", "out", "server"];
 
 /// The keys that a realm's table may have besides.
-pub(crate) const REALM_OPTIONAL_KEYS: [&str; 15] = [
+pub(crate) const REALM_OPTIONAL_KEYS: [&str; 20] = [
     "also",
     "peers",
     "loop_prevention",
@@ -48,6 +52,11 @@ pub(crate) const REALM_OPTIONAL_KEYS: [&str; 15] = [
     "request_without",
     "reply_without",
     "share",
+    "peer_share",
+    "own_names",
+    "conversations",
+    "own_sessions",
+    "coa_client",
     "reverse",
     "tries",
     "wait",
@@ -62,11 +71,12 @@ pub(crate) const REALM_OPTIONAL_KEYS: [&str; 15] = [
 pub(crate) const TOP_KEYS: [&str; 4] = ["auth", "acct", "peer", "realm"];
 
 /// The keys that the document itself may have besides.
-pub(crate) const TOP_OPTIONAL_KEYS: [&str; 14] = [
+pub(crate) const TOP_OPTIONAL_KEYS: [&str; 16] = [
     "shards",
     "seed",
     "trace_limit",
     "max_hops",
+    "max_attributes",
     "status_server",
     "trace_octets",
     "spread",
@@ -77,6 +87,7 @@ pub(crate) const TOP_OPTIONAL_KEYS: [&str; 14] = [
     "reject",
     "well_formed",
     "answer_unnamed",
+    "fresh",
 ];
 
 fn is_one_of(keys: &[&str], key: &str) -> bool
@@ -154,13 +165,14 @@ fn forwards(table: &Table) -> bool
     }
 }
 
-/// Whether a realm's table, or the table of one of its servers, misses a key.
+/// Whether a realm's table, or the table of one of its servers or of its `coa_client`s, misses a key.
 #[tactic(auto, unfolding(crate::specs::Document::realm_misses))]
 fn realm_misses(table: &Table) -> bool
     ensures { result ≡ spec.realm_misses (table_view table.now) }
 {
     !has_all(table, &REALM_KEYS)
         || some_misses_within(table, "server", &SERVER_KEYS)
+        || some_misses_within(table, "coa_client", &CLIENT_KEYS)
         || forwards(table) && some_misses_within(table, "server", &ACCOUNTED_KEYS)
 }
 

@@ -12,9 +12,10 @@ use Rattle.roam_conf.specs.declared.place.Place.{Place}
 use Rattle.roam_conf.specs.declared.place.Place.TheVariants as place
 use Rattle.roam_route.specs.UserName.{realm_of}
 use Rattle.roam_route.specs.LocalAnswer.{accounting_answer}
+use Rattle.roam_route.specs.Freshness.{is_fresh}
 use Rattle.roam_route.specs.LocalReject.{is_rejected, takes_of}
 use Rattle.roam_route.specs.Shapings.{sent_length}
-use Rattle.roam_route.specs.Admission.{Arrival, PlainJob, PlainOut, Admission, refused, rejected, admitted, sender, checked, job_of, forwarded_for, rejected_for, for_named_realm, accounted, accounting_in, answered_by, by_accounting, is_answered_unnamed, route_request, request_admission, packet_admission, sent_admission, read_admission, admission, is_taken, peer_secret, home_secret, is_rightly_signed, is_rightly_sealed, has_needed_seal, has_few_hops, seal_required, has_seal, is_status_request, status_admission, status_from}
+use Rattle.roam_route.specs.Admission.{Arrival, PlainJob, PlainOut, Admission, refused, rejected, admitted, sender, checked, job_of, forwarded_for, rejected_for, for_named_realm, accounted, accounting_in, answered_by, by_accounting, is_answered_unnamed, route_request, request_admission, packet_admission, sent_admission, read_admission, admission, is_taken, peer_secret, home_secret, has_few_attributes, is_rightly_signed, is_rightly_sealed, has_needed_seal, has_few_hops, seal_required, has_seal, is_status_request, status_admission, status_from}
 use Rattle.roam_route.specs.declared.job.Side.{Side}
 use Rattle.roam_route.specs.declared.job.Side.TheVariants as side
 
@@ -83,7 +84,8 @@ unnamed_so config secret a s p =
 routed_so : (config : ConfigView) (secret : List ℕ) (a : Arrival) (s : Side) (p : Packet) (at : Place) →
     RejectsForNone (route_request config secret a s p at)
 routed_so config secret a s p (place.Reverse realm) =
-    forwarded_so (sent_length config s p realm) a s p realm (realm_of config p.attributes)
+    checked_so (is_fresh config.fresh a.seconds p.attributes) refusal.Stale _
+    (forwarded_so (sent_length config s p realm) a s p realm (realm_of config p.attributes))
 routed_so config secret a s p place.Auth =
     either_so (is_rejected config s p) (rejected_for secret a p)
     (for_named_realm config a s p (realm_of config p.attributes))
@@ -94,11 +96,12 @@ routed_so config secret a s p (place.Out realm) = unnamed_so config secret a s p
 request_so : (config : ConfigView) (secret : List ℕ) (a : Arrival) (s : Side) (p : Packet) →
     RejectsForNone (request_admission config secret a s p)
 request_so config secret a s p =
-    checked_so (is_rightly_signed secret p) refusal.BadAuthenticator _
+    checked_so (has_few_attributes config.max_attributes p) refusal.TooManyAttributes _
+    (checked_so (is_rightly_signed secret p) refusal.BadAuthenticator _
     (checked_so (is_rightly_sealed secret p) refusal.BadMessageAuthenticator _
     (checked_so (has_needed_seal (seal_required config s p) p) refusal.MissingMessageAuthenticator _
     (checked_so (has_few_hops config.max_hops p) refusal.TooManyHops (route_request config secret a s p a.at)
-    (routed_so config secret a s p a.at))))
+    (routed_so config secret a s p a.at)))))
 
 packet_so : (config : ConfigView) (a : Arrival) (s : Side) (p : Packet) (at : Place) →
     RejectsForNone (packet_admission config a s p at)
@@ -114,13 +117,15 @@ packet_so config a (side.Link l) p place.Auth = refused_so refusal.WrongCode
 packet_so config a (side.Link l) p place.Acct = refused_so refusal.WrongCode
 packet_so config a (side.Link l) p (place.Reverse realm) = refused_so refusal.WrongCode
 
-status_so : (secret : List ℕ) (a : Arrival) (p : Packet) → RejectsForNone (status_admission secret a p)
-status_so secret a p =
-    checked_so _ refusal.BadMessageAuthenticator _
-    (checked_so (has_seal p) refusal.MissingMessageAuthenticator _ (rejected_so _ refl))
+status_so : (most : Option ℕ) (secret : List ℕ) (a : Arrival) (p : Packet) →
+    RejectsForNone (status_admission most secret a p)
+status_so most secret a p =
+    checked_so (has_few_attributes most p) refusal.TooManyAttributes _
+    (checked_so _ refusal.BadMessageAuthenticator _
+    (checked_so (has_seal p) refusal.MissingMessageAuthenticator _ (rejected_so _ refl)))
 
 status_from_so : (config : ConfigView) (a : Arrival) (s : Side) (p : Packet) → RejectsForNone (status_from config a s p)
-status_from_so config a (side.Peer i) p = status_so (peer_secret config i) a p
+status_from_so config a (side.Peer i) p = status_so config.max_attributes (peer_secret config i) a p
 status_from_so config a (side.Home i) p = refused_so refusal.WrongCode
 status_from_so config a (side.Link l) p = refused_so refusal.WrongCode
 

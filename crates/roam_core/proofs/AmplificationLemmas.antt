@@ -14,7 +14,7 @@ use Rattle.roam_pending.specs.Realms.{sent_again, waits_on, with_standing}
 use Rattle.roam_pending.proofs.ChangeLemmas.{found-ticket}
 use Rattle.roam_book.specs.RealmConfig.{RealmConfig, later_targets}
 use Rattle.roam_book.specs.RealmState.{RealmState, Target, chosen_target}
-use Rattle.roam_book.specs.Rests.{after_silence}
+use Rattle.roam_book.specs.Rests.{after_silence, after_choice, signs_of}
 use Rattle.roam_book.specs.OnRequest.{packet_to_link, packet_to_requester, forwarded_entry, forwarded_octets, is_reverse, nak_octets}
 use Rattle.roam_reverse.specs.declared.error_cause.TheConstants.{OTHER_PROXY_PROCESSING_ERROR}
 use Rattle.roam_book.specs.OnTick.{Progress, fail_over, given_up, given_up_at, once_refused, due_standing, due_entry, due_one, due_each}
@@ -68,11 +68,11 @@ module _ (c : RealmConfig) (ends : Ends) (looked : ℕ → Bool) (tries : 1 ≤ 
 
   -- a packet to a target, and what may follow it
   pub forwarded-fits :
-      (now : ℕ) (q : PlainRequest) (position ticket m : ℕ) (target : Target) → FitsIn c ends m target.link
+      (now signs : ℕ) (q : PlainRequest) (position ticket m : ℕ) (target : Target) → FitsIn c ends m target.link
       → counted ends (packet_to_link c target.link (forwarded_octets c q position ticket target) ∷ [])
-      + may_follow c ends q.key (forwarded_entry c now q position ticket target).standing
+      + may_follow c ends q.key (forwarded_entry c now signs q position ticket target).standing
       ≤ c.realm.tries * m + counted_back ends q.key
-  forwarded-fits now q position ticket m target fits =
+  forwarded-fits now signs q position ticket m target fits =
       let one = counted_links c ends (target.link ∷ []) in
       let later = counted_links c ends (later_targets c target.link) in
       let first = resent c.realm.tries one tries in
@@ -95,7 +95,7 @@ module _ (c : RealmConfig) (ends : Ends) (looked : ℕ → Bool) (tries : 1 ≤ 
       (now : ℕ) (s : RealmState) (e : PlainEntry) (octets : List ℕ)
       → follow (once_refused c now s e octets).entries ≤ follow s.entries
   once_refused-follow now s e octets =
-      let held = with_standing (done octets (now + c.realm.hold)) e in
+      let held = with_standing (done octets (now + c.realm.hold) None) e in
       let put_held = sum-put weight held s.entries in
       either (λ (t : RealmState). follow t.entries ≤ follow s.entries) (ltb 0 c.realm.hold) _ _
       (omega (arith, put_held, nothing (looked e.ticket))) (omega arith)
@@ -118,46 +118,47 @@ module _ (c : RealmConfig) (ends : Ends) (looked : ℕ → Bool) (tries : 1 ≤ 
       → SpendsOf s e m (fail_over c now s e target)
   fail_over-spends now m s e None fits = given_up-spends now m s e
   fail_over-spends now m s e (Some target) fits =
-      let new = forwarded_entry c now e.request s.stream_position e.ticket target in
+      let signs = signs_of c (after_choice c now s.rests target.link) target.link in
+      let new = forwarded_entry c now signs e.request s.stream_position e.ticket target in
       let octets = forwarded_octets c e.request s.stream_position e.ticket target in
-      let step = forwarded-fits now e.request s.stream_position e.ticket m target (fits target refl) in
+      let step = forwarded-fits now signs e.request s.stream_position e.ticket m target (fits target refl) in
       let split = both (looked e.ticket) (counted ends (packet_to_link c target.link octets ∷ []))
       (may_follow c ends e.request.key new.standing) (c.realm.tries * m + counted_back ends e.request.key) step in
       omega (arith, split, sum-put weight new s.entries)
 
   again-follows :
-      (key : Key) (l : Link) (id : ℕ) (forwarded : List ℕ) (sends_left deadline later : ℕ)
-      (standing : PlainStanding) → standing ≡ waiting l id forwarded sends_left deadline → 1 ≤ sends_left
+      (key : Key) (l : Link) (id : ℕ) (forwarded : List ℕ) (sends_left deadline signs later : ℕ)
+      (standing : PlainStanding) → standing ≡ waiting l id forwarded sends_left deadline signs → 1 ≤ sends_left
       → counted ends (packet_to_link c l forwarded ∷ []) + may_follow c ends key (waits_on later standing)
       ≤ may_follow c ends key standing
-  again-follows key l id forwarded sends_left deadline later standing is some =
+  again-follows key l id forwarded sends_left deadline signs later standing is some =
       rw is (omega (arith, resent sends_left (counted_links c ends (l ∷ [])) some, to-link l forwarded))
 
   due_standing-spends :
       (now : ℕ) (s : RealmState) (e : PlainEntry) (standing : PlainStanding) → e.standing ≡ standing
       → IsIn e s.entries → Spends s e.ticket (due_standing c now s e standing)
-  due_standing-spends now s e (done reply deadline) is at =
+  due_standing-spends now s e (done reply deadline from) is at =
       omega (arith, sum-without weight e s.entries at, nothing (looked e.ticket))
-  due_standing-spends now s e (waiting l id forwarded sends_left deadline) is at =
+  due_standing-spends now s e (waiting l id forwarded sends_left deadline signs) is at =
       let b = looked e.ticket in
       let again = sent_again (now + c.realm.wait) e in
       let replaced = sum-replaced weight again e s.entries refl at in
       let gone = sum-without weight e s.entries at in
-      let rests = after_silence c now s.rests l in
+      let rests = after_silence c now s.rests l signs in
       let next = chosen_target c now rests s.cursors (without e.ticket s.entries) (later_targets c l) in
       let m = counted_links c ends (later_targets c l) in
       let fits : (t : Target) → next ≡ Some t → FitsIn c ends m t.link =
       λ t chosen. chosen-holds (FitsIn c ends m) c now rests s.cursors (without e.ticket s.entries) (later_targets c l)
       t (later-fit c ends l) chosen in
-      let over = fail_over-spends now m (given_up_at c now l s e) e next fits in
+      let over = fail_over-spends now m (given_up_at c now l signs s e) e next fits in
       let might = may_follow c ends e.request.key e.standing in
-      let old : might ≡ may_follow c ends e.request.key (waiting l id forwarded sends_left deadline) =
+      let old : might ≡ may_follow c ends e.request.key (waiting l id forwarded sends_left deadline signs) =
       ap (may_follow c ends e.request.key) is in
       let enough = more b (c.realm.tries * m + counted_back ends e.request.key) might (omega (arith, old)) in
       elim (cases_Bool (ltb 0 sends_left)) [
         | inl y ↦
             let some : 1 ≤ sends_left = grind (arith, nat_tests, y) in
-            let step = again-follows e.request.key l id forwarded sends_left deadline (now + c.realm.wait) e.standing
+            let step = again-follows e.request.key l id forwarded sends_left deadline signs (now + c.realm.wait) e.standing
             is some in
             let split = both b (counted ends (packet_to_link c l forwarded ∷ []))
             (may_follow c ends e.request.key (waits_on (now + c.realm.wait) e.standing)) might step in

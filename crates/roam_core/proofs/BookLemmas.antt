@@ -7,7 +7,7 @@ use Rattle.roam_conf.specs.Config.{ConfigView}
 use Rattle.roam_book.specs.BookView.{BookView, settings_of}
 use Rattle.roam_book.specs.RealmConfig.{RealmConfig, realm_config}
 use Rattle.roam_book.specs.RealmState.{RealmState, opening}
-use Rattle.roam_book.specs.Turn.{Turn, refuses, sends, state_after, Gives}
+use Rattle.roam_book.specs.Turn.{Turn, refuses, sends, state_after, Gives, hears}
 use Rattle.roam_book.specs.OnTick.{on_tick}
 use Rattle.roam_book.specs.declared.packets.answer.Answer.{Answer}
 use Rattle.roam_book.specs.declared.state.start.Start.{Start}
@@ -111,6 +111,11 @@ gives-one (Ok answer) states k new (refuses why) gives = record {
   packets = gives.packets;
   refusal = gives.refusal;
   states = ap (λ (s : RealmState). set states k s) gives.state ∙ set-get_or states k no_state;
+}
+gives-one (Ok answer) states k new (hears why state) gives = record {
+  packets = gives.packets;
+  refusal = gives.refusal;
+  states = ap (λ (s : RealmState). set states k s) gives.state;
 }
 gives-one (Ok answer) states k new (sends packets state) gives = record {
   packets = gives.packets;

@@ -15,14 +15,15 @@ use Rattle.roam_pending.specs.DueOrder.{due_list}
 use Rattle.roam_pending.specs.PlainEntry.{PlainRequest, PlainStanding, PlainEntry, waiting, done}
 use Rattle.roam_pending.specs.EntryList.{find_client, find_link, find_ticket, first_done, without, without_client}
 use Rattle.roam_book.specs.RealmConfig.{RealmConfig, later_targets, link_endpoint, link_secret, seal_required}
-use Rattle.roam_book.specs.RealmState.{RealmState, Target, chosen_target, opening}
+use Rattle.roam_book.specs.RealmState.{RealmState, Target, chosen_target, opening, with_rests}
 use Rattle.roam_book.specs.Rests.{after_silence}
 use Rattle.roam_book.specs.Turn.{Turn, packets_of, state_after, in_time}
 use Rattle.roam_book.specs.Shares.{share_taken}
 use Rattle.roam_book.specs.OnRequest.{make_way, at_target, is_reverse, nak_or_new, of_key, held_reply, reverse_cause, targets}
-use Rattle.roam_book.specs.OnReply.{judge, passing_to, returning, to_entry, to_standing}
+use Rattle.roam_book.specs.OnReply.{judge, passing_to, returning, to_entry, to_standing, shows_life}
 use Rattle.roam_book.specs.OnTick.{Progress, fail_over, given_up_at, due_standing, due_entry, due_one, due_each}
 use Rattle.roam_book.specs.OneRealm.{RealmEvent, request_came, reply_came, tick_came, on_event, one_realm_run}
+use Rattle.roam_book.specs.Conversing.{bound_target, new_target, rests_for}
 use Rattle.roam_core.specs.Amplification.{Ends, NoAmplification, NoAmplificationFromStart, NoMoreAnswersThanRequests, OnePacketEach, caused_by, counted, counted_links, may_be_caused, may_still_follow, requests_from}
 use Rattle.roam_core.proofs.RequestCauseLemmas.{reply-answers, request-pays}
 use Rattle.roam_core.proofs.SentLemmas.{either}
@@ -137,12 +138,14 @@ nak_or_new-few c now s q None =
     let others = without_client q.key s.entries in
     either Few (eqb s.ticket (2 ^ 63)) _ _ (omega arith)
     (either Few (share_taken c others q) _ _ (omega arith)
-    (at_target-few c now s others q (chosen_target c now s.rests s.cursors others (targets c q))))
+    (at_target-few c now
+    (with_rests s (rests_for c now s.rests (bound_target c s others q) (new_target c now s others q (targets c q))))
+    others q (new_target c now s others q (targets c q))))
 nak_or_new-few c now s q (Some why) = omega arith
 
 held-few : (c : RealmConfig) (q : PlainRequest) (standing : PlainStanding) → length (held_reply c q.key standing) ≤ 1
-held-few c q (waiting l id forwarded sends_left deadline) = omega arith
-held-few c q (done reply deadline) = omega arith
+held-few c q (waiting l id forwarded sends_left deadline signs) = omega arith
+held-few c q (done reply deadline from) = omega arith
 
 of_key-few : (c : RealmConfig) (now : ℕ) (s : RealmState) (named : Option ℕ) (q : PlainRequest)
     (found : Option PlainEntry) → Few (of_key c now s named q found)
@@ -153,7 +156,7 @@ of_key-few c now s named q (Some e) =
 
 judge-few : (c : RealmConfig) (now : ℕ) (s : RealmState) (e : PlainEntry) (l : Link) (forwarded reply : Packet)
     (why : Option Refusal) → Few (judge c now s e l forwarded reply why)
-judge-few c now s e l forwarded reply (Some why) = omega arith
+judge-few c now s e l forwarded reply (Some why) = either Few (shows_life why) _ _ (omega arith) (omega arith)
 judge-few c now s e l forwarded reply None =
     either Few (ltb 4096 (returned_length (returning c e.request l forwarded) (passing_to c e.request reply)
     (packet_of e.request.octets))) _ _
@@ -161,10 +164,10 @@ judge-few c now s e l forwarded reply None =
 
 to_standing-few : (c : RealmConfig) (now : ℕ) (s : RealmState) (e : PlainEntry) (reply : Packet)
     (standing : PlainStanding) → Few (to_standing c now s e reply standing)
-to_standing-few c now s e reply (waiting l id forwarded sends_left deadline) =
+to_standing-few c now s e reply (waiting l id forwarded sends_left deadline signs) =
     judge-few c now s e l (packet_of forwarded) reply
     (reply_fault (link_secret c l) (seal_required c l) reply (packet_of forwarded))
-to_standing-few c now s e reply (done old deadline) = omega arith
+to_standing-few c now s e reply (done old deadline from) = omega arith
 
 to_entry-few : (c : RealmConfig) (now : ℕ) (s : RealmState) (reply : Packet) (found : Option PlainEntry) →
     Few (to_entry c now s reply found)
@@ -183,10 +186,10 @@ fail_over-few c now s e (Some target) = omega arith
 
 due_standing-few : (c : RealmConfig) (now : ℕ) (s : RealmState) (e : PlainEntry) (standing : PlainStanding) →
     FewIn (due_standing c now s e standing)
-due_standing-few c now s e (done reply deadline) = omega arith
-due_standing-few c now s e (waiting l id forwarded sends_left deadline) =
+due_standing-few c now s e (done reply deadline from) = omega arith
+due_standing-few c now s e (waiting l id forwarded sends_left deadline signs) =
     either FewIn (ltb 0 sends_left) _ _ (omega arith)
-    (fail_over-few c now (given_up_at c now l s e) e (chosen_target c now (after_silence c now s.rests l) s.cursors
+    (fail_over-few c now (given_up_at c now l signs s e) e (chosen_target c now (after_silence c now s.rests l signs) s.cursors
     (without e.ticket s.entries) (later_targets c l)))
 
 due_entry-few : (c : RealmConfig) (now : ℕ) (s : RealmState) (found : Option PlainEntry) →

@@ -19,11 +19,11 @@ use Rattle.roam_pending.specs.PlainEntry.{PlainRequest, PlainStanding, PlainEntr
 use Rattle.roam_pending.proofs.TestLemmas.{compared}
 use Rattle.roam_pending.specs.EntryList.{find_client, find_link, find_ticket, first_done, without_client}
 use Rattle.roam_book.specs.RealmConfig.{RealmConfig}
-use Rattle.roam_book.specs.RealmState.{RealmState, Target, opening}
+use Rattle.roam_book.specs.RealmState.{RealmState, Target, opening, with_rests}
 use Rattle.roam_book.specs.Turn.{Turn, state_after}
 use Rattle.roam_book.specs.Shares.{share_taken}
 use Rattle.roam_book.specs.OnRequest.{draws, make_way, at_target, is_reverse, nak_or_new, new_request, of_key, position_after, reverse_cause}
-use Rattle.roam_book.specs.OnReply.{judge, passing_to, returning, to_entry, to_standing}
+use Rattle.roam_book.specs.OnReply.{judge, passing_to, returning, to_entry, to_standing, shows_life}
 use Rattle.roam_book.specs.OnTick.{Progress, fail_over, once_refused, due_standing, due_entry, due_one, due_each}
 use Rattle.roam_book.specs.OneRealm.{RealmEvent, request_came, reply_came, tick_came, on_event, one_realm_run}
 use Rattle.roam_book.specs.declared.state.start.Start.{Start}
@@ -33,6 +33,7 @@ use Rattle.roam_core.specs.ProvenanceLaws.{DrawsAreApart, WordsAreDrawnInOrder, 
 use Rattle.roam_core.proofs.OriginRequestLemmas.{moves, next_position}
 use Rattle.roam_core.proofs.SentLemmas.{either}
 use Rattle.roam_core.proofs.TicketLemmas.{Places, places, one, later, earlier}
+use Rattle.roam_book.specs.declared.state.rest.Rest.{Rest}
 
 -- the stream stays, or moves on by the words of one draw
 abbrev Moved : ℕ → ℕ → Type 0
@@ -48,23 +49,24 @@ spent : (q : PlainRequest) (p : ℕ) → Moved p (position_after q p)
 spent q p = either (Moved p) (draws q) (next_position p) p (inr refl) (inl refl)
 
 -- a request draws once at most
-make_way-moves : (c : RealmConfig) (now : ℕ) (s : RealmState) (es : List PlainEntry) (q : PlainRequest)
-    (target : Target) (way : Option ℕ) → Moves s (make_way c now s es q target way)
-make_way-moves c now s es q target None = stays s
-make_way-moves c now s es q target (Some ticket) = spent q s.stream_position
+make_way-moves : (c : RealmConfig) (now : ℕ) (s : RealmState) (rests : List Rest) (es : List PlainEntry)
+    (q : PlainRequest) (target : Target) (way : Option ℕ)
+    → Moves s (make_way c now (with_rests s rests) es q target way)
+make_way-moves c now s rests es q target None = stays s
+make_way-moves c now s rests es q target (Some ticket) = spent q s.stream_position
 
-at_target-moves : (c : RealmConfig) (now : ℕ) (s : RealmState) (es : List PlainEntry) (q : PlainRequest)
-    (target : Option Target) → Moves s (at_target c now s es q target)
-at_target-moves c now s es q None = stays s
-at_target-moves c now s es q (Some target) =
+at_target-moves : (c : RealmConfig) (now : ℕ) (s : RealmState) (rests : List Rest) (es : List PlainEntry)
+    (q : PlainRequest) (target : Option Target) → Moves s (at_target c now (with_rests s rests) es q target)
+at_target-moves c now s rests es q None = stays s
+at_target-moves c now s rests es q (Some target) =
     either (Moves s) (ltb (length es) c.realm.max_pending) _ _ (spent q s.stream_position)
-    (make_way-moves c now s es q target (first_done es))
+    (make_way-moves c now s rests es q target (first_done es))
 
 new_request-moves : (c : RealmConfig) (now : ℕ) (s : RealmState) (es : List PlainEntry) (q : PlainRequest) →
     Moves s (new_request c now s es q)
 new_request-moves c now s es q =
     either (Moves s) (eqb s.ticket (2 ^ 63)) _ _ (stays s)
-    (either (Moves s) (share_taken c es q) _ _ (stays s) (at_target-moves c now s es q _))
+    (either (Moves s) (share_taken c es q) _ _ (stays s) (at_target-moves c now s _ es q _))
 
 nak_or_new-moves : (c : RealmConfig) (now : ℕ) (s : RealmState) (q : PlainRequest) (why : Option ℕ) →
     Moves s (nak_or_new c now s q why)
@@ -89,7 +91,7 @@ Rests old turn = (state_after old turn).stream_position ≡ old.stream_position
 
 judge-rests : (c : RealmConfig) (now : ℕ) (s : RealmState) (e : PlainEntry) (l : Link) (forwarded reply : Packet)
     (why : Option Refusal) → Rests s (judge c now s e l forwarded reply why)
-judge-rests c now s e l forwarded reply (Some why) = refl
+judge-rests c now s e l forwarded reply (Some why) = either (Rests s) (shows_life why) _ _ refl refl
 judge-rests c now s e l forwarded reply None =
     either (Rests s) (ltb 4096 (returned_length (returning c e.request l forwarded) (passing_to c e.request reply)
     (packet_of e.request.octets))) _ _
@@ -97,9 +99,9 @@ judge-rests c now s e l forwarded reply None =
 
 to_standing-rests : (c : RealmConfig) (now : ℕ) (s : RealmState) (e : PlainEntry) (reply : Packet)
     (standing : PlainStanding) → Rests s (to_standing c now s e reply standing)
-to_standing-rests c now s e reply (waiting l id forwarded sends_left deadline) =
+to_standing-rests c now s e reply (waiting l id forwarded sends_left deadline signs) =
     judge-rests c now s e l (packet_of forwarded) reply _
-to_standing-rests c now s e reply (done old deadline) = refl
+to_standing-rests c now s e reply (done old deadline from) = refl
 
 to_entry-rests : (c : RealmConfig) (now : ℕ) (s : RealmState) (reply : Packet) (found : Option PlainEntry) →
     Rests s (to_entry c now s reply found)
@@ -129,8 +131,8 @@ fail_over-goes c now s e (Some target) = spent e.request s.stream_position
 
 due_standing-goes : (c : RealmConfig) (now : ℕ) (s : RealmState) (e : PlainEntry) (standing : PlainStanding) →
     Goes s (due_standing c now s e standing)
-due_standing-goes c now s e (done reply deadline) = stays s
-due_standing-goes c now s e (waiting l id forwarded sends_left deadline) =
+due_standing-goes c now s e (done reply deadline from) = stays s
+due_standing-goes c now s e (waiting l id forwarded sends_left deadline signs) =
     either (Goes s) (ltb 0 sends_left) _ _ (stays s) (fail_over-goes c now _ e _)
 
 pub due_entry-goes : (c : RealmConfig) (now : ℕ) (s : RealmState) (found : Option PlainEntry) →

@@ -18,18 +18,20 @@ use Rattle.roam_pending.specs.PlainEntry.{PlainRequest, PlainStanding, PlainEntr
 use Rattle.roam_pending.specs.EntryList.{find_client, find_link, find_ticket, first_done, put, without, without_client}
 use Rattle.roam_pending.specs.Realms.{sent_again, with_standing}
 use Rattle.roam_book.specs.RealmConfig.{RealmConfig, later_targets, link_secret, seal_required}
-use Rattle.roam_book.specs.RealmState.{RealmState, Target, chosen_target}
-use Rattle.roam_book.specs.Rests.{after_silence}
+use Rattle.roam_book.specs.RealmState.{RealmState, Target, chosen_target, with_rests}
+use Rattle.roam_book.specs.Rests.{after_silence, after_choice, signs_of}
 use Rattle.roam_book.specs.Turn.{Turn, state_after}
 use Rattle.roam_book.specs.Shares.{share_taken}
 use Rattle.roam_book.specs.OnRequest.{forwarded_entry, make_way, at_target, is_reverse, nak_octets, nak_or_new, of_key, reverse_cause, targets}
-use Rattle.roam_book.specs.OnReply.{judge, passing_to, returned_octets, returning, to_entry, to_standing}
+use Rattle.roam_book.specs.OnReply.{judge, passing_to, returned_octets, returning, to_entry, to_standing, shows_life}
 use Rattle.roam_reverse.specs.declared.error_cause.TheConstants.{OTHER_PROXY_PROCESSING_ERROR}
 use Rattle.roam_book.specs.OnTick.{Progress, fail_over, given_up_at, once_refused, due_standing, due_entry, due_one, due_each}
 use Rattle.roam_book.specs.OneRealm.{request_came, reply_came, tick_came, on_event}
+use Rattle.roam_book.specs.Conversing.{new_target}
 use Rattle.roam_core.specs.Amplification.{Ends, counted_links}
 use Rattle.roam_core.proofs.SentLemmas.{either}
-use Rattle.roam_core.proofs.SumLemmas.{FitsIn, chosen-holds, found-in, later-fit, targets-fit}
+use Rattle.roam_core.proofs.SumLemmas.{FitsIn, chosen-holds, found-in, later-fit, targets-fit, new-holds}
+use Rattle.roam_book.specs.declared.state.rest.Rest.{Rest}
 
 -- all packets are counted
 abbrev pub all_ends : Ends
@@ -50,41 +52,44 @@ module _ (c : RealmConfig) (Kept : List PlainEntry → Type 0) (Good : PlainEntr
 
   abbrev pub NewIsGood : ℕ → RealmState → PlainRequest → Type 0
   NewIsGood now s q =
-      (target : Target) → IsOneOf c (targets c q) target.link
-      → Good (forwarded_entry c now q s.stream_position s.ticket target)
+      (target : Target) (signs : ℕ) → IsOneOf c (targets c q) target.link
+      → Good (forwarded_entry c now signs q s.stream_position s.ticket target)
 
   make_way-keeps :
-      (now : ℕ) (s : RealmState) (es : List PlainEntry) (q : PlainRequest) (target : Target) (way : Option ℕ)
-      → Kept s.entries → Kept es → Good (forwarded_entry c now q s.stream_position s.ticket target)
-      → Keeps s (make_way c now s es q target way)
-  make_way-keeps now s es q target None old kept new = old
-  make_way-keeps now s es q target (Some ticket) old kept new =
-      more (forwarded_entry c now q s.stream_position s.ticket target) (without ticket es) new
+      (now : ℕ) (s : RealmState) (rests : List Rest) (es : List PlainEntry) (q : PlainRequest) (target : Target)
+      (way : Option ℕ)
+      → Kept s.entries → Kept es
+      → Good (forwarded_entry c now (signs_of c rests target.link) q s.stream_position s.ticket target)
+      → Keeps s (make_way c now (with_rests s rests) es q target way)
+  make_way-keeps now s rests es q target None old kept new = old
+  make_way-keeps now s rests es q target (Some ticket) old kept new =
+      more (forwarded_entry c now (signs_of c rests target.link) q s.stream_position s.ticket target)
+      (without ticket es) new
       (less (λ e. not (has_ticket ticket e)) es kept)
 
   at_target-keeps :
-      (now : ℕ) (s : RealmState) (es : List PlainEntry) (q : PlainRequest) (target : Option Target)
+      (now : ℕ) (s : RealmState) (rests : List Rest) (es : List PlainEntry) (q : PlainRequest) (target : Option Target)
       → Kept s.entries → Kept es → ((t : Target) → target ≡ Some t → IsOneOf c (targets c q) t.link)
-      → NewIsGood now s q → Keeps s (at_target c now s es q target)
-  at_target-keeps now s es q None old kept fits new = old
-  at_target-keeps now s es q (Some target) old kept fits new =
-      let good = new target (fits target refl) in
+      → NewIsGood now s q → Keeps s (at_target c now (with_rests s rests) es q target)
+  at_target-keeps now s rests es q None old kept fits new = old
+  at_target-keeps now s rests es q (Some target) old kept fits new =
+      let signs = signs_of c rests target.link in
+      let good = new target signs (fits target refl) in
       either (Keeps s) (ltb (length es) c.realm.max_pending) _ _
-      (more (forwarded_entry c now q s.stream_position s.ticket target) es good kept)
-      (make_way-keeps now s es q target (first_done es) old kept good)
+      (more (forwarded_entry c now signs q s.stream_position s.ticket target) es good kept)
+      (make_way-keeps now s rests es q target (first_done es) old kept good)
 
   nak_or_new-keeps :
       (now : ℕ) (s : RealmState) (q : PlainRequest) (why : Option ℕ) → Kept s.entries → NewIsGood now s q
       → Keeps s (nak_or_new c now s q why)
   nak_or_new-keeps now s q None old new =
       let es = without_client q.key s.entries in
-      let chosen = chosen_target c now s.rests s.cursors es (targets c q) in
+      let chosen = new_target c now s es q (targets c q) in
       let fits : (t : Target) → chosen ≡ Some t → IsOneOf c (targets c q) t.link =
-      λ t at. chosen-holds (IsOneOf c (targets c q)) c now s.rests s.cursors es (targets c q) t
-      (targets-fit c all_ends q) at in
+      λ t at. new-holds (IsOneOf c (targets c q)) c now s es q (targets c q) t (targets-fit c all_ends q) at in
       either (Keeps s) (eqb s.ticket (2 ^ 63)) _ _ old
       (either (Keeps s) (share_taken c es q) _ _ old
-      (at_target-keeps now s es q chosen old (less (λ e. not (has_key q.key e)) s.entries old) fits new))
+      (at_target-keeps now s _ es q chosen old (less (λ e. not (has_key q.key e)) s.entries old) fits new))
   nak_or_new-keeps now s q (Some why) old new = old
 
   of_key-keeps :
@@ -106,26 +111,27 @@ module _ (c : RealmConfig) (Kept : List PlainEntry → Type 0) (Good : PlainEntr
 
   abbrev pub DoneIsGood : ℕ → Type 0
   DoneIsGood now =
-      (e : PlainEntry) (octets : List ℕ) → Good (with_standing (done octets (now + c.realm.hold)) e)
+      (e : PlainEntry) (octets : List ℕ) (from : Option Link)
+      → Good (with_standing (done octets (now + c.realm.hold) from) e)
 
   judge-keeps :
       (now : ℕ) (s : RealmState) (e : PlainEntry) (l : Link) (forwarded reply : Packet) (why : Option Refusal)
       → Kept s.entries → DoneIsGood now → Keeps s (judge c now s e l forwarded reply why)
-  judge-keeps now s e l forwarded reply (Some why) old done_good = old
+  judge-keeps now s e l forwarded reply (Some why) old done_good = either (Keeps s) (shows_life why) _ _ old old
   judge-keeps now s e l forwarded reply None old done_good =
       let octets = returned_octets c e.request l forwarded reply in
       either (Keeps s)
       (ltb 4096 (returned_length (returning c e.request l forwarded) (passing_to c e.request reply)
       (packet_of e.request.octets))) _ _
-      old (more (with_standing (done octets (now + c.realm.hold)) e) s.entries (done_good e octets) old)
+      old (more (with_standing (done octets (now + c.realm.hold) (Some l)) e) s.entries (done_good e octets (Some l)) old)
 
   to_standing-keeps :
       (now : ℕ) (s : RealmState) (e : PlainEntry) (reply : Packet) (standing : PlainStanding)
       → Kept s.entries → DoneIsGood now → Keeps s (to_standing c now s e reply standing)
-  to_standing-keeps now s e reply (waiting l id forwarded sends_left deadline) old done_good =
+  to_standing-keeps now s e reply (waiting l id forwarded sends_left deadline signs) old done_good =
       judge-keeps now s e l (packet_of forwarded) reply
       (reply_fault (link_secret c l) (seal_required c l) reply (packet_of forwarded)) old done_good
-  to_standing-keeps now s e reply (done held deadline) old done_good = old
+  to_standing-keeps now s e reply (done held deadline from) old done_good = old
 
   to_entry-keeps :
       (now : ℕ) (s : RealmState) (reply : Packet) (found : Option PlainEntry)
@@ -147,13 +153,14 @@ module _ (c : RealmConfig) (Kept : List PlainEntry → Type 0) (Good : PlainEntr
 
   pub record TickIsGood (now : ℕ) : Type 0 where
     pub again :
-        (e : PlainEntry) (l : Link) (id : ℕ) (forwarded : List ℕ) (sends_left deadline : ℕ)
-        → e.standing ≡ waiting l id forwarded sends_left deadline → 1 ≤ sends_left → Good e
+        (e : PlainEntry) (l : Link) (id : ℕ) (forwarded : List ℕ) (sends_left deadline signs : ℕ)
+        → e.standing ≡ waiting l id forwarded sends_left deadline signs → 1 ≤ sends_left → Good e
         → Good (sent_again (now + c.realm.wait) e)
     pub over :
-        (e : PlainEntry) (l : Link) (id : ℕ) (forwarded : List ℕ) (sends_left deadline position : ℕ) (target : Target)
-        → e.standing ≡ waiting l id forwarded sends_left deadline → IsOneOf c (later_targets c l) target.link
-        → Good e → Good (forwarded_entry c now e.request position e.ticket target)
+        (e : PlainEntry) (l : Link) (id : ℕ) (forwarded : List ℕ) (sends_left deadline signs anew position : ℕ)
+        (target : Target)
+        → e.standing ≡ waiting l id forwarded sends_left deadline signs → IsOneOf c (later_targets c l) target.link
+        → Good e → Good (forwarded_entry c now anew e.request position e.ticket target)
     pub answered : DoneIsGood now
 
   once_refused-keeps :
@@ -161,29 +168,31 @@ module _ (c : RealmConfig) (Kept : List PlainEntry → Type 0) (Good : PlainEntr
       → Kept (once_refused c now s e octets).entries
   once_refused-keeps now s e octets tick old =
       either (λ (t : RealmState). Kept t.entries) (ltb 0 c.realm.hold) _ _
-      (more (with_standing (done octets (now + c.realm.hold)) e) s.entries (tick.answered e octets) old) old
+      (more (with_standing (done octets (now + c.realm.hold) None) e) s.entries (tick.answered e octets None) old) old
 
   fail_over-keeps :
-      (now : ℕ) (s : RealmState) (e : PlainEntry) (l : Link) (id : ℕ) (forwarded : List ℕ) (sends_left deadline : ℕ)
+      (now : ℕ) (s : RealmState) (e : PlainEntry) (l : Link) (id : ℕ) (forwarded : List ℕ) (sends_left deadline signs : ℕ)
       (target : Option Target)
-      → TickIsGood now → e.standing ≡ waiting l id forwarded sends_left deadline
+      → TickIsGood now → e.standing ≡ waiting l id forwarded sends_left deadline signs
       → ((t : Target) → target ≡ Some t → IsOneOf c (later_targets c l) t.link)
       → Good e → Kept s.entries → KeepsIn (fail_over c now s e target)
-  fail_over-keeps now s e l id forwarded sends_left deadline None tick is fits good old =
+  fail_over-keeps now s e l id forwarded sends_left deadline signs None tick is fits good old =
       either KeepsIn (is_reverse e.request) _ _
       (once_refused-keeps now s e (nak_octets c e.request OTHER_PROXY_PROCESSING_ERROR) tick old) old
-  fail_over-keeps now s e l id forwarded sends_left deadline (Some target) tick is fits good old =
-      more (forwarded_entry c now e.request s.stream_position e.ticket target) s.entries
-      (tick.over e l id forwarded sends_left deadline s.stream_position target is (fits target refl) good) old
+  fail_over-keeps now s e l id forwarded sends_left deadline signs (Some target) tick is fits good old =
+      let anew = signs_of c (after_choice c now s.rests target.link) target.link in
+      more (forwarded_entry c now anew e.request s.stream_position e.ticket target) s.entries
+      (tick.over e l id forwarded sends_left deadline signs anew s.stream_position target is (fits target refl) good)
+      old
 
   due_standing-keeps :
       (now : ℕ) (s : RealmState) (e : PlainEntry) (standing : PlainStanding) → TickIsGood now
       → e.standing ≡ standing → Good e → Kept s.entries → KeepsIn (due_standing c now s e standing)
-  due_standing-keeps now s e (done reply deadline) tick is good old =
+  due_standing-keeps now s e (done reply deadline from) tick is good old =
       less (λ x. not (has_ticket e.ticket x)) s.entries old
-  due_standing-keeps now s e (waiting l id forwarded sends_left deadline) tick is good old =
+  due_standing-keeps now s e (waiting l id forwarded sends_left deadline signs) tick is good old =
       let es = without e.ticket s.entries in
-      let rests = after_silence c now s.rests l in
+      let rests = after_silence c now s.rests l signs in
       let next = chosen_target c now rests s.cursors es (later_targets c l) in
       let fits : (t : Target) → next ≡ Some t → IsOneOf c (later_targets c l) t.link =
       λ t at. chosen-holds (IsOneOf c (later_targets c l)) c now rests s.cursors es (later_targets c l) t
@@ -193,8 +202,8 @@ module _ (c : RealmConfig) (Kept : List PlainEntry → Type 0) (Good : PlainEntr
         | inl y ↦
             let some : 1 ≤ sends_left = grind (arith, nat_tests, y) in
             rw y (more (sent_again (now + c.realm.wait) e) s.entries
-            (tick.again e l id forwarded sends_left deadline is some good) old)
-        | inr n ↦ rw n (fail_over-keeps now (given_up_at c now l s e) e l id forwarded sends_left deadline next tick
+            (tick.again e l id forwarded sends_left deadline signs is some good) old)
+        | inr n ↦ rw n (fail_over-keeps now (given_up_at c now l signs s e) e l id forwarded sends_left deadline signs next tick
             is fits
             good others)
       ]

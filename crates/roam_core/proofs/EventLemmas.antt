@@ -12,7 +12,7 @@ use Rattle.roam_route.specs.Admission.{Arrival, Admission, refused, rejected, ad
 use Rattle.roam_route.proofs.EventLemmas.{admitted_realm}
 use Rattle.roam_book.specs.RealmConfig.{RealmConfig, realm_config}
 use Rattle.roam_book.specs.RealmState.{RealmState}
-use Rattle.roam_book.specs.Turn.{Turn, refuses, sends, packets_of, state_after, in_time}
+use Rattle.roam_book.specs.Turn.{Turn, refuses, hears, sends, packets_of, state_after, in_time}
 use Rattle.roam_book.specs.OnTick.{as_turn, due_each, on_tick}
 use Rattle.roam_pending.specs.DueOrder.{due_list}
 use Rattle.roam_book.specs.OneRealm.{RealmEvent, tick_came, event_of, on_event, one_realm_run}
@@ -49,6 +49,11 @@ own_turn config states realm e (refuses why) within own is = record {
   packets = ap (λ (t : Turn). packets_of t ++ []) (sym is);
   state = ap (λ (t : Turn). state_after (state_at states realm) t) (sym is);
 }
+own_turn config states realm e (hears why state) within own is = record {
+  packets = ap (λ (t : Turn). packets_of t ++ []) (sym is);
+  state = get_or-set_same states realm state no_state within
+      ∙ ap (λ (t : Turn). state_after (state_at states realm) t) (sym is);
+}
 own_turn config states realm e (sends packets state) within own is = record {
   packets = all_of_own realm packets own ∙ sym (append-nil packets) ∙ ap (λ (t : Turn). packets_of t ++ []) (sym is);
   state = get_or-set_same states realm state no_state within
@@ -60,6 +65,10 @@ other_turn : (config : ConfigView) (states : List RealmState) (realm other : ℕ
     SendsFor other turn → IsOwnTurn config states realm [] (turn_of_one states other turn)
 unfolding SendsFor
 other_turn config states realm other (refuses why) differ theirs = record { packets = refl; state = refl }
+other_turn config states realm other (hears why state) differ theirs = record {
+  packets = refl;
+  state = get_or-set_other states other realm state no_state (λ same. differ (sym same));
+}
 other_turn config states realm other (sends packets state) differ theirs = record {
   packets = none_of_others realm other (other + 1) packets (λ low high. differ (omega arith)) theirs;
   state = get_or-set_other states other realm state no_state (λ same. differ (sym same));
@@ -171,6 +180,7 @@ event_turn config states realm (ticks now shard) some within =
 turn-length : (states : List RealmState) (realm : ℕ) (turn : Turn) →
     length (states_after states (turn_of_one states realm turn)) ≡ length states
 turn-length states realm (refuses why) = refl
+turn-length states realm (hears why state) = length-set states realm state
 turn-length states realm (sends packets state) = length-set states realm state
 
 arrival-length : (config : ConfigView) (states : List RealmState) (now : ℕ) (given : Admission) →
@@ -199,6 +209,7 @@ turn_rejects : (states : List RealmState) (realm : ℕ) (turn : Turn) → SendsF
     packets_for_none (packets_in_turn (turn_of_one states realm turn)) ≡ []
 unfolding SendsFor
 turn_rejects states realm (refuses why) own = refl
+turn_rejects states realm (hears why state) own = refl
 turn_rejects states realm (sends packets state) own = none_without_realm realm (realm + 1) packets own
 
 arrival_rejects : (config : ConfigView) (states : List RealmState) (now : ℕ) (given : Admission) →
@@ -233,6 +244,7 @@ turn_realms : (count : ℕ) (states : List RealmState) (realm : ℕ) (turn : Tur
     → AllByRecursion (HasRealm count) (packets_in_turn (turn_of_one states realm turn))
 unfolding SendsFor
 turn_realms count states realm (refuses why) own within = tt
+turn_realms count states realm (hears why state) own within = tt
 turn_realms count states realm (sends packets state) own within =
     all_have_realms realm (realm + 1) count packets (omega arith) own
 

@@ -39,15 +39,15 @@ event-order : (c : RealmConfig) (s : RealmState) (e : RealmEvent) → IsInOrder 
     IsInOrder (state_after s (on_event c s e)).entries
 event-order c s (request_came now named q) order =
     request-keeps c IsInOrder Any order-filter (λ e es h. order-put e es) (λ e es h at. tt) now s named q order
-    (λ t fits. tt)
+    (λ t signs fits. tt)
 event-order c s (reply_came now l octets) order =
     reply-keeps c IsInOrder Any order-filter (λ e es h. order-put e es) (λ e es h at. tt) now s l octets order
-    (λ e octets. tt)
+    (λ e octets from. tt)
 event-order c s (tick_came now) order =
     tick-keeps c IsInOrder Any order-filter (λ e es h. order-put e es) (λ e es h at. tt) now s (record {
-      again = λ e l id f k d is some h. tt;
-      over = λ e l id f k d position target is fits h. tt;
-      answered = λ e octets. tt;
+      again = λ e l id f k d signs is some h. tt;
+      over = λ e l id f k d signs anew position target is fits h. tt;
+      answered = λ e octets from. tt;
     }) order
 
 pub run-order : (c : RealmConfig) (s : RealmState) (es : List RealmEvent) → IsInOrder s.entries →
@@ -91,8 +91,8 @@ module _ (c : RealmConfig) (gap ticket until : ℕ) (tries : 1 ≤ c.realm.tries
     pub lasts : deadline + gap + left_at c l sends_left * (c.realm.wait + gap) ≤ until
 
   abbrev pub Stands : ℕ → PlainStanding → Type 0
-  Stands tick (waiting l id forwarded sends_left deadline) = Waits tick l sends_left deadline
-  Stands tick (done reply deadline) = Unit {0}
+  Stands tick (waiting l id forwarded sends_left deadline signs) = Waits tick l sends_left deadline
+  Stands tick (done reply deadline from) = Unit {0}
 
   -- if it has the ticket
   abbrev pub IsInTime : ℕ → PlainEntry → Type 0
@@ -113,22 +113,24 @@ module _ (c : RealmConfig) (gap ticket until : ℕ) (tries : 1 ≤ c.realm.tries
   all-each tick e es h at = all-in (IsInTime tick) es e h at
 
   again-stands :
-      (tick now : ℕ) (l : Link) (id : ℕ) (forwarded : List ℕ) (sends_left deadline : ℕ) (standing : PlainStanding)
+      (tick now : ℕ) (l : Link) (id : ℕ) (forwarded : List ℕ) (sends_left deadline signs : ℕ)
+      (standing : PlainStanding)
       → tick ≤ now → now ≤ tick + gap → 1 ≤ c.realm.wait
-      → standing ≡ waiting l id forwarded sends_left deadline → 1 ≤ sends_left → Stands tick standing
+      → standing ≡ waiting l id forwarded sends_left deadline signs → 1 ≤ sends_left → Stands tick standing
       → Stands tick (waits_on (now + c.realm.wait) standing)
-  again-stands tick now l id forwarded sends_left deadline standing not_back soon wait is some stands =
+  again-stands tick now l id forwarded sends_left deadline signs standing not_back soon wait is some stands =
       let old : Waits tick l sends_left deadline = rw is at stands in
       let fewer = turns (left_at c l (sends_left - 1)) (left_at c l sends_left) (c.realm.wait + gap) (omega arith) in
       rw is (record { beyond = omega arith; lasts = omega (arith, fewer, old.beyond, old.lasts) })
 
   over-stands :
-      (tick now : ℕ) (l : Link) (id : ℕ) (forwarded : List ℕ) (sends_left deadline : ℕ) (standing : PlainStanding)
+      (tick now : ℕ) (l : Link) (id : ℕ) (forwarded : List ℕ) (sends_left deadline signs : ℕ)
+      (standing : PlainStanding)
       (next : Link)
       → tick ≤ now → now ≤ tick + gap → 1 ≤ c.realm.wait
-      → standing ≡ waiting l id forwarded sends_left deadline → IsOneOf c (later_targets c l) next
+      → standing ≡ waiting l id forwarded sends_left deadline signs → IsOneOf c (later_targets c l) next
       → Stands tick standing → Waits tick next (c.realm.tries - 1) (now + c.realm.wait)
-  over-stands tick now l id forwarded sends_left deadline standing next not_back soon wait is fits stands =
+  over-stands tick now l id forwarded sends_left deadline signs standing next not_back soon wait is fits stands =
       let old : Waits tick l sends_left deadline = rw is at stands in
       let fewer = left-fewer c (later_targets c l) next tries fits in
       let less = turns (left_at c next (c.realm.tries - 1)) (left_at c l sends_left) (c.realm.wait + gap)
@@ -140,19 +142,19 @@ module _ (c : RealmConfig) (gap ticket until : ℕ) (tries : 1 ≤ c.realm.tries
       (tick now : ℕ) → tick ≤ now → now ≤ tick + gap → 1 ≤ c.realm.wait
       → TickIsGood c (AllInTime tick) (IsInTime tick) (all-less tick) (all-more tick) (all-each tick) now
   tick-good tick now not_back soon wait = record {
-    again = λ e l id forwarded k d is some good at.
-        again-stands tick now l id forwarded k d e.standing not_back soon wait is some (good at);
-    over = λ e l id forwarded k d position target is fits good at.
-        over-stands tick now l id forwarded k d e.standing target.link not_back soon wait is fits (good at);
-    answered = λ e octets at. tt;
+    again = λ e l id forwarded k d signs is some good at.
+        again-stands tick now l id forwarded k d signs e.standing not_back soon wait is some (good at);
+    over = λ e l id forwarded k d signs anew position target is fits good at.
+        over-stands tick now l id forwarded k d signs e.standing target.link not_back soon wait is fits (good at);
+    answered = λ e octets from at. tt;
   }
 
   -- what isn't due waits beyond the moment of the tick
   beyond-now : (tick now : ℕ) (standing : PlainStanding) → now < deadline_of standing → Stands tick standing →
       Stands now standing
-  beyond-now tick now (waiting l id forwarded sends_left deadline) later stands =
+  beyond-now tick now (waiting l id forwarded sends_left deadline signs) later stands =
       record { beyond = later; lasts = stands.lasts }
-  beyond-now tick now (done reply deadline) later stands = tt
+  beyond-now tick now (done reply deadline from) later stands = tt
 
   not-due :
       (now : ℕ) (e : PlainEntry) (es : List PlainEntry) → due_list now es ≡ [] → IsIn e es
@@ -186,10 +188,10 @@ module _ (c : RealmConfig) (gap ticket until : ℕ) (tries : 1 ≤ c.realm.tries
       → AllInTime (last_tick tick e) (state_after s (on_event c s e)).entries
   event-in-time tick before s (request_came now named q) from not_back soon late wait given order old =
       request-keeps c (AllInTime tick) (IsInTime tick) (all-less tick) (all-more tick) (all-each tick) now s named q old
-      (λ target fits at. absurd (let same : s.ticket ≡ ticket = at in omega arith))
+      (λ target signs fits at. absurd (let same : s.ticket ≡ ticket = at in omega arith))
   event-in-time tick before s (reply_came now l octets) from not_back soon late wait given order old =
       reply-keeps c (AllInTime tick) (IsInTime tick) (all-less tick) (all-more tick) (all-each tick) now s l octets old
-      (λ e octets at. tt)
+      (λ e octets from at. tt)
   event-in-time tick before s (tick_came now) from not_back soon late wait given order old =
       let early : ltb (2 ^ 62) now ≡ false = grind (arith, nat_tests, late) in
       rw early (dues-in-time tick now s (omega arith) soon wait order old)
@@ -198,9 +200,9 @@ module _ (c : RealmConfig) (gap ticket until : ℕ) (tries : 1 ≤ c.realm.tries
   at-end :
       (tick before : ℕ) (standing : PlainStanding) → before ≤ tick + gap → until ≤ before
       → Stands tick standing → stands_done standing ≡ true
-  at-end tick before (waiting l id forwarded sends_left deadline) soon over stands =
+  at-end tick before (waiting l id forwarded sends_left deadline signs) soon over stands =
       absurd (omega (arith, stands.beyond, stands.lasts))
-  at-end tick before (done reply deadline) soon over stands = refl
+  at-end tick before (done reply deadline from) soon over stands = refl
 
   last-later : (tick before : ℕ) (es : List RealmEvent) → AreInTime gap tick before es → before ≤ last_moment before es
   last-later tick before [] h = omega arith
@@ -269,7 +271,7 @@ begins c start first came named q gap tries wait =
     let old = in-all Good s.entries (λ e at is. absurd (none-yet c start first e at is)) in
     request-keeps c (AllInTime c gap s.ticket until tries came) Good (all-less c gap s.ticket until tries came)
     (all-more c gap s.ticket until tries came) (all-each c gap s.ticket until tries came) came s named q old
-    (λ target fits at.
+    (λ target signs fits at.
     let fewer = left-fewer c (targets c q) target.link tries fits in
     let less = turns (left_at c target.link (c.realm.tries - 1)) (c.realm.tries * length (targets c q))
     (c.realm.wait + gap) fewer in

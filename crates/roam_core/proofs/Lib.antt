@@ -21,6 +21,7 @@ pub mod OriginRequestLemmas
 pub mod OriginReplyLemmas
 pub mod OriginTickLemmas
 pub mod ProvenanceLemmas
+pub mod OwnSessionLemmas
 pub mod TicketLemmas
 pub mod ToRealmLemmas
 pub mod DrawLemmas

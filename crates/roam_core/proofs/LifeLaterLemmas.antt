@@ -124,16 +124,16 @@ nak-later b es fs q out (inr h) = inr (record {
 pub stands-later :
     (b : Stage) (es fs : List Happening) (q : PlainRequest) (ticket : ℕ)
     (s : PlainStanding) → StandsFromIn b es q ticket s → StandsFromIn b (es ++ fs) q ticket s
-stands-later b es fs q ticket (waiting l id forwarded sends_left deadline) h = record {
+stands-later b es fs q ticket (waiting l id forwarded sends_left deadline signs) h = record {
   under = h.under;
   position = h.position;
   octets_are = h.octets_are;
   forwarded = forwarded-later b es fs h.under q h.position ticket (record { link = l; id = id })
       h.forwarded;
 }
-stands-later b es fs q ticket (done reply deadline) (inl h) =
+stands-later b es fs q ticket (done reply deadline from) (inl h) =
     inl (returned-later b es fs q ticket (back_to b.config.index q.key reply) h)
-stands-later b es fs q ticket (done reply deadline) (inr h) =
+stands-later b es fs q ticket (done reply deadline from) (inr h) =
     inr (nak-later b es fs q (back_to b.config.index q.key reply) h)
 
 comes-later :

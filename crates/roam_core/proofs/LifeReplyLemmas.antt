@@ -18,7 +18,7 @@ use Rattle.roam_book.specs.RealmConfig.{RealmConfig, link_secret, seal_required}
 use Rattle.roam_book.specs.Turn.{packets_of}
 use Rattle.roam_book.specs.OnRequest.{packet_to_requester}
 use Rattle.roam_back.specs.ReplyCheck.{reply_fault}
-use Rattle.roam_book.specs.OnReply.{judge, on_reply, passing_to, return_reply, returned_octets, returning, to_entry, to_standing}
+use Rattle.roam_book.specs.OnReply.{judge, on_reply, passing_to, return_reply, returned_octets, returning, to_entry, to_standing, shows_life}
 use Rattle.roam_book.specs.OneRealm.{reply_came}
 use Rattle.roam_core.specs.Lives.{Happening, Stage, event, stage_then}
 use Rattle.roam_core.specs.LifeOrigins.{ComesFromIn, IsReturnedIn, IsSentIn, StandsFromIn, WaitsForIn, back_to}
@@ -104,7 +104,7 @@ module _ (b : Stage) (before : List Happening) (at : Stage) (is_at : stage_then 
       let how = returning at.config e.request from (packet_of forwarded) in
       let length = returned_length how (passing_to at.config e.request (packet_of reply))
       (packet_of e.request.octets) in
-      let settled = with_standing (done octets (now + at.config.realm.hold)) e in
+      let settled = with_standing (done octets (now + at.config.realm.hold) (Some from)) e in
       elim (cases_Bool (ltb 4096 length)) [
         | inl y ↦ rw y (record { packets = tt; entries = still })
         | inr n ↦
@@ -126,7 +126,7 @@ module _ (b : Stage) (before : List Happening) (at : Stage) (is_at : stage_then 
             })
       ]
 
-  -- one that isn't taken changes nothing
+  -- one that isn't taken changes no entry
   judge-keeps :
       (e : PlainEntry) (id : ℕ) (forwarded : List ℕ) (why : Option Refusal)
       → reply_fault (link_secret at.config from) (seal_required at.config from) (packet_of reply)
@@ -139,7 +139,10 @@ module _ (b : Stage) (before : List Happening) (at : Stage) (is_at : stage_then 
       → TurnKeepsIn b (and_reply before now from reply) at.state
       (judge at.config now at.state e from (packet_of forwarded) (packet_of reply) why)
   judge-keeps e id forwarded (Some why) fault comes waits asked sent =
-      record { packets = tt; entries = still }
+      elim (cases_Bool (shows_life why)) [
+        | inl y ↦ rw y (record { packets = tt; entries = still })
+        | inr n ↦ rw n (record { packets = tt; entries = still })
+      ]
   judge-keeps e id forwarded None fault comes waits asked sent =
       return_reply-keeps e id forwarded comes waits asked fault sent
 
@@ -152,7 +155,7 @@ module _ (b : Stage) (before : List Happening) (at : Stage) (is_at : stage_then 
       (packets_of (to_standing at.config now at.state e (packet_of reply) standing))
       → TurnKeepsIn b (and_reply before now from reply) at.state
       (to_standing at.config now at.state e (packet_of reply) standing)
-  to_standing-keeps e (waiting l id forwarded sends_left deadline) comes waits stands sent =
+  to_standing-keeps e (waiting l id forwarded sends_left deadline signs) comes waits stands sent =
       let tests = both (same_link l from) (eqb id (packet_of reply).id) stands in
       let is = same_link-equal l from tests.0 in
       let asked : (packet_of reply).id ≡ id = let t = tests.1 in grind (arith, nat_tests, t) in
@@ -160,14 +163,14 @@ module _ (b : Stage) (before : List Happening) (at : Stage) (is_at : stage_then 
       let happened = reply_came now from reply in
       let of_link : Link → Type 0 = λ k. AreSentIn b before happened
       (packets_of (to_standing at.config now at.state e (packet_of reply)
-      (waiting k id forwarded sends_left deadline))) in
+      (waiting k id forwarded sends_left deadline signs))) in
       let kept_there : Link → Type 0 = λ k. TurnKeepsIn b (and_reply before now from reply) at.state
-      (to_standing at.config now at.state e (packet_of reply) (waiting k id forwarded sends_left deadline)) in
+      (to_standing at.config now at.state e (packet_of reply) (waiting k id forwarded sends_left deadline signs)) in
       let why = reply_fault (link_secret at.config from) (seal_required at.config from) (packet_of reply)
       (packet_of forwarded) in
       subst kept_there (sym is)
       (judge-keeps e id forwarded why refl comes there asked (subst of_link is sent))
-  to_standing-keeps e (done old deadline) comes waits stands sent =
+  to_standing-keeps e (done old deadline from) comes waits stands sent =
       record { packets = tt; entries = still }
 
   -- the entry that is found there, if one is

@@ -13,11 +13,13 @@ use Rattle.roam_pending.proofs.OrderLemmas.{all-put}
 use Rattle.roam_pending.proofs.ChangeLemmas.{find-passes}
 use Rattle.roam_pending.proofs.ClientLemmas.{key-equal}
 use Rattle.roam_book.specs.RealmConfig.{RealmConfig}
-use Rattle.roam_book.specs.RealmState.{RealmState, Target, chosen_target}
+use Rattle.roam_book.specs.RealmState.{RealmState, Target, with_rests}
 use Rattle.roam_book.specs.Turn.{Turn, refuses, state_after}
 use Rattle.roam_book.specs.Shares.{share_taken}
 use Rattle.roam_book.specs.OnRequest.{packet_to_requester, forwarded_entry, admit, make_way, at_target, new_request, held_reply, first_seen, nak_octets, nak_or_new, of_key, on_request, reverse_cause, targets}
 use Rattle.roam_book.specs.OneRealm.{request_came}
+use Rattle.roam_book.specs.Rests.{signs_of}
+use Rattle.roam_book.specs.Conversing.{bound_target, new_target, rests_for}
 use Rattle.roam_core.specs.Draws.{drawn_between}
 use Rattle.roam_core.specs.Lives.{Happening, Stage, event, stage_then}
 use Rattle.roam_core.specs.Occasions.{occasions, own_turn}
@@ -26,19 +28,20 @@ use Rattle.roam_core.specs.Provenance.{forwarded_packet}
 use Rattle.roam_core.proofs.OriginRequestLemmas.{moves, next_position}
 use Rattle.roam_core.proofs.LifeLemmas.{index-then}
 use Rattle.roam_core.proofs.LifeLaterLemmas.{EachComesIn, EachHasOriginIn, TurnKeepsIn, IsTurnAt, forwarded-origin, sent-by, state-by}
+use Rattle.roam_book.specs.declared.state.rest.Rest.{Rest}
 
 -- a reply that is held goes back to the key of its request
 held-origin :
     (b : Stage) (life : List Happening) (c : RealmConfig) (q : PlainRequest) (ticket : ℕ)
     (key : Key) (s : PlainStanding) → q.key ≡ key → b.config.index ≡ c.index
     → StandsFromIn b life q ticket s → EachHasOriginIn b life (held_reply c key s)
-held-origin b life c q ticket key (waiting l id forwarded sends_left deadline) is index h = tt
-held-origin b life c q ticket key (done reply deadline) is index (inl h) =
+held-origin b life c q ticket key (waiting l id forwarded sends_left deadline signs) is index h = tt
+held-origin b life c q ticket key (done reply deadline from) is index (inl h) =
     let there = subst (λ (k : Key). IsReturnedIn b life q ticket (back_to b.config.index k reply)) is h in
     let back : IsReturnedIn b life q ticket (packet_to_requester c key reply) =
     subst (λ (i : ℕ). IsReturnedIn b life q ticket (back_to i key reply)) index there in
     (inr (inl (record { request = q; ticket = ticket; returned = back })), tt)
-held-origin b life c q ticket key (done reply deadline) is index (inr h) =
+held-origin b life c q ticket key (done reply deadline from) is index (inr h) =
     let there = subst (λ (k : Key). IsNakIn b life q (back_to b.config.index k reply)) is h in
     let back : IsNakIn b life q (packet_to_requester c key reply) =
     subst (λ (i : ℕ). IsNakIn b life q (back_to i key reply)) index there in
@@ -77,11 +80,12 @@ module _ (b : Stage) (before : List Happening) (at : Stage) (now : ℕ)
 
   -- it is given the next ticket, and its own turn forwards it
   admit-forwarded :
-      (es : List PlainEntry) (target : Target) → turn ≡ admit at.config now at.state es q target
+      (rests : List Rest) (es : List PlainEntry) (target : Target)
+      → turn ≡ admit at.config now (with_rests at.state rests) es q target
       → IsForwardedIn b life at.config q at.state.stream_position at.state.ticket target
-  admit-forwarded es target is =
+  admit-forwarded rests es target is =
       let e = request_came now named q in
-      let other = admit at.config now at.state es q target in
+      let other = admit at.config now (with_rests at.state rests) es q target in
       let ends = state-by b before e at other (whole_turn other is) in
       record {
         request = record {
@@ -108,14 +112,15 @@ module _ (b : Stage) (before : List Happening) (at : Stage) (now : ℕ)
       }
 
   admit-keeps :
-      (es : List PlainEntry) (target : Target) → EachComesIn b life es
-      → turn ≡ admit at.config now at.state es q target
-      → TurnKeepsIn b life at.state (admit at.config now at.state es q target)
-  admit-keeps es target each is =
+      (rests : List Rest) (es : List PlainEntry) (target : Target) → EachComesIn b life es
+      → turn ≡ admit at.config now (with_rests at.state rests) es q target
+      → TurnKeepsIn b life at.state (admit at.config now (with_rests at.state rests) es q target)
+  admit-keeps rests es target each is =
       let e = request_came now named q in
-      let other = admit at.config now at.state es q target in
-      let forwarded = admit-forwarded es target is in
-      let new = forwarded_entry at.config now q at.state.stream_position at.state.ticket target in
+      let other = admit at.config now (with_rests at.state rests) es q target in
+      let forwarded = admit-forwarded rests es target is in
+      let new = forwarded_entry at.config now (signs_of at.config rests target.link) q at.state.stream_position
+      at.state.ticket target in
       let out = forwarded_packet at.config q at.state.stream_position at.state.ticket target in
       let comes : ComesFromIn b life new = record {
         request = forwarded.request;
@@ -137,39 +142,41 @@ module _ (b : Stage) (before : List Happening) (at : Stage) (now : ℕ)
       }
 
   make_way-keeps :
-      (es : List PlainEntry) (target : Target) (way : Option ℕ) → EachComesIn b life es
-      → turn ≡ make_way at.config now at.state es q target way
-      → TurnKeepsIn b life at.state (make_way at.config now at.state es q target way)
-  make_way-keeps es target None each is = record { packets = tt; entries = kept }
-  make_way-keeps es target (Some ticket) each is =
+      (rests : List Rest) (es : List PlainEntry) (target : Target) (way : Option ℕ) → EachComesIn b life es
+      → turn ≡ make_way at.config now (with_rests at.state rests) es q target way
+      → TurnKeepsIn b life at.state (make_way at.config now (with_rests at.state rests) es q target way)
+  make_way-keeps rests es target None each is = record { packets = tt; entries = kept }
+  make_way-keeps rests es target (Some ticket) each is =
       let stays : PlainEntry → Bool = λ e. not (has_ticket ticket e) in
       let others = all-filter (ComesFromIn b life) stays es each in
-      admit-keeps (without ticket es) target others is
+      admit-keeps rests (without ticket es) target others is
 
   at_target-keeps :
-      (es : List PlainEntry) (target : Option Target) → EachComesIn b life es
-      → turn ≡ at_target at.config now at.state es q target
-      → TurnKeepsIn b life at.state (at_target at.config now at.state es q target)
-  at_target-keeps es None each is = record { packets = tt; entries = kept }
-  at_target-keeps es (Some target) each is =
+      (rests : List Rest) (es : List PlainEntry) (target : Option Target) → EachComesIn b life es
+      → turn ≡ at_target at.config now (with_rests at.state rests) es q target
+      → TurnKeepsIn b life at.state (at_target at.config now (with_rests at.state rests) es q target)
+  at_target-keeps rests es None each is = record { packets = tt; entries = kept }
+  at_target-keeps rests es (Some target) each is =
       elim (cases_Bool (ltb (length es) at.config.realm.max_pending)) [
-        | inl y ↦ rw y (admit-keeps es target each (rw y at is))
-        | inr n ↦ rw n (make_way-keeps es target (first_done es) each (rw n at is))
+        | inl y ↦ rw y (admit-keeps rests es target each (rw y at is))
+        | inr n ↦ rw n (make_way-keeps rests es target (first_done es) each (rw n at is))
       ]
 
   new_request-keeps :
       (es : List PlainEntry) → EachComesIn b life es → turn ≡ new_request at.config now at.state es q
       → TurnKeepsIn b life at.state (new_request at.config now at.state es q)
   new_request-keeps es each is =
-      let target = chosen_target at.config now at.state.rests at.state.cursors es (targets at.config q) in
+      let target = new_target at.config now at.state es q (targets at.config q) in
+      let rests = rests_for at.config now at.state.rests
+      (bound_target at.config at.state es q (targets at.config q)) target in
       elim (cases_Bool (eqb at.state.ticket (2 ^ 63))) [
         | inl y ↦ rw y (record { packets = tt; entries = kept })
         | inr n ↦ (
             let past : turn ≡ (if share_taken at.config es q then refuses refusal.ShareTaken
-            else at_target at.config now at.state es q target) = rw n at is in
+            else at_target at.config now (with_rests at.state rests) es q target) = rw n at is in
             elim (cases_Bool (share_taken at.config es q)) [
               | inl taken ↦ rw (n, taken) (record { packets = tt; entries = kept })
-              | inr free ↦ rw (n, free) (at_target-keeps es target each (rw free at past))
+              | inr free ↦ rw (n, free) (at_target-keeps rests es target each (rw free at past))
             ])
       ]
 

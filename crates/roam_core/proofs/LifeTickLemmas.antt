@@ -16,7 +16,7 @@ use Rattle.roam_pending.proofs.OrderLemmas.{all-put}
 use Rattle.roam_pending.proofs.ChangeLemmas.{find-passes}
 use Rattle.roam_route.specs.Admission.{PlainOut}
 use Rattle.roam_book.specs.RealmConfig.{RealmConfig, later_targets}
-use Rattle.roam_book.specs.Rests.{after_silence}
+use Rattle.roam_book.specs.Rests.{after_silence, after_choice, signs_of}
 use Rattle.roam_book.specs.RealmState.{RealmState, Target, chosen_target}
 use Rattle.roam_book.specs.Turn.{packets_of}
 use Rattle.roam_book.specs.OnRequest.{draws, forwarded_entry, is_reverse, nak_octets, packet_to_requester, packet_to_link}
@@ -111,7 +111,7 @@ module _ (b : Stage) (before : List Happening) (at : Stage) (is_at : stage_then 
       (once_refused c now s e (nak_octets c e.request OTHER_PROXY_PROCESSING_ERROR)).entries
   once_refused-keeps s e kept known reverse sent =
       let octets = nak_octets c e.request OTHER_PROXY_PROCESSING_ERROR in
-      let refused = with_standing (done octets (now + c.realm.hold)) e in
+      let refused = with_standing (done octets (now + c.realm.hold) None) e in
       let held = subst (λ (i : ℕ). IsNakIn b life e.request (back_to i e.request.key octets)) own-index
       (nak-of e known reverse sent) in
       let refused_known : IsKnown refused = record {
@@ -161,7 +161,8 @@ module _ (b : Stage) (before : List Happening) (at : Stage) (is_at : stage_then 
         forwards = record { own_ticket = refl; sent = refl; drawn = moved };
       } in
       let forwarded = over-forwarded e position target known forwards in
-      let anew = forwarded_entry c now e.request position e.ticket target in
+      let signs = signs_of c (after_choice c now s.rests target.link) target.link in
+      let anew = forwarded_entry c now signs e.request position e.ticket target in
       let anew_known : IsKnown anew = record {
         request = known.request;
         held = known.held;
@@ -180,8 +181,8 @@ module _ (b : Stage) (before : List Happening) (at : Stage) (is_at : stage_then 
   stands-on :
       (q : PlainRequest) (ticket deadline : ℕ) (standing : PlainStanding)
       → StandsFromIn b life q ticket standing → StandsFromIn b life q ticket (waits_on deadline standing)
-  stands-on q ticket deadline (waiting l id forwarded sends_left old) h = h
-  stands-on q ticket deadline (done reply old) h = h
+  stands-on q ticket deadline (waiting l id forwarded sends_left old signs) h = h
+  stands-on q ticket deadline (done reply old from) h = h
 
   again-known : (e : PlainEntry) (deadline : ℕ) → IsKnown e → IsKnown (sent_again deadline e)
   again-known e deadline h = record {
@@ -197,15 +198,15 @@ module _ (b : Stage) (before : List Happening) (at : Stage) (is_at : stage_then 
       → AreSentIn b before (tick_came now) (due_standing c now s e standing).packets
       → IsOccasion (of_due e.ticket s (due_standing c now s e standing))
       → ProgressKeeps (due_standing c now s e standing)
-  due_standing-keeps s e (done reply deadline) kept known stands sent on =
+  due_standing-keeps s e (done reply deadline from) kept known stands sent on =
       let stays : PlainEntry → Bool = λ x. not (has_ticket e.ticket x) in
       record { packets = tt; entries = all-filter IsKnown stays s.entries kept }
-  due_standing-keeps s e (waiting l id forwarded sends_left deadline) kept known stands sent on =
+  due_standing-keeps s e (waiting l id forwarded sends_left deadline signs) kept known stands sent on =
       let again = sent_again (now + c.realm.wait) e in
       let again_known = again-known e (now + c.realm.wait) known in
       let stays : PlainEntry → Bool = λ x. not (has_ticket e.ticket x) in
       let others = all-filter IsKnown stays s.entries kept in
-      let next = chosen_target c now (after_silence c now s.rests l) s.cursors
+      let next = chosen_target c now (after_silence c now s.rests l signs) s.cursors
       (without e.ticket s.entries) (later_targets c l) in
       elim (cases_Bool (ltb 0 sends_left)) [
         | inl y ↦
@@ -219,7 +220,7 @@ module _ (b : Stage) (before : List Happening) (at : Stage) (is_at : stage_then 
               );
               entries = all-put IsKnown again s.entries again_known kept;
             })
-        | inr n ↦ rw n (fail_over-keeps s (given_up_at c now l s e) e next refl others known (rw n at sent)
+        | inr n ↦ rw n (fail_over-keeps s (given_up_at c now l signs s e) e next refl others known (rw n at sent)
             (rw n at on))
       ]
 

@@ -2,7 +2,7 @@
 -- other realm a request names.
 use Rattle.std.proofs.Common.{◌≡◌, ℕ, Bool, List, [], Option, Some, None, option_map, refl, sym, ap, subst, ◌∙◌, inl, inr}
 use Rattle.std.specs.Prelude.{◌==◌, ◌||◌, if◌then◌else◌, Result, Ok, Err}
-use Rattle.std.specs.Option.{option_and_then}
+use Rattle.std.specs.Option.{option_and_then, option_map_or}
 use Rattle.std.proofs.lemmas.Bool.{cases_Bool}
 use Rattle.std.proofs.lemmas.Bool.Decides.{Decides-eqb}
 use Rattle.roam_wire.specs.Packet.{Attribute, Packet}
@@ -12,21 +12,22 @@ use Rattle.roam_wire.specs.declared.attribute_type.TheConstants.{USER_NAME}
 use Rattle.roam_wire.specs.declared.refusal.Refusal.{Refusal}
 use Rattle.roam_wire.specs.declared.refusal.Refusal.TheVariants as refusal
 use Rattle.roam_conf.specs.Config.{ConfigView, PeerView, RealmView}
-use Rattle.roam_conf.specs.Lookup.{realm_named, peer_with_ip, link_in, home_in, servers_of}
+use Rattle.roam_conf.specs.Lookup.{realm_named, peer_with_ip, link_in, home_in}
 use Rattle.roam_conf.specs.Secrets as secrets
 use Rattle.roam_conf.specs.declared.endpoint.Endpoint.{Endpoint}
 use Rattle.roam_conf.specs.declared.place.Place.{Place}
 use Rattle.roam_conf.specs.declared.place.Place.TheVariants as place
 use Rattle.roam_route.specs.UserName.{realm_of, realm_part}
+use Rattle.roam_route.specs.Freshness.{is_fresh}
 use Rattle.roam_route.specs.LocalAnswer.{accounting_answer}
 use Rattle.roam_route.specs.LocalReject.{has_bad_password, has_too_many_hops, takes_of}
 use Rattle.roam_route.specs.Shapings.{sent_length}
-use Rattle.roam_route.specs.Admission.{Arrival, Admission, sender, checked, forwarded_for, answered_by, accounted, accounting_in, is_answered_unnamed, route_request, request_admission, packet_admission, sent_admission, read_admission, admission, is_taken, peer_secret, home_secret, is_rightly_signed, is_rightly_sealed, has_needed_seal, has_few_hops, seal_required}
+use Rattle.roam_route.specs.Admission.{Arrival, Admission, sender, checked, forwarded_for, answered_by, accounted, accounting_in, is_answered_unnamed, route_request, request_admission, packet_admission, sent_admission, read_admission, admission, is_taken, peer_secret, home_secret, has_few_attributes, is_rightly_signed, is_rightly_sealed, has_needed_seal, has_few_hops, seal_required}
 use Rattle.roam_route.specs.declared.job.Side.{Side}
 use Rattle.roam_route.specs.declared.job.Side.TheVariants as side
 use Rattle.roam_core.specs.Isolation.{is_realm}
 use Rattle.roam_core.specs.OwnPart.{AgreeFor}
-use Rattle.roam_core.proofs.ToRealmLemmas.{acct-given, auth-given, gives, none-out, none-reverse, own-forwarded, same-checked, sent-judged, where_accounted, where_asked}
+use Rattle.roam_core.proofs.ToRealmLemmas.{acct-given, auth-given, gives, none-out, none-reverse, own-reversed, same-checked, sent-judged, where_accounted, where_asked}
 
 module _ (one other : ConfigView) (realm now : ℕ) (agree : AgreeFor one other realm) where
   named-alike : (o : Option (List ℕ)) →
@@ -70,8 +71,9 @@ module _ (one other : ConfigView) (realm now : ℕ) (agree : AgreeFor one other 
       gives realm now (route_request one secret a s p at) ≡ gives realm now (route_request other secret a s p at)
   route-same secret a s p (place.Reverse k) own_place =
       rw (own_place k refl)
-      (ap (λ (size : ℕ). gives realm now (forwarded_for size a s p realm (realm_of one p.attributes))) (size-same s p)
-      ∙ own-forwarded realm now (sent_length other s p realm) a s p (realm_of one p.attributes)
+      ((λ i. gives realm now (checked (is_fresh (agree.fresh i) a.seconds p.attributes) refusal.Stale
+      (forwarded_for (size-same s p i) a s p realm (realm_of one p.attributes))))
+      ∙ own-reversed realm now other.fresh (sent_length other s p realm) a s p (realm_of one p.attributes)
       (realm_of other p.attributes) (realm-alike p.attributes))
   route-same secret a s p place.Auth own_place =
       let bad = has_bad_password p in
@@ -96,6 +98,9 @@ module _ (one other : ConfigView) (realm now : ℕ) (agree : AgreeFor one other 
       (checked (has_needed_seal required p) refusal.MissingMessageAuthenticator
       (checked (has_few_hops most p) refusal.TooManyHops further)))
 
+  abbrev counted : Option ℕ → Packet → Admission → Admission
+  counted most p further = checked (has_few_attributes most p) refusal.TooManyAttributes further
+
   asked-same : (secret : List ℕ) (p : Packet) (required : Bool) (most : Option ℕ) (x y : Admission) →
       gives realm now x ≡ gives realm now y →
       gives realm now (asked secret p required most x) ≡ gives realm now (asked secret p required most y)
@@ -110,10 +115,15 @@ module _ (one other : ConfigView) (realm now : ℕ) (agree : AgreeFor one other 
       gives realm now (request_admission one secret a s p) ≡ gives realm now (request_admission other secret a s p)
   request-same secret a s p own_place =
       let goes = route_request one secret a s p a.at in
-      ap (λ (required : Bool). gives realm now (asked secret p required one.max_hops goes)) (seal-same s p)
-      ∙ ap (λ (most : Option ℕ). gives realm now (asked secret p (seal_required other s p) most goes)) agree.max_hops
-      ∙ asked-same secret p (seal_required other s p) other.max_hops goes (route_request other secret a s p a.at)
-      (route-same secret a s p a.at own_place)
+      let required = seal_required other s p in
+      let few = other.max_attributes in
+      ap (λ (most : Option ℕ). gives realm now (counted most p
+      (asked secret p (seal_required one s p) one.max_hops goes))) agree.max_attributes
+      ∙ ap (λ (b : Bool). gives realm now (counted few p (asked secret p b one.max_hops goes))) (seal-same s p)
+      ∙ ap (λ (most : Option ℕ). gives realm now (counted few p (asked secret p required most goes))) agree.max_hops
+      ∙ same-checked realm now (has_few_attributes few p) refusal.TooManyAttributes _ _
+      (asked-same secret p required other.max_hops goes (route_request other secret a s p a.at)
+      (route-same secret a s p a.at own_place))
 
   -- a request of a peer, and of a home server of the realm
   peer-same : (a : Arrival) (i : ℕ) (p : Packet) → ((k : ℕ) → a.at ≡ place.Reverse k → k ≡ realm) →
@@ -130,7 +140,7 @@ module _ (one other : ConfigView) (realm now : ℕ) (agree : AgreeFor one other 
       ≡ gives realm now (request_admission other (home_secret other realm i) a (side.Home i) p)
   home-same a i p own_place =
       let secret : home_secret one realm i ≡ home_secret other realm i =
-      ap (λ (r : Option RealmView). secrets.server_secret (servers_of r) i) agree.entry in
+      ap (λ (r : Option RealmView). option_map_or (λ h. secrets.home_secret h i) r []) agree.entry in
       ap (λ (x : List ℕ). gives realm now (request_admission one x a (side.Home i) p)) secret
       ∙ request-same (home_secret other realm i) a (side.Home i) p own_place
 
@@ -171,18 +181,18 @@ module _ (one other : ConfigView) (realm now : ℕ) (agree : AgreeFor one other 
   home-found : (ip : List ℕ) → home_in one realm ip ≡ home_in other realm ip
   home-found ip = rw agree.entry refl
 
-  place-same : (at : Place) (from : Endpoint) (octets : List ℕ) (p : Packet) → let a : Arrival =
-      record { at = at; from = from; octets = octets } in
+  place-same : (at : Place) (from : Endpoint) (octets : List ℕ) (seconds : Option ℕ) (p : Packet) → let a : Arrival =
+      record { at = at; from = from; octets = octets; seconds = seconds } in
       gives realm now (sent_admission one a p (sender one a at))
       ≡ gives realm now (sent_admission other a p (sender other a at))
-  place-same place.Auth from octets p =
-      let a : Arrival = record { at = place.Auth; from = from; octets = octets } in
+  place-same place.Auth from octets seconds p =
+      let a : Arrival = record { at = place.Auth; from = from; octets = octets; seconds = seconds } in
       rw (peer-found from.ip) (known-same a p (sender other a place.Auth) (λ k is. absurd (cc is)))
-  place-same place.Acct from octets p =
-      let a : Arrival = record { at = place.Acct; from = from; octets = octets } in
+  place-same place.Acct from octets seconds p =
+      let a : Arrival = record { at = place.Acct; from = from; octets = octets; seconds = seconds } in
       rw (peer-found from.ip) (known-same a p (sender other a place.Acct) (λ k is. absurd (cc is)))
-  place-same (place.Out k) from octets p =
-      let a : Arrival = record { at = place.Out k; from = from; octets = octets } in
+  place-same (place.Out k) from octets seconds p =
+      let a : Arrival = record { at = place.Out k; from = from; octets = octets; seconds = seconds } in
       elim (cases_Bool (k == realm)) [
         | inl yes' ↦ (
             let here : k ≡ realm = (Decides-eqb k realm).0 yes' in
@@ -192,11 +202,11 @@ module _ (one other : ConfigView) (realm now : ℕ) (agree : AgreeFor one other 
             (ap (λ o. option_map (λ l. side.Link l) o) (link-found from)) in
             known-same a p (sender one a (place.Out k)) (λ j is. absurd (cc is))
             ∙ ap (λ (s : Option Side). gives realm now (sent_admission other a p s)) found_by)
-        | inr no' ↦ none-out realm now one k from octets p (sender one a (place.Out k)) no'
-            ∙ sym (none-out realm now other k from octets p (sender other a (place.Out k)) no')
+        | inr no' ↦ none-out realm now one k from octets seconds p (sender one a (place.Out k)) no'
+            ∙ sym (none-out realm now other k from octets seconds p (sender other a (place.Out k)) no')
       ]
-  place-same (place.Reverse k) from octets p =
-      let a : Arrival = record { at = place.Reverse k; from = from; octets = octets } in
+  place-same (place.Reverse k) from octets seconds p =
+      let a : Arrival = record { at = place.Reverse k; from = from; octets = octets; seconds = seconds } in
       elim (cases_Bool (k == realm)) [
         | inl yes' ↦ (
             let here : k ≡ realm = (Decides-eqb k realm).0 yes' in
@@ -206,14 +216,14 @@ module _ (one other : ConfigView) (realm now : ℕ) (agree : AgreeFor one other 
             (ap (λ o. option_map (λ i. side.Home i) o) (home-found from.ip)) in
             known-same a p (sender one a (place.Reverse k)) (λ j is. (let at_k : k ≡ j = cc is in sym at_k ∙ here))
             ∙ ap (λ (s : Option Side). gives realm now (sent_admission other a p s)) found_by)
-        | inr no' ↦ none-reverse realm now one k from octets p (home_in one k from.ip) no'
-            ∙ sym (none-reverse realm now other k from octets p (home_in other k from.ip) no')
+        | inr no' ↦ none-reverse realm now one k from octets seconds p (home_in one k from.ip) no'
+            ∙ sym (none-reverse realm now other k from octets seconds p (home_in other k from.ip) no')
       ]
 
   read-same : (a : Arrival) (read : Result Packet Refusal) →
       gives realm now (read_admission one a read) ≡ gives realm now (read_admission other a read)
   read-same a (Err why) = refl
-  read-same a (Ok p) = place-same a.at a.from a.octets p
+  read-same a (Ok p) = place-same a.at a.from a.octets a.seconds p
 
   pub gives-same : (a : Arrival) → gives realm now (admission one a) ≡ gives realm now (admission other a)
   unfolding admission

@@ -1,5 +1,5 @@
 -- What a realm does with an event in which a request names another realm, or none: nothing of it looks at which.
-use Rattle.std.proofs.Common.{◌≡◌, ℕ, Bool, true, List, [], ◌∷◌, ◌++◌, Option, Some, None, map, refl, sym, ap, ◌∙◌, inl, inr}
+use Rattle.std.proofs.Common.{◌≡◌, ℕ, Bool, true, false, List, [], ◌∷◌, ◌++◌, Option, Some, None, map, refl, sym, ap, ◌∙◌, inl, inr}
 use Rattle.std.specs.Prelude.{◌==◌, nat_eq, if◌then◌else◌}
 use Rattle.std.specs.Cmp.Lexicographic.{pointwise}
 use Rattle.std.proofs.lemmas.Bool.{cases_Bool}
@@ -9,7 +9,7 @@ use Rattle.roam_wire.specs.Attributes.{first_value}
 use Rattle.roam_wire.specs.Reading.{packet_of}
 use Rattle.roam_wire.specs.declared.attribute_type.TheConstants.{ACCT_SESSION_ID, USER_NAME}
 use Rattle.roam_conf.specs.Config.{PeerView, RealmView}
-use Rattle.roam_reverse.specs.Causes.{cause, cause_at_target, cause_by_name, cause_by_salt}
+use Rattle.roam_reverse.specs.Causes.{cause, cause_at_target, cause_by_count, cause_by_meant, cause_by_name, cause_by_names, cause_by_salt, cause_by_user, meant, names_sessions}
 use Rattle.roam_reverse.specs.Sessions.{Session}
 use Rattle.roam_reverse.specs.Target.{target_in}
 use Rattle.roam_pending.specs.PlainEntry.{PlainRequest, PlainEntry}
@@ -45,27 +45,42 @@ still_own realm named =
 
 -- What a realm does with an event
 
+by_user : (realm : ℕ) (m n : Option ℕ) (name : Option (List ℕ)) → is_realm realm m ≡ is_realm realm n →
+    cause_by_user realm m name ≡ cause_by_user realm n name
+by_user realm m n None same = refl
+by_user realm m n (Some name) same = rw same refl
+
 by_name : (realm peer : ℕ) (sessions : List Session) (m n : Option ℕ) (name id : Option (List ℕ)) →
     is_realm realm m ≡ is_realm realm n →
     cause_by_name realm m peer sessions name id ≡ cause_by_name realm n peer sessions name id
 by_name realm peer sessions m n None None same = refl
 by_name realm peer sessions m n None (Some id) same = refl
-by_name realm peer sessions m n (Some name) id same = rw same refl
+by_name realm peer sessions m n (Some name) id same = by_user realm m n (Some name) same
 
-at_target : (realm : ℕ) (m n : Option ℕ) (attributes : List Attribute) (sessions : List Session) (peer : Option ℕ) →
+by_names : (own : Bool) (realm peer : ℕ) (attributes : List Attribute) (sessions : List Session) (m n : Option ℕ) →
     is_realm realm m ≡ is_realm realm n →
-    cause_at_target realm m attributes sessions peer ≡ cause_at_target realm n attributes sessions peer
-at_target realm m n attributes sessions None same = refl
-at_target realm m n attributes sessions (Some peer) same =
+    cause_by_names own realm m peer attributes sessions ≡ cause_by_names own realm n peer attributes sessions
+by_names true realm peer attributes sessions m n same =
+    ap (λ (o : Option ℕ). option_or (cause_by_count attributes)
+    (option_or o (cause_by_meant (meant peer attributes sessions))))
+    (by_user realm m n (first_value USER_NAME attributes) same)
+by_names false realm peer attributes sessions m n same =
+    by_name realm peer sessions m n (first_value USER_NAME attributes) (first_value ACCT_SESSION_ID attributes) same
+
+at_target : (own : Bool) (realm : ℕ) (m n : Option ℕ) (attributes : List Attribute) (sessions : List Session)
+    (peer : Option ℕ) → is_realm realm m ≡ is_realm realm n →
+    cause_at_target own realm m attributes sessions peer ≡ cause_at_target own realm n attributes sessions peer
+at_target own realm m n attributes sessions None same = refl
+at_target own realm m n attributes sessions (Some peer) same =
     ap (λ (o : Option ℕ). option_or o (cause_by_salt attributes))
-    (by_name realm peer sessions m n (first_value USER_NAME attributes) (first_value ACCT_SESSION_ID attributes) same)
+    (by_names own realm peer attributes sessions m n same)
 
 cause-same : (entry : Option RealmView) (peers : List PeerView) (realm : ℕ) (m n : Option ℕ)
     (attributes : List Attribute) (sessions : List Session) → is_realm realm m ≡ is_realm realm n →
     cause entry peers realm m attributes sessions ≡ cause entry peers realm n attributes sessions
 unfolding cause
 cause-same entry peers realm m n attributes sessions same =
-    at_target realm m n attributes sessions (target_in entry peers attributes) same
+    at_target (names_sessions entry) realm m n attributes sessions (target_in entry peers attributes) same
 
 reverse-same : (c : RealmConfig) (s : RealmState) (m n : Option ℕ) (q : PlainRequest) →
     is_realm c.index m ≡ is_realm c.index n → reverse_cause c s m q ≡ reverse_cause c s n q

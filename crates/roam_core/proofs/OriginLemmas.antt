@@ -129,15 +129,15 @@ pub stands-later :
     (c : RealmConfig) (start : Start) (es fs : List RealmEvent) (q : PlainRequest) (ticket : ℕ)
     (s : PlainStanding) → StandsFrom c start es q ticket s
     → StandsFrom c start (es ++ fs) q ticket s
-stands-later c start es fs q ticket (waiting l id forwarded sends_left deadline) h = record {
+stands-later c start es fs q ticket (waiting l id forwarded sends_left deadline signs) h = record {
   position = h.position;
   octets_are = h.octets_are;
   forwarded = forwarded-later c start es fs q h.position ticket (record { link = l; id = id })
       h.forwarded;
 }
-stands-later c start es fs q ticket (done reply deadline) (inl h) =
+stands-later c start es fs q ticket (done reply deadline from) (inl h) =
     inl (returned-later c start es fs q ticket (packet_to_requester c q.key reply) h)
-stands-later c start es fs q ticket (done reply deadline) (inr h) =
+stands-later c start es fs q ticket (done reply deadline from) (inr h) =
     inr (nak-later c start es fs q (packet_to_requester c q.key reply) h)
 
 comes-later :

@@ -21,7 +21,7 @@ use Rattle.roam_book.specs.RealmState.{RealmState}
 use Rattle.roam_book.specs.Turn.{packets_of}
 use Rattle.roam_book.specs.OnRequest.{packet_to_requester}
 use Rattle.roam_back.specs.ReplyCheck.{reply_fault}
-use Rattle.roam_book.specs.OnReply.{judge, on_reply, passing_to, return_reply, returned_octets, returning, to_entry, to_standing}
+use Rattle.roam_book.specs.OnReply.{judge, on_reply, passing_to, return_reply, returned_octets, returning, to_entry, to_standing, shows_life}
 use Rattle.roam_book.specs.OneRealm.{RealmEvent, reply_came}
 use Rattle.roam_book.specs.declared.state.start.Start.{Start}
 use Rattle.roam_core.specs.Provenance.{IsSentBy, IsReturned, WaitsFor, StandsFrom, ComesFrom}
@@ -115,7 +115,7 @@ module _ (c : RealmConfig) (start : Start) (before : List RealmEvent) (now : ℕ
       let octets = returned_octets c e.request from (packet_of forwarded) (packet_of reply) in
       let how = returning c e.request from (packet_of forwarded) in
       let length = returned_length how (passing_to c e.request (packet_of reply)) (packet_of e.request.octets) in
-      let settled = with_standing (done octets (now + c.realm.hold)) e in
+      let settled = with_standing (done octets (now + c.realm.hold) (Some from)) e in
       elim (cases_Bool (ltb 4096 length)) [
         | inl y ↦ rw y (record { packets = tt; entries = still })
         | inr n ↦
@@ -135,7 +135,7 @@ module _ (c : RealmConfig) (start : Start) (before : List RealmEvent) (now : ℕ
             })
       ]
 
-  -- one that isn't taken changes nothing
+  -- one that isn't taken changes no entry
   judge-keeps :
       (e : PlainEntry) (id : ℕ) (forwarded : List ℕ) (why : Option Refusal)
       → reply_fault (link_secret c from) (seal_required c from) (packet_of reply) (packet_of forwarded) ≡ why
@@ -147,7 +147,10 @@ module _ (c : RealmConfig) (start : Start) (before : List RealmEvent) (now : ℕ
       → TurnKeeps c start (and_reply before now from reply) s
       (judge c now s e from (packet_of forwarded) (packet_of reply) why)
   judge-keeps e id forwarded (Some why) fault comes waits at sent =
-      record { packets = tt; entries = still }
+      elim (cases_Bool (shows_life why)) [
+        | inl y ↦ rw y (record { packets = tt; entries = still })
+        | inr n ↦ rw n (record { packets = tt; entries = still })
+      ]
   judge-keeps e id forwarded None fault comes waits at sent =
       return_reply-keeps e id forwarded comes waits at fault sent
 
@@ -160,20 +163,20 @@ module _ (c : RealmConfig) (start : Start) (before : List RealmEvent) (now : ℕ
       (packets_of (to_standing c now s e (packet_of reply) standing))
       → TurnKeeps c start (and_reply before now from reply) s
       (to_standing c now s e (packet_of reply) standing)
-  to_standing-keeps e (waiting l id forwarded sends_left deadline) comes waits at sent =
+  to_standing-keeps e (waiting l id forwarded sends_left deadline signs) comes waits at sent =
       let tests = both (same_link l from) (eqb id (packet_of reply).id) at in
       let is = same_link-equal l from tests.0 in
       let asked : (packet_of reply).id ≡ id = let t = tests.1 in grind (arith, nat_tests, t) in
       let there = on-same_link c start before e.request e.ticket id forwarded l from is waits in
       let event = reply_came now from reply in
       let of_link : Link → Type 0 = λ k. AreSentBy c start before event
-      (packets_of (to_standing c now s e (packet_of reply) (waiting k id forwarded sends_left deadline))) in
+      (packets_of (to_standing c now s e (packet_of reply) (waiting k id forwarded sends_left deadline signs))) in
       let kept_there : Link → Type 0 = λ k. TurnKeeps c start (and_reply before now from reply) s
-      (to_standing c now s e (packet_of reply) (waiting k id forwarded sends_left deadline)) in
+      (to_standing c now s e (packet_of reply) (waiting k id forwarded sends_left deadline signs)) in
       let why = reply_fault (link_secret c from) (seal_required c from) (packet_of reply) (packet_of forwarded) in
       subst kept_there (sym is)
       (judge-keeps e id forwarded why refl comes there asked (subst of_link is sent))
-  to_standing-keeps e (done old deadline) comes waits at sent =
+  to_standing-keeps e (done old deadline from) comes waits at sent =
       record { packets = tt; entries = still }
 
   -- the entry that is found there, if one is

@@ -14,26 +14,29 @@ use Rattle.roam_pending.proofs.OrderLemmas.{all-put}
 use Rattle.roam_pending.proofs.ChangeLemmas.{find-passes}
 use Rattle.roam_pending.proofs.ClientLemmas.{key-equal}
 use Rattle.roam_book.specs.RealmConfig.{RealmConfig}
-use Rattle.roam_book.specs.RealmState.{RealmState, Target, chosen_target}
+use Rattle.roam_book.specs.RealmState.{RealmState, Target, with_rests}
 use Rattle.roam_book.specs.Turn.{Turn, refuses, state_after}
 use Rattle.roam_book.specs.Shares.{share_taken}
 use Rattle.roam_book.specs.OnRequest.{packet_to_requester, forwarded_entry, admit, make_way, at_target, new_request, held_reply, first_seen, nak_octets, nak_or_new, of_key, on_request, reverse_cause, targets}
 use Rattle.roam_book.specs.OneRealm.{RealmEvent, request_came}
 use Rattle.roam_book.specs.declared.state.start.Start.{Start}
+use Rattle.roam_book.specs.Rests.{signs_of}
+use Rattle.roam_book.specs.Conversing.{bound_target, new_target, rests_for}
 use Rattle.roam_core.specs.Draws.{DrawsAt, drawn_between, drawn_by}
 use Rattle.roam_core.specs.Provenance.{IsReturned, IsNak, IsForwarded, StandsFrom, ComesFrom, forwarded_packet}
 use Rattle.roam_core.proofs.OriginLemmas.{EachComes, EachHasOrigin, TurnKeeps, IsTurnAfter, sent-by, state-by}
+use Rattle.roam_book.specs.declared.state.rest.Rest.{Rest}
 
 -- a reply that is held goes back to the key of its request
 held-origin :
     (c : RealmConfig) (start : Start) (events : List RealmEvent) (q : PlainRequest) (ticket : ℕ)
     (key : Key) (s : PlainStanding) → q.key ≡ key → StandsFrom c start events q ticket s
     → EachHasOrigin c start events (held_reply c key s)
-held-origin c start events q ticket key (waiting l id forwarded sends_left deadline) is h = tt
-held-origin c start events q ticket key (done reply deadline) is (inl h) =
+held-origin c start events q ticket key (waiting l id forwarded sends_left deadline signs) is h = tt
+held-origin c start events q ticket key (done reply deadline from) is (inl h) =
     let back = subst (λ (k : Key). IsReturned c start events q ticket (packet_to_requester c k reply)) is h in
     (inr (inl (record { request = q; ticket = ticket; returned = back })), tt)
-held-origin c start events q ticket key (done reply deadline) is (inr h) =
+held-origin c start events q ticket key (done reply deadline from) is (inr h) =
     let back = subst (λ (k : Key). IsNak c start events q (packet_to_requester c k reply)) is h in
     (inr (inr (record { request = q; nak = back })), tt)
 
@@ -72,14 +75,14 @@ module _ (c : RealmConfig) (start : Start) (before : List RealmEvent) (now : ℕ
     (kept : EachComes c start (before ++ request_came now named q ∷ []) s.entries) where
   -- it is given the next ticket, and its own turn forwards it
   admit-forwarded :
-      (es : List PlainEntry) (target : Target) → turn ≡ admit c now s es q target
+      (rests : List Rest) (es : List PlainEntry) (target : Target) → turn ≡ admit c now (with_rests s rests) es q target
       → IsForwarded c start (before ++ request_came now named q ∷ []) q s.stream_position s.ticket target
-  admit-forwarded es target is =
+  admit-forwarded rests es target is =
       let out = forwarded_packet c q s.stream_position s.ticket target in
       let event = request_came now named q in
-      let whole : IsTurnAfter c start before event s (admit c now s es q target) =
+      let whole : IsTurnAfter c start before event s (admit c now (with_rests s rests) es q target) =
       record { state = after.state; does = after.does ∙ is } in
-      let ends = state-by c start before event s (admit c now s es q target) whole in
+      let ends = state-by c start before event s (admit c now (with_rests s rests) es q target) whole in
       record {
         request = record {
           first = before;
@@ -93,19 +96,22 @@ module _ (c : RealmConfig) (start : Start) (before : List RealmEvent) (now : ℕ
           };
         };
         sent = inl (record {
-          sent = sent-by c start before event s (admit c now s es q target) out whole (inl refl);
-          drawn = λ drew. drawn-by c start before now named q s (admit c now s es q target) whole (rw drew refl);
+          sent = sent-by c start before event s (admit c now (with_rests s rests) es q target) out whole
+              (inl refl);
+          drawn = λ drew.
+              drawn-by c start before now named q s (admit c now (with_rests s rests) es q target) whole (rw drew refl);
         });
       }
 
   admit-keeps :
-      (es : List PlainEntry) (target : Target)
-      → EachComes c start (before ++ request_came now named q ∷ []) es → turn ≡ admit c now s es q target
-      → TurnKeeps c start (before ++ request_came now named q ∷ []) s (admit c now s es q target)
-  admit-keeps es target each is =
+      (rests : List Rest) (es : List PlainEntry) (target : Target)
+      → EachComes c start (before ++ request_came now named q ∷ []) es
+      → turn ≡ admit c now (with_rests s rests) es q target
+      → TurnKeeps c start (before ++ request_came now named q ∷ []) s (admit c now (with_rests s rests) es q target)
+  admit-keeps rests es target each is =
       let events = before ++ request_came now named q ∷ [] in
-      let forwarded = admit-forwarded es target is in
-      let new = forwarded_entry c now q s.stream_position s.ticket target in
+      let forwarded = admit-forwarded rests es target is in
+      let new = forwarded_entry c now (signs_of c rests target.link) q s.stream_position s.ticket target in
       let comes : ComesFrom c start events new = record {
         request = forwarded.request;
         standing = record {
@@ -130,27 +136,28 @@ module _ (c : RealmConfig) (start : Start) (before : List RealmEvent) (now : ℕ
       }
 
   make_way-keeps :
-      (es : List PlainEntry) (target : Target) (way : Option ℕ)
+      (rests : List Rest) (es : List PlainEntry) (target : Target) (way : Option ℕ)
       → EachComes c start (before ++ request_came now named q ∷ []) es
-      → turn ≡ make_way c now s es q target way
-      → TurnKeeps c start (before ++ request_came now named q ∷ []) s (make_way c now s es q target way)
-  make_way-keeps es target None each is = record { packets = tt; entries = kept }
-  make_way-keeps es target (Some ticket) each is =
+      → turn ≡ make_way c now (with_rests s rests) es q target way
+      → TurnKeeps c start (before ++ request_came now named q ∷ []) s
+      (make_way c now (with_rests s rests) es q target way)
+  make_way-keeps rests es target None each is = record { packets = tt; entries = kept }
+  make_way-keeps rests es target (Some ticket) each is =
       let events = before ++ request_came now named q ∷ [] in
       let stays : PlainEntry → Bool = λ e. not (has_ticket ticket e) in
       let others = all-filter (ComesFrom c start events) stays es each in
-      admit-keeps (without ticket es) target others is
+      admit-keeps rests (without ticket es) target others is
 
   at_target-keeps :
-      (es : List PlainEntry) (target : Option Target)
+      (rests : List Rest) (es : List PlainEntry) (target : Option Target)
       → EachComes c start (before ++ request_came now named q ∷ []) es
-      → turn ≡ at_target c now s es q target
-      → TurnKeeps c start (before ++ request_came now named q ∷ []) s (at_target c now s es q target)
-  at_target-keeps es None each is = record { packets = tt; entries = kept }
-  at_target-keeps es (Some target) each is =
+      → turn ≡ at_target c now (with_rests s rests) es q target
+      → TurnKeeps c start (before ++ request_came now named q ∷ []) s (at_target c now (with_rests s rests) es q target)
+  at_target-keeps rests es None each is = record { packets = tt; entries = kept }
+  at_target-keeps rests es (Some target) each is =
       elim (cases_Bool (ltb (length es) c.realm.max_pending)) [
-        | inl y ↦ rw y (admit-keeps es target each (rw y at is))
-        | inr n ↦ rw n (make_way-keeps es target (first_done es) each (rw n at is))
+        | inl y ↦ rw y (admit-keeps rests es target each (rw y at is))
+        | inr n ↦ rw n (make_way-keeps rests es target (first_done es) each (rw n at is))
       ]
 
   new_request-keeps :
@@ -158,16 +165,17 @@ module _ (c : RealmConfig) (start : Start) (before : List RealmEvent) (now : ℕ
       → turn ≡ new_request c now s es q
       → TurnKeeps c start (before ++ request_came now named q ∷ []) s (new_request c now s es q)
   new_request-keeps es each is =
-      let target = chosen_target c now s.rests s.cursors es (targets c q) in
+      let target = new_target c now s es q (targets c q) in
+      let rests = rests_for c now s.rests (bound_target c s es q (targets c q)) target in
       elim (cases_Bool (eqb s.ticket (2 ^ 63))) [
         | inl y ↦ rw y (record { packets = tt; entries = kept })
         | inr n ↦ (
-            let past : turn ≡ (if share_taken c es q then refuses refusal.ShareTaken else at_target c now s es q
-            target) =
+            let past : turn ≡ (if share_taken c es q then refuses refusal.ShareTaken
+            else at_target c now (with_rests s rests) es q target) =
             rw n at is in
             elim (cases_Bool (share_taken c es q)) [
               | inl taken ↦ rw (n, taken) (record { packets = tt; entries = kept })
-              | inr free ↦ rw (n, free) (at_target-keeps es target each (rw free at past))
+              | inr free ↦ rw (n, free) (at_target-keeps rests es target each (rw free at past))
             ])
       ]
 

@@ -13,8 +13,8 @@ use Rattle.roam_reverse.specs.declared.error_cause.TheConstants.{OTHER_PROXY_PRO
 use Rattle.roam_pending.proofs.TestLemmas.{all-append, all-filter, all-find, all-weaker}
 use Rattle.roam_pending.proofs.OrderLemmas.{all-put}
 use Rattle.roam_book.specs.RealmConfig.{RealmConfig, later_targets}
-use Rattle.roam_book.specs.Rests.{after_silence}
-use Rattle.roam_book.specs.RealmState.{RealmState, Target, chosen_target}
+use Rattle.roam_book.specs.Rests.{after_silence, after_choice, signs_of}
+use Rattle.roam_book.specs.RealmState.{RealmState, Target, chosen_target, with_rests}
 use Rattle.roam_book.specs.Turn.{packets_of}
 use Rattle.roam_route.specs.Admission.{PlainOut}
 use Rattle.roam_book.specs.OnRequest.{draws, forwarded_entry, is_reverse, nak_octets, once_forwarded, packet_to_requester, packet_to_link}
@@ -27,6 +27,7 @@ use Rattle.roam_core.specs.Provenance.{IsRequestOf, IsSentBy, IsHeld, AtLaterTic
 use Rattle.roam_core.proofs.OriginRequestLemmas.{drawn-there}
 use Rattle.roam_core.proofs.RealmRunLemmas.{all-in, all-left, all-right, in-all}
 use Rattle.roam_core.proofs.OriginLemmas.{EachComes, EachHasOrigin, AreSentBy, TurnKeeps, request-later, stands-later}
+use Rattle.roam_book.specs.declared.state.rest.Rest.{Rest}
 
 -- of a tick at this moment, which comes after some events
 module _ (c : RealmConfig) (start : Start) (before : List RealmEvent) (now : ℕ) where
@@ -93,7 +94,7 @@ module _ (c : RealmConfig) (start : Start) (before : List RealmEvent) (now : ℕ
       (once_refused c now s e (nak_octets c e.request OTHER_PROXY_PROCESSING_ERROR)).entries
   once_refused-keeps s e kept known reverse sent =
       let octets = nak_octets c e.request OTHER_PROXY_PROCESSING_ERROR in
-      let refused = with_standing (done octets (now + c.realm.hold)) e in
+      let refused = with_standing (done octets (now + c.realm.hold) None) e in
       let refused_known : IsKnown refused = record {
         request = known.request;
         held = known.held;
@@ -121,12 +122,12 @@ module _ (c : RealmConfig) (start : Start) (before : List RealmEvent) (now : ℕ
 
   -- words are drawn for it from where the stream stood
   drawn-over :
-      (s : RealmState) (e : PlainEntry) (target : Target)
+      (s : RealmState) (rests : List Rest) (e : PlainEntry) (target : Target)
       → AllByRecursion (DrawsAt c start before (tick_came now))
-      (drawn_between s (once_forwarded c now s e.request e.ticket target))
+      (drawn_between s (once_forwarded c now (with_rests s rests) e.request e.ticket target))
       → draws e.request ≡ true → DrawsAt c start before (tick_came now) s.stream_position
-  drawn-over s e target drew asks =
-      let new = once_forwarded c now s e.request e.ticket target in
+  drawn-over s rests e target drew asks =
+      let new = once_forwarded c now (with_rests s rests) e.request e.ticket target in
       let there = drawn-there s new (rw asks refl) in
       all-in (DrawsAt c start before (tick_came now)) (drawn_between s new) s.stream_position drew there
 
@@ -139,10 +140,11 @@ module _ (c : RealmConfig) (start : Start) (before : List RealmEvent) (now : ℕ
       → ProgressKeeps (fail_over c now s e target)
   fail_over-keeps s e None kept known sent drew = given_up-keeps s e kept known sent
   fail_over-keeps s e (Some target) kept known sent drew =
+      let rests = after_choice c now s.rests target.link in
       let forwards : Forwards c start e.request s.stream_position e.ticket target before (tick_came now) =
-      record { sent = sent.0; drawn = drawn-over s e target drew } in
+      record { sent = sent.0; drawn = drawn-over s rests e target drew } in
       let forwarded = over-forwarded e s.stream_position target known forwards in
-      let anew = forwarded_entry c now e.request s.stream_position e.ticket target in
+      let anew = forwarded_entry c now (signs_of c rests target.link) e.request s.stream_position e.ticket target in
       let anew_known : IsKnown anew = record {
         request = known.request;
         held = known.held;
@@ -172,8 +174,8 @@ module _ (c : RealmConfig) (start : Start) (before : List RealmEvent) (now : ℕ
       (q : PlainRequest) (ticket deadline : ℕ) (standing : PlainStanding)
       → StandsFrom c start (before ++ tick_came now ∷ []) q ticket standing
       → StandsFrom c start (before ++ tick_came now ∷ []) q ticket (waits_on deadline standing)
-  stands-on q ticket deadline (waiting l id forwarded sends_left old) h = h
-  stands-on q ticket deadline (done reply old) h = h
+  stands-on q ticket deadline (waiting l id forwarded sends_left old signs) h = h
+  stands-on q ticket deadline (done reply old from) h = h
 
   again-known : (e : PlainEntry) (deadline : ℕ) → IsKnown e → IsKnown (sent_again deadline e)
   again-known e deadline h = record {
@@ -190,15 +192,15 @@ module _ (c : RealmConfig) (start : Start) (before : List RealmEvent) (now : ℕ
       → AllByRecursion (DrawsAt c start before (tick_came now))
       (drawn_between s (due_standing c now s e standing).state)
       → ProgressKeeps (due_standing c now s e standing)
-  due_standing-keeps s e (done reply deadline) kept known stands sent drew =
+  due_standing-keeps s e (done reply deadline from) kept known stands sent drew =
       let stays : PlainEntry → Bool = λ x. not (has_ticket e.ticket x) in
       record { packets = tt; entries = all-filter IsKnown stays s.entries kept }
-  due_standing-keeps s e (waiting l id forwarded sends_left deadline) kept known stands sent drew =
+  due_standing-keeps s e (waiting l id forwarded sends_left deadline signs) kept known stands sent drew =
       let again = sent_again (now + c.realm.wait) e in
       let again_known = again-known e (now + c.realm.wait) known in
       let stays : PlainEntry → Bool = λ x. not (has_ticket e.ticket x) in
       let others = all-filter IsKnown stays s.entries kept in
-      let next = chosen_target c now (after_silence c now s.rests l) s.cursors
+      let next = chosen_target c now (after_silence c now s.rests l signs) s.cursors
       (without e.ticket s.entries) (later_targets c l) in
       elim (cases_Bool (ltb 0 sends_left)) [
         | inl y ↦ rw y (record {
@@ -215,7 +217,7 @@ module _ (c : RealmConfig) (start : Start) (before : List RealmEvent) (now : ℕ
           );
           entries = all-put IsKnown again s.entries again_known kept;
         })
-        | inr n ↦ rw n (fail_over-keeps (given_up_at c now l s e) e next others known (rw n at sent) (rw n at drew))
+        | inr n ↦ rw n (fail_over-keeps (given_up_at c now l signs s e) e next others known (rw n at sent) (rw n at drew))
       ]
 
   due_entry-keeps :

@@ -14,15 +14,18 @@ use Rattle.roam_pending.specs.PlainEntry.{PlainRequest, PlainStanding, PlainEntr
 use Rattle.roam_pending.specs.EntryList.{find_client, find_link, first_done, without, without_client}
 use Rattle.roam_pending.specs.Realms.{with_standing}
 use Rattle.roam_book.specs.RealmConfig.{RealmConfig, link_secret, seal_required}
-use Rattle.roam_book.specs.RealmState.{RealmState, Target, chosen_target}
-use Rattle.roam_book.specs.Turn.{Turn, refuses, sends, packets_of, state_after, in_time}
+use Rattle.roam_book.specs.RealmState.{RealmState, Target, with_rests}
+use Rattle.roam_book.specs.Turn.{Turn, refuses, sends, packets_of, state_after, in_time, hears}
 use Rattle.roam_book.specs.Shares.{share_taken}
 use Rattle.roam_book.specs.OnRequest.{packet_to_requester, forwarded_entry, admit, make_way, at_target, nak_octets, nak_or_new, new_request, of_key, held_reply, reverse_cause, targets}
-use Rattle.roam_book.specs.OnReply.{judge, passing_to, return_reply, returned_octets, returning, to_entry, to_standing}
+use Rattle.roam_book.specs.OnReply.{judge, passing_to, return_reply, returned_octets, returning, to_entry, to_standing, shows_life, once_heard_from}
+use Rattle.roam_book.specs.Rests.{signs_of}
+use Rattle.roam_book.specs.Conversing.{new_target}
 use Rattle.roam_core.specs.Amplification.{Ends, counted, counted_back, counted_links, may_cause, may_follow}
 use Rattle.roam_core.proofs.SentLemmas.{either}
-use Rattle.roam_core.proofs.SumLemmas.{FitsIn, chosen-holds, found-in, sum-filter, sum-put, sum-replaced, targets-fit}
+use Rattle.roam_core.proofs.SumLemmas.{FitsIn, found-in, sum-filter, sum-put, sum-replaced, targets-fit, new-holds}
 use Rattle.roam_core.proofs.AmplificationLemmas.{at_most, back as back_of, follow as follow_of, forwarded-fits as forwarded-fits_of, guard, more, nothing, weight as weight_of}
+use Rattle.roam_book.specs.declared.state.rest.Rest.{Rest}
 
 module _ (c : RealmConfig) (ends : Ends) (looked : ℕ → Bool) (tries : 1 ≤ c.realm.tries) where
   abbrev weight : PlainEntry → ℕ
@@ -59,11 +62,12 @@ module _ (c : RealmConfig) (ends : Ends) (looked : ℕ → Bool) (tries : 1 ≤ 
   Fits q target = FitsIn c ends (counted_links c ends (targets c q)) target.link
 
   admit-pays :
-      (now : ℕ) (s : RealmState) (es : List PlainEntry) (q : PlainRequest) (target : Target)
-      → follow es ≤ follow s.entries → Fits q target → Pays s q (admit c now s es q target)
-  admit-pays now s es q target fewer fits =
-      let new = forwarded_entry c now q s.stream_position s.ticket target in
-      let step = forwarded-fits_of c ends looked tries now q s.stream_position s.ticket
+      (now : ℕ) (s : RealmState) (rests : List Rest) (es : List PlainEntry) (q : PlainRequest) (target : Target)
+      → follow es ≤ follow s.entries → Fits q target → Pays s q (admit c now (with_rests s rests) es q target)
+  admit-pays now s rests es q target fewer fits =
+      let signs = signs_of c rests target.link in
+      let new = forwarded_entry c now signs q s.stream_position s.ticket target in
+      let step = forwarded-fits_of c ends looked tries now signs q s.stream_position s.ticket
       (counted_links c ends (targets c q)) target fits in
       let sum = sum-put weight new es in
       let most = at_most (looked s.ticket) (may_follow c ends q.key new.standing) in
@@ -76,34 +80,35 @@ module _ (c : RealmConfig) (ends : Ends) (looked : ℕ → Bool) (tries : 1 ≤ 
       }
 
   make_way-pays :
-      (now : ℕ) (s : RealmState) (es : List PlainEntry) (q : PlainRequest) (target : Target) (way : Option ℕ)
-      → follow es ≤ follow s.entries → Fits q target → Pays s q (make_way c now s es q target way)
-  make_way-pays now s es q target None fewer fits = refuses-pays s q refusal.Busy
-  make_way-pays now s es q target (Some ticket) fewer fits =
+      (now : ℕ) (s : RealmState) (rests : List Rest) (es : List PlainEntry) (q : PlainRequest) (target : Target)
+      (way : Option ℕ)
+      → follow es ≤ follow s.entries → Fits q target → Pays s q (make_way c now (with_rests s rests) es q target way)
+  make_way-pays now s rests es q target None fewer fits = refuses-pays s q refusal.Busy
+  make_way-pays now s rests es q target (Some ticket) fewer fits =
       let kept = sum-filter weight (λ e. not (has_ticket ticket e)) es in
-      admit-pays now s (without ticket es) q target (omega (arith, kept, fewer)) fits
+      admit-pays now s rests (without ticket es) q target (omega (arith, kept, fewer)) fits
 
   at_target-pays :
-      (now : ℕ) (s : RealmState) (es : List PlainEntry) (q : PlainRequest) (target : Option Target)
+      (now : ℕ) (s : RealmState) (rests : List Rest) (es : List PlainEntry) (q : PlainRequest) (target : Option Target)
       → follow es ≤ follow s.entries → ((t : Target) → target ≡ Some t → Fits q t)
-      → Pays s q (at_target c now s es q target)
-  at_target-pays now s es q None fewer fits = refuses-pays s q refusal.NoIdentifier
-  at_target-pays now s es q (Some target) fewer fits =
+      → Pays s q (at_target c now (with_rests s rests) es q target)
+  at_target-pays now s rests es q None fewer fits = refuses-pays s q refusal.NoIdentifier
+  at_target-pays now s rests es q (Some target) fewer fits =
       either (Pays s q) (ltb (length es) c.realm.max_pending) _ _
-      (admit-pays now s es q target fewer (fits target refl))
-      (make_way-pays now s es q target (first_done es) fewer (fits target refl))
+      (admit-pays now s rests es q target fewer (fits target refl))
+      (make_way-pays now s rests es q target (first_done es) fewer (fits target refl))
 
   new_request-pays :
       (now : ℕ) (s : RealmState) (es : List PlainEntry) (q : PlainRequest) → follow es ≤ follow s.entries
       → Pays s q (new_request c now s es q)
   new_request-pays now s es q fewer =
-      let chosen = chosen_target c now s.rests s.cursors es (targets c q) in
+      let chosen = new_target c now s es q (targets c q) in
       let m = counted_links c ends (targets c q) in
       let fits : (t : Target) → chosen ≡ Some t → Fits q t =
-      λ t at. chosen-holds (FitsIn c ends m) c now s.rests s.cursors es (targets c q) t (targets-fit c ends q) at in
+      λ t at. new-holds (FitsIn c ends m) c now s es q (targets c q) t (targets-fit c ends q) at in
       either (Pays s q) (eqb s.ticket (2 ^ 63)) _ _ (refuses-pays s q refusal.Exhausted)
       (either (Pays s q) (share_taken c es q) _ _ (refuses-pays s q refusal.ShareTaken)
-      (at_target-pays now s es q chosen fewer fits))
+      (at_target-pays now s _ es q chosen fewer fits))
 
   nak_or_new-pays :
       (now : ℕ) (s : RealmState) (q : PlainRequest) (why : Option ℕ) → Pays s q (nak_or_new c now s q why)
@@ -115,8 +120,8 @@ module _ (c : RealmConfig) (ends : Ends) (looked : ℕ → Bool) (tries : 1 ≤ 
   held-pays :
       (s : RealmState) (q : PlainRequest) (standing : PlainStanding)
       → Pays s q (sends (held_reply c q.key standing) s)
-  held-pays s q (waiting l id forwarded sends_left deadline) = silent-pays s q
-  held-pays s q (done reply deadline) = back-pays s q reply
+  held-pays s q (waiting l id forwarded sends_left deadline signs) = silent-pays s q
+  held-pays s q (done reply deadline from) = back-pays s q reply
 
   of_key-pays :
       (now : ℕ) (s : RealmState) (named : Option ℕ) (q : PlainRequest) (found : Option PlainEntry)
@@ -148,43 +153,47 @@ module _ (c : RealmConfig) (ends : Ends) (looked : ℕ → Bool) (tries : 1 ≤ 
   refuses-answers : (s : RealmState) (found : Option PlainEntry) (why : Refusal) → Answers s found (refuses why)
   refuses-answers s found why = omega (arith, nothing (looked_found found))
 
+  heard-answers : (s : RealmState) (found : Option PlainEntry) (why : Refusal) (l : Link)
+      → Answers s found (hears why (once_heard_from c s l))
+  heard-answers s found why l = omega (arith, nothing (looked_found found))
+
   return-answers :
-      (now : ℕ) (s : RealmState) (e : PlainEntry) (l : Link) (id : ℕ) (octets : List ℕ) (sends_left deadline : ℕ)
+      (now : ℕ) (s : RealmState) (e : PlainEntry) (l : Link) (id : ℕ) (octets : List ℕ) (sends_left deadline signs : ℕ)
       (forwarded reply : Packet)
-      → e.standing ≡ waiting l id octets sends_left deadline → IsIn e s.entries
+      → e.standing ≡ waiting l id octets sends_left deadline signs → IsIn e s.entries
       → Answers s (Some e) (return_reply c now s e l forwarded reply)
-  return-answers now s e l id octets sends_left deadline forwarded reply is at =
+  return-answers now s e l id octets sends_left deadline signs forwarded reply is at =
       let b = looked e.ticket in
       let back_octets = returned_octets c e.request l forwarded reply in
-      let answered = with_standing (done back_octets (now + c.realm.hold)) e in
+      let answered = with_standing (done back_octets (now + c.realm.hold) (Some l)) e in
       let replaced = sum-replaced weight answered e s.entries refl at in
       let might = may_follow c ends e.request.key e.standing in
-      let old : might ≡ may_follow c ends e.request.key (waiting l id octets sends_left deadline) =
+      let old : might ≡ may_follow c ends e.request.key (waiting l id octets sends_left deadline signs) =
       ap (may_follow c ends e.request.key) is in
       let sent = ap (guard b) (back_of c ends looked tries e.request.key back_octets) in
       let enough = more b (counted_back ends e.request.key) might (omega (arith, old)) in
       either (Answers s (Some e))
       (ltb 4096 (returned_length (returning c e.request l forwarded) (passing_to c e.request reply)
       (packet_of e.request.octets))) _ _
-      (refuses-answers s (Some e) refusal.ReplyTooLong) (omega (arith, replaced, sent, enough, nothing b))
+      (heard-answers s (Some e) refusal.ReplyTooLong l) (omega (arith, replaced, sent, enough, nothing b))
 
   judge-answers :
-      (now : ℕ) (s : RealmState) (e : PlainEntry) (l : Link) (id : ℕ) (octets : List ℕ) (sends_left deadline : ℕ)
+      (now : ℕ) (s : RealmState) (e : PlainEntry) (l : Link) (id : ℕ) (octets : List ℕ) (sends_left deadline signs : ℕ)
       (forwarded reply : Packet) (why : Option Refusal)
-      → e.standing ≡ waiting l id octets sends_left deadline → IsIn e s.entries
+      → e.standing ≡ waiting l id octets sends_left deadline signs → IsIn e s.entries
       → Answers s (Some e) (judge c now s e l forwarded reply why)
-  judge-answers now s e l id octets sends_left deadline forwarded reply (Some why) is at =
-      refuses-answers s (Some e) why
-  judge-answers now s e l id octets sends_left deadline forwarded reply None is at =
-      return-answers now s e l id octets sends_left deadline forwarded reply is at
+  judge-answers now s e l id octets sends_left deadline signs forwarded reply (Some why) is at =
+      either (Answers s (Some e)) (shows_life why) _ _ (heard-answers s (Some e) why l) (refuses-answers s (Some e) why)
+  judge-answers now s e l id octets sends_left deadline signs forwarded reply None is at =
+      return-answers now s e l id octets sends_left deadline signs forwarded reply is at
 
   to_standing-answers :
       (now : ℕ) (s : RealmState) (e : PlainEntry) (reply : Packet) (standing : PlainStanding)
       → e.standing ≡ standing → IsIn e s.entries → Answers s (Some e) (to_standing c now s e reply standing)
-  to_standing-answers now s e reply (waiting l id forwarded sends_left deadline) is at =
-      judge-answers now s e l id forwarded sends_left deadline (packet_of forwarded) reply
+  to_standing-answers now s e reply (waiting l id forwarded sends_left deadline signs) is at =
+      judge-answers now s e l id forwarded sends_left deadline signs (packet_of forwarded) reply
       (reply_fault (link_secret c l) (seal_required c l) reply (packet_of forwarded)) is at
-  to_standing-answers now s e reply (done old deadline) is at = refuses-answers s (Some e) refusal.NoEntry
+  to_standing-answers now s e reply (done old deadline from) is at = refuses-answers s (Some e) refusal.NoEntry
 
   to_entry-answers :
       (now : ℕ) (s : RealmState) (reply : Packet) (l : Link) (id : ℕ) (found : Option PlainEntry)

@@ -15,13 +15,14 @@ use Rattle.roam_pending.specs.PlainEntry.{PlainRequest, PlainStanding, PlainEntr
 use Rattle.roam_pending.specs.EntryList.{find_client, find_link, find_ticket, first_done, without, without_client}
 use Rattle.roam_book.specs.RealmConfig.{RealmConfig, later_targets, link_secret, seal_required}
 use Rattle.roam_book.specs.Rests.{after_silence}
-use Rattle.roam_book.specs.RealmState.{RealmState, Target, chosen_target}
-use Rattle.roam_book.specs.Turn.{Turn, refuses, sends, packets_of, in_time}
+use Rattle.roam_book.specs.RealmState.{RealmState, Target, chosen_target, with_rests}
+use Rattle.roam_book.specs.Turn.{Turn, refuses, sends, packets_of, in_time, hears}
 use Rattle.roam_book.specs.Shares.{share_taken}
 use Rattle.roam_book.specs.OnRequest.{packet_to_requester, admit, make_way, at_target, new_request, held_reply, first_seen, is_reverse, nak_octets, nak_or_new, of_key, on_request, reverse_cause, targets}
-use Rattle.roam_book.specs.OnReply.{return_reply, judge, to_standing, to_entry, reply_fault, on_reply}
+use Rattle.roam_book.specs.OnReply.{return_reply, judge, to_standing, to_entry, reply_fault, on_reply, shows_life, once_heard_from}
 use Rattle.roam_book.specs.OnTick.{Progress, silent, fail_over, without_entry, due_standing, due_entry, due_one, due_each, as_turn, on_tick, given_up_at}
 use Rattle.roam_book.specs.OneRealm.{RealmEvent, request_came, reply_came, tick_came, on_event}
+use Rattle.roam_book.specs.Conversing.{bound_target, new_target, rests_for}
 use Rattle.roam_core.proofs.PacketLemmas.{IsFor, AllFor, AllFor-append}
 
 -- what holds of both ways holds of the one that is taken
@@ -43,6 +44,10 @@ own index out is = record { realm = index; is = is; from = omega arith; below = 
 refuses_for : (index : ℕ) (why : Refusal) → SendsFor index (refuses why)
 unfolding SendsFor
 refuses_for index why = tt
+
+hears_for : (index : ℕ) (why : Refusal) (s : RealmState) → SendsFor index (hears why s)
+unfolding SendsFor
+hears_for index why s = tt
 
 pub nothing_for : (index : ℕ) (s : RealmState) → SendsFor index (sends [] s)
 unfolding SendsFor
@@ -77,20 +82,21 @@ at_target_for c now s entries q (Some target) =
 new_request_for : (c : RealmConfig) (now : ℕ) (s : RealmState) (entries : List PlainEntry) (q : PlainRequest) →
     SendsFor c.index (new_request c now s entries q)
 new_request_for c now s entries q =
-    let target = chosen_target c now s.rests s.cursors entries (targets c q) in
+    let target = new_target c now s entries q (targets c q) in
+    let t = with_rests s (rests_for c now s.rests (bound_target c s entries q) target) in
     let chosen : Turn =
-    if share_taken c entries q then refuses refusal.ShareTaken else at_target c now s entries q target in
+    if share_taken c entries q then refuses refusal.ShareTaken else at_target c now t entries q target in
     either (SendsFor c.index) (s.ticket == 2 ^ 63)
     (refuses refusal.Exhausted) chosen
     (refuses_for c.index refusal.Exhausted)
     (either (SendsFor c.index) (share_taken c entries q)
-    (refuses refusal.ShareTaken) (at_target c now s entries q target)
-    (refuses_for c.index refusal.ShareTaken) (at_target_for c now s entries q target))
+    (refuses refusal.ShareTaken) (at_target c now t entries q target)
+    (refuses_for c.index refusal.ShareTaken) (at_target_for c now t entries q target))
 
 held_reply_for : (c : RealmConfig) (key : Key) (standing : PlainStanding) (s : RealmState) →
     SendsFor c.index (sends (held_reply c key standing) s)
-held_reply_for c key (waiting l id forwarded sends_left deadline) s = nothing_for c.index s
-held_reply_for c key (done reply deadline) s = one_for c.index (packet_to_requester c key reply) s refl
+held_reply_for c key (waiting l id forwarded sends_left deadline signs) s = nothing_for c.index s
+held_reply_for c key (done reply deadline from) s = one_for c.index (packet_to_requester c key reply) s refl
 
 nak_or_new_for : (c : RealmConfig) (now : ℕ) (s : RealmState) (q : PlainRequest) (why : Option ℕ)
     → SendsFor c.index (nak_or_new c now s q why)
@@ -115,19 +121,22 @@ on_request_for c now s named q =
 return_reply_for : (c : RealmConfig) (now : ℕ) (s : RealmState) (e : PlainEntry) (l : Link)
     (forwarded reply : Packet) → SendsFor c.index (return_reply c now s e l forwarded reply)
 return_reply_for c now s e l forwarded reply =
-    either (SendsFor c.index) _ _ _ (refuses_for c.index refusal.ReplyTooLong) (one_for c.index _ _ refl)
+    either (SendsFor c.index) _ _ _ (hears_for c.index refusal.ReplyTooLong (once_heard_from c s l))
+    (one_for c.index _ _ refl)
 
 judge_for : (c : RealmConfig) (now : ℕ) (s : RealmState) (e : PlainEntry) (l : Link) (forwarded reply : Packet)
     (fault : Option Refusal) → SendsFor c.index (judge c now s e l forwarded reply fault)
-judge_for c now s e l forwarded reply (Some why) = refuses_for c.index why
+judge_for c now s e l forwarded reply (Some why) =
+    either (SendsFor c.index) (shows_life why) _ _ (hears_for c.index why (once_heard_from c s l))
+    (refuses_for c.index why)
 judge_for c now s e l forwarded reply None = return_reply_for c now s e l forwarded reply
 
 to_standing_for : (c : RealmConfig) (now : ℕ) (s : RealmState) (e : PlainEntry) (reply : Packet)
     (standing : PlainStanding) → SendsFor c.index (to_standing c now s e reply standing)
-to_standing_for c now s e reply (waiting l id forwarded sends_left deadline) =
+to_standing_for c now s e reply (waiting l id forwarded sends_left deadline signs) =
     judge_for c now s e l (packet_of forwarded) reply
     (reply_fault (link_secret c l) (seal_required c l) reply (packet_of forwarded))
-to_standing_for c now s e reply (done old deadline) = refuses_for c.index refusal.NoEntry
+to_standing_for c now s e reply (done old deadline from) = refuses_for c.index refusal.NoEntry
 
 to_entry_for : (c : RealmConfig) (now : ℕ) (s : RealmState) (reply : Packet) (e : Option PlainEntry) →
     SendsFor c.index (to_entry c now s reply e)
@@ -159,12 +168,12 @@ fail_over_for c now s e (Some target) = made_for c.index _ _ refl
 
 due_standing_for : (c : RealmConfig) (now : ℕ) (s : RealmState) (e : PlainEntry) (standing : PlainStanding) →
     MadeFor c.index (due_standing c now s e standing)
-due_standing_for c now s e (done reply deadline) = silent_for c.index (without_entry s e)
-due_standing_for c now s e (waiting l id forwarded sends_left deadline) =
-    let target = chosen_target c now (after_silence c now s.rests l) s.cursors
+due_standing_for c now s e (done reply deadline from) = silent_for c.index (without_entry s e)
+due_standing_for c now s e (waiting l id forwarded sends_left deadline signs) =
+    let target = chosen_target c now (after_silence c now s.rests l signs) s.cursors
     (without e.ticket s.entries) (later_targets c l) in
-    either (MadeFor c.index) (nat_lt 0 sends_left) _ (fail_over c now (given_up_at c now l s e) e target)
-    (made_for c.index _ _ refl) (fail_over_for c now (given_up_at c now l s e) e target)
+    either (MadeFor c.index) (nat_lt 0 sends_left) _ (fail_over c now (given_up_at c now l signs s e) e target)
+    (made_for c.index _ _ refl) (fail_over_for c now (given_up_at c now l signs s e) e target)
 
 due_entry_for : (c : RealmConfig) (now : ℕ) (s : RealmState) (e : Option PlainEntry) →
     MadeFor c.index (due_entry c now s e)

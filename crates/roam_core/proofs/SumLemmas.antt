@@ -1,5 +1,5 @@
 -- Sums over the entries of a realm, and how many of its links are counted.
-use Rattle.std.proofs.Common.{◌≡◌, ℕ, suc, ◌+◌, ◌-◌, ◌*◌, ◌≤◌, Bool, List, [], ◌∷◌, ◌++◌, Option, Some, None, refl, sym, ap, subst, ◌∙◌, inl, inr, arith, length, length-append, drop, drop-drop, eqb}
+use Rattle.std.proofs.Common.{◌≡◌, ℕ, suc, ◌+◌, ◌-◌, ◌*◌, ◌≤◌, Bool, List, [], ◌∷◌, ◌++◌, Option, Some, None, refl, sym, ap, subst, ◌∙◌, inl, inr, arith, length, length-append, drop, drop-drop, eqb, is_some}
 use Rattle.std.specs.Prelude.{◌⊎◌, not}
 use Rattle.std.specs.List.{AllByRecursion, filter, find}
 use Rattle.std.specs.Option.{option_or}
@@ -13,16 +13,17 @@ use Rattle.roam_wire.specs.Reading.{packet_of}
 use Rattle.roam_reverse.specs.Target as reverse
 use Rattle.roam_route.specs.Admission.{PlainOut}
 use Rattle.roam_pending.specs.ListLaws.{IsIn}
-use Rattle.roam_pending.specs.PlainEntry.{PlainEntry, PlainRequest}
+use Rattle.roam_pending.specs.PlainEntry.{PlainEntry, PlainRequest, same_link}
 use Rattle.roam_pending.specs.EntryList.{above, below, put, without}
 use Rattle.roam_pending.proofs.TestLemmas.{all-filter, all-weaker, compared, less, not_less, same}
 use Rattle.roam_book.specs.RealmConfig.{RealmConfig, later_targets, links_from, server_link, server_links, service_of}
-use Rattle.roam_book.specs.RealmState.{Target, chosen_target, first_target, next_toward, ready_links, this_or}
-use Rattle.roam_book.specs.Rests.{stands_back}
+use Rattle.roam_book.specs.RealmState.{Target, chosen_target, first_target, next_toward, ready_links, this_or, RealmState}
+use Rattle.roam_book.specs.Rests.{stands_back, has_moment}
 use Rattle.roam_book.specs.OnRequest.{coa_links, is_reverse, targets}
 use Rattle.roam_book.specs.declared.state.rest.Rest.{Rest}
 use Rattle.roam_book.specs.declared.state.service.Service.{Service}
 use Rattle.roam_book.specs.declared.state.service.Service.TheVariants as service
+use Rattle.roam_book.specs.Conversing.{asked_state, bound_link, bound_links, bound_target, new_target, untried}
 use Rattle.roam_core.proofs.SentLemmas.{either}
 use Rattle.roam_core.specs.Amplification.{Ends, TargetsAreFew, counted, counted_links, is_counted, sum_over}
 
@@ -154,6 +155,36 @@ chosen-holds Q c now rests cursors es links target h at =
     elim (either-is (first_target c cursors es ready) (first_target c cursors es links) target at) [
       | inl k ↦ first-holds Q c cursors es ready target (all-filter Q (λ l. not (stands_back c now rests l)) links h) k
       | inr k ↦ first-holds Q c cursors es links target h k
+    ]
+
+bound-all : (Q : Link → Type 0) (bound : Option Link) (links : List Link) → AllByRecursion Q links →
+    AllByRecursion Q (bound_links bound links)
+bound-all Q None links h = tt
+bound-all Q (Some k) links h = all-filter Q (same_link k) links h
+
+untried-all : (Q : Link → Type 0) (c : RealmConfig) (rests : List Rest) (q : PlainRequest) (links : List Link) →
+    AllByRecursion Q links → AllByRecursion Q (untried c rests q links)
+untried-all Q c rests q links h =
+    either (AllByRecursion Q) (is_some (asked_state c q)) _ _ (all-filter Q (λ l. not (has_moment c rests l)) links h) tt
+
+-- and of the one for a new request
+pub new-holds : (Q : Link → Type 0) (c : RealmConfig) (now : ℕ) (s : RealmState) (es : List PlainEntry)
+    (q : PlainRequest) (links : List Link) (target : Target) → AllByRecursion Q links →
+    new_target c now s es q links ≡ Some target → Q target.link
+new-holds Q c now s es q links target h at =
+    let bound = bound_target c s es q links in
+    let free = first_target c s.cursors es (untried c s.rests q links) in
+    let chosen = chosen_target c now s.rests s.cursors es links in
+    elim (either-is bound (option_or free chosen) target at) [
+      | inl k ↦
+          first-holds Q c s.cursors es (bound_links (bound_link c q s.entries) links) target
+          (bound-all Q (bound_link c q s.entries) links h) k
+      | inr k ↦
+          elim (either-is free chosen target k) [
+            | inl u ↦
+                first-holds Q c s.cursors es (untried c s.rests q links) target (untried-all Q c s.rests q links h) u
+            | inr d ↦ chosen-holds Q c now s.rests s.cursors es links target h d
+          ]
     ]
 
 -- Links that come after others

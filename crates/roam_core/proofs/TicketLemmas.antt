@@ -14,20 +14,22 @@ use Rattle.roam_pending.specs.PlainEntry.{PlainRequest, PlainStanding, PlainEntr
 use Rattle.roam_pending.specs.EntryList.{find_client, find_link, find_ticket, first_done, without, without_client}
 use Rattle.roam_book.specs.RealmConfig.{RealmConfig, later_targets, link_secret, seal_required}
 use Rattle.roam_book.specs.Rests.{after_silence}
-use Rattle.roam_book.specs.RealmState.{RealmState, Target, chosen_target}
+use Rattle.roam_book.specs.RealmState.{RealmState, Target, chosen_target, with_rests}
 use Rattle.roam_book.specs.Turn.{Turn, state_after, in_time}
 use Rattle.roam_book.specs.Shares.{share_taken}
 use Rattle.roam_book.specs.OnRequest.{make_way, at_target, is_reverse, nak_or_new, new_request, of_key, reverse_cause, targets}
 use Rattle.roam_back.specs.ReplyCheck.{reply_fault}
-use Rattle.roam_book.specs.OnReply.{judge, passing_to, returning, to_entry, to_standing}
+use Rattle.roam_book.specs.OnReply.{judge, passing_to, returning, to_entry, to_standing, shows_life}
 use Rattle.roam_book.specs.OnTick.{Progress, fail_over, once_refused, due_standing, due_entry, due_one, due_each, as_turn, given_up_at}
 use Rattle.roam_book.specs.OneRealm.{RealmEvent, request_came, reply_came, tick_came, on_event}
 use Rattle.roam_book.specs.declared.state.start.Start.{Start}
+use Rattle.roam_book.specs.Conversing.{new_target}
 use Rattle.roam_core.specs.Openings.{state_then}
 use Rattle.roam_core.specs.Provenance.{TakesTicket}
 use Rattle.roam_core.specs.ProvenanceLaws.{OneRequestHasTicket, TicketIsGivenOnce}
 use Rattle.roam_core.proofs.RealmRunLemmas.{state-next}
 use Rattle.roam_core.proofs.SentLemmas.{either}
+use Rattle.roam_book.specs.declared.state.rest.Rest.{Rest}
 
 -- a turn doesn't lower the next ticket
 abbrev Rises : RealmState → Turn → Type 0
@@ -37,23 +39,24 @@ stays : (s : RealmState) → s.ticket ≤ s.ticket
 stays s = omega arith
 
 make_way-rises : (c : RealmConfig) (now : ℕ) (s : RealmState) (es : List PlainEntry) (q : PlainRequest)
-    (target : Target) (way : Option ℕ) → Rises s (make_way c now s es q target way)
-make_way-rises c now s es q target None = stays s
-make_way-rises c now s es q target (Some ticket) = omega arith
+    (rests : List Rest) (target : Target) (way : Option ℕ)
+    → Rises s (make_way c now (with_rests s rests) es q target way)
+make_way-rises c now s es q rests target None = stays s
+make_way-rises c now s es q rests target (Some ticket) = omega arith
 
 at_target-rises : (c : RealmConfig) (now : ℕ) (s : RealmState) (es : List PlainEntry) (q : PlainRequest)
-    (target : Option Target) → Rises s (at_target c now s es q target)
-at_target-rises c now s es q None = stays s
-at_target-rises c now s es q (Some target) =
+    (rests : List Rest) (target : Option Target) → Rises s (at_target c now (with_rests s rests) es q target)
+at_target-rises c now s es q rests None = stays s
+at_target-rises c now s es q rests (Some target) =
     either (Rises s) (ltb (length es) c.realm.max_pending) _ _ (omega arith)
-    (make_way-rises c now s es q target (first_done es))
+    (make_way-rises c now s es q rests target (first_done es))
 
 new_request-rises : (c : RealmConfig) (now : ℕ) (s : RealmState) (es : List PlainEntry) (q : PlainRequest) →
     Rises s (new_request c now s es q)
 new_request-rises c now s es q =
     either (Rises s) (eqb s.ticket (2 ^ 63)) _ _ (stays s)
     (either (Rises s) (share_taken c es q) _ _ (stays s)
-    (at_target-rises c now s es q (chosen_target c now s.rests s.cursors es (targets c q))))
+    (at_target-rises c now s es q _ (new_target c now s es q (targets c q))))
 
 nak_or_new-rises : (c : RealmConfig) (now : ℕ) (s : RealmState) (q : PlainRequest) (why : Option ℕ) →
     Rises s (nak_or_new c now s q why)
@@ -73,7 +76,7 @@ in_time-rises now s turn h = either (Rises s) (ltb (2 ^ 62) now) _ _ (stays s) h
 -- a reply gives no ticket
 judge-rises : (c : RealmConfig) (now : ℕ) (s : RealmState) (e : PlainEntry) (l : Link) (forwarded reply : Packet)
     (why : Option Refusal) → Rises s (judge c now s e l forwarded reply why)
-judge-rises c now s e l forwarded reply (Some why) = stays s
+judge-rises c now s e l forwarded reply (Some why) = either (Rises s) (shows_life why) _ _ (stays s) (stays s)
 judge-rises c now s e l forwarded reply None =
     either (Rises s) (ltb 4096 (returned_length (returning c e.request l forwarded) (passing_to c e.request reply)
     (packet_of e.request.octets))) _ _
@@ -81,10 +84,10 @@ judge-rises c now s e l forwarded reply None =
 
 to_standing-rises : (c : RealmConfig) (now : ℕ) (s : RealmState) (e : PlainEntry) (reply : Packet)
     (standing : PlainStanding) → Rises s (to_standing c now s e reply standing)
-to_standing-rises c now s e reply (waiting l id forwarded sends_left deadline) =
+to_standing-rises c now s e reply (waiting l id forwarded sends_left deadline signs) =
     judge-rises c now s e l (packet_of forwarded) reply
     (reply_fault (link_secret c l) (seal_required c l) reply (packet_of forwarded))
-to_standing-rises c now s e reply (done old deadline) = stays s
+to_standing-rises c now s e reply (done old deadline from) = stays s
 
 to_entry-rises : (c : RealmConfig) (now : ℕ) (s : RealmState) (reply : Packet) (found : Option PlainEntry) →
     Rises s (to_entry c now s reply found)
@@ -108,10 +111,10 @@ fail_over-keeps c now s e (Some target) = refl
 
 due_standing-keeps : (c : RealmConfig) (now : ℕ) (s : RealmState) (e : PlainEntry) (standing : PlainStanding) →
     Keeps s (due_standing c now s e standing)
-due_standing-keeps c now s e (done reply deadline) = refl
-due_standing-keeps c now s e (waiting l id forwarded sends_left deadline) =
+due_standing-keeps c now s e (done reply deadline from) = refl
+due_standing-keeps c now s e (waiting l id forwarded sends_left deadline signs) =
     either (Keeps s) (ltb 0 sends_left) _ _ refl
-    (fail_over-keeps c now (given_up_at c now l s e) e (chosen_target c now (after_silence c now s.rests l) s.cursors
+    (fail_over-keeps c now (given_up_at c now l signs s e) e (chosen_target c now (after_silence c now s.rests l signs) s.cursors
     (without e.ticket s.entries) (later_targets c l)))
 
 due_entry-keeps : (c : RealmConfig) (now : ℕ) (s : RealmState) (found : Option PlainEntry) →

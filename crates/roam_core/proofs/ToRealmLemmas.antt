@@ -20,9 +20,10 @@ use Rattle.roam_conf.specs.declared.place.Place.{Place}
 use Rattle.roam_conf.specs.declared.place.Place.TheVariants as place
 use Rattle.roam_route.specs.UserName.{realm_of, realm_part}
 use Rattle.roam_route.specs.LocalAnswer.{accounting_answer, answer_length, local_reject, status_answer}
+use Rattle.roam_route.specs.Freshness.{is_fresh}
 use Rattle.roam_route.specs.LocalReject.{takes_of, taking}
 use Rattle.roam_route.specs.Shapings.{sent_length}
-use Rattle.roam_route.specs.Admission.{Arrival, Admission, checked, job_of, forwarded_for, answered_by, rejected_for, for_named_realm, accounted, accounting_in, by_accounting, is_answered_unnamed, is_unnamed, request_admission, packet_admission, sent_admission, status_from, is_status_request, is_taken, peer_secret, home_secret, is_rightly_signed, is_rightly_sealed, has_needed_seal, has_few_hops, has_seal, seal_required}
+use Rattle.roam_route.specs.Admission.{Arrival, Admission, checked, job_of, forwarded_for, answered_by, rejected_for, reversed, for_named_realm, accounted, accounting_in, by_accounting, is_answered_unnamed, is_unnamed, request_admission, packet_admission, sent_admission, status_from, is_status_request, is_taken, peer_secret, home_secret, has_few_attributes, is_rightly_signed, is_rightly_sealed, has_needed_seal, has_few_hops, has_seal, seal_required}
 use Rattle.roam_route.specs.declared.job.Side.{Side}
 use Rattle.roam_route.specs.declared.job.Side.TheVariants as side
 use Rattle.roam_book.specs.OneRealm.{RealmEvent}
@@ -55,6 +56,13 @@ module _ (realm now : ℕ) where
   none-forwarded size k a s p named differs =
       none-checked _ refusal.TooLong (job_of a s p k named) (none-given k a s p named differs)
 
+  pub none-reversed : (config : ConfigView) (k : ℕ) (a : Arrival) (s : Side) (p : Packet) → (k == realm) ≡ false →
+      gives (reversed config a s p k) ≡ []
+  none-reversed config k a s p differs =
+      none-checked (is_fresh config.fresh a.seconds p.attributes) refusal.Stale
+      (forwarded_for (sent_length config s p k) a s p k (realm_of config p.attributes))
+      (none-forwarded (sent_length config s p k) k a s p (realm_of config p.attributes) differs)
+
   -- and one of the realm, by what it names
   pub only-same : (m n : Option ℕ) → is_realm realm m ≡ is_realm realm n → only_own realm m ≡ only_own realm n
   only-same m n same = ap (λ (b : Bool). if b then Some realm else None) same
@@ -71,6 +79,14 @@ module _ (realm now : ℕ) where
   own-forwarded size a s p m n same =
       same-checked _ refusal.TooLong (job_of a s p realm m) (job_of a s p realm n)
       (own-given a s p m n same)
+
+  pub own-reversed : (most : Option ℕ) (size : ℕ) (a : Arrival) (s : Side) (p : Packet) (m n : Option ℕ) →
+      is_realm realm m ≡ is_realm realm n →
+      gives (checked (is_fresh most a.seconds p.attributes) refusal.Stale (forwarded_for size a s p realm m))
+      ≡ gives (checked (is_fresh most a.seconds p.attributes) refusal.Stale (forwarded_for size a s p realm n))
+  own-reversed most size a s p m n same =
+      same-checked (is_fresh most a.seconds p.attributes) refusal.Stale (forwarded_for size a s p realm m)
+      (forwarded_for size a s p realm n) (own-forwarded size a s p m n same)
 
   pub rejected-none : (secret : List ℕ) (a : Arrival) (p : Packet) → gives (rejected_for secret a p) ≡ []
   rejected-none secret a p =
@@ -194,9 +210,11 @@ module _ (realm now : ℕ) where
   pub none-status : (config : ConfigView) (a : Arrival) (s : Side) (p : Packet) → gives (status_from config a s p) ≡ []
   none-status config a (side.Peer i) p =
       let secret = peer_secret config i in
-      none-checked _ refusal.BadMessageAuthenticator
+      none-checked (has_few_attributes config.max_attributes p) refusal.TooManyAttributes _
+      (none-checked _ refusal.BadMessageAuthenticator
       (checked (has_seal p) refusal.MissingMessageAuthenticator (answered_by a (status_answer a.at secret p)))
-      (none-checked (has_seal p) refusal.MissingMessageAuthenticator (answered_by a (status_answer a.at secret p)) refl)
+      (none-checked (has_seal p) refusal.MissingMessageAuthenticator (answered_by a (status_answer a.at secret p))
+      refl))
   none-status config a (side.Link l) p = refl
   none-status config a (side.Home i) p = refl
 
@@ -225,29 +243,32 @@ module _ (realm now : ℕ) where
       ]
 
   -- at another realm's places nothing is the realm's
-  pub none-out : (config : ConfigView) (k : ℕ) (from : Endpoint) (octets : List ℕ) (p : Packet) (s : Option Side) →
+  pub none-out : (config : ConfigView) (k : ℕ) (from : Endpoint) (octets : List ℕ) (seconds : Option ℕ) (p : Packet)
+      (s : Option Side) →
       (k == realm) ≡ false
-      → gives (sent_admission config (record { at = place.Out k; from = from; octets = octets }) p s) ≡ []
-  none-out config k from octets p None differs = refl
-  none-out config k from octets p (Some s) differs =
-      let a : Arrival = record { at = place.Out k; from = from; octets = octets } in
+      → gives
+      (sent_admission config (record { at = place.Out k; from = from; octets = octets; seconds = seconds }) p s) ≡ []
+  none-out config k from octets seconds p None differs = refl
+  none-out config k from octets seconds p (Some s) differs =
+      let a : Arrival = record { at = place.Out k; from = from; octets = octets; seconds = seconds } in
       none-checked (is_taken (place.Out k) s p.code) refusal.WrongCode (job_of a s p k None)
       (none-given k a s p None differs)
 
-  pub none-reverse : (config : ConfigView) (k : ℕ) (from : Endpoint) (octets : List ℕ) (p : Packet) (o : Option ℕ) →
+  pub none-reverse : (config : ConfigView) (k : ℕ) (from : Endpoint) (octets : List ℕ) (seconds : Option ℕ)
+      (p : Packet) (o : Option ℕ) →
       (k == realm) ≡ false
-      → gives (sent_admission config (record { at = place.Reverse k; from = from; octets = octets }) p
+      → gives
+      (sent_admission config (record { at = place.Reverse k; from = from; octets = octets; seconds = seconds }) p
       (option_map (λ i. side.Home i) o)) ≡ []
-  none-reverse config k from octets p None differs = refl
-  none-reverse config k from octets p (Some i) differs =
-      let a : Arrival = record { at = place.Reverse k; from = from; octets = octets } in
+  none-reverse config k from octets seconds p None differs = refl
+  none-reverse config k from octets seconds p (Some i) differs =
+      let a : Arrival = record { at = place.Reverse k; from = from; octets = octets; seconds = seconds } in
       let secret = home_secret config k i in
       none-checked (is_taken (place.Reverse k) (side.Home i) p.code) refusal.WrongCode
       (request_admission config secret a (side.Home i) p)
+      (none-checked (has_few_attributes config.max_attributes p) refusal.TooManyAttributes _
       (none-checked (is_rightly_signed secret p) refusal.BadAuthenticator _
       (none-checked (is_rightly_sealed secret p) refusal.BadMessageAuthenticator _
       (none-checked (has_needed_seal (seal_required config (side.Home i) p) p) refusal.MissingMessageAuthenticator _
-      (none-checked (has_few_hops config.max_hops p) refusal.TooManyHops
-      (forwarded_for (sent_length config (side.Home i) p k) a (side.Home i) p k (realm_of config p.attributes))
-      (none-forwarded (sent_length config (side.Home i) p k) k a (side.Home i) p (realm_of config p.attributes)
-      differs)))))
+      (none-checked (has_few_hops config.max_hops p) refusal.TooManyHops (reversed config a (side.Home i) p k)
+      (none-reversed config k a (side.Home i) p differs))))))

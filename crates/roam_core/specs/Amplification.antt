@@ -69,10 +69,10 @@ may_be_caused c ends (e ∷ es) = caused_by c ends e + may_be_caused c ends es
 -- what may still be sent for an entry that waits: to its link as often as sends are left, `tries` packets
 -- to each of the later targets, and one back. For one that is done nothing, unless its request comes again
 abbrev pub may_follow : RealmConfig → Ends → Key → PlainStanding → ℕ
-may_follow c ends key (waiting l id forwarded sends_left deadline) =
+may_follow c ends key (waiting l id forwarded sends_left deadline signs) =
     sends_left * counted_links c ends (l ∷ [])
     + c.realm.tries * counted_links c ends (later_targets c l) + counted_back ends key
-may_follow c ends key (done reply deadline) = 0
+may_follow c ends key (done reply deadline from) = 0
 
 -- the sum of a number for each of some entries
 abbrev pub sum_over : (PlainEntry → ℕ) → List PlainEntry → ℕ

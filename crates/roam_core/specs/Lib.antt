@@ -7,6 +7,7 @@ pub mod OwnLosses
 pub mod Draws
 pub mod Provenance
 pub mod ProvenanceLaws
+pub mod OwnSessions
 pub mod Lives
 pub mod Occasions
 pub mod LifeOrigins

@@ -2,11 +2,13 @@
 -- `src/laws.rt` says. A life may begin at any stage.
 use Rattle.std.specs.Prelude.{◌≡◌, ◌≤◌, ◌+◌, ◌*◌, ◌%◌, ◌^◌, ℕ, true, List, ◌∷◌, ◌++◌, Some, length, slice_get}
 use Rattle.roam_route.specs.Admission.{PlainOut}
+use Rattle.roam_wire.specs.Reading.{packet_of}
+use Rattle.roam_reverse.specs.CauseLaws.{IsOfOneSession}
 use Rattle.roam_pending.specs.ListLaws.{IsIn}
 use Rattle.roam_pending.specs.PlainEntry.{PlainEntry, PlainRequest}
 use Rattle.roam_book.specs.RealmConfig.{RealmConfig}
 use Rattle.roam_book.specs.RealmState.{Target}
-use Rattle.roam_book.specs.OnRequest.{draws}
+use Rattle.roam_book.specs.OnRequest.{draws, is_reverse}
 use Rattle.roam_book.specs.OneRealm.{RealmEvent}
 use Rattle.roam_core.specs.Lives.{Happening, Stage, draws_in, event, sent_in, stage_then}
 use Rattle.roam_core.specs.LifeOrigins.{ComesFromIn, HasOriginIn, IsForwardedIn, IsRequestIn, TakesTicketIn}
@@ -42,6 +44,15 @@ abbrev pub OneRequestHasTicketIn : Type 0
 OneRequestHasTicketIn =
     (b : Stage) (life : List Happening) (q r : PlainRequest) (ticket : ℕ)
     → IsRequestIn b life q ticket → IsRequestIn b life r ticket → q ≡ r
+
+-- in a realm with `own_sessions` a reverse request of the life that is given a ticket, and so isn't answered by a NAK, is
+-- of one session of the realm's ledger when it comes, under the configuration of that time
+abbrev pub AdmittedIsOfOwnSessionIn : Type 0
+AdmittedIsOfOwnSessionIn =
+    (b : Stage) (life : List Happening) (q : PlainRequest) (ticket : ℕ) (given : IsRequestIn b life q ticket)
+    → (stage_then b given.first).config.realm.own_sessions ≡ true → is_reverse q ≡ true
+    → IsOfOneSession (stage_then b given.first).config.peers (packet_of q.octets).attributes
+    (stage_then b given.first).state.sessions
 
 -- the draws of a life take the words of the realm's stream one after the other, from where it stood: each takes the
 -- four words that follow those of the draw before it

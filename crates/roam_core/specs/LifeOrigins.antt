@@ -196,9 +196,9 @@ pub record WaitsForIn (b : Stage) (life : List Happening) (q : PlainRequest) (ti
   pub forwarded : IsForwardedIn b life under q position ticket target
 
 abbrev pub StandsFromIn : Stage → List Happening → PlainRequest → ℕ → PlainStanding → Type 0
-StandsFromIn b life q ticket (waiting l id forwarded sends_left deadline) =
+StandsFromIn b life q ticket (waiting l id forwarded sends_left deadline signs) =
     WaitsForIn b life q ticket (record { link = l; id = id }) forwarded
-StandsFromIn b life q ticket (done reply deadline) =
+StandsFromIn b life q ticket (done reply deadline from) =
     IsReturnedIn b life q ticket (back_to b.config.index q.key reply)
     ⊎ IsNakIn b life q (back_to b.config.index q.key reply)
 

@@ -7,27 +7,32 @@ use Rattle.roam_conf.specs.Config.{ConfigView}
 use Rattle.roam_route.specs.Admission.{PlainOut, Admission, refused, rejected, admitted, admission}
 use Rattle.roam_book.specs.RealmConfig.{realm_config}
 use Rattle.roam_book.specs.RealmState.{RealmState}
-use Rattle.roam_book.specs.Turn.{Turn, latest_moment, refuses, sends, packets_of, state_after}
+use Rattle.roam_book.specs.Turn.{Turn, latest_moment, refuses, hears, sends, packets_of, state_after}
 use Rattle.roam_book.specs.OnTick.{on_tick}
 use Rattle.roam_book.specs.OneRealm.{event_of, on_event}
 use Rattle.roam_core.specs.Events.{PlainEvent, arrives, ticks, is_in_shard}
 
--- a refusal sends nothing and leaves all states as they were
+-- a refusal sends nothing and leaves all states as they were; that of a reply which is a sign of life leaves all but its
+-- realm's, which notes it
 pub data BrokerTurn : Type 0 where
   refuses_it : Refusal → BrokerTurn
+  hears_it : Refusal → List RealmState → BrokerTurn
   sends_all : List PlainOut → List RealmState → BrokerTurn
 
 -- what is sent, why nothing is, and the states that follow
 abbrev pub packets_in_turn : BrokerTurn → List PlainOut
 packets_in_turn (refuses_it why) = []
+packets_in_turn (hears_it why states) = []
 packets_in_turn (sends_all packets states) = packets
 
 abbrev pub refusal_given : BrokerTurn → Option Refusal
 refusal_given (refuses_it why) = Some why
+refusal_given (hears_it why states) = Some why
 refusal_given (sends_all packets states) = None
 
 abbrev pub states_after : List RealmState → BrokerTurn → List RealmState
 states_after old (refuses_it why) = old
+states_after old (hears_it why states) = states
 states_after old (sends_all packets states) = states
 
 -- the state of a realm that isn't there
@@ -47,6 +52,7 @@ state_at states realm = slice_index_or states realm no_state
 -- the turn of one realm: every other realm stays as it is
 abbrev pub turn_of_one : List RealmState → ℕ → Turn → BrokerTurn
 turn_of_one states realm (refuses why) = refuses_it why
+turn_of_one states realm (hears why state) = hears_it why (slice_set states realm state)
 turn_of_one states realm (sends packets state) = sends_all packets (slice_set states realm state)
 
 -- what an arrival is answered with
@@ -96,7 +102,8 @@ to_tick config states now shard =
 -- What the broker answers to one event, from the states of all realms: admission's refusal, its local answer,
 -- or the answers of the realms that it gives an event to, in rising index. A tick gives a tick to each realm of
 -- its shard; it is refused for a shard that isn't there (20), and above time 2^62 (19), also where the shard
--- has no realm. A refusal sends nothing and leaves all states.
+-- has no realm. A refusal sends nothing and leaves all states, but for the sign of life that a reply is which is
+-- refused by its seal alone (17) or its size (18).
 -- Source: ours
 -- Rules out: a refusal that changed something
 -- Stands in: `roam_core` `ManyRealms.antt`: `answer_to`, `answers_to`; the trait `Stepper`

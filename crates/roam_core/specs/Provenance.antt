@@ -190,9 +190,9 @@ pub record WaitsFor (c : RealmConfig) (start : Start) (events : List RealmEvent)
 
 abbrev pub StandsFrom :
     RealmConfig → Start → List RealmEvent → PlainRequest → ℕ → PlainStanding → Type 0
-StandsFrom c start events q ticket (waiting l id forwarded sends_left deadline) =
+StandsFrom c start events q ticket (waiting l id forwarded sends_left deadline signs) =
     WaitsFor c start events q ticket (record { link = l; id = id }) forwarded
-StandsFrom c start events q ticket (done reply deadline) =
+StandsFrom c start events q ticket (done reply deadline from) =
     IsReturned c start events q ticket (packet_to_requester c q.key reply)
     ⊎ IsNak c start events q (packet_to_requester c q.key reply)
 

@@ -5,11 +5,12 @@ ghost use Rattle.roam_core.specs.Alone.{OneRealmIsAlone};
 ghost use Rattle.roam_core.specs.Isolation.{EachIsIsolatedFromStart, EachLedgerIsIsolated, EachRealmIsIsolated};
 ghost use Rattle.roam_core.specs.Isolation.{EachRealmOpens, EachRealmStandsAlone, SameInTwoWorlds};
 ghost use Rattle.roam_core.specs.Isolation.{SameInTwoWorldsFromStart};
-ghost use Rattle.roam_core.specs.LifeLaws.{DrawsAreApartIn, EachPacketHasOriginFrom, EntriesKeepOrigin};
+ghost use Rattle.roam_core.specs.LifeLaws.{AdmittedIsOfOwnSessionIn, DrawsAreApartIn, EachPacketHasOriginFrom, EntriesKeepOrigin};
 ghost use Rattle.roam_core.specs.LifeLaws.{OneDrawOneForwarding, OneRequestHasTicketIn, TicketIsGivenOnceIn};
 ghost use Rattle.roam_core.specs.LifeLaws.{WordsAreDrawnInOrderIn};
 ghost use Rattle.roam_core.specs.OwnLosses.{EachMissesItsOwn, NextTickMakesGood};
 ghost use Rattle.roam_core.specs.OwnPart.{SameOwnEvents, SamePacketsOfOwnPart};
+ghost use Rattle.roam_core.specs.OwnSessions.{AdmittedIsOfOwnSession, EachSentIsOfOwnSession, SentIsOfOwnSession};
 ghost use Rattle.roam_core.specs.ProvenanceLaws.{DrawsAreApart, EachEntryHasOrigin, EachPacketHasOrigin};
 ghost use Rattle.roam_core.specs.ProvenanceLaws.{OneRequestHasTicket, TicketIsGivenOnce, WordsAreDrawnInOrder};
 ghost use Rattle.roam_core.specs.ProvenanceLaws.{WordsAreDrawnOnce};
@@ -74,6 +75,17 @@ pub fn provenance()
     ensures words { WordsAreDrawnInOrder }
     ensures apart { DrawsAreApart }
     ensures once { WordsAreDrawnOnce }
+{}
+
+/// In a realm whose reverse requests name sessions of its own, each Disconnect- or CoA-Request that is sent was of one
+/// session of that realm's ledger when it came: of its target, with its one Acct-Session-Id, and at the access server
+/// that it names. No other realm's event changes which (RFC 5176, section 3.5). That a request which is forwarded was so
+/// holds over all changes of the configuration, under that of the time when it came.
+pub fn own_sessions()
+    ensures admitted { AdmittedIsOfOwnSession }
+    ensures life { AdmittedIsOfOwnSessionIn }
+    ensures sent { SentIsOfOwnSession }
+    ensures each { EachSentIsOfOwnSession }
 {}
 
 /// Over a realm's life, while its configuration changes any number of times, whether it goes on in its state or

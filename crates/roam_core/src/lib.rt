@@ -26,7 +26,7 @@
 //! - the written broker isolates its realms, in packets and in states | laws `isolated_realms`, `realms_open`
 //! - in two worlds that agree on a realm's part, start and events, it sends the same | law `two_worlds`
 //! - one arrival gives a realm the same under configurations that agree on the peers, the meaning of names,
-//!   `max_hops` and its own table; where the number of shards is equal too, any events give it the same ones,
+//!   `max_hops`, `fresh` and its own table; where the number of shards is equal too, any events give it the same ones,
 //!   whatever the seeds; and where the seed is, it sends the same from the same start | `roam_route`, law
 //!   `own_part`; law `own_part`: `events`, `packets`
 //! - with one realm, the broker is the written one-realm broker and its own answers | law `one_realm`
@@ -43,6 +43,10 @@
 //!   NAK | law `provenance`: `entries`
 //! - which sessions a realm's ledger holds, that realm's own events alone decide: no other realm's accounting
 //!   lets its reverse requests pass | law `isolated_ledgers`
+//! - in a realm with `own_sessions` each Disconnect- or CoA-Request that is sent was of one session of the realm's
+//!   ledger when it came: with one Acct-Session-Id, at most one User-Name, and just one session that has that id, is
+//!   of its target and agrees with the access server that it names | law `own_sessions`: `admitted`, `sent`,
+//!   `each`; and of what is forwarded over a realm's life, under the configuration of the time: `life`
 //! - of a fresh broker over shared tables a proved caller concludes from contracts alone that each realm is
 //!   isolated, where each packet comes from, and which events were given and which were lost | `fresh_run` of
 //!   `test_callers`: `isolated`, `provenance`, `given`, `lost`, `wanted`
@@ -80,7 +84,7 @@ pub use broker::Broker;
 pub use event::Event;
 pub use laws::{
     isolated_ledgers, isolated_realms, life_draws, life_provenance, life_tickets, one_realm,
-    own_losses, own_part, provenance, realms_open, two_worlds,
+    own_losses, own_part, own_sessions, provenance, realms_open, two_worlds,
 };
 pub use runs::{Outcome, run};
 pub use shard_room::with_room;

@@ -13,9 +13,9 @@ use Rattle.roam_counters.specs.declared.cell.Subject.TheVariants as subject
 use Rattle.roam_counters.specs.declared.event.CountedEvent.{CountedEvent}
 use Rattle.roam_counters.specs.declared.process.Process.{Process}
 
--- rows of nine, and of ninety-four
-pub nine-apart : (a b m n : ℕ) → m < 9 → n < 9 → 9 * a + m ≡ 9 * b + n → (a ≡ b) × (m ≡ n)
-nine-apart a b m n small_m small_n is =
+-- rows of ten, and of ninety-eight
+pub ten-apart : (a b m n : ℕ) → m < 10 → n < 10 → 10 * a + m ≡ 10 * b + n → (a ≡ b) × (m ≡ n)
+ten-apart a b m n small_m small_n is =
     elim (cases_lt a b) [
       | inl less ↦ absurd (omega (arith, small_m, is, less))
       | inr not_less ↦ elim (cases_lt b a) [
@@ -24,8 +24,8 @@ nine-apart a b m n small_m small_n is =
       ]
     ]
 
-pub ninety_four-apart : (a b m n : ℕ) → m < 94 → n < 94 → 94 * a + m ≡ 94 * b + n → (a ≡ b) × (m ≡ n)
-ninety_four-apart a b m n small_m small_n is =
+pub ninety_eight-apart : (a b m n : ℕ) → m < 98 → n < 98 → 98 * a + m ≡ 98 * b + n → (a ≡ b) × (m ≡ n)
+ninety_eight-apart a b m n small_m small_n is =
     elim (cases_lt a b) [
       | inl less ↦ absurd (omega (arith, small_m, is, less))
       | inr not_less ↦ elim (cases_lt b a) [
@@ -48,7 +48,7 @@ pub processes-apart : (p q : Process) → process_place p ≡ process_place q �
 processes-apart p q same =
     same-at all_processes (process_place p) (process_place q) p q same (process-at_place p) (process-at_place q)
 
-pub event-below : (a : CountedEvent) → event_place a < 94
+pub event-below : (a : CountedEvent) → event_place a < 98
 event-below a = slice_get_within all_events (event_place a) a (event-at_place a)
 
 pub process-below : (p : Process) → process_place p < 19
@@ -63,15 +63,15 @@ rows-apart l subject.All (subject.Peer p) f g is = absurd (omega (arith, is))
 rows-apart l (subject.Realm r) subject.All f g is = absurd (omega (arith, is))
 rows-apart l (subject.Realm r) (subject.Realm q) f g is = ap subject.Realm (omega (arith, is))
 rows-apart l (subject.Realm r) (subject.Server q n) f g is =
-    absurd (let e = (nine-apart r q 0 (n + 1) (omega arith) (omega (arith, g.1)) (omega (arith, is))).1 in
+    absurd (let e = (ten-apart r q 0 (n + 1) (omega arith) (omega (arith, g.1)) (omega (arith, is))).1 in
     omega (arith, e))
 rows-apart l (subject.Realm r) (subject.Peer p) f g is = absurd (omega (arith, f, is))
 rows-apart l (subject.Server r m) subject.All f g is = absurd (omega (arith, is))
 rows-apart l (subject.Server r m) (subject.Realm q) f g is =
-    absurd (let e = (nine-apart r q (m + 1) 0 (omega (arith, f.1)) (omega arith) (omega (arith, is))).1 in
+    absurd (let e = (ten-apart r q (m + 1) 0 (omega (arith, f.1)) (omega arith) (omega (arith, is))).1 in
     omega (arith, e))
 rows-apart l (subject.Server r m) (subject.Server q n) f g is =
-    let both = nine-apart r q m n (omega (arith, f.1)) (omega (arith, g.1)) (omega (arith, is)) in
+    let both = ten-apart r q m n (omega (arith, f.1)) (omega (arith, g.1)) (omega (arith, is)) in
     ap (λ (k : ℕ). subject.Server k m) both.0 ∙ ap (λ (k : ℕ). subject.Server q k) both.1
 rows-apart l (subject.Server r m) (subject.Peer p) f g is = absurd (omega (arith, f.0, f.1, is))
 rows-apart l (subject.Peer p) subject.All f g is = absurd (omega (arith, is))
@@ -80,7 +80,7 @@ rows-apart l (subject.Peer p) (subject.Server q n) f g is = absurd (omega (arith
 rows-apart l (subject.Peer p) (subject.Peer q) f g is = ap subject.Peer (omega (arith, is))
 
 -- they are among all rows
-pub row-below : (l : Layout) (s : Subject) → IsOf l s → row_of l s < 1 + 9 * l.realms + l.peers
+pub row-below : (l : Layout) (s : Subject) → IsOf l s → row_of l s < 1 + 10 * l.realms + l.peers
 row-below l subject.All f = omega arith
 row-below l (subject.Realm r) f = omega (arith, f)
 row-below l (subject.Server r n) f = omega (arith, f.0, f.1)
@@ -89,7 +89,7 @@ row-below l (subject.Peer p) f = omega (arith, f)
 pub are-apart : (l : Layout) → AreApart l
 are-apart l = record {
   subjects = λ s t a b f g is.
-      let both = ninety_four-apart (row_of l s) (row_of l t) (event_place a) (event_place b) (event-below a)
+      let both = ninety_eight-apart (row_of l s) (row_of l t) (event_place a) (event_place b) (event-below a)
       (event-below b)
       (omega (arith, is)) in
       (rows-apart l s t f g both.0, events-apart a b both.1);

@@ -41,13 +41,14 @@ all_events =
     event.Refused refusal.Moment ∷ event.Refused refusal.NoShard ∷ event.Refused refusal.NoMemory ∷
     event.Refused refusal.TraceFull ∷ event.Refused refusal.Misplaced ∷ event.Refused refusal.TooManyHops ∷
     event.Refused refusal.NotForPeer ∷ event.Refused refusal.AccountingDropped ∷ event.Refused refusal.ShareTaken ∷
+    event.Refused refusal.TooManyAttributes ∷ event.Refused refusal.Stale ∷
     event.TakenOver request.Access ∷ event.TakenOver request.Accounting ∷
     event.TakenOver request.Disconnect ∷ event.TakenOver request.Coa ∷
     event.FailedOver ∷ event.GivenUp ∷
     event.Replaced ∷ event.AnsweredAgain ∷
-    event.LocalReject ∷ event.Nak nak.UnsupportedAttribute ∷
+    event.LocalReject ∷ event.Nak nak.UnsupportedAttribute ∷ event.Nak nak.InvalidRequest ∷
     event.Nak nak.RequestNotRoutable ∷ event.Nak nak.SessionNotFound ∷
-    event.Nak nak.OtherProxyProcessingError ∷ event.AnswerWithin delay.Within10 ∷
+    event.Nak nak.OtherProxyProcessingError ∷ event.Nak nak.MultipleSessions ∷ event.AnswerWithin delay.Within10 ∷
     event.AnswerWithin delay.Within30 ∷ event.AnswerWithin delay.Within100 ∷
     event.AnswerWithin delay.Within300 ∷ event.AnswerWithin delay.Within1000 ∷
     event.AnswerWithin delay.Within3000 ∷ event.AnswerWithin delay.Within10000 ∷
@@ -127,6 +128,8 @@ event-at_place (event.Refused refusal.TooManyHops) = refl
 event-at_place (event.Refused refusal.NotForPeer) = refl
 event-at_place (event.Refused refusal.AccountingDropped) = refl
 event-at_place (event.Refused refusal.ShareTaken) = refl
+event-at_place (event.Refused refusal.TooManyAttributes) = refl
+event-at_place (event.Refused refusal.Stale) = refl
 event-at_place (event.TakenOver request.Access) = refl
 event-at_place (event.TakenOver request.Accounting) = refl
 event-at_place (event.TakenOver request.Disconnect) = refl
@@ -137,9 +140,11 @@ event-at_place event.Replaced = refl
 event-at_place event.AnsweredAgain = refl
 event-at_place event.LocalReject = refl
 event-at_place (event.Nak nak.UnsupportedAttribute) = refl
+event-at_place (event.Nak nak.InvalidRequest) = refl
 event-at_place (event.Nak nak.RequestNotRoutable) = refl
 event-at_place (event.Nak nak.SessionNotFound) = refl
 event-at_place (event.Nak nak.OtherProxyProcessingError) = refl
+event-at_place (event.Nak nak.MultipleSessions) = refl
 event-at_place (event.AnswerWithin delay.Within10) = refl
 event-at_place (event.AnswerWithin delay.Within30) = refl
 event-at_place (event.AnswerWithin delay.Within100) = refl

@@ -18,17 +18,17 @@ use Rattle.roam_counters.specs.declared.process.Process.{Process}
 --
 -- how many there are
 abbrev pub cells : Layout → ℕ
-cells layout = 19 + 94 * (1 + 9 * layout.realms + layout.peers)
+cells layout = 19 + 98 * (1 + 10 * layout.realms + layout.peers)
 
--- the row of a subject: one for all, nine for each realm with its home servers, one for each peer
+-- the row of a subject: one for all, ten for each realm with its home servers and further sources, one for each peer
 abbrev pub row_of : Layout → Subject → ℕ
 row_of layout subject.All = 0
-row_of layout (subject.Realm realm) = 1 + 9 * realm
-row_of layout (subject.Server realm server) = 2 + 9 * realm + server
-row_of layout (subject.Peer peer) = 1 + 9 * layout.realms + peer
+row_of layout (subject.Realm realm) = 1 + 10 * realm
+row_of layout (subject.Server realm server) = 2 + 10 * realm + server
+row_of layout (subject.Peer peer) = 1 + 10 * layout.realms + peer
 
 abbrev pub cell_of : Layout → Subject → CountedEvent → ℕ
-cell_of layout subject event = 19 + 94 * row_of layout subject + event_place event
+cell_of layout subject event = 19 + 98 * row_of layout subject + event_place event
 
 abbrev pub process_cell : Process → ℕ
 process_cell process = process_place process
@@ -37,5 +37,5 @@ process_cell process = process_place process
 abbrev pub IsOf : Layout → Subject → Type 0
 IsOf layout subject.All = Unit {0}
 IsOf layout (subject.Realm realm) = realm < layout.realms
-IsOf layout (subject.Server realm server) = (realm < layout.realms) × (server < 8)
+IsOf layout (subject.Server realm server) = (realm < layout.realms) × (server < 9)
 IsOf layout (subject.Peer peer) = peer < layout.peers

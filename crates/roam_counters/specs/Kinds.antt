@@ -48,13 +48,17 @@ reply_place reply.CoaNak = 7
 abbrev pub cause_of : ℕ → Option NakCause
 cause_of cause =
     if cause == 401 then Some nak.UnsupportedAttribute
+    else if cause == 404 then Some nak.InvalidRequest
     else if cause == 502 then Some nak.RequestNotRoutable
     else if cause == 503 then Some nak.SessionNotFound
     else if cause == 505 then Some nak.OtherProxyProcessingError
+    else if cause == 508 then Some nak.MultipleSessions
     else None
 
 abbrev pub cause_place : NakCause → ℕ
 cause_place nak.UnsupportedAttribute = 0
-cause_place nak.RequestNotRoutable = 1
-cause_place nak.SessionNotFound = 2
-cause_place nak.OtherProxyProcessingError = 3
+cause_place nak.InvalidRequest = 1
+cause_place nak.RequestNotRoutable = 2
+cause_place nak.SessionNotFound = 3
+cause_place nak.OtherProxyProcessingError = 4
+cause_place nak.MultipleSessions = 5

@@ -5,7 +5,7 @@ use Rattle.roam_conf.specs.declared.place.Place.{Place}
 use Rattle.roam_conf.specs.declared.place.Place.TheVariants as place
 use Rattle.roam_route.specs.declared.job.Side.{Side}
 use Rattle.roam_route.specs.declared.job.Side.TheVariants as side
-use Rattle.roam_counters.specs.Ends.{subject_of}
+use Rattle.roam_counters.specs.Ends.{source_of, subject_of}
 use Rattle.roam_counters.specs.Kinds.{reply_of, request_of}
 use Rattle.roam_counters.specs.declared.cell.Subject.{Subject}
 use Rattle.roam_counters.specs.declared.cell.Subject.TheVariants as subject
@@ -25,7 +25,7 @@ use Rattle.roam_counters.specs.declared.event.CountedEvent.TheVariants as event
 abbrev pub sender_of : ℕ → Side → Subject
 sender_of realm (side.Peer peer) = subject.Peer peer
 sender_of realm (side.Link link) = subject_of realm link
-sender_of realm (side.Home server) = subject.Server realm server
+sender_of realm (side.Home home) = source_of realm home
 
 -- that it came: a reply from a link, a request from a peer or a home server
 abbrev pub arrival_event : Side → ℕ → Option CountedEvent

@@ -8,8 +8,9 @@ use crate::event::{CountedEvent, EVENTS};
 use crate::process::Process;
 use roam_conf::Config;
 
-/// How many home servers a realm may have.
-const SERVERS: usize = 8;
+/// How many sources of packets are told apart in a realm: eight home servers, and all that send reverse requests with a
+/// higher number as one.
+const SERVERS: usize = 9;
 
 /// Of whom something is counted.
 #[derive(Clone, Copy, PartialEq, Eq)]
@@ -18,13 +19,14 @@ pub enum Subject {
     All,
     /// The realm of this index.
     Realm(u16),
-    /// A realm's home server, by the realm's index and its own.
+    /// A realm's home server, by the realm's index and its own; a further source of the realm's reverse requests by its
+    /// number, the number 8 standing for each higher one.
     Server(u16, u8),
     /// The peer of this index.
     Peer(u16),
 }
 
-/// How many realms and peers there are, which says where each count stands: a row of counts for each of them, and nine
+/// How many realms and peers there are, which says where each count stands: a row of counts for each of them, and ten
 /// for each realm with its home servers.
 #[derive(Clone, Copy, PartialEq, Eq)]
 pub struct Layout {

@@ -17,6 +17,13 @@ pub fn subject_of(realm: u16, link: Link) -> Subject
     }
 }
 
+/// The subject of a source of a realm's reverse requests, by its number: those behind the first eight are one.
+pub fn source_of(realm: u16, home: u8) -> Subject
+    ensures { result ≡ spec.source_of realm home }
+{
+    Subject::Server(realm, home.min(8))
+}
+
 /// Who is at the other end of a packet that comes to this place from this endpoint, or leaves from this place to it;
 /// none where nobody of the configuration has it there.
 pub fn end_at(config: &Config, place: Place, endpoint: Endpoint) -> Option<Subject>
@@ -32,7 +39,7 @@ pub fn end_at(config: &Config, place: Place, endpoint: Endpoint) -> Option<Subje
             None => None,
         },
         Place::Reverse(realm) => match config.home_of(realm, endpoint.ip) {
-            Some(server) => Some(Subject::Server(realm, server)),
+            Some(home) => Some(source_of(realm, home)),
             None => None,
         },
     }

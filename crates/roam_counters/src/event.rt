@@ -8,7 +8,7 @@ use crate::kinds::{NakCause, ReplyKind, RequestKind};
 use roam_wire::Refusal;
 
 /// How many events are told apart.
-pub const EVENTS: usize = 94;
+pub const EVENTS: usize = 98;
 
 /// What is counted of a realm, a home server or a peer.
 #[derive(Clone, Copy, PartialEq, Eq)]
@@ -56,7 +56,7 @@ impl CountedEvent {
     /// Its place among all events.
     pub fn place(self) -> usize
         ensures value { result ≡ spec.event_place self }
-        ensures below { result < 94 }
+        ensures below { result < 98 }
     {
         match self {
             CountedEvent::Request(kind) => kind.place(),
@@ -68,15 +68,15 @@ impl CountedEvent {
             CountedEvent::Answered(kind) => 29 + kind.place(),
             CountedEvent::AnsweredByTick(kind) => 37 + kind.place(),
             CountedEvent::Refused(refusal) => 44 + usize::from(refusal.number()),
-            CountedEvent::TakenOver(kind) => 72 + kind.place(),
-            CountedEvent::FailedOver => 76,
-            CountedEvent::GivenUp => 77,
-            CountedEvent::Replaced => 78,
-            CountedEvent::AnsweredAgain => 79,
-            CountedEvent::LocalReject => 80,
-            CountedEvent::Nak(cause) => 81 + cause.place(),
-            CountedEvent::AnswerWithin(delay) => 85 + delay.place(),
-            CountedEvent::AnswerTime => 93,
+            CountedEvent::TakenOver(kind) => 74 + kind.place(),
+            CountedEvent::FailedOver => 78,
+            CountedEvent::GivenUp => 79,
+            CountedEvent::Replaced => 80,
+            CountedEvent::AnsweredAgain => 81,
+            CountedEvent::LocalReject => 82,
+            CountedEvent::Nak(cause) => 83 + cause.place(),
+            CountedEvent::AnswerWithin(delay) => 89 + delay.place(),
+            CountedEvent::AnswerTime => 97,
         }
     }
 }

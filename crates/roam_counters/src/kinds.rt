@@ -32,12 +32,16 @@ pub enum ReplyKind {
 pub enum NakCause {
     /// 401: the request holds what the broker can't carry.
     UnsupportedAttribute,
+    /// 404: it names more than one user, or more than one session.
+    InvalidRequest,
     /// 502: there is no access server for it, or it isn't of this realm.
     RequestNotRoutable,
     /// 503: the session that it names isn't open.
     SessionNotFound,
     /// 505: the access server didn't answer.
     OtherProxyProcessingError,
+    /// 508: more than one open session is the one that it names.
+    MultipleSessions,
 }
 
 impl NakCause {
@@ -47,22 +51,26 @@ impl NakCause {
     {
         match cause {
             401 => Some(NakCause::UnsupportedAttribute),
+            404 => Some(NakCause::InvalidRequest),
             502 => Some(NakCause::RequestNotRoutable),
             503 => Some(NakCause::SessionNotFound),
             505 => Some(NakCause::OtherProxyProcessingError),
+            508 => Some(NakCause::MultipleSessions),
             _ => None,
         }
     }
 
-    /// Its place among the four.
+    /// Its place among the six.
     pub fn place(self) -> usize
         ensures { result ≡ spec.cause_place self }
     {
         match self {
             NakCause::UnsupportedAttribute => 0,
-            NakCause::RequestNotRoutable => 1,
-            NakCause::SessionNotFound => 2,
-            NakCause::OtherProxyProcessingError => 3,
+            NakCause::InvalidRequest => 1,
+            NakCause::RequestNotRoutable => 2,
+            NakCause::SessionNotFound => 3,
+            NakCause::OtherProxyProcessingError => 4,
+            NakCause::MultipleSessions => 5,
         }
     }
 }

@@ -25,7 +25,7 @@ mod turn;
 pub use cell::{Layout, Subject};
 pub use datagrams::{DatagramCounts, Datagrams, Handling};
 pub use delay::Delay;
-pub use end::{end_at, subject_of};
+pub use end::{end_at, source_of, subject_of};
 pub use event::{CountedEvent, EVENTS};
 pub use kinds::{NakCause, ReplyKind, RequestKind};
 pub use process::Process;

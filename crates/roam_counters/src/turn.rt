@@ -4,7 +4,7 @@ ghost use Rattle.std.specs.Prelude.{◌≡◌};
 ghost use Rattle.roam_counters.specs.Turns as spec;
 
 use crate::cell::Subject;
-use crate::end::subject_of;
+use crate::end::{source_of, subject_of};
 use crate::event::CountedEvent;
 use crate::kinds::{ReplyKind, RequestKind};
 use roam_conf::Place;
@@ -30,7 +30,7 @@ impl CountedTurn {
         match self.side {
             Side::Peer(peer) => Subject::Peer(peer),
             Side::Link(link) => subject_of(self.realm, link),
-            Side::Home(server) => Subject::Server(self.realm, server),
+            Side::Home(home) => source_of(self.realm, home),
         }
     }
 

@@ -4,7 +4,7 @@ use crate::document::{Document, Located};
 use crate::lines::Lines;
 use crate::place::TableKind;
 use crate::unsaid::Unsaid;
-use crate::{names, servers};
+use crate::{names, servers, sessions};
 use std::fmt::Write;
 
 /// What is unwise in a table, in what stands under a key.
@@ -38,6 +38,10 @@ enum Unwise {
     Looping,
     /// One of the realms behind it may take all that wait.
     Unshared,
+    /// Reverse requests are to name a session, and none is remembered.
+    NoSessions,
+    /// Reverse requests may name another realm's session.
+    OthersSessions,
 }
 
 /// The numbers of a realm that the advice is about, also where they aren't written.
@@ -88,6 +92,8 @@ impl Unwise {
             }
             Unwise::Looping => { names::has_pattern(at, "*") && !at.keys.is_set("loop_prevention") }
             Unwise::Unshared => names::has_pattern(at, "*") && !at.keys.has("share"),
+            Unwise::NoSessions => sessions::are_never_there(at),
+            Unwise::OthersSessions => sessions::may_be_others(at),
         }
     }
 }
@@ -131,7 +137,7 @@ const OF_PEERS: [Advice; 3] = [
     ),
 ];
 
-const OF_REALMS: [Advice; 9] = [
+const OF_REALMS: [Advice; 11] = [
     Advice(TableKind::Realm, "name", Unwise::Default, DEFAULT),
     Advice(TableKind::Realm, "also", Unwise::Default, DEFAULT),
     Advice(
@@ -175,6 +181,33 @@ const OF_REALMS: [Advice; 9] = [
         "max_pending",
         Unwise::FewEntries,
         "is less than what one exchange a second takes, with replies held for hold",
+    ),
+    Advice(
+        TableKind::Realm,
+        "own_sessions",
+        Unwise::NoSessions,
+        "is true where no session is remembered, by max_sessions or accounting: no Disconnect or CoA is forwarded",
+    ),
+    Advice(
+        TableKind::Realm,
+        "own_sessions",
+        Unwise::OthersSessions,
+        "isn't true beside reverse: a Disconnect or CoA may name a session of another realm",
+    ),
+];
+
+const OF_CLIENTS: [Advice; 2] = [
+    Advice(
+        TableKind::Client,
+        "secret",
+        Unwise::SampleSecret,
+        SAMPLE_SECRET,
+    ),
+    Advice(
+        TableKind::Client,
+        "secret",
+        Unwise::ShortSecret,
+        SHORT_SECRET,
     ),
 ];
 
@@ -243,5 +276,6 @@ pub(crate) fn say_advice(document: &Document<'_>, lines: &mut Lines) -> Result<(
     say_all(document, &OF_SOCKETS, lines)?;
     say_all(document, &OF_PEERS, lines)?;
     say_all(document, &OF_REALMS, lines)?;
-    say_all(document, &OF_SERVERS, lines)
+    say_all(document, &OF_SERVERS, lines)?;
+    say_all(document, &OF_CLIENTS, lines)
 }

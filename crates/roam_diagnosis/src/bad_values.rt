@@ -1,7 +1,7 @@
 //! Which values aren't of their form, and which keys a table doesn't have.
 
 use crate::document::{Document, Located};
-use crate::forms::{ValueForm, is_list, misfit};
+use crate::forms::{ValueForm, is_list, is_of_tables, misfit};
 use crate::line::Line;
 use crate::lines::Lines;
 use crate::place::TableKind;
@@ -33,9 +33,9 @@ fn write_remedy(line: &mut Line, form: ValueForm, value: &Value, header: &str) -
         (form, Value::String(text)) if is_list(form) => {
             write!(line, ": write [{}]", Quoted(text.as_str()))
         }
-        (ValueForm::Tables(_), Value::Table(_)) => write!(line, ": write [[{header}]]"),
-        (ValueForm::Number(..) | ValueForm::Flag | ValueForm::Tables(_), _) => Ok(()),
-        (form, _) if is_list(form) => Ok(()),
+        (form, Value::Table(_)) if is_of_tables(form) => write!(line, ": write [[{header}]]"),
+        (ValueForm::Number(..) | ValueForm::Flag, _) => Ok(()),
+        (form, _) if is_list(form) || is_of_tables(form) => Ok(()),
         (_, Value::Integer(_) | Value::Float(_) | Value::Boolean(_)) => {
             line.write_str(": put it in quotation marks")
         }
@@ -83,7 +83,9 @@ fn write_owner(line: &mut Line, here: TableKind, key: &str) -> fmt::Result {
         Some(TableKind::Top) => {
             line.write_str(": it is one of the top table, so put it before the first table")
         }
-        Some(TableKind::Realm) if key == "server" => line.write_str(": write [[realm.server]]"),
+        Some(TableKind::Realm) if key == "server" || key == "coa_client" => {
+            write!(line, ": write [[{}]]", header_of(key))
+        }
         Some(owner) => write!(line, ": it is one of {owner}"),
         None => Ok(()),
     }

@@ -16,7 +16,7 @@ use toml::{Table, Value};
 pub(crate) struct Located<'a> {
     pub place: TablePlace,
     pub keys: Keys<'a>,
-    /// What has its name: the realm's table for a server's, else itself.
+    /// What has its name: the realm's table for a server's and a `coa_client`'s, else itself.
     pub named: Keys<'a>,
 }
 
@@ -83,6 +83,7 @@ impl<'a> Document<'a> {
                 let keys = Keys::new(table);
                 self.add(TablePlace::realm(index), keys, keys)?;
                 self.add_servers(index, keys)?;
+                self.add_clients(index, keys)?;
             }
         }
         Ok(())
@@ -94,6 +95,17 @@ impl<'a> Document<'a> {
             server = server.saturating_add(1);
             if let Value::Table(table) = item {
                 self.add(TablePlace::server(index, server), Keys::new(table), realm)?;
+            }
+        }
+        Ok(())
+    }
+
+    fn add_clients(&mut self, index: u32, realm: Keys<'a>) -> Result<(), Unsaid> {
+        let mut client = 0u32;
+        for item in items_of(realm, "coa_client") {
+            client = client.saturating_add(1);
+            if let Value::Table(table) = item {
+                self.add(TablePlace::client(index, client), Keys::new(table), realm)?;
             }
         }
         Ok(())
@@ -152,6 +164,10 @@ fn write_table(line: &mut Line, at: Located<'_>) -> fmt::Result {
         TableKind::Server => {
             write_named(line, "realm", at)?;
             write!(line, ", server {}", at.place.server)?;
+        }
+        TableKind::Client => {
+            write_named(line, "realm", at)?;
+            write!(line, ", coa_client {}", at.place.server)?;
         }
         _ => return Ok(()),
     }

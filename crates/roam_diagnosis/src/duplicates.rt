@@ -25,7 +25,7 @@ struct Group {
     is_caseless: bool,
 }
 
-const GROUPS: [Group; 9] = [
+const GROUPS: [Group; 10] = [
     Group {
         fault: ConfFault::DuplicateRealm,
         keys: &[
@@ -56,7 +56,10 @@ const GROUPS: [Group; 9] = [
     },
     Group {
         fault: ConfFault::DuplicatePeer,
-        keys: &[ComparedKey(TableKind::Peer, "nas_id")],
+        keys: &[
+            ComparedKey(TableKind::Peer, "nas_id"),
+            ComparedKey(TableKind::Peer, "nas_ids"),
+        ],
         is_apart: false,
         is_caseless: false,
     },
@@ -83,6 +86,12 @@ const GROUPS: [Group; 9] = [
             ComparedKey(TableKind::Server, "auth"),
             ComparedKey(TableKind::Server, "acct"),
         ],
+        is_apart: true,
+        is_caseless: false,
+    },
+    Group {
+        fault: ConfFault::DuplicateServer,
+        keys: &[ComparedKey(TableKind::Client, "ip")],
         is_apart: true,
         is_caseless: false,
     },

@@ -37,6 +37,8 @@ pub(crate) enum ValueForm {
     Rejects,
     /// 1 to 1024 texts of 1 to 64 octets.
     PeerNames,
+    /// At most 1024 texts of 1 to 253 octets.
+    NasIds,
     /// At most 64 texts, each an attribute that may be taken out of requests.
     RequestRemovals,
     /// The same of replies.
@@ -45,6 +47,8 @@ pub(crate) enum ValueForm {
     Accounting,
     /// 1 to so many tables.
     Tables(usize),
+    /// At most so many tables.
+    FewTables(usize),
 }
 
 /// Whether the text has 1 to `most` octets: ASCII letters, digits, `.`, `-`, and `_` where that may stand.
@@ -114,6 +118,7 @@ fn text_fits(form: ValueForm, text: &str) -> bool {
         ValueForm::Names => is_pattern(text),
         ValueForm::Rejects => is_pattern(text) && text != "*",
         ValueForm::PeerNames => !text.is_empty() && text.len() <= 64,
+        ValueForm::NasIds => !text.is_empty() && text.len() <= 253,
         ValueForm::RequestRemovals => is_removal(text, &[1, 2, 3, 24, 33, 60, 79, 80]),
         ValueForm::ReplyRemovals => is_removal(text, &[24, 33, 79, 80]),
         ValueForm::Accounting => text == "forward" || text == "answer" || text == "drop",
@@ -123,11 +128,19 @@ fn text_fits(form: ValueForm, text: &str) -> bool {
     }
 }
 
+/// Whether the form is one of arrays of tables.
+pub(crate) fn is_of_tables(form: ValueForm) -> bool {
+    match form {
+        ValueForm::Tables(_) | ValueForm::FewTables(_) => true,
+        _ => false,
+    }
+}
+
 /// The first of the items that isn't a text of the form, or a table where that is one of tables.
 fn first_misfit(form: ValueForm, items: &[Value]) -> Option<&Value> {
     for item in items {
         let fits = match item {
-            Value::Table(_) => matches!(form, ValueForm::Tables(_)),
+            Value::Table(_) => is_of_tables(form),
             Value::String(text) => text_fits(form, text.as_str()),
             _ => false,
         };
@@ -144,6 +157,7 @@ pub(crate) fn is_list(form: ValueForm) -> bool {
         ValueForm::Names
         | ValueForm::Rejects
         | ValueForm::PeerNames
+        | ValueForm::NasIds
         | ValueForm::RequestRemovals
         | ValueForm::ReplyRemovals => true,
         _ => false,
@@ -154,10 +168,11 @@ pub(crate) fn is_list(form: ValueForm) -> bool {
 fn may_have(form: ValueForm, items: usize) -> bool {
     match form {
         ValueForm::Names => items <= 256,
-        ValueForm::Rejects => items <= 1024,
+        ValueForm::Rejects | ValueForm::NasIds => items <= 1024,
         ValueForm::PeerNames => 1 <= items && items <= 1024,
         ValueForm::RequestRemovals | ValueForm::ReplyRemovals => items <= 64,
         ValueForm::Tables(most) => 1 <= items && items <= most,
+        ValueForm::FewTables(most) => items <= most,
         _ => false,
     }
 }
@@ -238,12 +253,16 @@ impl fmt::Display for ValueForm {
                     "is not in an array of 1..1024 texts of 1..64 octets, each a peer's name",
                 )
             }
+            ValueForm::NasIds => {
+                f.write_str("is not in an array of 0..1024 texts of 1..253 octets")
+            }
             ValueForm::RequestRemovals => write!(f, "{OF_REMOVALS} 1, 2, 3, 24, 33, 60, 79 and 80"),
             ValueForm::ReplyRemovals => write!(f, "{OF_REMOVALS} 24, 33, 79 and 80"),
             ValueForm::Accounting => {
                 f.write_str("is none of \"forward\", \"answer\" and \"drop\"")
             }
             ValueForm::Tables(most) => write!(f, "is no array of 1..{most} tables"),
+            ValueForm::FewTables(most) => write!(f, "is no array of 0..{most} tables"),
         }
     }
 }
@@ -256,11 +275,15 @@ pub(crate) fn write_wanted<W: fmt::Write>(form: ValueForm, f: &mut W) -> fmt::Re
         ValueForm::Names | ValueForm::Rejects => {
             f.write_str("an array of texts, as [\"*.example.org\"]")
         }
-        ValueForm::PeerNames => f.write_str("an array of texts, as [\"nas1\"]"),
+        ValueForm::PeerNames | ValueForm::NasIds => {
+            f.write_str("an array of texts, as [\"nas1\"]")
+        }
         ValueForm::RequestRemovals | ValueForm::ReplyRemovals => {
             f.write_str("an array of texts, as [\"31\", \"26.9.1\"]")
         }
-        ValueForm::Tables(_) => f.write_str("tables, each below a header of its own"),
+        ValueForm::Tables(_) | ValueForm::FewTables(_) => f.write_str(
+            "tables, each below a header of its own",
+        ),
         _ => f.write_str("a text in quotation marks"),
     }
 }

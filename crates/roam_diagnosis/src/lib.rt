@@ -26,6 +26,7 @@ mod quoted;
 mod rules;
 mod scan;
 mod servers;
+mod sessions;
 mod statements;
 mod syntax;
 mod unknown_peers;

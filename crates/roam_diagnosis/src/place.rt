@@ -13,6 +13,8 @@ pub(crate) enum TableKind {
     Realm,
     /// A `[[realm.server]]`.
     Server,
+    /// A `[[realm.coa_client]]`.
+    Client,
     /// None that a configuration has.
     Other,
 }
@@ -23,7 +25,7 @@ pub(crate) struct TablePlace {
     pub kind: TableKind,
     /// Which of the peers or realms.
     pub index: u32,
-    /// Which of the realm's servers.
+    /// Which of the realm's servers, or of its `coa_client`s.
     pub server: u32,
 }
 
@@ -65,6 +67,14 @@ impl TablePlace {
             server,
         }
     }
+
+    pub(crate) fn client(index: u32, client: u32) -> TablePlace {
+        TablePlace {
+            kind: TableKind::Client,
+            index,
+            server: client,
+        }
+    }
 }
 
 /// The name of a kind, with its article.
@@ -73,6 +83,7 @@ fn name_of(kind: TableKind) -> &'static str {
         TableKind::Peer => "a peer",
         TableKind::Realm => "a realm",
         TableKind::Server => "a server",
+        TableKind::Client => "a coa_client",
         _ => "the top table",
     }
 }

@@ -7,7 +7,7 @@ use crate::place::TableKind;
 #[derive(Clone, Copy)]
 pub(crate) struct Rule(pub &'static str, pub bool, pub ValueForm);
 
-const TOP: [Rule; 18] = [
+const TOP: [Rule; 20] = [
     Rule("shards", false, ValueForm::Number(1, 64)),
     Rule("seed", false, ValueForm::Seed),
     Rule("auth", true, ValueForm::Endpoint),
@@ -15,6 +15,7 @@ const TOP: [Rule; 18] = [
     Rule("trace_limit", false, ValueForm::Number(1, 1000000)),
     Rule("trace_octets", false, ValueForm::Number(1, 1073741824)),
     Rule("max_hops", false, ValueForm::Number(1, 100)),
+    Rule("max_attributes", false, ValueForm::Number(1, 2000)),
     Rule("status_server", false, ValueForm::Flag),
     Rule("spread", false, ValueForm::Flag),
     Rule("metrics", false, ValueForm::Endpoint),
@@ -24,17 +25,19 @@ const TOP: [Rule; 18] = [
     Rule("reject", false, ValueForm::Rejects),
     Rule("well_formed", false, ValueForm::Flag),
     Rule("answer_unnamed", false, ValueForm::Flag),
+    Rule("fresh", false, ValueForm::Number(10, 3600)),
     Rule("peer", true, ValueForm::Tables(1024)),
     Rule("realm", true, ValueForm::Tables(1024)),
 ];
 
-const PEER: [Rule; 12] = [
+const PEER: [Rule; 13] = [
     Rule("name", true, ValueForm::PeerName),
     Rule("ip", true, ValueForm::Address),
     Rule("secret", true, ValueForm::Secret),
     Rule("coa", false, ValueForm::Endpoint),
     Rule("nas_ip", false, ValueForm::Address),
     Rule("nas_id", false, ValueForm::Text(253)),
+    Rule("nas_ids", false, ValueForm::NasIds),
     Rule("require_seal", false, ValueForm::Flag),
     Rule("limit_proxy_state", false, ValueForm::Flag),
     Rule("operator_name", false, ValueForm::Text(252)),
@@ -43,7 +46,7 @@ const PEER: [Rule; 12] = [
     Rule("reply_without", false, ValueForm::ReplyRemovals),
 ];
 
-const REALM: [Rule; 18] = [
+const REALM: [Rule; 23] = [
     Rule("name", true, ValueForm::RealmName),
     Rule("also", false, ValueForm::Names),
     Rule("peers", false, ValueForm::PeerNames),
@@ -52,6 +55,10 @@ const REALM: [Rule; 18] = [
     Rule("request_without", false, ValueForm::RequestRemovals),
     Rule("reply_without", false, ValueForm::ReplyRemovals),
     Rule("share", false, ValueForm::Number(1, 4096)),
+    Rule("peer_share", false, ValueForm::Number(1, 4096)),
+    Rule("own_names", false, ValueForm::Flag),
+    Rule("conversations", false, ValueForm::Flag),
+    Rule("own_sessions", false, ValueForm::Flag),
     Rule("out", true, ValueForm::Endpoint),
     Rule("reverse", false, ValueForm::Endpoint),
     Rule("tries", false, ValueForm::Number(1, 10)),
@@ -62,6 +69,7 @@ const REALM: [Rule; 18] = [
     Rule("max_pending", false, ValueForm::Number(1, 4096)),
     Rule("max_sessions", false, ValueForm::Number(0, 65536)),
     Rule("server", true, ValueForm::Tables(8)),
+    Rule("coa_client", false, ValueForm::FewTables(8)),
 ];
 
 const SERVER: [Rule; 4] = [
@@ -71,12 +79,18 @@ const SERVER: [Rule; 4] = [
     Rule("require_seal", false, ValueForm::Flag),
 ];
 
+const CLIENT: [Rule; 2] = [
+    Rule("ip", true, ValueForm::Address),
+    Rule("secret", true, ValueForm::Secret),
+];
+
 /// The kinds of tables that a configuration has.
-const KINDS: [TableKind; 4] = [
+const KINDS: [TableKind; 5] = [
     TableKind::Top,
     TableKind::Peer,
     TableKind::Realm,
     TableKind::Server,
+    TableKind::Client,
 ];
 
 /// The keys of the tables of a kind.
@@ -86,6 +100,7 @@ pub(crate) fn rules_of(kind: TableKind) -> &'static [Rule] {
         TableKind::Peer => &PEER,
         TableKind::Realm => &REALM,
         TableKind::Server => &SERVER,
+        TableKind::Client => &CLIENT,
         TableKind::Other => &[],
     }
 }
@@ -127,6 +142,7 @@ pub(crate) fn header_of(key: &str) -> &'static str {
     match key {
         "peer" => "peer",
         "realm" => "realm",
+        "coa_client" => "realm.coa_client",
         _ => "realm.server",
     }
 }

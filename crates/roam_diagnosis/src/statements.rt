@@ -13,6 +13,7 @@ struct Cursor {
     realms: u32,
     /// Of the last realm.
     servers: u32,
+    clients: u32,
     /// The one to which the next keys belong.
     here: TablePlace,
 }
@@ -55,26 +56,33 @@ impl Cursor {
         peers: 0,
         realms: 0,
         servers: 0,
+        clients: 0,
         here: TablePlace::TOP,
     };
 
     /// Passes a header below `realm`, and says under which key of which table it is.
     fn enter_below_realm<'a>(&mut self, path: &'a str) -> (TablePlace, &'a str) {
         let (key, rest) = first_key(path);
-        if key != "server" {
-            return (TablePlace::realm(self.realms), key);
-        }
-        match rest {
-            Some(rest) => (
-                TablePlace::server(self.realms, self.servers),
-                first_key(rest).0,
-            ),
-            None => {
+        match (key, rest) {
+            ("server", Some(rest)) => {
+                let last = TablePlace::server(self.realms, self.servers);
+                return (last, first_key(rest).0);
+            }
+            ("server", None) => {
                 self.servers = self.servers.saturating_add(1);
                 self.here = TablePlace::server(self.realms, self.servers);
-                (TablePlace::realm(self.realms), key)
             }
+            ("coa_client", Some(rest)) => {
+                let last = TablePlace::client(self.realms, self.clients);
+                return (last, first_key(rest).0);
+            }
+            ("coa_client", None) => {
+                self.clients = self.clients.saturating_add(1);
+                self.here = TablePlace::client(self.realms, self.clients);
+            }
+            _ => {}
         }
+        (TablePlace::realm(self.realms), key)
     }
 
     /// Passes a header, and says under which key of which table it is.
@@ -90,6 +98,7 @@ impl Cursor {
             ("realm", None) => {
                 self.realms = self.realms.saturating_add(1);
                 self.servers = 0;
+                self.clients = 0;
                 self.here = TablePlace::realm(self.realms);
             }
             ("realm", Some(rest)) => return self.enter_below_realm(rest),
@@ -144,6 +153,7 @@ pub(crate) fn nearest_line(text: &str, place: TablePlace, key: &str) -> u32 {
         TableKind::Peer => line_of(text, TablePlace::TOP, "peer"),
         TableKind::Realm => line_of(text, TablePlace::TOP, "realm"),
         TableKind::Server => line_of(text, TablePlace::realm(place.index), "server"),
+        TableKind::Client => line_of(text, TablePlace::realm(place.index), "coa_client"),
         _ => 0,
     }
 }

@@ -157,12 +157,14 @@ pub(crate) const NAKS: Family = Family {
     label: Some("error_cause"),
     samples: &[
         ("401", CountedEvent::Nak(NakCause::UnsupportedAttribute)),
+        ("404", CountedEvent::Nak(NakCause::InvalidRequest)),
         ("502", CountedEvent::Nak(NakCause::RequestNotRoutable)),
         ("503", CountedEvent::Nak(NakCause::SessionNotFound)),
         (
             "505",
             CountedEvent::Nak(NakCause::OtherProxyProcessingError),
         ),
+        ("508", CountedEvent::Nak(NakCause::MultipleSessions)),
     ],
 };
 
@@ -206,5 +208,7 @@ pub(crate) const REFUSED: Family = Family {
         ("25", CountedEvent::Refused(Refusal::NotForPeer)),
         ("26", CountedEvent::Refused(Refusal::AccountingDropped)),
         ("27", CountedEvent::Refused(Refusal::ShareTaken)),
+        ("28", CountedEvent::Refused(Refusal::TooManyAttributes)),
+        ("29", CountedEvent::Refused(Refusal::Stale)),
     ],
 };

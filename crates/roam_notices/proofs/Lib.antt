@@ -2,4 +2,5 @@ pub mod LineLemmas
 pub mod PrintableLemmas
 pub mod QuotedLemmas
 pub mod RowLemmas
+pub mod StationLemmas
 pub mod ValueLemmas

@@ -43,6 +43,8 @@ refusal_name refusal.TooManyHops = codes "TooManyHops"
 refusal_name refusal.NotForPeer = codes "NotForPeer"
 refusal_name refusal.AccountingDropped = codes "AccountingDropped"
 refusal_name refusal.ShareTaken = codes "ShareTaken"
+refusal_name refusal.TooManyAttributes = codes "TooManyAttributes"
+refusal_name refusal.Stale = codes "Stale"
 
 -- a place as a script names it, with the name of its realm
 abbrev pub place_text : Place → List ℕ → List ℕ

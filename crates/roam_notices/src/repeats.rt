@@ -12,9 +12,9 @@ use std::alloc::{AllocError, Global};
 use std::marker::Model;
 
 /// How many numbers refusals have.
-const NUMBERS: usize = 27;
+const NUMBERS: usize = 29;
 
-/// What was refused within a second. A contract sees a row of tallies for each number, from 1 to 27.
+/// What was refused within a second. A contract sees a row of tallies for each number, from 1 to 29.
 #[derive(Drop)]
 pub struct Repeats {
     rows: Vec<Row>,
@@ -28,13 +28,13 @@ impl Model for Repeats {
 
     ghost view = { λ repeats. repeats.rows.items };
 
-    ghost invariant = { λ repeats. vec_len repeats.rows ≡ 27 };
+    ghost invariant = { λ repeats. vec_len repeats.rows ≡ 29 };
 }
 
 impl Repeats {
     /// Nothing was refused.
     pub fn new(alloc: Global) -> Result<Repeats, AllocError>
-        ensures { IfOk result (λ repeats. repeats ≡ replicate 27 []) }
+        ensures { IfOk result (λ repeats. repeats ≡ replicate 29 []) }
     {
         let mut rows = Vec::new(alloc);
         for _ in 0..NUMBERS {

@@ -200,6 +200,8 @@ fn refusal_name(refusal: Refusal) -> &'static str
         Refusal::NotForPeer => "NotForPeer",
         Refusal::AccountingDropped => "AccountingDropped",
         Refusal::ShareTaken => "ShareTaken",
+        Refusal::TooManyAttributes => "TooManyAttributes",
+        Refusal::Stale => "Stale",
     }
 }
 

@@ -131,12 +131,12 @@ without_client-found k (x ∷ xs) e order distinct at =
 identifier_step :
     (l : Link) (i : ℕ) (s : PlainStanding) (rest : List ℕ)
     → list_any (λ j. j == i) (cons_option (identifier_on l s) rest) ≡ (stands_at l i s || list_any (λ j. j == i) rest)
-identifier_step l i (waiting link id forwarded sends_left deadline) rest =
+identifier_step l i (waiting link id forwarded sends_left deadline signs) rest =
     elim (cases_Bool (same_link link l)) [
       | inl y ↦ rw y refl
       | inr n ↦ rw n refl
     ]
-identifier_step l i (done reply deadline) rest = refl
+identifier_step l i (done reply deadline from) rest = refl
 
 or_found :
     (b : Bool) (e : PlainEntry) (o : Option PlainEntry)

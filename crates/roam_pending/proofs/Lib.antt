@@ -7,3 +7,4 @@ pub mod ChangeLemmas
 pub mod StandingLemmas
 pub mod ClientLemmas
 pub mod DueListLemmas
+pub mod ConversationLemmas

@@ -81,8 +81,8 @@ is_done_beside o e = is_beside o e.ticket && is_done e
 
 -- the Identifier of an entry that waits on a link
 abbrev pub identifier_on : Link → PlainStanding → Option ℕ
-identifier_on l (waiting link id forwarded sends_left deadline) = if same_link link l then Some id else None
-identifier_on l (done reply deadline) = None
+identifier_on l (waiting link id forwarded sends_left deadline signs) = if same_link link l then Some id else None
+identifier_on l (done reply deadline from) = None
 
 -- ## Used Identifiers
 -- Those of the realm's waiting entries on a link.

@@ -1,5 +1,6 @@
 pub mod PlainEntry
 pub mod EntryList
+pub mod Conversations
 pub mod DueOrder
 pub mod Shown
 pub mod Realms

@@ -1,5 +1,5 @@
 -- A pending request as a plain record: what the code's entry says, without its buffers.
-use Rattle.std.specs.Prelude.{ℕ, ◌==◌, ◌&&◌, Bool, true, false, List}
+use Rattle.std.specs.Prelude.{ℕ, ◌==◌, ◌&&◌, Bool, true, false, List, Option}
 use Rattle.roam_conf.specs.Duplicates.{same_endpoint}
 use Rattle.roam_conf.specs.declared.place.Link.{Link}
 use Rattle.roam_conf.specs.declared.place.Link.TheVariants as link
@@ -14,10 +14,11 @@ pub record PlainRequest : Type 0 where
   pub requester : Requester
   pub octets : List ℕ
 
--- how an entry stands (ours): it waits for a reply to what was forwarded, or it is done and its reply is held
+-- how an entry stands (ours): it waits for a reply to what was forwarded, and keeps how many signs of life its link had
+-- given when that was built; or it is done and its reply is held, with the link that this came from, if it came from one
 pub data PlainStanding : Type 0 where
-  waiting : (link : Link) → (id : ℕ) → (forwarded : List ℕ) → (sends_left deadline : ℕ) → PlainStanding
-  done : (reply : List ℕ) → (deadline : ℕ) → PlainStanding
+  waiting : (link : Link) → (id : ℕ) → (forwarded : List ℕ) → (sends_left deadline signs : ℕ) → PlainStanding
+  done : (reply : List ℕ) → (deadline : ℕ) → (from : Option Link) → PlainStanding
 
 -- ## Entries
 -- A realm's entries as a list: tickets rise, no two keys are equal. Found by key, by link and Identifier, by
@@ -55,8 +56,8 @@ same_link _ _ = false
 
 -- until when an entry stands as it does, in milliseconds
 abbrev pub deadline_of : PlainStanding → ℕ
-deadline_of (waiting link id forwarded sends_left deadline) = deadline
-deadline_of (done reply deadline) = deadline
+deadline_of (waiting link id forwarded sends_left deadline signs) = deadline
+deadline_of (done reply deadline from) = deadline
 
 -- an entry of this key
 abbrev pub has_key : Key → PlainEntry → Bool
@@ -68,8 +69,8 @@ has_ticket t e = e.ticket == t
 
 -- it waits for a reply on this link, with this Identifier
 abbrev pub stands_at : Link → ℕ → PlainStanding → Bool
-stands_at l i (waiting link id forwarded sends_left deadline) = same_link link l && id == i
-stands_at l i (done reply deadline) = false
+stands_at l i (waiting link id forwarded sends_left deadline signs) = same_link link l && id == i
+stands_at l i (done reply deadline from) = false
 
 -- an entry that waits there
 abbrev pub waits_at : Link → ℕ → PlainEntry → Bool
@@ -77,8 +78,8 @@ waits_at l i e = stands_at l i e.standing
 
 -- it was answered
 abbrev pub stands_done : PlainStanding → Bool
-stands_done (waiting link id forwarded sends_left deadline) = false
-stands_done (done reply deadline) = true
+stands_done (waiting link id forwarded sends_left deadline signs) = false
+stands_done (done reply deadline from) = true
 
 -- an entry that was answered
 abbrev pub is_done : PlainEntry → Bool

@@ -34,8 +34,9 @@ room_in p r = if r == p.realm then p.spare else 0
 
 -- a forwarded packet was sent once more: one send fewer is left, and the wait lasts until a later moment
 abbrev pub waits_on : ℕ → PlainStanding → PlainStanding
-waits_on deadline (waiting link id forwarded sends_left old) = waiting link id forwarded (sends_left - 1) deadline
-waits_on deadline (done reply old) = done reply old
+waits_on deadline (waiting link id forwarded sends_left old signs) =
+    waiting link id forwarded (sends_left - 1) deadline signs
+waits_on deadline (done reply old from) = done reply old from
 
 -- an entry that stands otherwise
 abbrev pub with_standing : PlainStanding → PlainEntry → PlainEntry

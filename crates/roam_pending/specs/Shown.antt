@@ -13,8 +13,8 @@ shown_request q = record { key = q.key; requester = q.requester; octets = q.octe
 
 -- how an entry stands
 abbrev pub shown_standing : {A : Type 0} → Standing A → PlainStanding
-shown_standing (standing.Waiting w) = waiting w.link w.id w.forwarded w.sends_left w.deadline
-shown_standing (standing.Done d) = done d.reply d.deadline
+shown_standing (standing.Waiting w) = waiting w.link w.id w.forwarded w.sends_left w.deadline w.signs
+shown_standing (standing.Done d) = done d.reply d.deadline d.from
 
 -- an entry
 abbrev pub shown : {A : Type 0} → Entry A → PlainEntry

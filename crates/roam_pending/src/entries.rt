@@ -5,6 +5,7 @@ ghost use Rattle.std.specs.Prelude.{OnOk, IsOk, IfSome, IsSomeAnd, IsTrue};
 ghost use Rattle.roam_pending.specs.PlainEntry.{PlainEntry};
 ghost use Rattle.roam_pending.specs.EntryList.{IsEntryList, IsNew, find_client, find_ticket, first_done};
 ghost use Rattle.roam_pending.specs.EntryList.{besides, without};
+ghost use Rattle.roam_pending.specs.Conversations.{kept_state, last_round};
 ghost use Rattle.roam_pending.specs.DueOrder.{due_after};
 ghost use Rattle.roam_pending.specs.Realms.{RealmBecomes, Puts, PutsChanged, sent_again, with_standing};
 ghost use Rattle.roam_pending.specs.Shown.{shown, shown_standing, seen, taken};
@@ -51,6 +52,11 @@ pub trait Entries<A: Allocator> {
     fn first_done(&self, realm: u16, except: Option<u64>) -> Option<u64>
         ensures { result ≡ first_done (besides except (entries_of self.now realm)) };
 
+    /// The entry that keeps a peer's round of a conversation, by its State: of several the last.
+    fn find_round(&self, realm: u16, peer: u16, state: &[u8]) -> Option<&Entry<A>>
+        ensures found { seen result ≡ last_round peer state.now (entries_of self.now realm) }
+        ensures list { IsEntryList (entries_of self.now realm) };
+
     /// Of the realm's entries whose deadline is at most `now`, the one of least deadline and ticket,
     /// or where `last` is one of them, the next one after it.
     fn due_after(&self, realm: u16, now: u64, last: Option<Due>) -> Option<Due>
@@ -73,6 +79,7 @@ pub trait Entries<A: Allocator> {
     fn insert_from(&mut self, realm: u16, entry: &mut Option<Entry<A>>)
         requires new { IsSomeAnd entry.old (λ e. IsNew (shown e) (entries_of self.old realm)) }
         requires room { 0 < room_for self.old realm }
+        requires no_round { IsSomeAnd entry.old (λ e. kept_state (shown_standing e.standing) ≡ None) }
         ensures entries { IfSome entry.old
             (λ e. Puts realm (shown e) (entries_of self.old) (entries_of self.new)) }
         ensures handed_over { entry.new ≡ None }
@@ -88,12 +95,26 @@ pub trait Entries<A: Allocator> {
         ensures keeps { keeps self.new ≡ keeps self.old };
 
     /// Exchanges how the entry of a ticket stands with another standing, where the realm has that entry;
-    /// else nothing changes. Takes no memory, and no room. (See `set_standing`.)
+    /// else nothing changes. The new one keeps no State. Takes no memory, and no room. (See `set_standing`.)
     fn exchange_standing(&mut self, realm: u16, ticket: u64, standing: &mut Standing<A>)
+        requires no_round { kept_state (shown_standing standing.old) ≡ None }
         ensures exchanged { IfSome (find_ticket ticket (entries_of self.old realm))
             (λ e. shown_standing standing.new ≡ e.standing) }
         ensures entries { PutsChanged (with_standing (shown_standing standing.old)) realm ticket
             (entries_of self.old) (entries_of self.new) }
+        ensures room { room_for self.old realm ≤ room_for self.new realm }
+        ensures keeps { keeps self.new ≡ keeps self.old };
+
+    /// Exchanges how the entry of a ticket stands with another standing, which may keep a State, where the
+    /// realm has that entry; else nothing changes. Takes no room. `NoMemory` comes where a growth was
+    /// refused; all is then as it was. (See `hold_standing`.)
+    fn hold(&mut self, realm: u16, ticket: u64, standing: &mut Standing<A>) -> Result<(), NoMemory>
+        ensures exchanged { OnOk result (IfSome (find_ticket ticket (entries_of self.old realm))
+            (λ e. shown_standing standing.new ≡ e.standing)) }
+        ensures entries { OnOk result (PutsChanged (with_standing (shown_standing standing.old)) realm ticket
+            (entries_of self.old) (entries_of self.new)) }
+        ensures err { OnErr result (entries_of self.new ≡ entries_of self.old) }
+        ensures given_back { OnErr result (standing.new ≡ standing.old) }
         ensures room { room_for self.old realm ≤ room_for self.new realm }
         ensures keeps { keeps self.new ≡ keeps self.old };
 

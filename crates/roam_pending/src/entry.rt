@@ -48,6 +48,8 @@ pub struct Waiting<A: Allocator> {
     pub sends_left: u8,
     /// In milliseconds.
     pub deadline: u64,
+    /// How many signs of life the link had given when that packet was built, modulo 2^64.
+    pub signs: u64,
 }
 
 /// A request that was answered, while its reply is held for retransmissions of the request.
@@ -57,6 +59,8 @@ pub struct Done<A: Allocator> {
     pub reply: Octets<A>,
     /// In milliseconds.
     pub deadline: u64,
+    /// The link from which the reply came; none where the broker made it itself.
+    pub from: Option<Link>,
 }
 
 /// How an entry stands.

@@ -5,13 +5,15 @@
 //! [`Entries`] is what the rules of a realm need of whatever keeps the entries, with a list for each
 //! realm: the rules are written over it once.
 //!
-//! Nothing here builds or reads a packet, looks at a clock or chooses a target.
+//! Nothing here builds a packet, looks at a clock or chooses a target; of a held reply the State alone is read.
 //!
 //! # Proved
 //!
-//! - entries are a list in order of ticket, whatever keeps them | `Pending`, the trait `Entries`, laws
+//! - entries are a list in order of ticket, whatever keeps them; of a peer's that keep a State the last is found
+//!   | `Pending`, the trait `Entries`, laws
 #![tactic(auto)]
 
+mod conversations;
 mod due;
 mod entries;
 mod entry;
@@ -22,6 +24,7 @@ mod one_realm;
 mod pending;
 mod updates;
 
+pub use conversations::{challenge_state, is_round};
 pub use due::Due;
 pub use entries::Entries;
 pub use entry::{Done, Entry, Request, Standing, Waiting};
@@ -31,4 +34,4 @@ pub use laws::{
     due_one_after_the_other, found_entries, least_due_first, one_entry_of_a_key, used_identifiers,
 };
 pub use pending::Pending;
-pub use updates::{insert_entry, send_again, set_standing};
+pub use updates::{hold_standing, insert_entry, send_again, set_standing};

@@ -45,6 +45,14 @@ impl<A: Allocator> Entries<A> for Pending<A> {
         }
     }
 
+    fn find_round(&self, realm: u16, peer: u16, state: &[u8]) -> Option<&Entry<A>> {
+        if realm == self.realm() {
+            self.find_round(peer, state)
+        } else {
+            None
+        }
+    }
+
     fn due_after(&self, realm: u16, now: u64, last: Option<Due>) -> Option<Due> {
         if realm == self.realm() {
             self.due_after(now, last)
@@ -75,6 +83,18 @@ impl<A: Allocator> Entries<A> for Pending<A> {
         if realm == self.realm() {
             self.exchange_standing(ticket, standing);
         }
+    }
+
+    fn hold(
+        &mut self,
+        realm: u16,
+        ticket: u64,
+        standing: &mut Standing<A>,
+    ) -> Result<(), NoMemory> {
+        if realm == self.realm() {
+            self.exchange_standing(ticket, standing);
+        }
+        Ok(())
     }
 
     fn send_again(&mut self, realm: u16, ticket: u64, deadline: u64) {

@@ -2,12 +2,14 @@
 
 ghost use Rattle.std.specs.Prelude.{◌≡◌, ◌<◌, ◌≤◌, ◌+◌, ◌↔◌, IsTrue, [], length, slice_get};
 ghost use Rattle.std.specs.Prelude.{OnOk, OnErr, IfErr, IfSome, IsOk, None, MatchOption};
+ghost use Rattle.roam_pending.specs.Conversations.{last_round};
 ghost use Rattle.roam_pending.specs.DueOrder.{due_after};
 ghost use Rattle.roam_pending.specs.EntryList.{IsEntryList, IsNew, find_client, find_ticket, first_done};
 ghost use Rattle.roam_pending.specs.EntryList.{besides, put, without};
 ghost use Rattle.roam_pending.specs.Realms.{IsChanged, sent_again, with_standing};
 ghost use Rattle.roam_pending.specs.Shown.{shown, shown_standing, seen, taken};
 
+use crate::conversations::round_in;
 use crate::due::Due;
 use crate::entry::{Entry, Standing};
 use crate::key::Key;
@@ -98,6 +100,14 @@ impl<A: Allocator> Pending<A> {
         ensures { result ≡ first_done (besides except self.now.entries) }
     {
         done_in(&self.entries, except)
+    }
+
+    /// The last entry that keeps a peer's round of this State.
+    pub fn find_round(&self, peer: u16, state: &[u8]) -> Option<&Entry<A>>
+        ensures found { seen result ≡ last_round peer state.now self.now.entries }
+        ensures list { IsEntryList self.now.entries }
+    {
+        round_in(&self.entries, peer, state)
     }
 
     /// The entry of a ticket.

@@ -1,5 +1,5 @@
 -- What is heard at a socket, and how many of its receives failed in a row (ours).
-use Rattle.std.specs.Prelude.{◌≡◌, ◌⊎◌, ◌==◌, ℕ, ◌+◌, min, List, Option, if◌then◌else◌}
+use Rattle.std.specs.Prelude.{◌≡◌, ◌⊎◌, ◌==◌, ℕ, ◌+◌, min, List, Option, None, if◌then◌else◌}
 use Rattle.roam_conf.specs.declared.place.Place.{Place}
 use Rattle.roam_route.specs.Admission.{Arrival}
 use Rattle.roam_route.specs.Shown.{shown_arrival}
@@ -30,7 +30,7 @@ faults_after_fault faults = min FAULTS_TO_GIVE_UP (faults + 1)
 abbrev pub IsHeard : PortCall → Place → ℕ → ℕ → PlainHeard → Type 0
 IsHeard (came octets from) at old new h =
     (new ≡ 0)
-    × ((h ≡ datagram (record { at = at; from = from; octets = octets })) ⊎ (h ≡ no_memory))
+    × ((h ≡ datagram (record { at = at; from = from; octets = octets; seconds = None })) ⊎ (h ≡ no_memory))
 IsHeard nothing_came at old new h = (new ≡ 0) × (h ≡ nothing)
 IsHeard receive_failed at old new h =
     (new ≡ faults_after_fault old)
@@ -39,9 +39,10 @@ IsHeard (went to octets) at old new h = ⊥
 IsHeard (send_failed why to octets) at old new h = ⊥
 
 -- ## Receiving with a count of faults
--- One receive. What came is heard as an arrival with its octets, its source and the socket's place, or is lost,
--- out of memory; the count of receives that failed in a row is 0 again, also where nothing came. Where the
--- receive failed the count rises by one, up to 100; at 100 the answer is that the socket is to be given up.
+-- One receive. What came is heard as an arrival with its octets, its source and the socket's place (the wall clock's
+-- seconds come to it later), or is lost, out of memory; the count of receives that failed in a row is 0 again, also
+-- where nothing came. Where the receive failed the count rises by one, up to 100; at 100 the answer is that the socket
+-- is to be given up.
 -- Source: ours
 -- Rules out: octets behind the datagram; a socket that fails for ever; one that is given up for faults far
 -- apart

@@ -35,7 +35,12 @@ pub fn listen<P: Port, A: Allocator + Copy>(
         Ok(Some((size, from))) => {
             *faults = 0;
             match Octets::copy_of(alloc, &buffer[..size]) {
-                Ok(octets) => Heard::Datagram(Datagram { at, from, octets }),
+                Ok(octets) => Heard::Datagram(Datagram {
+                    at,
+                    from,
+                    octets,
+                    seconds: None,
+                }),
                 Err(_) => Heard::NoMemory,
             }
         }

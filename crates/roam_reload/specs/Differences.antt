@@ -32,6 +32,11 @@ RealmsDiffer old new realm_key.Accounting = new.accounting ≢ old.accounting
 RealmsDiffer old new realm_key.RequestWithout = new.request_without ≢ old.request_without
 RealmsDiffer old new realm_key.ReplyWithout = new.reply_without ≢ old.reply_without
 RealmsDiffer old new realm_key.Share = new.share ≢ old.share
+RealmsDiffer old new realm_key.PeerShare = new.peer_share ≢ old.peer_share
+RealmsDiffer old new realm_key.OwnNames = new.own_names ≢ old.own_names
+RealmsDiffer old new realm_key.Conversations = new.conversations ≢ old.conversations
+RealmsDiffer old new realm_key.OwnSessions = new.own_sessions ≢ old.own_sessions
+RealmsDiffer old new realm_key.CoaClients = new.coa_clients ≢ old.coa_clients
 
 abbrev pub PeersDiffer : PeerView → PeerView → PeerKey → Type 0
 PeersDiffer old new peer_key.Name = new.name ≢ old.name
@@ -40,6 +45,7 @@ PeersDiffer old new peer_key.Secret = new.secret ≢ old.secret
 PeersDiffer old new peer_key.Coa = new.coa ≢ old.coa
 PeersDiffer old new peer_key.NasIp = new.nas_ip ≢ old.nas_ip
 PeersDiffer old new peer_key.NasId = new.nas_id ≢ old.nas_id
+PeersDiffer old new peer_key.NasIds = new.nas_ids ≢ old.nas_ids
 PeersDiffer old new peer_key.OperatorName = new.operator_name ≢ old.operator_name
 PeersDiffer old new peer_key.AskCui = new.ask_cui ≢ old.ask_cui
 PeersDiffer old new peer_key.RequestWithout = new.request_without ≢ old.request_without

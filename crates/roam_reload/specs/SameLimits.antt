@@ -20,3 +20,11 @@ pub record HaveSamePolicy (old new : RealmView) : Type 0 where
   pub request_without : new.request_without ≡ old.request_without
   pub reply_without : new.reply_without ≡ old.reply_without
   pub share : new.share ≡ old.share
+
+-- what a peer takes of the realm, and what its home servers may do
+pub record HaveSameParts (old new : RealmView) : Type 0 where
+  pub peer_share : new.peer_share ≡ old.peer_share
+  pub own_names : new.own_names ≡ old.own_names
+  pub conversations : new.conversations ≡ old.conversations
+  pub own_sessions : new.own_sessions ≡ old.own_sessions
+  pub coa_clients : new.coa_clients ≡ old.coa_clients

@@ -20,6 +20,12 @@ pub enum RealmKey {
     RequestWithout,
     ReplyWithout,
     Share,
+    PeerShare,
+    OwnNames,
+    Conversations,
+    OwnSessions,
+    /// The tables `coa_client`: their number, their order, or any of their keys.
+    CoaClients,
 }
 
 /// A key of a peer's table; `require_seal` and `limit_proxy_state` aside.
@@ -32,6 +38,7 @@ pub enum PeerKey {
     Coa,
     NasIp,
     NasId,
+    NasIds,
     OperatorName,
     AskCui,
     RequestWithout,
@@ -58,6 +65,11 @@ impl RealmKey {
             RealmKey::RequestWithout => "request_without",
             RealmKey::ReplyWithout => "reply_without",
             RealmKey::Share => "share",
+            RealmKey::PeerShare => "peer_share",
+            RealmKey::OwnNames => "own_names",
+            RealmKey::Conversations => "conversations",
+            RealmKey::OwnSessions => "own_sessions",
+            RealmKey::CoaClients => "coa_client",
         }
     }
 }
@@ -72,6 +84,7 @@ impl PeerKey {
             PeerKey::Coa => "coa",
             PeerKey::NasIp => "nas_ip",
             PeerKey::NasId => "nas_id",
+            PeerKey::NasIds => "nas_ids",
             PeerKey::OperatorName => "operator_name",
             PeerKey::AskCui => "ask_cui",
             PeerKey::RequestWithout => "request_without",

@@ -25,6 +25,8 @@ pub fn peer_difference(old: &Peer, new: &Peer) -> Option<PeerKey>
         Some(PeerKey::NasIp)
     } else if old.nas_id != new.nas_id {
         Some(PeerKey::NasId)
+    } else if old.nas_ids != new.nas_ids {
+        Some(PeerKey::NasIds)
     } else if old.operator_name != new.operator_name {
         Some(PeerKey::OperatorName)
     } else if old.ask_cui != new.ask_cui {

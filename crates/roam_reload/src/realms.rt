@@ -4,7 +4,7 @@ ghost use Rattle.std.specs.Prelude.{◌≡◌, ◌≢◌, IfNone, IfSome, IsFals
 ghost use Rattle.roam_conf.specs.Parts.{shown_realm};
 ghost use Rattle.roam_reload.specs.Differences.{RealmsDiffer};
 ghost use Rattle.roam_reload.specs.Reload.{realm_part};
-ghost use Rattle.roam_reload.specs.SameLimits.{HaveSameLimits, HaveSamePolicy};
+ghost use Rattle.roam_reload.specs.SameLimits.{HaveSameLimits, HaveSameParts, HaveSamePolicy};
 
 use crate::keys::RealmKey;
 use roam_conf::{Endpoint, Realm, is_same_endpoint};
@@ -56,15 +56,39 @@ fn policy_difference(old: &Realm, new: &Realm) -> Option<RealmKey>
     }
 }
 
+/// The first key in which two tables differ of what a realm's peers and home servers may do.
+fn part_difference(old: &Realm, new: &Realm) -> Option<RealmKey>
+    ensures none { IfNone result (HaveSameParts (shown_realm old.now) (shown_realm new.now)) }
+    ensures some { IfSome result (RealmsDiffer (shown_realm old.now) (shown_realm new.now)) }
+{
+    if old.peer_share != new.peer_share {
+        Some(RealmKey::PeerShare)
+    } else if old.own_names != new.own_names {
+        Some(RealmKey::OwnNames)
+    } else if old.conversations != new.conversations {
+        Some(RealmKey::Conversations)
+    } else if old.own_sessions != new.own_sessions {
+        Some(RealmKey::OwnSessions)
+    } else if old.coa_clients != new.coa_clients {
+        Some(RealmKey::CoaClients)
+    } else {
+        None
+    }
+}
+
 /// The first key in which two tables of a realm differ beside its sockets and servers.
 fn other_difference(old: &Realm, new: &Realm) -> Option<RealmKey>
     ensures none { IfNone result (HaveSamePolicy (shown_realm old.now) (shown_realm new.now)
-        × HaveSameLimits (shown_realm old.now) (shown_realm new.now)) }
+        × (HaveSameParts (shown_realm old.now) (shown_realm new.now)
+        × HaveSameLimits (shown_realm old.now) (shown_realm new.now))) }
     ensures some { IfSome result (RealmsDiffer (shown_realm old.now) (shown_realm new.now)) }
 {
     match policy_difference(old, new) {
         Some(key) => Some(key),
-        None => limit_difference(old, new),
+        None => match part_difference(old, new) {
+            Some(key) => Some(key),
+            None => limit_difference(old, new),
+        },
     }
 }
 

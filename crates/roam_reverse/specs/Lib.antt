@@ -1,6 +1,10 @@
 pub mod Target
 pub mod Sessions
+pub mod Short
+pub mod Kept
 pub mod Shown
+pub mod Maps
+pub mod Facets
 pub mod Stands
 pub mod Causes
 pub mod TargetLaws

@@ -1,11 +1,14 @@
 -- What the code's names of an access server, its ledger and the ledger's changes are seen as.
-use Rattle.std.specs.Prelude.{ℕ, ◌<◌, List, drop, Option, option_map}
+use Rattle.std.specs.Prelude.{ℕ, ◌<◌, Bool, false, List, Option, Some, None, option_map}
 use Rattle.std.specs.Borrow.{Bor}
 use Rattle.roam_route.specs.declared.nas.NasName.{NasName}
-use Rattle.roam_reverse.specs.Sessions.{Session, LedgerChange, opens, closes, closes_all, nothing}
-use Rattle.roam_reverse.specs.declared.open_session.OpenSession.{OpenSession}
+use Rattle.roam_reverse.specs.Kept.{kept_session, shown_asked, shown_session}
+use Rattle.roam_reverse.specs.Sessions.{Nas, Session, LedgerChange, opens, closes, closes_all, nothing}
+use Rattle.roam_reverse.specs.Short.{short_octets}
 use Rattle.roam_reverse.specs.declared.accounting.Said.{Said}
 use Rattle.roam_reverse.specs.declared.accounting.Said.TheVariants as said
+use Rattle.roam_reverse.specs.declared.session.NasArray.{NasArray}
+use Rattle.roam_reverse.specs.declared.session.SessionArray.{SessionArray}
 use Rattle.roam_reverse.specs.declared.session.Change.{Change}
 use Rattle.roam_reverse.specs.declared.session.Change.TheVariants as change
 
@@ -17,23 +20,29 @@ shown_octets octets = octets.now
 abbrev pub shown_names : NasName → Option (List ℕ) × Option (List ℕ)
 shown_names names = (option_map shown_octets names.ip_address, option_map shown_octets names.identifier)
 
--- a session
-abbrev pub shown_session : {A : Type 0} → OpenSession A → Session
-shown_session s = record { peer = s.peer; id = drop 2 s.row }
+-- names and a session that are kept without memory
+abbrev pub arrayed_nas : NasArray → Nas
+arrayed_nas nas = record {
+  address = option_map short_octets nas.address;
+  identifier = option_map short_octets nas.identifier;
+}
+
+abbrev pub arrayed_session : SessionArray → Session
+arrayed_session s = record { peer = s.peer; nas = arrayed_nas s.nas; id = short_octets s.id }
 
 -- a change that owns its octets
 abbrev pub shown_change : {A : Type 0} → Change A → LedgerChange
-shown_change (change.Opens s) = opens (shown_session s.session)
-shown_change (change.Closes s) = closes (shown_session s)
-shown_change (change.ClosesAll peer) = closes_all peer
+shown_change (change.Opens new) = opens (kept_session new.session)
+shown_change (change.Closes s) = closes (arrayed_session s)
+shown_change (change.ClosesAll peer nas) = closes_all (record { peer = peer; nas = arrayed_nas nas; id = None })
 shown_change change.Nothing = nothing
 
--- what a request of a peer says, looked at where it lies
-abbrev pub said_of : ℕ → Said → LedgerChange
-said_of peer (said.Opens id) = opens (record { peer = peer; id = id.now })
-said_of peer (said.Closes id) = closes (record { peer = peer; id = id.now })
-said_of peer said.ClosesAll = closes_all peer
-said_of peer said.Nothing = nothing
+-- what a request says, looked at where it lies
+abbrev pub said_of : Said → LedgerChange
+said_of (said.Opens s) = opens (shown_session s)
+said_of (said.Closes s) = closes (shown_session s)
+said_of (said.ClosesAll q) = closes_all (shown_asked q)
+said_of said.Nothing = nothing
 
 -- what a contract sees of a ledger: how many sessions it holds at most, the open ones with the
 -- oldest first, and for how many more there is room
@@ -46,5 +55,12 @@ pub record Ledger : Type 0 where
 abbrev pub HasRoomFor : LedgerChange → Ledger → Type 0
 HasRoomFor (opens s) ledger = 0 < ledger.spare
 HasRoomFor (closes s) ledger = Unit {0}
-HasRoomFor (closes_all peer) ledger = Unit {0}
+HasRoomFor (closes_all q) ledger = Unit {0}
 HasRoomFor nothing ledger = Unit {0}
+
+-- a change that adds nothing
+abbrev pub IsClosing : LedgerChange → Type 0
+IsClosing (opens s) = ⊥
+IsClosing (closes s) = Unit {0}
+IsClosing (closes_all q) = Unit {0}
+IsClosing nothing = Unit {0}

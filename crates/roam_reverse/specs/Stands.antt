@@ -1,47 +1,51 @@
--- What the code's index, nodes and chain of sessions stand for (ours).
-use Rattle.std.specs.Prelude.{ℕ, ◌+◌, ◌<◌, ◌≤◌, List, Option, option_map, nat_eq}
-use Rattle.std.specs.Cmp.Lexicographic.{pointwise}
-use Rattle.std.specs.declared.vec.Vec.{Vec}
-use Rattle.indexmap.specs.IndexMap as map
-use Rattle.indexmap.specs.IndexMap.{IndexMap, index_map_len, spare}
-use Rattle.roam_reverse.specs.Private.Row.{session_row}
-use Rattle.roam_reverse.specs.Sessions.{Session}
-use Rattle.roam_reverse.specs.Shown.{shown_session}
-use Rattle.roam_reverse.specs.Private.Tickets.{IsChain, PlainNode, PlainChain, all_listed, session_at}
+-- What the code's chain of sessions stands for (ours).
+use Rattle.std.specs.Prelude.{◌≡◌, ℕ, ◌+◌, ◌<◌, ◌≤◌, false, true, List, length, Option, Some, None, option_map}
+use Rattle.indexmap.specs.IndexMap.{index_map_len, spare}
 use Rattle.roam_wire.specs.Numbered.{tickets_end}
-use Rattle.roam_reverse.specs.declared.node.Node.{Node}
+use Rattle.roam_reverse.specs.Facets.{AreFaceted, FacetsHaveRoom}
+use Rattle.roam_reverse.specs.Maps.{HasRoom, groups_of, session_of}
+use Rattle.roam_reverse.specs.Private.Groups.{IsGrouped}
+use Rattle.roam_reverse.specs.Private.Row.{whole_row}
+use Rattle.roam_reverse.specs.Private.Tickets.{all_listed}
+use Rattle.roam_reverse.specs.Sessions.{Session}
 use Rattle.roam_reverse.specs.declared.chain.Chain.{Chain}
 
-abbrev pub shown_node : {A : Type 0} → Node A → PlainNode
-shown_node n = record { session = shown_session n.session; older = n.older; newer = n.newer }
+-- the session of a ticket
+abbrev pub session_at : {A : Type 0} → Chain A → ℕ → Option Session
+session_at c = session_of c.by_ticket
 
--- the ticket of a session
-abbrev pub ticket_at : {Z H : Type 0} → IndexMap (Vec ℕ Z) ℕ H → Session → Option ℕ
-ticket_at m s = map.get_by (λ v. pointwise nat_eq (session_row s.peer s.id) v.items) m
-
--- the node of a ticket
-abbrev pub node_at : {A H : Type 0} → IndexMap ℕ (Node A) H → ℕ → Option PlainNode
-node_at m t = option_map shown_node (map.get nat_eq m t)
-
--- what a chain stands for
-abbrev pub chain_of : {A : Type 0} → Chain A → PlainChain
-chain_of c = record {
-  tickets = ticket_at c.by_row;
-  nodes = node_at c.nodes;
-  oldest = c.oldest;
-  newest = c.newest;
-  next = c.next;
-  count = index_map_len c.nodes;
-}
-
--- its sessions, the oldest first
+-- its sessions, the oldest first, and how many there are
 abbrev pub sessions_of : {A : Type 0} → Chain A → List Session
-sessions_of c = all_listed (session_at (node_at c.nodes))
+sessions_of c = all_listed (session_at c)
 
--- a chain's parts fit each other, and what room was made is there: in the index, among the nodes,
--- and tickets that are left
+abbrev pub session_count : {A : Type 0} → Chain A → ℕ
+session_count c = index_map_len c.by_ticket
+
+-- each ticket's row by all that its session is
+abbrev pub whole_rows : (ℕ → Option Session) → ℕ → Option (List ℕ)
+whole_rows F t = option_map whole_row (F t)
+
+-- the sessions of tickets that were given out, each of one of them
+pub record AreTickets (F : ℕ → Option Session) (next : ℕ) : Type 0 where
+  pub distinct : (t u : ℕ) (s : Session) → F t ≡ Some s → F u ≡ Some s → t ≡ u
+  pub given : (t : ℕ) → next ≤ t → F t ≡ None
+  pub within : next < tickets_end
+
+-- there is room for so many sessions more
+pub record HaveRoom {A : Type 0} (n : ℕ) (c : Chain A) : Type 0 where
+  pub by_ticket : n ≤ spare c.by_ticket
+  pub whole : HasRoom n c.whole
+  pub of_peer : FacetsHaveRoom n c.of_peer
+  pub of_id : FacetsHaveRoom n c.of_id
+
+-- a chain's parts fit each other, and what room was made is there, and tickets that are left
 pub record IsSound {A : Type 0} (c : Chain A) : Type 0 where
-  pub chain : IsChain (chain_of c)
-  pub index_room : c.spare ≤ spare c.by_row
-  pub node_room : c.spare ≤ spare c.nodes
+  pub tickets : AreTickets (session_at c) c.next
+  pub whole : IsGrouped (whole_rows (session_at c)) (groups_of c.whole)
+  pub of_peer : AreFaceted (session_at c) c.of_peer
+  pub no_ids : c.of_peer.with_id ≡ false
+  pub of_id : AreFaceted (session_at c) c.of_id
+  pub ids : c.of_id.with_id ≡ true
+  pub count : length (sessions_of c) ≡ session_count c
+  pub room : HaveRoom c.spare c
   pub ticket_room : c.next + c.spare < tickets_end

@@ -1,48 +1,65 @@
--- The access server that a reverse request is for (RFC 5176, section 3: NAS-IP-Address and
--- NAS-Identifier name it; that it is the first one that fits is ours).
-use Rattle.std.specs.Prelude.{ℕ, ◌&&◌, ◌||◌, Bool, true, false, List, Option, Some, None, slice_get, if◌then◌else◌}
-use Rattle.std.specs.Option.{is_some}
-use Rattle.std.specs.Str.{bytes_eq}
+-- The access server that a reverse request is for (RFC 5176, section 3: NAS-IP-Address and NAS-Identifier name it; RFC
+-- 8559: Operator-Name names the network that it is in).
+use Rattle.std.specs.Prelude.{ℕ, ◌==◌, Bool, true, false, List, [], ◌∷◌, Option, Some, None, slice_get, if◌then◌else◌}
+use Rattle.std.specs.Option.{is_some, option_map_or}
 use Rattle.roam_wire.specs.Packet.{Attribute}
+use Rattle.roam_wire.specs.Attributes.{first_value}
+use Rattle.roam_wire.specs.declared.attribute_type.TheConstants.{OPERATOR_NAME}
 use Rattle.roam_conf.specs.Asking.{both_pass, is_peer_of}
 use Rattle.roam_conf.specs.Config.{PeerView, RealmView}
-use Rattle.roam_conf.specs.Lookup.{first_place}
+use Rattle.roam_conf.specs.Targets.{peer_meant, peer_with_nas_ip, peer_with_operator, some_operator}
 use Rattle.roam_route.specs.UserName.{nas_of}
 
--- a name that a peer has is this one
-abbrev pub is_named : Option (List ℕ) → List ℕ → Bool
-is_named None name = false
-is_named (Some own) name = bytes_eq own name
+-- one peer, where both are that one
+abbrev pub same_peer : Option ℕ → Option ℕ → Option ℕ
+same_peer (Some a) (Some b) = if a == b then Some a else None
+same_peer _ _ = None
 
--- a name that stands in the packet is the peer's; one that doesn't stand there fits each peer
-abbrev pub agrees : Option (List ℕ) → Option (List ℕ) → Bool
-agrees own None = true
-agrees own (Some name) = is_named own name
+-- the peer that a packet's NAS-IP-Address and NAS-Identifier name: what stands there names it, both where both do. An
+-- address of a peer has four octets, so a NAS-IP-Address of another size names none (RFC 2865, sections 5.4 and 5.32)
+abbrev pub peer_of_nas : List PeerView → Option (List ℕ) × Option (List ℕ) → Option ℕ
+peer_of_nas peers (None, None) = None
+peer_of_nas peers (Some ip, None) = peer_with_nas_ip peers ip
+peer_of_nas peers (None, Some name) = peer_meant peers name
+peer_of_nas peers (Some ip, Some name) = same_peer (peer_with_nas_ip peers ip) (peer_meant peers name)
+
+-- the peer that an Operator-Name names: its first octet is `1` (49), for a realm's name, and the name behind that is a
+-- peer's `operator_name`, without ASCII case (RFC 5580, section 4.1)
+abbrev pub peer_of_operator : List PeerView → List ℕ → Option ℕ
+peer_of_operator peers [] = None
+peer_of_operator peers (space ∷ name) = if space == 49 then peer_with_operator peers name else None
+
+-- the peer that is named: by the Operator-Name where there is one and some peer has an `operator_name`, else by the
+-- names of the access server
+abbrev pub peer_named : List PeerView → Option (List ℕ) → Option (List ℕ) × Option (List ℕ) → Option ℕ
+peer_named peers None names = peer_of_nas peers names
+peer_named peers (Some operator) names =
+    if some_operator peers then peer_of_operator peers operator else peer_of_nas peers names
+
+-- the peer takes reverse requests
+abbrev pub has_coa : List PeerView → ℕ → Bool
+has_coa peers index = option_map_or (λ peer. is_some peer.coa) (slice_get peers index) false
+
+abbrev pub with_coa : List PeerView → Option ℕ → Option ℕ
+with_coa peers None = None
+with_coa peers (Some index) = if has_coa peers index then Some index else None
 
 -- ## Target of a reverse request
--- A peer fits where one at least of NAS-IP-Address and NAS-Identifier stands in the request, and each that does
--- (the first of its type) is the peer's. The target is the first peer with `coa` that fits, where the realm has no list
--- of peers or that peer is among them.
--- Source: RFC 5176 section 3, RFC 2865 sections 5.4 and 5.32; that it is the first is ours
--- Rules out: a peer that agrees in one name of two; any peer where nothing is named; a second one that fits where the
--- first isn't among the realm's
--- Stands in: `roam_reverse` `Target.antt`: `fits`, `target`, `target_in`; `target`, `route_of`, the laws
--- `target_is_the_first`, `forwarded_has_target`
+-- Where the request has an Operator-Name and some peer has an `operator_name`, the peer with this one, without ASCII
+-- case, behind the octet `1`: the names of the access server aren't looked at then. Else the peer whose `nas_ip` is the
+-- NAS-IP-Address and which the NAS-Identifier means, where they stand there; one of them does at least. The first
+-- attribute of each type counts. It is a target where it has `coa`, and the realm has no list of peers or the peer is
+-- among them.
+-- Source: RFC 8559 sections 3 and 4, RFC 5580 section 4.1, RFC 5176 section 3, RFC 2865 sections 5.4 and 5.32; that
+-- an Operator-Name comes first, and what a NAS-Identifier means, is ours
+-- Rules out: a peer that agrees in one name of two; any peer where nothing is named; an access server's name that
+-- beats the Operator-Name
+-- Stands in: `roam_reverse` `Target.antt`: `peer_named`, `target`, `target_in`; `target`, `route_of`, the laws
+-- `target_is_named`, `forwarded_has_target`
 --
--- A peer fits the two names of a packet, NAS-IP-Address and NAS-Identifier: one of them stands
--- there at least, and each that does is the peer's. An address of a peer has four octets, so a
--- NAS-IP-Address of another size fits none (RFC 2865, sections 5.4 and 5.32)
-abbrev pub fits : Option (List ℕ) × Option (List ℕ) → PeerView → Bool
-fits names peer =
-    (is_some names.0 || is_some names.1) && agrees peer.nas_ip names.0 && agrees peer.nas_id names.1
-
--- the peer takes reverse requests, and fits
-abbrev pub is_target : Option (List ℕ) × Option (List ℕ) → PeerView → Bool
-is_target names peer = is_some peer.coa && fits names peer
-
--- the peer that a reverse request is for: the first that takes such requests and fits (ours)
+-- the peer that a reverse request is for: the one that is named, where it takes such requests
 unfoldable pub target : List PeerView → List Attribute → Option ℕ
-target peers attributes = first_place (is_target (nas_of attributes)) peers
+target peers attributes = with_coa peers (peer_named peers (first_value OPERATOR_NAME attributes) (nas_of attributes))
 
 -- whether the peer of an index is among the realm's
 abbrev pub is_among : Option RealmView → List PeerView → ℕ → Bool

@@ -1,32 +1,36 @@
 -- Laws of the access server that a reverse request is for (ours). Each is what a function of `laws`
 -- ensures.
-use Rattle.std.specs.Prelude.{◌≡◌, ℕ, ◌<◌, true, List, Some, None, slice_get}
-use Rattle.std.specs.Option.{is_some}
+use Rattle.std.specs.Prelude.{◌≡◌, ℕ, ◌∷◌, true, List, Option, Some, None, slice_get, is_some}
 use Rattle.roam_wire.specs.Packet.{Attribute}
+use Rattle.roam_wire.specs.Attributes.{first_value}
+use Rattle.roam_wire.specs.declared.attribute_type.TheConstants.{NAS_IDENTIFIER, NAS_IP_ADDRESS, OPERATOR_NAME}
 use Rattle.roam_conf.specs.Config.{PeerView}
+use Rattle.roam_conf.specs.Targets.{peer_meant, peer_with_nas_ip, peer_with_operator, some_operator}
 use Rattle.roam_route.specs.UserName.{nas_of}
-use Rattle.roam_reverse.specs.Target.{fits, target}
+use Rattle.roam_reverse.specs.Target.{target}
 
--- a peer of this index that takes reverse requests and fits what the packet names
-pub record IsTarget (peers : List PeerView) (attributes : List Attribute) (index : ℕ) : Type 0 where
-  pub peer : PeerView
-  pub is_there : slice_get peers index ≡ Some peer
-  pub takes_requests : is_some peer.coa ≡ true
-  pub fits_names : fits (nas_of attributes) peer ≡ true
-
--- what is found is such a peer, and no such peer stands before it
-abbrev pub TargetIsTheFirst : Type 0
-TargetIsTheFirst = (peers : List PeerView) (attributes : List Attribute) (index : ℕ)
+-- what is found is a peer that takes reverse requests
+abbrev pub TargetTakesRequests : Type 0
+TargetTakesRequests = (peers : List PeerView) (attributes : List Attribute) (index : ℕ)
     → target peers attributes ≡ Some index
-    → IsTarget peers attributes index
-    × ((other : ℕ) → other < index → ¬ IsTarget peers attributes other)
+    → (peer : PeerView) × (slice_get peers index ≡ Some peer) × (is_some peer.coa ≡ true)
 
--- where none is found there is no such peer
-abbrev pub NoTargetIsThere : Type 0
-NoTargetIsThere = (peers : List PeerView) (attributes : List Attribute)
-    → target peers attributes ≡ None → (index : ℕ) → ¬ IsTarget peers attributes index
+-- where an Operator-Name counts, the target is the peer that it names
+abbrev pub OperatorNamesTheTarget : Type 0
+OperatorNamesTheTarget = (peers : List PeerView) (attributes : List Attribute) (operator : List ℕ) (index : ℕ)
+    → first_value OPERATOR_NAME attributes ≡ Some operator → some_operator peers ≡ true
+    → target peers attributes ≡ Some index
+    → (name : List ℕ) × (operator ≡ 49 ∷ name) × (peer_with_operator peers name ≡ Some index)
 
--- a packet without NAS-IP-Address and NAS-Identifier is for no peer
+-- where there is none, each name of an access server that stands there names the target
+abbrev pub NamesAreTheTargets : Type 0
+NamesAreTheTargets = (peers : List PeerView) (attributes : List Attribute) (index : ℕ)
+    → first_value OPERATOR_NAME attributes ≡ None
+    → target peers attributes ≡ Some index
+    → ((ip : List ℕ) → first_value NAS_IP_ADDRESS attributes ≡ Some ip → peer_with_nas_ip peers ip ≡ Some index)
+    × ((name : List ℕ) → first_value NAS_IDENTIFIER attributes ≡ Some name → peer_meant peers name ≡ Some index)
+
+-- a packet without Operator-Name, NAS-IP-Address and NAS-Identifier is for no peer
 abbrev pub NamelessIsForNone : Type 0
 NamelessIsForNone = (peers : List PeerView) (attributes : List Attribute)
-    → nas_of attributes ≡ (None, None) → target peers attributes ≡ None
+    → first_value OPERATOR_NAME attributes ≡ None → nas_of attributes ≡ (None, None) → target peers attributes ≡ None

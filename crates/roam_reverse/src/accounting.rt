@@ -1,10 +1,14 @@
 //! What an Accounting-Request says of sessions (RFC 2866, sections 5.1 and 5.5).
 
-ghost use Rattle.std.specs.Prelude.{◌≡◌, ℕ, option_and_then, option_map};
+ghost use Rattle.std.specs.Prelude.{◌≡◌, option_and_then, option_map};
 ghost use Rattle.roam_wire.specs.Attributes.{first_value};
 ghost use Rattle.roam_reverse.specs.Sessions.{change_by_request, change_by_id, number_in};
+ghost use Rattle.roam_reverse.specs.Short.{shown_short};
+ghost use Rattle.roam_reverse.specs.Kept.{shown_nas};
 ghost use Rattle.roam_reverse.specs.Shown.{said_of};
 
+use crate::asked::{AskedRef, NasRef, SessionRef, counted_nas};
+use crate::short::{Short, first_short};
 use roam_wire::View;
 use roam_wire::attribute_type::{ACCT_SESSION_ID, ACCT_STATUS_TYPE};
 
@@ -22,12 +26,12 @@ pub const ACCOUNTING_OFF: u32 = 8;
 /// What an Accounting-Request says of its sender's sessions.
 #[derive(Clone, Copy)]
 pub(crate) enum Said<'a> {
-    /// The session of this id is open.
-    Opens(&'a [u8]),
-    /// The session of this id is open no more.
-    Closes(&'a [u8]),
-    /// No session is open.
-    ClosesAll,
+    /// This session is open.
+    Opens(SessionRef<'a>),
+    /// This session is open no more.
+    Closes(SessionRef<'a>),
+    /// No session is open that agrees with this.
+    ClosesAll(AskedRef<'a>),
     Nothing,
 }
 
@@ -50,29 +54,37 @@ fn status_of(request: &View<'_>) -> Option<u32>
 }
 
 /// What a status says of the session of an id, if there is one.
-fn said_of_session(status: u32, id: Option<&[u8]>) -> Said<'_>
-    ensures { (peer : ℕ) → said_of peer result
-        ≡ change_by_id peer status (option_map (λ octets. octets.now) id.entry) }
+fn said_of_session<'a>(peer: u16, nas: NasRef<'a>, status: u32, id: Option<Short<'a>>) -> Said<'a>
+    ensures { said_of result
+        ≡ change_by_id peer (shown_nas nas.entry) status (option_map shown_short id.entry) }
 {
     let Some(id) = id else {
         return Said::Nothing;
     };
+    let session = SessionRef { peer, nas, id };
     match status {
-        START | INTERIM_UPDATE => Said::Opens(id),
-        STOP => Said::Closes(id),
+        START | INTERIM_UPDATE => Said::Opens(session),
+        STOP => Said::Closes(session),
         _ => Said::Nothing,
     }
 }
 
-/// What an Accounting-Request says of its sender's sessions. Its first Acct-Status-Type and its
-/// first Acct-Session-Id alone decide.
+/// What an Accounting-Request of a peer says of its sessions, where names of access servers count or not. Its first
+/// Acct-Status-Type, its first Acct-Session-Id and those names alone decide.
 #[tactic(auto, unfolding(crate::specs::Sessions::change_by_request))]
-pub(crate) fn said_by<'a>(request: &View<'a>) -> Said<'a>
-    ensures { (peer : ℕ) → said_of peer result ≡ change_by_request peer request.now.attributes }
+pub(crate) fn said_by<'a>(own: bool, peer: u16, request: &View<'a>) -> Said<'a>
+    ensures { said_of result ≡ change_by_request own peer request.now.attributes }
 {
-    match status_of(request) {
-        None => Said::Nothing,
-        Some(ACCOUNTING_ON | ACCOUNTING_OFF) => Said::ClosesAll,
-        Some(status) => said_of_session(status, request.first(ACCT_SESSION_ID)),
+    let Some(status) = status_of(request) else {
+        return Said::Nothing;
+    };
+    let nas = counted_nas(own, request);
+    match status {
+        ACCOUNTING_ON | ACCOUNTING_OFF => Said::ClosesAll(AskedRef {
+            peer,
+            nas,
+            id: None,
+        }),
+        _ => said_of_session(peer, nas, status, first_short(request, ACCT_SESSION_ID)),
     }
 }

@@ -1,56 +1,76 @@
 //! The sessions of a ledger in the order in which they were opened.
 
 ghost use Rattle.std.specs.Prelude.{◌≡◌, ℕ, ◌+◌, ◌-◌, ◌<◌, ◌≤◌, [], ◌∷◌, ◌++◌};
-ghost use Rattle.std.specs.Prelude.{None, Some, IsOk, IsSome, OnOk, OnErr, drop};
-ghost use Rattle.roam_reverse.specs.Sessions.{Session, without_peer};
-ghost use Rattle.roam_reverse.specs.Shown.{shown_session};
-ghost use Rattle.roam_reverse.specs.Stands.{IsSound, chain_of, sessions_of};
-ghost use Rattle.roam_reverse.specs.Private.Tickets.{end_beside, session_at};
+ghost use Rattle.std.specs.Prelude.{None, Some, IsOk, IsSome, OnOk, OnErr, filter, is_some, length};
+ghost use Rattle.roam_reverse.specs.Private.Tickets.{IsTicketOf};
+ghost use Rattle.roam_reverse.specs.Sessions.{Session, agrees, has_most, without_agreeing, without_first};
+ghost use Rattle.roam_reverse.specs.Kept.{kept_session, shown_asked, shown_session};
+ghost use Rattle.roam_reverse.specs.Stands.{IsSound, session_at, session_count, sessions_of};
+ghost use Rattle.roam_reverse.specs.Maps.{session_of};
+ghost use Rattle.indexmap.specs.IndexMap.{index_map_len, spare};
 ghost use Rattle.roam_wire.specs.Numbered.{PutsAt};
 
-use crate::node::{Node, Nodes, peer_and_newer, put, set_newer, set_older, take};
+use crate::asked::{AskedRef, SessionRef};
+use crate::facets::Facets;
+use crate::groups::Groups;
 use crate::open_session::{NewSession, OpenSession};
-use crate::session_index::{SessionIndex, find, forget, note, ticket_of};
+use crate::row::Row;
 use indexmap::IndexMap;
+use roam_hash::HashKey;
 use roam_wire::NoMemory;
 use std::alloc::Allocator;
+use std::hash::{BuildHasherDefault, FoldHasher};
 
-/// Sessions in the order in which they were opened. Each has a ticket, and these rise; each knows
-/// its neighbours, so that none of them costs more to take out than another.
+/// The session of each ticket. Nobody outside picks tickets.
+pub(crate) type ByTicket<A> = IndexMap<u64, OpenSession<A>, BuildHasherDefault<FoldHasher>, A>;
+
+/// Sessions in the order in which they were opened. Each has a ticket, and these rise. They are found by all that they
+/// are, by the names of their access servers, and by these and the id.
 #[derive(Drop)]
 pub(crate) struct Chain<A: Allocator> {
-    by_row: SessionIndex<A>,
-    nodes: Nodes<A>,
-    oldest: Option<u64>,
-    newest: Option<u64>,
+    pub(crate) by_ticket: ByTicket<A>,
+    pub(crate) whole: Groups<A>,
+    pub(crate) of_peer: Facets<A>,
+    pub(crate) of_id: Facets<A>,
     /// The ticket of the session that is opened next.
-    next: u64,
+    pub(crate) next: u64,
     /// For how many sessions more room was made.
-    spare: usize,
+    pub(crate) spare: usize,
 }
 
-/// An end of a chain once a node came or went there: where none is beside that node on this side,
-/// the other one is the end.
-fn end_beside(beside: Option<u64>, other: Option<u64>, end: Option<u64>) -> Option<u64>
-    ensures { result ≡ end_beside beside other end }
+/// Puts a session at a ticket that none has, where there is room. Takes no memory.
+fn put<A: Allocator + Copy>(map: &mut ByTicket<A>, ticket: u64, session: OpenSession<A>)
+    requires room { 0 < spare map.old }
+    requires free { session_of map.old ticket ≡ None }
+    ensures puts { PutsAt (session_of map.old) (session_of map.new) ticket (Some (kept_session session)) }
+    ensures len { index_map_len map.new ≡ index_map_len map.old + 1 }
+    ensures room { spare map.old ≤ spare map.new + 1 }
 {
-    match beside {
-        None => other,
-        Some(_) => end,
-    }
+    let _old = map.insert(ticket, session).unwrap();
+}
+
+/// Takes the session of a ticket out.
+fn take<A: Allocator + Copy>(map: &mut ByTicket<A>, ticket: u64) -> OpenSession<A>
+    requires { IsSome (session_of map.old ticket) }
+    ensures was { session_of map.old ticket ≡ Some (kept_session result) }
+    ensures puts { PutsAt (session_of map.old) (session_of map.new) ticket None }
+    ensures len { index_map_len map.new + 1 ≡ index_map_len map.old }
+    ensures room { spare map.old ≤ spare map.new }
+{
+    map.swap_remove(&ticket).unwrap()
 }
 
 impl<A: Allocator + Copy> Chain<A> {
     /// No sessions. Takes no memory.
-    pub(crate) fn new(alloc: A) -> Chain<A>
+    pub(crate) fn new(alloc: A, key: HashKey) -> Chain<A>
         ensures sound { IsSound result }
-        ensures empty { (t : ℕ) → session_at (chain_of result).nodes t ≡ None }
+        ensures empty { sessions_of result ≡ [] }
     {
         Chain {
-            by_row: IndexMap::new(alloc),
-            nodes: IndexMap::new(alloc),
-            oldest: None,
-            newest: None,
+            by_ticket: IndexMap::new(alloc),
+            whole: Groups::new(alloc, key),
+            of_peer: Facets::new(alloc, key, false),
+            of_id: Facets::new(alloc, key, true),
             next: 0,
             spare: 0,
         }
@@ -58,16 +78,24 @@ impl<A: Allocator + Copy> Chain<A> {
 
     /// How many sessions there are.
     pub(crate) fn len(&self) -> usize
-        ensures { result ≡ (chain_of self.now).count }
+        ensures { result ≡ session_count self.now }
     {
-        self.nodes.len()
+        self.by_ticket.len()
     }
 
-    /// The ticket of the session of a peer and an id.
-    pub(crate) fn find(&self, peer: u16, id: &[u8]) -> Option<u64>
-        ensures { result ≡ (chain_of self.now).tickets (record { peer = peer; id = id.now }) }
+    /// The ticket of a session.
+    pub(crate) fn find(&self, session: SessionRef<'_>) -> Option<u64>
+        ensures { IsSound self.now → IsTicketOf (shown_session session.entry) (session_at self.now) result }
     {
-        find(&self.by_row, peer, id)
+        self.whole.oldest(Row::of(session.asked()).as_slice())
+    }
+
+    /// How many sessions agree with what is asked, which names an id.
+    pub(crate) fn count(&self, asked: AskedRef<'_>) -> usize
+        ensures { IsSound self.now → is_some (shown_asked asked.entry).id ≡ true
+            → result ≡ length (filter (agrees (shown_asked asked.entry)) (sessions_of self.now)) }
+    {
+        self.of_id.count(asked)
     }
 
     /// Makes room for one session more. No session changes. There is none once the tickets are used
@@ -78,7 +106,8 @@ impl<A: Allocator + Copy> Chain<A> {
         ensures ok { OnOk result (0 < self.new.spare) }
         ensures succeeds { 0 < self.old.spare → IsOk result }
         ensures err { OnErr result (self.new.spare ≡ self.old.spare) }
-        ensures same { chain_of self.new ≡ chain_of self.old }
+        ensures sessions { sessions_of self.new ≡ sessions_of self.old }
+        ensures count { session_count self.new ≡ session_count self.old }
     {
         if self.spare > 0 {
             return Ok(());
@@ -86,8 +115,10 @@ impl<A: Allocator + Copy> Chain<A> {
         if self.next == u64::MAX {
             return Err(NoMemory);
         }
-        self.by_row.reserve(1)?;
-        self.nodes.reserve(1)?;
+        self.by_ticket.reserve(1)?;
+        self.whole.reserve()?;
+        self.of_peer.reserve()?;
+        self.of_id.reserve()?;
         self.spare = 1;
         Ok(())
     }
@@ -96,82 +127,63 @@ impl<A: Allocator + Copy> Chain<A> {
     pub(crate) fn append(&mut self, new: NewSession<A>)
         requires sound { IsSound self.old }
         requires room { 0 < self.old.spare }
-        requires absent { (chain_of self.old).tickets (shown_session new.session) ≡ None }
+        requires absent { (t : ℕ) → session_at self.old t ≢ Some (kept_session new.session) }
         ensures sound { IsSound self.new }
         ensures sessions { sessions_of self.new
-            ≡ sessions_of self.old ++ shown_session new.session ∷ [] }
-        ensures count { (chain_of self.new).count ≡ (chain_of self.old).count + 1 }
+            ≡ sessions_of self.old ++ kept_session new.session ∷ [] }
+        ensures count { session_count self.new ≡ session_count self.old + 1 }
     {
         let ticket = self.next;
-        let node = Node {
-            session: new.session,
-            older: self.newest,
-            newer: None,
-        };
-        note(&mut self.by_row, new.row, ticket);
-        put(&mut self.nodes, ticket, node);
-        set_newer(&mut self.nodes, self.newest, Some(ticket));
-        self.oldest = end_beside(self.newest, Some(ticket), self.oldest);
-        self.newest = Some(ticket);
+        put(&mut self.by_ticket, ticket, new.session);
+        self.whole.append(ticket, Some(new.whole));
+        self.of_peer.append(ticket, new.of_peer);
+        self.of_id.append(ticket, new.of_id);
         self.next = ticket + 1;
         self.spare -= 1;
     }
 
-    /// Takes the session of a ticket out: its neighbours are each other's from now on.
+    /// Takes the session of a ticket out.
     pub(crate) fn remove(&mut self, ticket: u64)
         requires sound { IsSound self.old }
-        requires held { IsSome (session_at (chain_of self.old).nodes ticket) }
+        requires held { IsSome (session_at self.old ticket) }
         ensures sound { IsSound self.new }
-        ensures sessions { PutsAt (session_at (chain_of self.old).nodes)
-            (session_at (chain_of self.new).nodes) ticket None }
-        ensures count { (chain_of self.new).count + 1 ≡ (chain_of self.old).count }
+        ensures sessions { PutsAt (session_at self.old) (session_at self.new) ticket None }
+        ensures count { session_count self.new + 1 ≡ session_count self.old }
         ensures room { self.new.spare ≡ self.old.spare }
     {
-        let node = take(&mut self.nodes, ticket);
-        forget(&mut self.by_row, &node.session);
-        set_newer(&mut self.nodes, node.older, node.newer);
-        set_older(&mut self.nodes, node.newer, node.older);
-        self.oldest = end_beside(node.older, node.newer, self.oldest);
-        self.newest = end_beside(node.newer, node.older, self.newest);
+        let session = take(&mut self.by_ticket, ticket);
+        self.whole
+            .remove(ticket, Some(Row::of(session.lend().asked())));
+        self.of_peer.remove(ticket, session.lend());
+        self.of_id.remove(ticket, session.lend());
     }
 
-    /// The ticket of a session.
-    pub(crate) fn ticket_of(&self, session: &OpenSession<A>) -> Option<u64>
-        ensures { result ≡ (chain_of self.now).tickets (shown_session session.now) }
-    {
-        ticket_of(&self.by_row, session)
-    }
-
-    /// Takes the oldest session out, if there is one.
-    pub(crate) fn remove_oldest(&mut self)
+    /// Takes the oldest session of the peer that has most out; of several that have most, the oldest of all theirs.
+    pub(crate) fn remove_of_most(&mut self)
         requires { IsSound self.old }
         ensures sound { IsSound self.new }
-        ensures sessions { sessions_of self.new ≡ drop 1 (sessions_of self.old) }
-        ensures absent { (s : Session) → (chain_of self.old).tickets s ≡ None
-            → (chain_of self.new).tickets s ≡ None }
-        ensures count { (chain_of self.new).count ≡ (chain_of self.old).count - 1 }
+        ensures sessions { sessions_of self.new
+            ≡ without_first (has_most (sessions_of self.old)) (sessions_of self.old) }
+        ensures count { session_count self.new ≡ session_count self.old - 1 }
         ensures room { self.new.spare ≡ self.old.spare }
     {
-        if let Some(ticket) = self.oldest {
+        if let Some(ticket) = self.of_peer.oldest_of_most() {
             self.remove(ticket);
         }
     }
 
-    /// Takes all sessions of a peer out. Looks at each session once.
-    pub(crate) fn remove_peer(&mut self, peer: u16)
-        requires { IsSound self.old }
+    /// Takes all sessions out that agree with what is asked, which names no id. Looks at no other one.
+    pub(crate) fn remove_agreeing(&mut self, asked: AskedRef<'_>)
+        requires sound { IsSound self.old }
+        requires no_id { (shown_asked asked.entry).id ≡ None }
         ensures sound { IsSound self.new }
-        ensures sessions { sessions_of self.new ≡ without_peer peer (sessions_of self.old) }
-        ensures count { (chain_of self.new).count ≤ (chain_of self.old).count }
+        ensures sessions { sessions_of self.new
+            ≡ without_agreeing (shown_asked asked.entry) (sessions_of self.old) }
+        ensures count { session_count self.new ≤ session_count self.old }
         ensures room { self.new.spare ≡ self.old.spare }
     {
-        let mut at = self.oldest;
-        while let Some(ticket) = at {
-            let (its_peer, newer) = peer_and_newer(&self.nodes, ticket);
-            at = newer;
-            if its_peer == peer {
-                self.remove(ticket);
-            }
+        while let Some(ticket) = self.of_peer.oldest(asked) {
+            self.remove(ticket);
         }
     }
 }

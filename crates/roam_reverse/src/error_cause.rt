@@ -1,14 +1,17 @@
 //! Where a reverse request is forwarded to, or why it can't be (RFC 5176, section 3.5).
 
-ghost use Rattle.std.specs.Prelude.{◌≡◌, ◌<◌, IfOk, Some, slice_get, vec_len};
+ghost use Rattle.std.specs.Prelude.{◌≡◌, ◌<◌, IfOk, Some, option_map, slice_get, vec_len};
 ghost use Rattle.std.specs.Result.{result_err};
 ghost use Rattle.roam_wire.specs.Attributes.{first_value};
 ghost use Rattle.roam_conf.specs.Shown.{shown};
-ghost use Rattle.roam_reverse.specs.Causes.{cause, cause_by_name, cause_by_salt, is_realm};
+ghost use Rattle.roam_reverse.specs.Causes.{cause, cause_by_count, cause_by_meant, cause_by_name, cause_by_names};
+ghost use Rattle.roam_reverse.specs.Causes.{cause_by_salt, cause_by_session, cause_by_user, is_realm, meant, names_sessions};
 ghost use Rattle.roam_reverse.specs.Target.{target};
 
+use crate::asked::{AskedRef, SessionRef, nas_in, no_nas};
 use crate::ledger::Sessions;
 use crate::nas_target::target;
+use crate::short::first_short;
 use roam_conf::Config;
 use roam_hide::salted;
 use roam_wire::View;
@@ -18,6 +21,9 @@ use std::alloc::Allocator;
 /// The request holds what the broker can't carry.
 pub const UNSUPPORTED_ATTRIBUTE: u32 = 401;
 
+/// The request names two users or two sessions.
+pub const INVALID_REQUEST: u32 = 404;
+
 /// There is no access server for the request, or it isn't of this realm.
 pub const REQUEST_NOT_ROUTABLE: u32 = 502;
 
@@ -26,6 +32,9 @@ pub const SESSION_CONTEXT_NOT_FOUND: u32 = 503;
 
 /// The access server didn't answer.
 pub const OTHER_PROXY_PROCESSING_ERROR: u32 = 505;
+
+/// The request names several sessions at once.
+pub const MULTIPLE_SESSION_SELECTION: u32 = 508;
 
 /// Whether the realm that a User-Name names, if it names one, is this realm.
 fn is_realm(realm: u16, named: Option<u16>) -> bool
@@ -37,7 +46,17 @@ fn is_realm(realm: u16, named: Option<u16>) -> bool
     }
 }
 
-/// Why a request to a peer of a realm isn't forwarded for what it names, if it isn't.
+/// Why a request isn't forwarded for its User-Name, if it has one that names another realm or none.
+fn cause_by_user(realm: u16, named: Option<u16>, user: Option<&[u8]>) -> Option<u32>
+    ensures { result ≡ cause_by_user realm named (option_map (λ value. value.now) user.entry) }
+{
+    if user.is_none() || is_realm(realm, named) {
+        return None;
+    }
+    Some(REQUEST_NOT_ROUTABLE)
+}
+
+/// Why a request to a peer of a realm without `own_sessions` isn't forwarded for what it names, if it isn't.
 fn cause_by_name<A: Allocator + Copy>(
     realm: u16,
     named: Option<u16>,
@@ -49,21 +68,103 @@ fn cause_by_name<A: Allocator + Copy>(
         (first_value USER_NAME request.now.attributes)
         (first_value ACCT_SESSION_ID request.now.attributes) }
 {
-    if request.first(USER_NAME).is_some() {
-        if is_realm(realm, named) {
-            return None;
-        }
-        return Some(REQUEST_NOT_ROUTABLE);
+    let user = request.first(USER_NAME);
+    if user.is_some() {
+        return cause_by_user(realm, named, user);
     }
-    match request.first(ACCT_SESSION_ID) {
-        None => Some(REQUEST_NOT_ROUTABLE),
-        Some(id) => {
-            if sessions.has(peer, id) {
-                None
-            } else {
-                Some(SESSION_CONTEXT_NOT_FOUND)
-            }
-        }
+    let Some(id) = first_short(request, ACCT_SESSION_ID) else {
+        return Some(REQUEST_NOT_ROUTABLE);
+    };
+    let session = SessionRef {
+        peer,
+        nas: no_nas(),
+        id,
+    };
+    if sessions.has(session) {
+        return None;
+    }
+    Some(SESSION_CONTEXT_NOT_FOUND)
+}
+
+/// Why a request isn't forwarded that has several User-Names or several Acct-Session-Ids.
+fn cause_by_count(request: &View<'_>) -> Option<u32>
+    ensures { result ≡ cause_by_count request.now.attributes }
+{
+    if request.count(USER_NAME) > 1 || request.count(ACCT_SESSION_ID) > 1 {
+        return Some(INVALID_REQUEST);
+    }
+    None
+}
+
+/// Why a request to a peer isn't forwarded for the sessions that it means, where that isn't just one.
+fn cause_by_meant<A: Allocator + Copy>(
+    peer: u16,
+    request: &View<'_>,
+    sessions: &Sessions<A>,
+) -> Option<u32>
+    ensures { result ≡ cause_by_meant (meant peer request.now.attributes sessions.now.sessions) }
+{
+    let Some(id) = first_short(request, ACCT_SESSION_ID) else {
+        return Some(SESSION_CONTEXT_NOT_FOUND);
+    };
+    let asked = AskedRef {
+        peer,
+        nas: nas_in(request),
+        id: Some(id),
+    };
+    match sessions.count(asked) {
+        0 => Some(SESSION_CONTEXT_NOT_FOUND),
+        1 => None,
+        _ => Some(MULTIPLE_SESSION_SELECTION),
+    }
+}
+
+/// Why a request to a peer of a realm with `own_sessions` isn't forwarded for what it names, if it isn't.
+fn cause_by_session<A: Allocator + Copy>(
+    realm: u16,
+    named: Option<u16>,
+    peer: u16,
+    request: &View<'_>,
+    sessions: &Sessions<A>,
+) -> Option<u32>
+    ensures { result
+        ≡ cause_by_session realm named peer request.now.attributes sessions.now.sessions }
+{
+    if let Some(cause) = cause_by_count(request) {
+        return Some(cause);
+    }
+    if let Some(cause) = cause_by_user(realm, named, request.first(USER_NAME)) {
+        return Some(cause);
+    }
+    cause_by_meant(peer, request, sessions)
+}
+
+/// Why a request to a peer isn't forwarded for what it names, by whether that must be one of the realm's own sessions.
+fn cause_by_names<A: Allocator + Copy>(
+    own: bool,
+    realm: u16,
+    named: Option<u16>,
+    peer: u16,
+    request: &View<'_>,
+    sessions: &Sessions<A>,
+) -> Option<u32>
+    ensures { result
+        ≡ cause_by_names own realm named peer request.now.attributes sessions.now.sessions }
+{
+    if own {
+        cause_by_session(realm, named, peer, request, sessions)
+    } else {
+        cause_by_name(realm, named, peer, request, sessions)
+    }
+}
+
+/// Whether a realm's reverse requests must name one of its own sessions.
+fn names_sessions(config: &Config, realm: u16) -> bool
+    ensures { result ≡ names_sessions (slice_get (shown config.now).realms realm) }
+{
+    match config.realms.get(usize::from(realm)) {
+        Some(realm) => realm.own_sessions,
+        None => false,
     }
 }
 
@@ -81,9 +182,11 @@ fn cause_by_salt(request: &View<'_>) -> Option<u32>
 /// The peer that a reverse request is forwarded to, or the Error-Cause of one that can't be forwarded,
 /// of the first cause that holds. Takes no memory.
 ///
-/// 502 where no peer is found for it or the peer isn't among the realm's, where its User-Name doesn't name
-/// this realm, or where it has neither a User-Name nor an Acct-Session-Id; 503 where it has no User-Name,
-/// and its session isn't an open one of that peer; 401 where it holds a salted string. Which realm its first
+/// 502 where no peer is found for it or the peer isn't among the realm's; what it names; 401 where it holds a salted
+/// string. In a realm with `own_sessions` that is: 404 where it has several User-Names or Acct-Session-Ids; 502 where its
+/// User-Name doesn't name this realm; 503 where no open session of that peer is the one that it names, and 508 where
+/// several are. Without: 502 where its User-Name doesn't name this realm, or where it has neither a User-Name nor an
+/// Acct-Session-Id; 503 where it has no User-Name, and its session isn't an open one of that peer. Which realm its first
 /// User-Name names is said by who looked it up; of other realms nothing is looked at here.
 #[tactic(auto, unfolding(crate::specs::Causes::cause))]
 pub fn route_of<A: Allocator + Copy>(
@@ -105,7 +208,8 @@ pub fn route_of<A: Allocator + Copy>(
     if !config.is_peer_of(realm, peer) {
         return Err(REQUEST_NOT_ROUTABLE);
     }
-    if let Some(cause) = cause_by_name(realm, named, peer, request, sessions) {
+    let own = names_sessions(config, realm);
+    if let Some(cause) = cause_by_names(own, realm, named, peer, request, sessions) {
         return Err(cause);
     }
     match cause_by_salt(request) {

@@ -1,17 +1,21 @@
 //! Laws of targets, ledgers and causes, for callers' proofs, and the numbers that RFCs give. They do
 //! nothing when they run.
 
-ghost use Rattle.roam_reverse.specs.CauseLaws.{ForwardedHasTarget, ForwardedNamesTheRealm, NamedRequestsNeedNoSession};
+ghost use Rattle.roam_reverse.specs.CauseLaws.{ForwardedHasTarget, ForwardedIsOfOneSession, ForwardedNamesTheRealm};
+ghost use Rattle.roam_reverse.specs.CauseLaws.{NamedRequestsNeedNoSession};
 ghost use Rattle.roam_reverse.specs.Constants.{ErrorCauses, StatusTypes};
-ghost use Rattle.roam_reverse.specs.SessionLaws.{ClosedIsGone, LimitOfNoneHoldsNone, NoneOfThePeerIsLeft};
+ghost use Rattle.roam_reverse.specs.SessionLaws.{ClosedIsGone, LimitOfNoneHoldsNone, MoreMakesWay, NoneThatAgreesIsLeft};
 ghost use Rattle.roam_reverse.specs.SessionLaws.{OpenedIsThere, OpenedTwiceIsOpenedOnce, OtherPeersSessionsStay};
-ghost use Rattle.roam_reverse.specs.SessionLaws.{OthersStayOpen, RequestsKeepTheLedger};
-ghost use Rattle.roam_reverse.specs.TargetLaws.{NamelessIsForNone, NoTargetIsThere, TargetIsTheFirst};
+ghost use Rattle.roam_reverse.specs.SessionLaws.{OthersStayOpen, OthersThanTheseStay, RequestsKeepTheLedger};
+ghost use Rattle.roam_reverse.specs.TargetLaws.{NamelessIsForNone, NamesAreTheTargets, OperatorNamesTheTarget};
+ghost use Rattle.roam_reverse.specs.TargetLaws.{TargetTakesRequests};
 
-/// The target is the first peer that takes reverse requests and fits.
-pub fn target_is_the_first()
-    ensures first { TargetIsTheFirst }
-    ensures none { NoTargetIsThere }
+/// The target takes reverse requests and is named: by the Operator-Name, where that counts, else by each name of an access
+/// server that is there.
+pub fn target_is_named()
+    ensures takes { TargetTakesRequests }
+    ensures operator { OperatorNamesTheTarget }
+    ensures nas { NamesAreTheTargets }
     ensures nameless { NamelessIsForNone }
 {}
 
@@ -33,13 +37,24 @@ pub fn closed_sessions()
     ensures others { OthersStayOpen }
 {}
 
-/// Where all sessions of a peer are closed, none of them is left, and those of other peers stay.
+/// Where all sessions that agree are closed, none of them is left, and the others stay, as those of other peers.
 pub fn sessions_of_a_peer()
-    ensures gone { NoneOfThePeerIsLeft }
+    ensures gone { NoneThatAgreesIsLeft }
+    ensures stay { OthersThanTheseStay }
     ensures others { OtherPeersSessionsStay }
 {}
 
-/// Where a request has a User-Name, the ledger isn't looked at.
+/// A session makes way for one of another peer only where its own peer has more.
+pub fn peers_have_shares()
+    ensures { MoreMakesWay }
+{}
+
+/// In a realm with `own_sessions` a request that can be forwarded is of one session of the realm's own.
+pub fn forwarded_is_of_one_session()
+    ensures { ForwardedIsOfOneSession }
+{}
+
+/// Where a request has a User-Name in a realm without `own_sessions`, the ledger isn't looked at.
 pub fn named_requests_need_no_session()
     ensures { NamedRequestsNeedNoSession }
 {}

@@ -1,14 +1,19 @@
 //! The ledger of a realm's open sessions.
 
-ghost use Rattle.std.specs.Prelude.{◌≡◌, ◌<◌, ◌≤◌, [], IfOk, IsOk, OnOk, OnErr, length};
-ghost use Rattle.roam_reverse.specs.Sessions.{IsLedger, applied, change_by_request, changed, closes_all, has_session};
-ghost use Rattle.roam_reverse.specs.Sessions.{with_session, without_session, without_peer};
-ghost use Rattle.roam_reverse.specs.Shown.{HasRoomFor, shown_session};
+ghost use Rattle.std.specs.Prelude.{◌≡◌, ◌<◌, [], IfOk, IsOk, OnOk, OnErr, Some, filter, is_some, length};
+ghost use Rattle.roam_reverse.specs.Sessions.{IsLedger, agrees, applied, change_by_request, changed, is_open};
+ghost use Rattle.roam_reverse.specs.Sessions.{has_session, with_session, without_agreeing, without_session};
+ghost use Rattle.roam_reverse.specs.Kept.{kept_session, shown_asked, shown_session};
+ghost use Rattle.roam_reverse.specs.Shown.{HasRoomFor, IsClosing};
 
 use crate::accounting::{Said, said_by};
+use crate::asked::{AskedRef, SessionRef, counted_nas};
 use crate::chain::Chain;
-use crate::open_session::{NewSession, OpenSession};
-use crate::session::{Change, PreparedChange};
+use crate::open_session::NewSession;
+use crate::session::{Change, NasArray, PreparedChange, SessionArray};
+use crate::short::first_short;
+use roam_hash::HashKey;
+use roam_wire::attribute_type::ACCT_SESSION_ID;
 use roam_wire::{NoMemory, View};
 use std::alloc::Allocator;
 use std::marker::Model;
@@ -25,7 +30,7 @@ pub struct Sessions<A: Allocator> {
 impl<A: Allocator> Model for Sessions<A> {
     ghost use Rattle.std.specs.Prelude.{◌≤◌};
     ghost use Rattle.roam_reverse.specs.Shown.{Ledger};
-    ghost use Rattle.roam_reverse.specs.Stands.{IsSound, chain_of, sessions_of};
+    ghost use Rattle.roam_reverse.specs.Stands.{IsSound, session_count, sessions_of};
 
     ghost Value = { Ledger };
 
@@ -35,19 +40,20 @@ impl<A: Allocator> Model for Sessions<A> {
       spare = l.chain.spare;
     } };
 
-    ghost invariant = { λ l. IsSound l.chain × ((chain_of l.chain).count ≤ l.limit) };
+    ghost invariant = { λ l. IsSound l.chain × (session_count l.chain ≤ l.limit) };
 }
 
 impl<A: Allocator + Copy> Sessions<A> {
-    /// No sessions, and at most so many from now on. Takes no memory.
-    pub fn new(alloc: A, limit: u32) -> Sessions<A>
+    /// No sessions, and at most so many from now on. What it answers doesn't depend on the key of its hashes. Takes no
+    /// memory.
+    pub fn new(alloc: A, limit: u32, key: HashKey) -> Sessions<A>
         ensures limit { result.limit ≡ limit }
         ensures sessions { result.sessions ≡ [] }
     {
         Sessions {
             alloc,
             limit,
-            chain: Chain::new(alloc),
+            chain: Chain::new(alloc, key),
         }
     }
 
@@ -58,85 +64,73 @@ impl<A: Allocator + Copy> Sessions<A> {
         self.chain.len()
     }
 
-    /// Whether the session of a peer and an id is open. Takes no memory.
-    pub fn has(&self, peer: u16, id: &[u8]) -> bool
-        ensures found { result
-            ≡ has_session (record { peer = peer; id = id.now }) self.now.sessions }
+    /// Whether a session is open. Takes no memory.
+    pub(crate) fn has(&self, session: SessionRef<'_>) -> bool
+        ensures found { result ≡ has_session (shown_session session.entry) self.now.sessions }
         ensures ledger { IsLedger self.now.limit self.now.sessions }
     {
-        self.chain.find(peer, id).is_some()
+        self.chain.find(session).is_some()
     }
 
-    /// Makes all growth that the change by an Accounting-Request of a peer wants, and changes no
-    /// session. Then [`Sessions::apply_prepared`] always answers. No memory is wanted where the
-    /// request leaves the sessions as they are, or says that none of the peer's is open.
-    pub fn prepare(&mut self, peer: u16, request: &View<'_>) -> Result<PreparedChange<A>, NoMemory>
+    /// How many sessions agree with what is asked, which names an id. Takes no memory.
+    pub(crate) fn count(&self, asked: AskedRef<'_>) -> usize
+        requires { is_some (shown_asked asked.entry).id ≡ true }
+        ensures { result ≡ length (filter (agrees (shown_asked asked.entry)) self.now.sessions) }
+    {
+        self.chain.count(asked)
+    }
+
+    /// Makes all growth that the change by an Accounting-Request of a peer wants, where names of access servers count or
+    /// not, and changes no session. Then [`Sessions::apply_prepared`] always answers. Memory is wanted only where the
+    /// request opens a session that isn't there.
+    pub fn prepare(
+        &mut self,
+        own: bool,
+        peer: u16,
+        request: &View<'_>,
+    ) -> Result<PreparedChange<A>, NoMemory>
         ensures change { IfOk result (λ prepared.
             changed self.old.limit prepared self.old.sessions
-            ≡ applied self.old.limit peer request.now.attributes self.old.sessions) }
+            ≡ applied self.old.limit own peer request.now.attributes self.old.sessions) }
         ensures room { IfOk result (λ prepared. HasRoomFor prepared self.new) }
         ensures err { OnErr result (self.new ≡ self.old) }
-        ensures idle { applied self.old.limit peer request.now.attributes self.old.sessions
+        ensures idle { applied self.old.limit own peer request.now.attributes self.old.sessions
             ≡ self.old.sessions → IsOk result }
-        ensures closing_all { change_by_request peer request.now.attributes ≡ closes_all peer
-            → IsOk result }
+        ensures closing { IsClosing (change_by_request own peer request.now.attributes) → IsOk result }
         ensures limit { self.new.limit ≡ self.old.limit }
         ensures sessions { self.new.sessions ≡ self.old.sessions }
     {
-        match said_by(request) {
-            Said::Opens(id) => self.prepare_opening(peer, id),
-            Said::Closes(id) => self.prepare_closing(peer, id),
-            Said::ClosesAll => Ok(PreparedChange {
-                change: Change::ClosesAll(peer),
-            }),
-            Said::Nothing => Ok(PreparedChange {
-                change: Change::Nothing,
-            }),
-        }
+        let change = match said_by(own, peer, request) {
+            Said::Opens(session) => return self.prepare_opening(session),
+            Said::Closes(session) => Change::Closes(SessionArray::copy_of(session)),
+            Said::ClosesAll(asked) => Change::ClosesAll(asked.peer, NasArray::copy_of(asked.nas)),
+            Said::Nothing => Change::Nothing,
+        };
+        Ok(PreparedChange { change })
     }
 
     /// The same for a session that is open: one that is there, or that can't be kept, wants no
     /// memory.
-    fn prepare_opening(&mut self, peer: u16, id: &[u8]) -> Result<PreparedChange<A>, NoMemory>
+    fn prepare_opening(&mut self, session: SessionRef<'_>) -> Result<PreparedChange<A>, NoMemory>
         ensures change { IfOk result (λ prepared.
             changed self.old.limit prepared self.old.sessions
-            ≡ with_session self.old.limit (record { peer = peer; id = id.now }) self.old.sessions) }
+            ≡ with_session self.old.limit (shown_session session.entry) self.old.sessions) }
         ensures room { IfOk result (λ prepared. HasRoomFor prepared self.new) }
         ensures err { OnErr result (self.new ≡ self.old) }
-        ensures idle { with_session self.old.limit (record { peer = peer; id = id.now })
+        ensures idle { with_session self.old.limit (shown_session session.entry)
             self.old.sessions ≡ self.old.sessions → IsOk result }
         ensures limit { self.new.limit ≡ self.old.limit }
         ensures sessions { self.new.sessions ≡ self.old.sessions }
     {
-        if self.has(peer, id) || self.limit == 0 {
+        if self.has(session) || self.limit == 0 {
             return Ok(PreparedChange {
                 change: Change::Nothing,
             });
         }
-        let session = NewSession::copy_of(self.alloc, peer, id)?;
+        let new = NewSession::copy_of(self.alloc, session)?;
         self.chain.reserve()?;
         Ok(PreparedChange {
-            change: Change::Opens(session),
-        })
-    }
-
-    /// The same for a session that is open no more: one that isn't there wants no memory.
-    fn prepare_closing(&self, peer: u16, id: &[u8]) -> Result<PreparedChange<A>, NoMemory>
-        ensures change { IfOk result (λ prepared.
-            changed self.now.limit prepared self.now.sessions
-            ≡ without_session (record { peer = peer; id = id.now }) self.now.sessions) }
-        ensures room { IfOk result (λ prepared. HasRoomFor prepared self.now) }
-        ensures idle { without_session (record { peer = peer; id = id.now }) self.now.sessions
-            ≡ self.now.sessions → IsOk result }
-    {
-        if !self.has(peer, id) {
-            return Ok(PreparedChange {
-                change: Change::Nothing,
-            });
-        }
-        let session = OpenSession::copy_of(self.alloc, peer, id)?;
-        Ok(PreparedChange {
-            change: Change::Closes(session),
+            change: Change::Opens(new),
         })
     }
 
@@ -147,9 +141,13 @@ impl<A: Allocator + Copy> Sessions<A> {
         ensures sessions { self.new.sessions ≡ changed self.old.limit prepared self.old.sessions }
     {
         match prepared.change {
-            Change::Opens(session) => self.open(session),
-            Change::Closes(session) => self.close(&session),
-            Change::ClosesAll(peer) => self.close_all(peer),
+            Change::Opens(new) => self.open(new),
+            Change::Closes(session) => self.close(session.lend()),
+            Change::ClosesAll(peer, nas) => self.close_all(AskedRef {
+                peer,
+                nas: nas.lend(),
+                id: None,
+            }),
             Change::Nothing => {}
         }
     }
@@ -158,53 +156,70 @@ impl<A: Allocator + Copy> Sessions<A> {
     ///
     /// What an Accounting-Request of a peer does once it was answered. Memory as in
     /// [`Sessions::prepare`].
-    pub fn apply(&mut self, peer: u16, request: &View<'_>) -> Result<(), NoMemory>
+    pub fn apply(&mut self, own: bool, peer: u16, request: &View<'_>) -> Result<(), NoMemory>
         ensures ok { OnOk result (self.new.sessions
-            ≡ applied self.old.limit peer request.now.attributes self.old.sessions) }
+            ≡ applied self.old.limit own peer request.now.attributes self.old.sessions) }
         ensures err { OnErr result (self.new ≡ self.old) }
-        ensures idle { applied self.old.limit peer request.now.attributes self.old.sessions
+        ensures idle { applied self.old.limit own peer request.now.attributes self.old.sessions
             ≡ self.old.sessions → IsOk result }
-        ensures closing_all { change_by_request peer request.now.attributes ≡ closes_all peer
-            → IsOk result }
+        ensures closing { IsClosing (change_by_request own peer request.now.attributes) → IsOk result }
         ensures limit { self.new.limit ≡ self.old.limit }
     {
-        let prepared = self.prepare(peer, request)?;
+        let prepared = self.prepare(own, peer, request)?;
         self.apply_prepared(prepared);
         Ok(())
     }
 
-    /// Adds a session where there is room: the oldest goes where as many are there as may be.
+    /// For tests. Whether the session is open that an Accounting-Request of a peer names, as [`Sessions::apply`] would
+    /// open or close it. Takes no memory.
+    pub fn is_open(&self, own: bool, peer: u16, request: &View<'_>) -> bool
+        ensures { result ≡ is_open own peer request.now.attributes self.now.sessions }
+    {
+        match first_short(request, ACCT_SESSION_ID) {
+            None => false,
+            Some(id) => self.has(SessionRef {
+                peer,
+                nas: counted_nas(own, request),
+                id,
+            }),
+        }
+    }
+
+    /// Adds a session where there is room, last: where there is then one more than may be, the oldest of the peer that has
+    /// most goes.
     fn open(&mut self, new: NewSession<A>)
         requires { 0 < self.old.spare }
         ensures limit { self.new.limit ≡ self.old.limit }
         ensures sessions { self.new.sessions
-            ≡ with_session self.old.limit (shown_session new.session) self.old.sessions }
+            ≡ with_session self.old.limit (kept_session new.session) self.old.sessions }
     {
-        if self.chain.ticket_of(&new.session).is_some() || self.limit == 0 {
+        if self.has(new.session.lend()) || self.limit == 0 {
             return;
         }
-        if self.chain.len() >= self.limit as usize {
-            self.chain.remove_oldest();
-        }
         self.chain.append(new);
+        if self.chain.len() > self.limit as usize {
+            self.chain.remove_of_most();
+        }
     }
 
     /// Takes a session out.
-    fn close(&mut self, session: &OpenSession<A>)
+    fn close(&mut self, session: SessionRef<'_>)
         ensures limit { self.new.limit ≡ self.old.limit }
         ensures sessions { self.new.sessions
-            ≡ without_session (shown_session session.now) self.old.sessions }
+            ≡ without_session (shown_session session.entry) self.old.sessions }
     {
-        if let Some(ticket) = self.chain.ticket_of(session) {
+        if let Some(ticket) = self.chain.find(session) {
             self.chain.remove(ticket);
         }
     }
 
-    /// Takes all sessions of a peer out.
-    fn close_all(&mut self, peer: u16)
+    /// Takes all sessions out that agree with what is asked, which names no id.
+    fn close_all(&mut self, asked: AskedRef<'_>)
+        requires { (shown_asked asked.entry).id ≡ None }
         ensures limit { self.new.limit ≡ self.old.limit }
-        ensures sessions { self.new.sessions ≡ without_peer peer self.old.sessions }
+        ensures sessions { self.new.sessions
+            ≡ without_agreeing (shown_asked asked.entry) self.old.sessions }
     {
-        self.chain.remove_peer(peer);
+        self.chain.remove_agreeing(asked);
     }
 }

@@ -7,32 +7,40 @@
 //!
 //! # Proved
 //!
-//! - which access server a reverse request is for: the first that takes such requests and fits | `target`, law
-//!   `target_is_the_first`
+//! - which access server a reverse request is for: the one that its Operator-Name names, else the one that its
+//!   NAS-IP-Address and NAS-Identifier name | `target`, law `target_is_named`
 //! - why it isn't forwarded: the first cause that holds; without one there is a target among the realm's peers, no
-//!   salted string, and a User-Name names this realm | `verdict`, `route_of`, law `forwarded_has_target`
+//!   salted string, and a User-Name names this realm; with `own_sessions` just one session of the realm's own
+//!   agrees with it | `verdict`, `route_of`, laws `forwarded_has_target`, `forwarded_is_of_one_session`
 //! - the numbers of status types and of Error-Causes are those of the RFCs | law
 //!   `numbers_of_statuses_and_causes`
 //! - the ledger of a realm's sessions: what an Accounting-Request does to it, no session twice, never more than
-//!   its limit; all allocation comes before the change, and none is needed where nothing changes | `Sessions`;
-//!   laws `ledgers_stay_ledgers`, `opened_sessions`, `closed_sessions`, `sessions_of_a_peer`
+//!   its limit; a peer loses a session to another only where it has more; all allocation comes before the change, and
+//!   none is needed where nothing changes | `Sessions`; laws `ledgers_stay_ledgers`, `opened_sessions`,
+//!   `closed_sessions`, `sessions_of_a_peer`, `peers_have_shares`
 #![tactic(auto)]
 
 mod accounting;
+mod asked;
 mod chain;
+mod ends;
 pub mod error_cause;
+mod facets;
+mod groups;
 mod laws;
 mod ledger;
 mod nas_target;
-mod node;
+mod neighbours;
 mod open_session;
+mod row;
 mod session;
-mod session_index;
+mod short;
 
 pub use error_cause::{route_of, verdict};
 pub use laws::{
-    closed_sessions, forwarded_has_target, ledgers_stay_ledgers, named_requests_need_no_session,
-    numbers_of_statuses_and_causes, opened_sessions, sessions_of_a_peer, target_is_the_first,
+    closed_sessions, forwarded_has_target, forwarded_is_of_one_session, ledgers_stay_ledgers,
+    named_requests_need_no_session, numbers_of_statuses_and_causes, opened_sessions,
+    peers_have_shares, sessions_of_a_peer, target_is_named,
 };
 pub use ledger::Sessions;
 pub use nas_target::target;

@@ -1,76 +1,82 @@
-//! The access server that a reverse request is for (RFC 5176, section 3).
+//! The access server that a reverse request is for (RFC 5176, section 3; RFC 8559).
 
-ghost use Rattle.std.specs.Prelude.{◌≡◌, ◌<◌, IfSome, length, map, option_map, vec_len};
-ghost use Rattle.roam_conf.specs.Lookup.{first_place};
-ghost use Rattle.roam_conf.specs.Parts.{shown_peer};
+ghost use Rattle.std.specs.Prelude.{◌≡◌, ◌<◌, IfSome, length, option_map, vec_len};
 ghost use Rattle.roam_conf.specs.Shown.{shown};
 ghost use Rattle.roam_reverse.specs.Shown.{shown_names};
-ghost use Rattle.roam_reverse.specs.Target.{agrees, is_target, target};
+ghost use Rattle.roam_reverse.specs.Target.{peer_named, peer_of_nas, peer_of_operator, same_peer, target, with_coa};
 
-use roam_conf::{Config, Peer};
+use roam_conf::Config;
 use roam_route::{NasName, nas_of};
 use roam_wire::View;
+use roam_wire::attribute_type::OPERATOR_NAME;
 
-/// Whether a peer's address is the one that a packet names, if it names one.
-fn agrees_by_address(own: Option<[u8; 4]>, name: Option<&[u8]>) -> bool
-    ensures { result ≡ agrees own (option_map (λ value. value.now) name.entry) }
+/// The first octet of an Operator-Name that is the name of a realm (RFC 5580, section 4.1).
+const REALM: u8 = b'1';
+
+/// One peer, where both are that one.
+fn same_peer(a: Option<u16>, b: Option<u16>) -> Option<u16>
+    ensures value { result ≡ same_peer a b }
 {
-    match (own, name) {
-        (_, None) => true,
-        (None, Some(_)) => false,
-        (Some(own), Some(name)) => own.as_slice() == name,
+    match (a, b) {
+        (Some(a), Some(b)) if a == b => Some(a),
+        _ => None,
     }
 }
 
-/// Whether a peer's identifier is the one that a packet names, if it names one.
-fn agrees_by_identifier(own: Option<&[u8]>, name: Option<&[u8]>) -> bool
-    ensures { result ≡ agrees (option_map (λ value. value.now) own.entry)
-        (option_map (λ value. value.now) name.entry) }
+/// The peer that a NAS-IP-Address and a NAS-Identifier name: both of them, where both are there.
+fn peer_of_nas(config: &Config, names: NasName<'_>) -> Option<u16>
+    ensures { result ≡ peer_of_nas (shown config.now).peers (shown_names names.entry) }
 {
-    match (own, name) {
-        (_, None) => true,
-        (None, Some(_)) => false,
-        (Some(own), Some(name)) => own == name,
+    match (names.ip_address, names.identifier) {
+        (None, None) => None,
+        (Some(ip), None) => config.peer_by_nas_ip(ip),
+        (None, Some(name)) => config.peer_meant(name),
+        (Some(ip), Some(name)) => same_peer(config.peer_by_nas_ip(ip), config.peer_meant(name)),
     }
 }
 
-/// Whether a peer takes reverse requests and fits the names of a packet.
-fn is_target(peer: &Peer, names: NasName<'_>) -> bool
-    ensures { result ≡ is_target (shown_names names.entry) (shown_peer peer.now) }
+/// The peer that an Operator-Name names.
+fn peer_of_operator(config: &Config, operator: &[u8]) -> Option<u16>
+    ensures { result ≡ peer_of_operator (shown config.now).peers operator.now }
 {
-    let own = match &peer.nas_id {
-        Some(identifier) => Some(identifier.as_bytes()),
-        None => None,
-    };
-    peer.coa.is_some()
-        && (names.ip_address.is_some() || names.identifier.is_some())
-        && agrees_by_address(peer.nas_ip, names.ip_address)
-        && agrees_by_identifier(own, names.identifier)
-}
-
-/// The place of the first peer that takes reverse requests and fits the names of a packet.
-fn first_target(peers: &[Peer], names: NasName<'_>) -> Option<usize>
-    ensures value { result ≡ first_place (is_target (shown_names names.entry))
-        (map shown_peer peers.now) }
-    ensures bound { IfSome result (λ i. i < length peers.now) }
-{
-    for (i, peer) in peers.iter().enumerate() {
-        if is_target(peer, names) {
-            return Some(i);
-        }
+    match operator {
+        [REALM, name @ ..] => config.peer_by_operator(name),
+        _ => None,
     }
-    None
 }
 
-/// The index of the peer that a reverse request is for: the first that takes such requests, and
-/// that fits the NAS-IP-Address and the NAS-Identifier that the request names. Takes no memory.
+/// The peer that is named: by the Operator-Name, where there is one and some peer has one, else by the names of the access
+/// server.
+fn peer_named(config: &Config, operator: Option<&[u8]>, names: NasName<'_>) -> Option<u16>
+    ensures { result ≡ peer_named (shown config.now).peers (option_map (λ value. value.now) operator.entry)
+        (shown_names names.entry) }
+{
+    match operator {
+        Some(operator) if config.has_operators() => peer_of_operator(config, operator),
+        _ => peer_of_nas(config, names),
+    }
+}
+
+/// A peer, where it takes reverse requests.
+fn with_coa(config: &Config, peer: Option<u16>) -> Option<u16>
+    ensures value { result ≡ with_coa (shown config.now).peers peer }
+    ensures bound { IfSome result (λ peer. peer < vec_len config.now.peers) }
+{
+    let index = peer?;
+    match config.peers.get(usize::from(index)) {
+        Some(peer) if peer.coa.is_some() => Some(index),
+        _ => None,
+    }
+}
+
+/// The index of the peer that a reverse request is for: the one that its Operator-Name names, where it has one and some peer
+/// has an `operator_name`, else the one that its NAS-IP-Address and its NAS-Identifier name; if that takes reverse
+/// requests. Takes no memory.
 #[tactic(auto, unfolding(crate::specs::Target::target))]
 pub fn target(config: &Config, request: &View<'_>) -> Option<u16>
     ensures value { result ≡ target (shown config.now).peers request.now.attributes }
     ensures bound { IfSome result (λ peer. peer < vec_len config.now.peers) }
 {
-    match first_target(config.peers.as_slice(), nas_of(request)) {
-        Some(peer) => Some(peer as u16),
-        None => None,
-    }
+    let named = peer_named(config, request.first(OPERATOR_NAME), nas_of(request));
+    with_coa(config, named)
 }

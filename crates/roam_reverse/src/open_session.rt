@@ -1,34 +1,110 @@
-//! A session of a peer as one row of octets, by which the ledger finds it.
+//! A session that is open, and one that is to be opened, with all memory that it wants.
 
-ghost use Rattle.std.specs.Prelude.{◌≡◌, IfOk, drop};
-ghost use Rattle.roam_reverse.specs.Private.Row.{session_row};
+ghost use Rattle.std.specs.Prelude.{◌≡◌, IfOk, false, option_map, true};
+ghost use Rattle.roam_reverse.specs.Facets.{HasFacetRows};
+ghost use Rattle.roam_reverse.specs.Private.Row.{whole_row};
+ghost use Rattle.roam_reverse.specs.Kept.{kept_session, shown_session};
+ghost use Rattle.roam_reverse.specs.Short.{kept_octets, shown_short};
 
-use roam_wire::{NoMemory, Octets};
+use crate::asked::{NasRef, SessionRef};
+use crate::facets::{FacetRows, facet_rows};
+use crate::row::Row;
+use crate::short::{KeptShort, Short};
+use roam_wire::NoMemory;
 use std::alloc::Allocator;
 
-/// An open session: its peer, and the octets of its Acct-Session-Id (RFC 2866, section 5.5).
+/// An open session: its peer, the names of its access server, where they count, and the octets of its Acct-Session-Id (RFC
+/// 2866, section 5.5).
 #[derive(Drop)]
 pub(crate) struct OpenSession<A: Allocator> {
     pub(crate) peer: u16,
-    /// The peer's number in two octets, the high one first, and then the id.
-    pub(crate) row: Octets<A>,
-    ghost is_row: { row ≡ session_row peer (drop 2 row) },
+    pub(crate) address: Option<KeptShort<A>>,
+    pub(crate) identifier: Option<KeptShort<A>>,
+    pub(crate) id: KeptShort<A>,
 }
 
-/// The row of a peer and an id.
-pub(crate) fn row_of<A: Allocator>(alloc: A, peer: u16, id: &[u8]) -> Result<Vec<u8, A>, NoMemory>
-    ensures { IfOk result (λ row. row.items ≡ session_row peer id.now) }
+/// A copy of octets, where there are any.
+fn kept<A: Allocator + Copy>(
+    alloc: A,
+    part: Option<Short<'_>>,
+) -> Result<Option<KeptShort<A>>, NoMemory>
+    ensures { IfOk result (λ kept. option_map kept_octets kept ≡ option_map shown_short part.entry) }
 {
-    let mut row = Vec::with_capacity(alloc, 2 + id.len())?;
-    row.extend_from_slice(&[(peer / 256) as u8, (peer % 256) as u8])?;
-    row.extend_from_slice(id)?;
-    Ok(row)
+    match part {
+        None => Ok(None),
+        Some(part) => Ok(Some(KeptShort::copy_of(alloc, part)?)),
+    }
 }
 
-/// A session that is opened, with a second copy of its row for the index.
+/// Octets where they lie, where there are any.
+fn lent<A: Allocator>(part: &Option<KeptShort<A>>) -> Option<Short<'_>>
+    ensures { option_map shown_short result ≡ option_map kept_octets part.now }
+{
+    match part {
+        None => None,
+        Some(part) => Some(part.lend()),
+    }
+}
+
+impl<A: Allocator + Copy> OpenSession<A> {
+    /// A copy of a session.
+    pub(crate) fn copy_of(alloc: A, session: SessionRef<'_>) -> Result<OpenSession<A>, NoMemory>
+        ensures { IfOk result (λ kept. kept_session kept ≡ shown_session session.entry) }
+    {
+        let address = kept(alloc, session.nas.address)?;
+        let identifier = kept(alloc, session.nas.identifier)?;
+        let id = KeptShort::copy_of(alloc, session.id)?;
+        Ok(OpenSession {
+            peer: session.peer,
+            address,
+            identifier,
+            id,
+        })
+    }
+}
+
+impl<A: Allocator> OpenSession<A> {
+    /// The session where it lies.
+    pub(crate) fn lend(&self) -> SessionRef<'_>
+        ensures { shown_session result ≡ kept_session self.now }
+    {
+        SessionRef {
+            peer: self.peer,
+            nas: NasRef {
+                address: lent(&self.address),
+                identifier: lent(&self.identifier),
+            },
+            id: self.id.lend(),
+        }
+    }
+}
+
+/// A session that is to be opened, with the rows by which it is found: its own, those without its id and those with it.
 #[derive(Drop)]
 pub(crate) struct NewSession<A: Allocator> {
     pub(crate) session: OpenSession<A>,
-    pub(crate) row: Vec<u8, A>,
-    ghost same: { row.items ≡ session.row },
+    pub(crate) whole: Vec<u8, A>,
+    pub(crate) of_peer: FacetRows<A>,
+    pub(crate) of_id: FacetRows<A>,
+    ghost whole_is: { whole.items ≡ whole_row (kept_session session) },
+    ghost of_peer_are: { HasFacetRows false (kept_session session) of_peer },
+    ghost of_id_are: { HasFacetRows true (kept_session session) of_id },
+}
+
+impl<A: Allocator + Copy> NewSession<A> {
+    /// A copy of a session, with its rows.
+    pub(crate) fn copy_of(alloc: A, session: SessionRef<'_>) -> Result<NewSession<A>, NoMemory>
+        ensures { IfOk result (λ new. kept_session new.session ≡ shown_session session.entry) }
+    {
+        let kept = OpenSession::copy_of(alloc, session)?;
+        let whole = Row::of(session.asked()).copy(alloc)?;
+        let of_peer = facet_rows(alloc, session, false)?;
+        let of_id = facet_rows(alloc, session, true)?;
+        Ok(NewSession {
+            session: kept,
+            whole,
+            of_peer,
+            of_id,
+        })
+    }
 }

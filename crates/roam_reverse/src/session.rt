@@ -1,32 +1,94 @@
-//! A session of a peer, and a change of the ledger that owns what it needs.
+//! A change of the ledger that owns what it needs.
 
-ghost use Rattle.std.specs.Prelude.{◌≡◌, IfOk};
-ghost use Rattle.roam_reverse.specs.Shown.{shown_session};
+ghost use Rattle.std.specs.Prelude.{◌≡◌, option_map};
+ghost use Rattle.roam_reverse.specs.Short.{short_octets, shown_short};
+ghost use Rattle.roam_reverse.specs.Kept.{shown_nas, shown_session};
+ghost use Rattle.roam_reverse.specs.Shown.{arrayed_nas, arrayed_session};
 
-use crate::open_session::{NewSession, OpenSession, row_of};
-use roam_wire::{NoMemory, Octets};
+use crate::asked::{AskedRef, NasRef, SessionRef};
+use crate::open_session::NewSession;
+use crate::short::{Short, ShortArray};
 use std::alloc::Allocator;
 use std::marker::Model;
 
-impl<A: Allocator> OpenSession<A> {
-    /// The session of a peer and an id, which is copied.
-    pub(crate) fn copy_of(alloc: A, peer: u16, id: &[u8]) -> Result<OpenSession<A>, NoMemory>
-        ensures { IfOk result (λ s. shown_session s ≡ record { peer = peer; id = id.now }) }
-    {
-        let row = Octets::from_vec(row_of(alloc, peer, id)?);
-        Ok(OpenSession { peer, row })
+/// The names of an access server, kept without memory.
+#[derive(Clone, Copy)]
+pub(crate) struct NasArray {
+    pub(crate) address: Option<ShortArray>,
+    pub(crate) identifier: Option<ShortArray>,
+}
+
+/// A session, kept without memory.
+#[derive(Clone, Copy)]
+pub(crate) struct SessionArray {
+    pub(crate) peer: u16,
+    pub(crate) nas: NasArray,
+    pub(crate) id: ShortArray,
+}
+
+/// A copy of octets, where there are any.
+fn array_of(part: Option<Short<'_>>) -> Option<ShortArray>
+    ensures { option_map short_octets result ≡ option_map shown_short part.entry }
+{
+    match part {
+        None => None,
+        Some(part) => Some(ShortArray::copy_of(part)),
     }
 }
 
-impl<A: Allocator + Copy> NewSession<A> {
-    /// The session of a peer and an id, which is copied twice.
-    pub(crate) fn copy_of(alloc: A, peer: u16, id: &[u8]) -> Result<NewSession<A>, NoMemory>
-        ensures { IfOk result (λ new. shown_session new.session
-            ≡ record { peer = peer; id = id.now }) }
+/// Octets where they lie, where there are any.
+fn lent(part: &Option<ShortArray>) -> Option<Short<'_>>
+    ensures { option_map shown_short result ≡ option_map short_octets part.now }
+{
+    match part {
+        None => None,
+        Some(part) => Some(part.lend()),
+    }
+}
+
+impl NasArray {
+    /// A copy of names.
+    pub(crate) fn copy_of(nas: NasRef<'_>) -> NasArray
+        ensures { arrayed_nas result ≡ shown_nas nas.entry }
     {
-        let session = OpenSession::copy_of(alloc, peer, id)?;
-        let row = row_of(alloc, peer, id)?;
-        Ok(NewSession { session, row })
+        NasArray {
+            address: array_of(nas.address),
+            identifier: array_of(nas.identifier),
+        }
+    }
+
+    /// The names where they lie.
+    pub(crate) fn lend(&self) -> NasRef<'_>
+        ensures { shown_nas result ≡ arrayed_nas self.now }
+    {
+        NasRef {
+            address: lent(&self.address),
+            identifier: lent(&self.identifier),
+        }
+    }
+}
+
+impl SessionArray {
+    /// A copy of a session.
+    pub(crate) fn copy_of(session: SessionRef<'_>) -> SessionArray
+        ensures { arrayed_session result ≡ shown_session session.entry }
+    {
+        SessionArray {
+            peer: session.peer,
+            nas: NasArray::copy_of(session.nas),
+            id: ShortArray::copy_of(session.id),
+        }
+    }
+
+    /// The session where it lies.
+    pub(crate) fn lend(&self) -> SessionRef<'_>
+        ensures { shown_session result ≡ arrayed_session self.now }
+    {
+        SessionRef {
+            peer: self.peer,
+            nas: self.nas.lend(),
+            id: self.id.lend(),
+        }
     }
 }
 
@@ -34,8 +96,9 @@ impl<A: Allocator + Copy> NewSession<A> {
 #[derive(Drop)]
 pub(crate) enum Change<A: Allocator> {
     Opens(NewSession<A>),
-    Closes(OpenSession<A>),
-    ClosesAll(u16),
+    Closes(SessionArray),
+    /// All sessions of a peer that agree with these names.
+    ClosesAll(u16, NasArray),
     Nothing,
 }
 

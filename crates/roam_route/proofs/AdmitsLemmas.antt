@@ -18,16 +18,16 @@ use Rattle.roam_fwd.specs.Forwarded.{HasPasswordBlocks}
 use Rattle.roam_route.specs.UserName.{realm_of}
 use Rattle.roam_route.specs.LocalAnswer.{accounting_answer, answer_length, local_reject}
 use Rattle.roam_route.specs.LocalReject.{takes_of}
-use Rattle.roam_route.specs.Admission.{Arrival, PlainJob, PlainOut, Admission, refused, rejected, admitted, sender, checked, accounted, accounting_in, by_accounting, job_of, forwarded_for, answered_by, rejected_for, for_named_realm, route_request, request_admission, is_taken, is_rightly_signed, is_rightly_sealed, has_needed_seal, has_few_hops, seal_required}
+use Rattle.roam_route.specs.Admission.{Arrival, PlainJob, PlainOut, Admission, refused, rejected, admitted, sender, checked, accounted, accounting_in, by_accounting, job_of, forwarded_for, answered_by, rejected_for, for_named_realm, route_request, request_admission, is_taken, has_few_attributes, is_rightly_signed, is_rightly_sealed, has_needed_seal, has_few_hops, seal_required}
 use Rattle.roam_route.specs.Events.{arrival_of, IsConfigured, IsForwardable, IsNamed}
 use Rattle.roam_route.specs.Shapings.{sent_length}
 use Rattle.roam_route.specs.declared.job.Side.{Side}
 use Rattle.roam_route.specs.declared.job.Side.TheVariants as side
 use Rattle.roam_route.proofs.SenderLemmas.{realm_of_within}
 
--- the arrival of a packet without padding
+-- the arrival of a packet without padding, and without the wall clock's seconds
 abbrev pub without_padding : Arrival → Packet → Arrival
-without_padding a p = record { at = a.at; from = a.from; octets = packet_text p }
+without_padding a p = record { at = a.at; from = a.from; octets = packet_text p; seconds = None }
 
 -- ---- what is admitted of a packet
 
@@ -194,8 +194,10 @@ request_admits config secret a s p h =
     let fourth : Admission = checked few refusal.TooManyHops last in
     let third : Admission = checked has_needed refusal.MissingMessageAuthenticator fourth in
     let second : Admission = checked (is_rightly_sealed secret p) refusal.BadMessageAuthenticator third in
+    let first : Admission = checked (is_rightly_signed secret p) refusal.BadAuthenticator second in
+    checked_admits config a p (has_few_attributes config.max_attributes p) refusal.TooManyAttributes first (λ _.
     checked_admits config a p (is_rightly_signed secret p) refusal.BadAuthenticator second (λ _.
     checked_admits config a p (is_rightly_sealed secret p) refusal.BadMessageAuthenticator third (λ well.
     checked_admits config a p has_needed refusal.MissingMessageAuthenticator fourth (λ _.
     checked_admits config a p few refusal.TooManyHops last (λ _.
-    h (sealed_once secret p well)))))
+    h (sealed_once secret p well))))))

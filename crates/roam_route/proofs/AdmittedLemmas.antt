@@ -6,6 +6,7 @@ use Rattle.std.proofs.lemmas.Bool.Decides.{Decides-eqb, nat_tests}
 use Rattle.roam_wire.specs.Packet.{Packet}
 use Rattle.roam_wire.specs.Reading.{reading}
 use Rattle.roam_wire.specs.declared.code.TheConstants.{ACCESS_REQUEST, ACCOUNTING_REQUEST, COA_REQUEST, DISCONNECT_REQUEST}
+use Rattle.roam_wire.specs.declared.refusal.Refusal.{Refusal}
 use Rattle.roam_wire.specs.declared.refusal.Refusal.TheVariants as refusal
 use Rattle.roam_auth.specs.Deciding.{is_well_sealed}
 use Rattle.roam_conf.specs.Config.{ConfigView}
@@ -14,7 +15,7 @@ use Rattle.roam_conf.specs.declared.place.Place.{Place}
 use Rattle.roam_conf.specs.declared.place.Place.TheVariants as place
 use Rattle.roam_route.specs.UserName.{realm_of}
 use Rattle.roam_route.specs.LocalAnswer.{status_answer}
-use Rattle.roam_route.specs.Admission.{Arrival, PlainJob, Admission, refused, admitted, sender, checked, answered_by, route_request, packet_admission, sent_admission, read_admission, admission, is_taken, has_few_hops, has_seal, is_status_request, status_from, peer_secret, home_secret}
+use Rattle.roam_route.specs.Admission.{Arrival, PlainJob, Admission, refused, admitted, sender, checked, answered_by, route_request, packet_admission, sent_admission, read_admission, admission, is_taken, has_few_attributes, has_few_hops, has_seal, is_status_request, status_from, peer_secret, home_secret}
 use Rattle.roam_route.specs.AdmittedRequests.{IsRequestAt, IsRightRequest, IsJobOf, IsOfRequest, AdmittedIsRight}
 use Rattle.roam_route.specs.declared.job.Side.{Side}
 use Rattle.roam_route.specs.declared.job.Side.TheVariants as side
@@ -82,6 +83,12 @@ pub judged_is : (config : ConfigView) (a : Arrival) (s : Side) (p : Packet) → 
     → sent_admission config a p (Some s) ≡ packet_admission config a s p a.at
 judged_is config a s p h = rw (no_status config a.at s p.code h, code_taken a.at s p.code h) refl
 
+-- what is admitted passed its check
+unless : (b : Bool) (why : Refusal) (further : Admission) (job : PlainJob) → checked b why further ≡ admitted job
+    → further ≡ admitted job
+unless true why further job h = h
+unless false why further job h = absurd (cc h)
+
 -- what is admitted of a peer or a home server is a request's
 status_never : (config : ConfigView) (a : Arrival) (s : Side) (p : Packet) (job : PlainJob)
     → status_from config a s p ≡ admitted job → ⊥
@@ -92,16 +99,12 @@ status_never config a (side.Peer i) p job h =
     let answer : Admission = answered_by a (status_answer a.at secret p) in
     let sealed : Bool = is_well_sealed secret (p.authenticator ∷ []) p in
     let rest : Admission = checked (has_seal p) refusal.MissingMessageAuthenticator answer in
-    elim (cases_Bool sealed) [
-      | inl is ↦
-          let k : rest ≡ admitted job = rw is at h in
-          elim (cases_Bool (has_seal p)) [
-            | inl has ↦ absurd (let j : answer ≡ admitted job = rw has at k in cc j)
-            | inr hasnt ↦ absurd (let j : refused refusal.MissingMessageAuthenticator ≡ admitted job =
-                rw hasnt at k in cc j)
-          ]
-      | inr isnt ↦ absurd (let k : refused refusal.BadMessageAuthenticator ≡ admitted job = rw isnt at h in cc k)
-    ]
+    let counted : Admission = checked sealed refusal.BadMessageAuthenticator rest in
+    let few : Bool = has_few_attributes config.max_attributes p in
+    let asked : counted ≡ admitted job = unless few refusal.TooManyAttributes counted job h in
+    let kept : rest ≡ admitted job = unless sealed refusal.BadMessageAuthenticator rest job asked in
+    let last : answer ≡ admitted job = unless (has_seal p) refusal.MissingMessageAuthenticator answer job kept in
+    absurd (cc last)
 
 -- so an admission of a packet whose sender is known is of a code that is taken
 packet_given : (config : ConfigView) (a : Arrival) (s : Side) (p : Packet) (job : PlainJob)
@@ -172,7 +175,7 @@ as_sent config a p read = ap (read_admission config a) read
 -- what is admitted is right
 sent_right : (config : ConfigView) (a : Arrival) (p : Packet) (job : PlainJob) (o : Option Side)
     → sender config a a.at ≡ o → IsOfRequest job.side → sent_admission config a p o ≡ admitted job
-    → IsJobOf config a p job × IsRightRequest config a.at job.side p job.realm
+    → IsJobOf config a p job × IsRightRequest config a.seconds a.at job.side p job.realm
 sent_right config a p job None from of h = absurd (cc h)
 sent_right config a p job (Some s) from of h =
     let packet = packet_given config a s p job h in
@@ -186,7 +189,7 @@ sent_right config a p job (Some s) from of h =
         octets = is.octets_are;
         named = is.named_is;
       },
-      subst (λ (x : Side). IsRightRequest config a.at x p job.realm) (sym is.side_is) right.1,
+      subst (λ (x : Side). IsRightRequest config a.seconds a.at x p job.realm) (sym is.side_is) right.1,
     )
 
 pub admitted_is_right : AdmittedIsRight

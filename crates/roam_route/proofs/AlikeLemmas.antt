@@ -19,10 +19,11 @@ use Rattle.roam_conf.specs.declared.endpoint.Endpoint.{Endpoint}
 use Rattle.roam_conf.specs.declared.place.Place.{Place}
 use Rattle.roam_conf.specs.declared.place.Place.TheVariants as place
 use Rattle.roam_route.specs.UserName.{realm_of, realm_part}
+use Rattle.roam_route.specs.Freshness.{is_fresh}
 use Rattle.roam_route.specs.LocalAnswer.{answer_length, local_reject, status_answer}
 use Rattle.roam_route.specs.LocalReject.{has_bad_password, has_too_many_hops, takes_of}
 use Rattle.roam_route.specs.Shapings.{sent_length}
-use Rattle.roam_route.specs.Admission.{Arrival, Admission, checked, accounted, accounting_in, by_accounting, job_of, forwarded_for, answered_by, rejected_for, for_named_realm, request_admission, packet_admission, sent_admission, status_from, is_status_request, is_taken, peer_secret, home_secret, is_rightly_signed, is_rightly_sealed, has_needed_seal, has_few_hops, has_seal, seal_required}
+use Rattle.roam_route.specs.Admission.{Arrival, Admission, checked, accounted, accounting_in, by_accounting, job_of, forwarded_for, answered_by, rejected_for, reversed, for_named_realm, request_admission, packet_admission, sent_admission, status_from, is_status_request, is_taken, peer_secret, home_secret, is_rightly_signed, is_rightly_sealed, has_needed_seal, has_few_hops, has_seal, seal_required, has_few_attributes}
 use Rattle.roam_route.specs.declared.job.Side.{Side}
 use Rattle.roam_route.specs.declared.job.Side.TheVariants as side
 use Rattle.roam_route.specs.OwnPart.{own}
@@ -49,15 +50,24 @@ none-forwarded realm k size a s p names differs =
     none-checked realm (nat_le size 4096) refusal.TooLong (job_of a s p k names)
     (none-given realm k a s p names differs)
 
+pub none-reversed : (realm k : ℕ) (config : ConfigView) (a : Arrival) (s : Side) (p : Packet) → (k == realm) ≡ false
+    → own realm (reversed config a s p k) ≡ None
+none-reversed realm k config a s p differs =
+    let names : Option ℕ = realm_of config p.attributes in
+    none-checked realm (is_fresh config.fresh a.seconds p.attributes) refusal.Stale
+    (forwarded_for (sent_length config s p k) a s p k names)
+    (none-forwarded realm k (sent_length config s p k) a s p names differs)
+
 -- a Status-Server is no realm's
 none-status : (realm : ℕ) (config : ConfigView) (a : Arrival) (s : Side) (p : Packet) →
     own realm (status_from config a s p) ≡ None
 none-status realm config a (side.Peer i) p =
     let secret = peer_secret config i in
-    none-checked realm (is_well_sealed secret (p.authenticator ∷ []) p) refusal.BadMessageAuthenticator
+    none-checked realm (has_few_attributes config.max_attributes p) refusal.TooManyAttributes _
+    (none-checked realm (is_well_sealed secret (p.authenticator ∷ []) p) refusal.BadMessageAuthenticator
     (checked (has_seal p) refusal.MissingMessageAuthenticator (answered_by a (status_answer a.at secret p)))
     (none-checked realm (has_seal p) refusal.MissingMessageAuthenticator
-    (answered_by a (status_answer a.at secret p)) refl)
+    (answered_by a (status_answer a.at secret p)) refl))
 none-status realm config a (side.Link l) p = refl
 none-status realm config a (side.Home i) p = refl
 
@@ -72,6 +82,10 @@ asked secret p required most further =
     (checked (is_rightly_sealed secret p) refusal.BadMessageAuthenticator
     (checked (has_needed_seal required p) refusal.MissingMessageAuthenticator
     (checked (has_few_hops most p) refusal.TooManyHops further)))
+
+-- where it has few attributes
+abbrev pub counted : Option ℕ → Packet → Admission → Admission
+counted limit p further = checked (has_few_attributes limit p) refusal.TooManyAttributes further
 
 -- a Status-Server's code is taken for nothing else
 not_taken : (config : ConfigView) (at : Place) (s : Side) (code : ℕ) → is_status_request config at s code ≡ true →
@@ -133,35 +147,36 @@ none-access realm k config secret a s p most asks differs =
     (none-forwarded realm k (sent_length config s p k) a s p (Some k) differs)
 
 -- at another realm's places nothing is the realm's
-pub out-none : (realm : ℕ) (config : ConfigView) (k : ℕ) (from : Endpoint) (octets : List ℕ) (p : Packet)
-    (s : Option Side) →
+pub out-none : (realm : ℕ) (config : ConfigView) (k : ℕ) (from : Endpoint) (octets : List ℕ) (seconds : Option ℕ)
+    (p : Packet) (s : Option Side) →
     (k == realm) ≡ false
-    → own realm (sent_admission config (record { at = place.Out k; from = from; octets = octets }) p s) ≡ None
-out-none realm config k from octets p None differs = refl
-out-none realm config k from octets p (Some s) differs =
-    let a : Arrival = record { at = place.Out k; from = from; octets = octets } in
+    → own realm
+    (sent_admission config (record { at = place.Out k; from = from; octets = octets; seconds = seconds }) p s) ≡ None
+out-none realm config k from octets seconds p None differs = refl
+out-none realm config k from octets seconds p (Some s) differs =
+    let a : Arrival = record { at = place.Out k; from = from; octets = octets; seconds = seconds } in
     none-checked realm (is_taken (place.Out k) s p.code) refusal.WrongCode (job_of a s p k None)
     (none-given realm k a s p None differs)
 
-pub reverse-none : (realm : ℕ) (config : ConfigView) (k : ℕ) (from : Endpoint) (octets : List ℕ) (p : Packet)
-    (o : Option ℕ) →
+pub reverse-none : (realm : ℕ) (config : ConfigView) (k : ℕ) (from : Endpoint) (octets : List ℕ) (seconds : Option ℕ)
+    (p : Packet) (o : Option ℕ) →
     (k == realm) ≡ false
-    → own realm (sent_admission config (record { at = place.Reverse k; from = from; octets = octets }) p
+    → own realm
+    (sent_admission config (record { at = place.Reverse k; from = from; octets = octets; seconds = seconds }) p
     (option_map (λ i. side.Home i) o)) ≡ None
-reverse-none realm config k from octets p None differs = refl
-reverse-none realm config k from octets p (Some i) differs =
-    let a : Arrival = record { at = place.Reverse k; from = from; octets = octets } in
+reverse-none realm config k from octets seconds p None differs = refl
+reverse-none realm config k from octets seconds p (Some i) differs =
+    let a : Arrival = record { at = place.Reverse k; from = from; octets = octets; seconds = seconds } in
     let secret = home_secret config k i in
     none-checked realm (is_taken (place.Reverse k) (side.Home i) p.code) refusal.WrongCode
     (request_admission config secret a (side.Home i) p)
+    (none-checked realm (has_few_attributes config.max_attributes p) refusal.TooManyAttributes _
     (none-checked realm (is_rightly_signed secret p) refusal.BadAuthenticator _
     (none-checked realm (is_rightly_sealed secret p) refusal.BadMessageAuthenticator _
     (none-checked realm (has_needed_seal (seal_required config (side.Home i) p) p)
     refusal.MissingMessageAuthenticator _
-    (none-checked realm (has_few_hops config.max_hops p) refusal.TooManyHops
-    (forwarded_for (sent_length config (side.Home i) p k) a (side.Home i) p k (realm_of config p.attributes))
-    (none-forwarded realm k (sent_length config (side.Home i) p k) a (side.Home i) p
-    (realm_of config p.attributes) differs)))))
+    (none-checked realm (has_few_hops config.max_hops p) refusal.TooManyHops (reversed config a (side.Home i) p k)
+    (none-reversed realm k config a (side.Home i) p differs))))))
 
 -- what names a realm has a name
 pub not-unnamed : {X Y Z : Type 0} (f : X → Option Y) (g : Y → Option Z) (o : Option X) (z : Z)
@@ -173,10 +188,11 @@ pub and-false : (b : Bool) → (b && false) ≡ false
 and-false true = refl
 and-false false = refl
 
--- two configurations have the same peers, the same meaning of each name, and the same limit of hops
+-- two configurations have the same peers, the same meaning of each name, and the same limits of attributes and hops
 pub record LooksAlike (one other : ConfigView) : Type 0 where
   pub peers : one.peers ≡ other.peers
   pub names : (name : List ℕ) → realm_named one name ≡ realm_named other name
+  pub max_attributes : one.max_attributes ≡ other.max_attributes
   pub max_hops : one.max_hops ≡ other.max_hops
 
 module _ (one other : ConfigView) (same : LooksAlike one other) where

@@ -20,6 +20,7 @@ use Rattle.roam_route.specs.declared.job.Prepared.TheVariants as prepared
 use Rattle.roam_route.specs.declared.job.Side.{Side}
 use Rattle.roam_route.specs.declared.job.Side.TheVariants as side
 use Rattle.roam_route.proofs.AdmitsLemmas.{Admits, IsAdmitted, without_padding}
+use Rattle.roam_route.proofs.FreshnessLemmas.{keeps-sent, without_clock}
 use Rattle.roam_route.proofs.SentLemmas.{sent_admits}
 
 -- ---- what is prepared
@@ -32,10 +33,10 @@ reading-packet_text p h =
     reading-ok (packet_text p) reads.has_header follows.length follows.attributes
     ∙ ap (λ (x : Packet). Ok x) follows.packet
 
--- the arrival without its padding gives the same
+-- the arrival without its padding gives the same, without a wall clock
 same_without_padding : (config : ConfigView) (a : Arrival) (p : Packet) → IsPacket p
     → admission config (without_padding a p)
-    ≡ sent_admission config a p (sender config a a.at)
+    ≡ sent_admission config (without_clock a) p (sender config a a.at)
 unfolding admission
 same_without_padding config a p packet =
     ap (read_admission config (without_padding a p)) (reading-packet_text p packet)
@@ -47,7 +48,8 @@ unfolding Admits
 own_arrival config a p job packet is =
     let all = sent_admits config a p (sender config a a.at) refl in
     let admits : Admits config a p (admitted job) = subst (Admits config a p) is all in
-    ap (admission config) admits.arrival ∙ same_without_padding config a p packet ∙ is
+    ap (admission config) admits.arrival ∙ same_without_padding config a p packet
+    ∙ keeps-sent config a p (sender config a a.at) job is
 
 -- what the packet of an arrival gives, the arrival gives
 same_as_sent : (config : ConfigView) (a : Arrival) (p : Packet) → reading a.octets ≡ Ok p

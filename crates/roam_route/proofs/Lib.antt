@@ -5,6 +5,7 @@ pub mod AlikeLemmas
 pub mod AnswerLemmas
 pub mod CheckLemmas
 pub mod EventLemmas
+pub mod FreshnessLemmas
 pub mod HopLemmas
 pub mod NameLemmas
 pub mod OwnAnswerLemmas

@@ -17,14 +17,15 @@ use Rattle.roam_conf.specs.declared.place.Place.{Place}
 use Rattle.roam_conf.specs.declared.place.Place.TheVariants as place
 use Rattle.roam_conf.specs.Lookup.{peer_with_ip, link_in, home_in}
 use Rattle.roam_route.specs.UserName.{realm_of}
+use Rattle.roam_route.specs.Freshness.{is_fresh}
 use Rattle.roam_route.specs.LocalAnswer.{accounting_answer}
 use Rattle.roam_route.specs.LocalReject.{has_bad_password, has_too_many_hops, takes_of, taking}
 use Rattle.roam_route.specs.Shapings.{sent_length}
-use Rattle.roam_route.specs.Admission.{Arrival, Admission, sender, checked, accounted, accounting_in, answered_by, by_accounting, for_named_realm, is_unnamed, rejected_for, route_request, job_of, forwarded_for, request_admission, sent_admission, status_admission, status_from, read_admission, admission, is_taken, peer_secret, home_secret, is_rightly_signed, is_rightly_sealed, has_needed_seal, has_few_hops, seal_required}
+use Rattle.roam_route.specs.Admission.{Arrival, Admission, sender, checked, accounted, accounting_in, answered_by, by_accounting, for_named_realm, is_unnamed, rejected_for, reversed, route_request, job_of, forwarded_for, request_admission, sent_admission, status_admission, status_from, read_admission, admission, is_taken, peer_secret, home_secret, is_rightly_signed, is_rightly_sealed, has_needed_seal, has_few_hops, seal_required, has_few_attributes}
 use Rattle.roam_route.specs.declared.job.Side.{Side}
 use Rattle.roam_route.specs.declared.job.Side.TheVariants as side
 use Rattle.roam_route.specs.OwnPart.{AnswerAlike, OwnAnswersDecided, answered}
-use Rattle.roam_route.proofs.AlikeLemmas.{LooksAlike, access_by, asked, peer-found, realm-same, seal-same, secret-same}
+use Rattle.roam_route.proofs.AlikeLemmas.{LooksAlike, access_by, asked, counted, peer-found, realm-same, seal-same, secret-same}
 
 -- what is checked is answered nowhere, where what follows isn't
 none-checked : (b : Bool) (why : Refusal) (x : Admission) → answered x ≡ None → answered (checked b why x) ≡ None
@@ -66,6 +67,14 @@ not-answered : (size : ℕ) (a : Arrival) (s : Side) (p : Packet) (realm : ℕ) 
 not-answered size a s p realm names =
     none-checked (nat_le size MAX_PACKET_LENGTH) refusal.TooLong (job_of a s p realm names) refl
 
+not-reversed : (config : ConfigView) (a : Arrival) (s : Side) (p : Packet) (realm : ℕ)
+    → answered (reversed config a s p realm) ≡ None
+not-reversed config a s p realm =
+    let names : Option ℕ = realm_of config p.attributes in
+    none-checked (is_fresh config.fresh a.seconds p.attributes) refusal.Stale
+    (forwarded_for (sent_length config s p realm) a s p realm names)
+    (not-answered (sent_length config s p realm) a s p realm names)
+
 by-same : (way : Accounting) (m n : ℕ) (secret : List ℕ) (a : Arrival) (s : Side) (p : Packet) (realm : ℕ)
     → answered (by_accounting m secret a s p realm way) ≡ answered (by_accounting n secret a s p realm way)
 by-same Forwarded m n secret a s p realm =
@@ -81,33 +90,41 @@ named-same one other a s p (Some realm) =
     ∙ sym (not-answered (sent_length other s p realm) a s p realm (Some realm))
 
 -- at a realm's sockets nothing is
-out-none : (config : ConfigView) (k : ℕ) (from : Endpoint) (octets : List ℕ) (p : Packet) (s : Option Side)
-    → answered (sent_admission config (record { at = place.Out k; from = from; octets = octets }) p s) ≡ None
-out-none config k from octets p None = refl
-out-none config k from octets p (Some s) =
-    let a : Arrival = record { at = place.Out k; from = from; octets = octets } in
+out-none : (config : ConfigView) (k : ℕ) (from : Endpoint) (octets : List ℕ) (seconds : Option ℕ) (p : Packet)
+    (s : Option Side)
+    → answered
+    (sent_admission config (record { at = place.Out k; from = from; octets = octets; seconds = seconds }) p s) ≡ None
+out-none config k from octets seconds p None = refl
+out-none config k from octets seconds p (Some s) =
+    let a : Arrival = record { at = place.Out k; from = from; octets = octets; seconds = seconds } in
     none-checked (is_taken (place.Out k) s p.code) refusal.WrongCode (job_of a s p k None) refl
 
-reverse-none : (config : ConfigView) (k : ℕ) (from : Endpoint) (octets : List ℕ) (p : Packet) (o : Option ℕ)
-    → answered (sent_admission config (record { at = place.Reverse k; from = from; octets = octets }) p
+reverse-none : (config : ConfigView) (k : ℕ) (from : Endpoint) (octets : List ℕ) (seconds : Option ℕ) (p : Packet)
+    (o : Option ℕ)
+    → answered
+    (sent_admission config (record { at = place.Reverse k; from = from; octets = octets; seconds = seconds }) p
     (option_map (λ i. side.Home i) o)) ≡ None
-reverse-none config k from octets p None = refl
-reverse-none config k from octets p (Some i) =
-    let a : Arrival = record { at = place.Reverse k; from = from; octets = octets } in
+reverse-none config k from octets seconds p None = refl
+reverse-none config k from octets seconds p (Some i) =
+    let a : Arrival = record { at = place.Reverse k; from = from; octets = octets; seconds = seconds } in
     let secret = home_secret config k i in
-    let names = realm_of config p.attributes in
     none-checked (is_taken (place.Reverse k) (side.Home i) p.code) refusal.WrongCode
     (request_admission config secret a (side.Home i) p)
+    (none-checked (has_few_attributes config.max_attributes p) refusal.TooManyAttributes _
     (none-checked (is_rightly_signed secret p) refusal.BadAuthenticator _
     (none-checked (is_rightly_sealed secret p) refusal.BadMessageAuthenticator _
     (none-checked (has_needed_seal (seal_required config (side.Home i) p) p) refusal.MissingMessageAuthenticator _
-    (none-checked (has_few_hops config.max_hops p) refusal.TooManyHops
-    (forwarded_for (sent_length config (side.Home i) p k) a (side.Home i) p k names)
-    (not-answered (sent_length config (side.Home i) p k) a (side.Home i) p k names)))))
+    (none-checked (has_few_hops config.max_hops p) refusal.TooManyHops (reversed config a (side.Home i) p k)
+    (not-reversed config a (side.Home i) p k))))))
 
 module _ (one other : ConfigView) (same : AnswerAlike one other) where
   alike : LooksAlike one other
-  alike = record { peers = same.peers; names = same.names; max_hops = same.max_hops }
+  alike = record {
+    peers = same.peers;
+    names = same.names;
+    max_attributes = same.max_attributes;
+    max_hops = same.max_hops;
+  }
 
   -- each realm takes the requests of the same senders
   takes-all : (realm : ℕ) (s : Side) → takes_of one realm s ≡ takes_of other realm s
@@ -164,8 +181,7 @@ module _ (one other : ConfigView) (same : AnswerAlike one other) where
   route_request-same : (secret : List ℕ) (a : Arrival) (s : Side) (p : Packet) (at : Place)
       → answered (route_request one secret a s p at) ≡ answered (route_request other secret a s p at)
   route_request-same secret a s p (place.Reverse k) =
-      not-answered (sent_length one s p k) a s p k (realm_of one p.attributes)
-      ∙ sym (not-answered (sent_length other s p k) a s p k (realm_of other p.attributes))
+      not-reversed one a s p k ∙ sym (not-reversed other a s p k)
   route_request-same secret a s p place.Auth = access-same secret a s p
   route_request-same secret a s p place.Acct = account-same secret a s p
   route_request-same secret a s p (place.Out k) = account-same secret a s p
@@ -175,10 +191,16 @@ module _ (one other : ConfigView) (same : AnswerAlike one other) where
   request-same secret a s p =
       let required : Bool = seal_required other s p in
       let routed : Admission = route_request one secret a s p a.at in
-      ap (λ (b : Bool). answered (asked secret p b one.max_hops routed)) (seal-same one other alike s p)
-      ∙ ap (λ (most : Option ℕ). answered (asked secret p required most routed)) same.max_hops
-      ∙ answered-asked secret p required other.max_hops routed (route_request other secret a s p a.at)
-      (route_request-same secret a s p a.at)
+      let there : Admission = route_request other secret a s p a.at in
+      ap (λ (limit : Option ℕ). answered (counted limit p
+      (asked secret p (seal_required one s p) one.max_hops routed))) same.max_attributes
+      ∙ ap (λ (b : Bool). answered (counted other.max_attributes p (asked secret p b one.max_hops routed)))
+      (seal-same one other alike s p)
+      ∙ ap (λ (most : Option ℕ). answered (counted other.max_attributes p (asked secret p required most routed)))
+      same.max_hops
+      ∙ answered-checked (has_few_attributes other.max_attributes p) refusal.TooManyAttributes
+      (asked secret p required other.max_hops routed) (asked secret p required other.max_hops there)
+      (answered-asked secret p required other.max_hops routed there (route_request-same secret a s p a.at))
 
   -- a request of a peer
   peer-same : (a : Arrival) (i : ℕ) (p : Packet) →
@@ -189,7 +211,9 @@ module _ (one other : ConfigView) (same : AnswerAlike one other) where
   -- what answers a Status-Server of a peer
   status-same : (a : Arrival) (i : ℕ) (p : Packet) →
       status_from one a (side.Peer i) p ≡ status_from other a (side.Peer i) p
-  status-same a i p = ap (λ (ps : List PeerView). status_admission (secrets.peer_secret ps i) a p) same.peers
+  status-same a i p =
+      ap₂ (λ (most : Option ℕ) (ps : List PeerView). status_admission most (secrets.peer_secret ps i) a p)
+      same.max_attributes same.peers
 
   -- what a peer's packet gives, where its requests are taken
   abbrev judged : Bool → Bool → Bool → Admission → Admission → Admission
@@ -212,42 +236,42 @@ module _ (one other : ConfigView) (same : AnswerAlike one other) where
       (checked is_taken_there refusal.WrongCode y)
       (answered-checked is_taken_there refusal.WrongCode x y (peer-same a i p))
 
-  auth-same : (from : Endpoint) (octets : List ℕ) (p : Packet) (o : Option ℕ) → let a : Arrival =
-      record { at = place.Auth; from = from; octets = octets } in
+  auth-same : (from : Endpoint) (octets : List ℕ) (seconds : Option ℕ) (p : Packet) (o : Option ℕ) → let a : Arrival =
+      record { at = place.Auth; from = from; octets = octets; seconds = seconds } in
       answered (sent_admission one a p (option_map (λ i. side.Peer i) o))
       ≡ answered (sent_admission other a p (option_map (λ i. side.Peer i) o))
-  auth-same from octets p None = refl
-  auth-same from octets p (Some i) =
-      let a : Arrival = record { at = place.Auth; from = from; octets = octets } in
+  auth-same from octets seconds p None = refl
+  auth-same from octets seconds p (Some i) =
+      let a : Arrival = record { at = place.Auth; from = from; octets = octets; seconds = seconds } in
       judged-same a i p (p.code == STATUS_SERVER) (is_taken place.Auth (side.Peer i) p.code)
 
-  acct-same : (from : Endpoint) (octets : List ℕ) (p : Packet) (o : Option ℕ) → let a : Arrival =
-      record { at = place.Acct; from = from; octets = octets } in
+  acct-same : (from : Endpoint) (octets : List ℕ) (seconds : Option ℕ) (p : Packet) (o : Option ℕ) → let a : Arrival =
+      record { at = place.Acct; from = from; octets = octets; seconds = seconds } in
       answered (sent_admission one a p (option_map (λ i. side.Peer i) o))
       ≡ answered (sent_admission other a p (option_map (λ i. side.Peer i) o))
-  acct-same from octets p None = refl
-  acct-same from octets p (Some i) =
-      let a : Arrival = record { at = place.Acct; from = from; octets = octets } in
+  acct-same from octets seconds p None = refl
+  acct-same from octets seconds p (Some i) =
+      let a : Arrival = record { at = place.Acct; from = from; octets = octets; seconds = seconds } in
       judged-same a i p (p.code == STATUS_SERVER) (is_taken place.Acct (side.Peer i) p.code)
 
-  place-same : (at : Place) (from : Endpoint) (octets : List ℕ) (p : Packet) → let a : Arrival =
-      record { at = at; from = from; octets = octets } in
+  place-same : (at : Place) (from : Endpoint) (octets : List ℕ) (seconds : Option ℕ) (p : Packet) → let a : Arrival =
+      record { at = at; from = from; octets = octets; seconds = seconds } in
       answered (sent_admission one a p (sender one a at)) ≡ answered (sent_admission other a p (sender other a at))
-  place-same place.Auth from octets p =
-      rw (peer-found one other alike from.ip) (auth-same from octets p (peer_with_ip other.peers from.ip))
-  place-same place.Acct from octets p =
-      rw (peer-found one other alike from.ip) (acct-same from octets p (peer_with_ip other.peers from.ip))
-  place-same (place.Out k) from octets p =
-      out-none one k from octets p (option_map (λ l. side.Link l) (link_in one k from))
-      ∙ sym (out-none other k from octets p (option_map (λ l. side.Link l) (link_in other k from)))
-  place-same (place.Reverse k) from octets p =
-      reverse-none one k from octets p (home_in one k from.ip)
-      ∙ sym (reverse-none other k from octets p (home_in other k from.ip))
+  place-same place.Auth from octets seconds p =
+      rw (peer-found one other alike from.ip) (auth-same from octets seconds p (peer_with_ip other.peers from.ip))
+  place-same place.Acct from octets seconds p =
+      rw (peer-found one other alike from.ip) (acct-same from octets seconds p (peer_with_ip other.peers from.ip))
+  place-same (place.Out k) from octets seconds p =
+      out-none one k from octets seconds p (option_map (λ l. side.Link l) (link_in one k from))
+      ∙ sym (out-none other k from octets seconds p (option_map (λ l. side.Link l) (link_in other k from)))
+  place-same (place.Reverse k) from octets seconds p =
+      reverse-none one k from octets seconds p (home_in one k from.ip)
+      ∙ sym (reverse-none other k from octets seconds p (home_in other k from.ip))
 
   read-same : (a : Arrival) (read : Result Packet Refusal) →
       answered (read_admission one a read) ≡ answered (read_admission other a read)
   read-same a (Err why) = refl
-  read-same a (Ok p) = place-same a.at a.from a.octets p
+  read-same a (Ok p) = place-same a.at a.from a.octets a.seconds p
 
 pub own_answers_decided : OwnAnswersDecided
 unfolding admission

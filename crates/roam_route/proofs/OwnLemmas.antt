@@ -10,8 +10,9 @@ use Rattle.roam_wire.specs.declared.attribute_type.TheConstants.{USER_NAME}
 use Rattle.roam_wire.specs.declared.refusal.Refusal.{Refusal}
 use Rattle.roam_wire.specs.declared.refusal.Refusal.TheVariants as refusal
 use Rattle.roam_conf.specs.Config.{ConfigView, PeerView, RealmView}
-use Rattle.roam_conf.specs.Lookup.{realm_named, link_in, home_in, servers_of}
+use Rattle.roam_conf.specs.Lookup.{realm_named, link_in, home_in}
 use Rattle.roam_conf.specs.Secrets as secrets
+use Rattle.std.specs.Option.{option_map_or}
 use Rattle.roam_conf.specs.declared.accounting.Accounting.{Accounting}
 use Rattle.roam_conf.specs.declared.endpoint.Endpoint.{Endpoint}
 use Rattle.roam_conf.specs.declared.place.Place.{Place}
@@ -19,18 +20,24 @@ use Rattle.roam_conf.specs.declared.place.Place.TheVariants as place
 use Rattle.roam_fwd.specs.Forwarded.{forwarded_length}
 use Rattle.roam_fwd.specs.Shaped.{shaped}
 use Rattle.roam_route.specs.UserName.{realm_of, realm_part}
+use Rattle.roam_route.specs.Freshness.{is_fresh}
 use Rattle.roam_route.specs.LocalAnswer.{accounting_answer}
 use Rattle.roam_route.specs.LocalReject.{has_bad_password, has_too_many_hops, takes_of, taking}
 use Rattle.roam_route.specs.Shapings.{sent_length, shaping_between}
-use Rattle.roam_route.specs.Admission.{Arrival, Admission, sender, checked, accounted, accounting_in, by_accounting, is_answered_unnamed, is_unnamed, forwarded_for, answered_by, rejected_for, route_request, request_admission, packet_admission, sent_admission, read_admission, admission, is_taken, peer_secret, home_secret, is_rightly_signed, is_rightly_sealed, has_needed_seal, has_few_hops, seal_required}
+use Rattle.roam_route.specs.Admission.{Arrival, Admission, sender, checked, accounted, accounting_in, by_accounting, is_answered_unnamed, is_unnamed, forwarded_for, answered_by, rejected_for, reversed, route_request, request_admission, packet_admission, sent_admission, read_admission, admission, is_taken, peer_secret, home_secret, is_rightly_signed, is_rightly_sealed, has_needed_seal, has_few_hops, seal_required, has_few_attributes}
 use Rattle.roam_route.specs.declared.job.Side.{Side}
 use Rattle.roam_route.specs.declared.job.Side.TheVariants as side
 use Rattle.roam_route.specs.OwnPart.{own, HaveSamePart, OwnPartDecides}
-use Rattle.roam_route.proofs.AlikeLemmas.{LooksAlike, access_by, and-false, asked, either-none, none-access, none-accounted, none-forwarded, not-unnamed, own-checked, peer-found, realm-same, seal-same, secret-same, sent-own, out-none, reverse-none}
+use Rattle.roam_route.proofs.AlikeLemmas.{LooksAlike, access_by, and-false, asked, either-none, none-access, none-accounted, none-reversed, not-unnamed, own-checked, peer-found, realm-same, seal-same, secret-same, sent-own, out-none, reverse-none, counted}
 
 module _ (one other : ConfigView) (realm : ℕ) (same : HaveSamePart one other realm) where
   alike : LooksAlike one other
-  alike = record { peers = same.peers; names = same.names; max_hops = same.max_hops }
+  alike = record {
+    peers = same.peers;
+    names = same.names;
+    max_attributes = same.max_attributes;
+    max_hops = same.max_hops;
+  }
 
   -- the realm takes the requests of the same senders
   takes-same : (s : Side) → takes_of one realm s ≡ takes_of other realm s
@@ -131,18 +138,19 @@ module _ (one other : ConfigView) (realm : ℕ) (same : HaveSamePart one other r
 
   -- a reverse request at a realm's place
   own-reverse : (a : Arrival) (s : Side) (p : Packet) (k : ℕ)
-      → own realm (forwarded_for (sent_length one s p k) a s p k (realm_of one p.attributes))
-      ≡ own realm (forwarded_for (sent_length other s p k) a s p k (realm_of other p.attributes))
+      → own realm (reversed one a s p k) ≡ own realm (reversed other a s p k)
   own-reverse a s p k =
       elim (cases_Bool (k == realm)) [
         | inl yes' ↦ (
             let here : k ≡ realm = (Decides-eqb k realm).0 yes' in
             let size : sent_length one s p k ≡ sent_length other s p k =
             subst (λ (j : ℕ). sent_length one s p j ≡ sent_length other s p j) (sym here) (sent-same s p) in
-            ap₂ (λ (n : ℕ) (o : Option ℕ). own realm (forwarded_for n a s p k o)) size
+            ap (λ (most : Option ℕ). own realm (checked (is_fresh most a.seconds p.attributes) refusal.Stale
+            (forwarded_for (sent_length one s p k) a s p k (realm_of one p.attributes)))) same.fresh
+            ∙ ap₂ (λ (n : ℕ) (o : Option ℕ). own realm
+            (checked (is_fresh other.fresh a.seconds p.attributes) refusal.Stale (forwarded_for n a s p k o))) size
             (realm-same one other alike p.attributes))
-        | inr no' ↦ none-forwarded realm k (sent_length one s p k) a s p (realm_of one p.attributes) no'
-            ∙ sym (none-forwarded realm k (sent_length other s p k) a s p (realm_of other p.attributes) no')
+        | inr no' ↦ none-reversed realm k one a s p no' ∙ sym (none-reversed realm k other a s p no')
       ]
 
   -- where a request goes
@@ -174,13 +182,19 @@ module _ (one other : ConfigView) (realm : ℕ) (same : HaveSamePart one other r
   own-request : (secret : List ℕ) (a : Arrival) (s : Side) (p : Packet)
       → own realm (request_admission one secret a s p) ≡ own realm (request_admission other secret a s p)
   own-request secret a s p =
-      ap (λ (required : Bool). own realm
-      (asked secret p required one.max_hops (route_request one secret a s p a.at))) (seal-same one other alike s p)
-      ∙ ap (λ (most : Option ℕ). own realm
-      (asked secret p (seal_required other s p) most (route_request one secret a s p a.at))) same.max_hops
-      ∙ own-asked secret p (seal_required other s p) other.max_hops (route_request one secret a s p a.at)
-      (route_request other secret a s p a.at)
-      (own-route secret a s p a.at)
+      let required : Bool = seal_required other s p in
+      let before : Admission = asked secret p required other.max_hops (route_request one secret a s p a.at) in
+      let after : Admission = asked secret p required other.max_hops (route_request other secret a s p a.at) in
+      ap (λ (limit : Option ℕ). own realm (counted limit p
+      (asked secret p (seal_required one s p) one.max_hops (route_request one secret a s p a.at))))
+      same.max_attributes
+      ∙ ap (λ (r : Bool). own realm (counted other.max_attributes p
+      (asked secret p r one.max_hops (route_request one secret a s p a.at)))) (seal-same one other alike s p)
+      ∙ ap (λ (most : Option ℕ). own realm (counted other.max_attributes p
+      (asked secret p required most (route_request one secret a s p a.at)))) same.max_hops
+      ∙ own-checked realm (has_few_attributes other.max_attributes p) refusal.TooManyAttributes before after
+      (own-asked secret p required other.max_hops (route_request one secret a s p a.at)
+      (route_request other secret a s p a.at) (own-route secret a s p a.at))
 
   -- a request of a peer
   own-peer : (a : Arrival) (i : ℕ) (p : Packet)
@@ -194,7 +208,7 @@ module _ (one other : ConfigView) (realm : ℕ) (same : HaveSamePart one other r
       ≡ own realm (request_admission other (home_secret other realm i) a (side.Home i) p)
   own-home a i p =
       let secret : home_secret one realm i ≡ home_secret other realm i =
-      ap (λ (r : Option RealmView). secrets.server_secret (servers_of r) i) same.entry in
+      ap (λ (r : Option RealmView). option_map_or (λ h. secrets.home_secret h i) r []) same.entry in
       rw secret (own-request (home_secret other realm i) a (side.Home i) p)
 
   -- a packet at a place that isn't another realm's
@@ -229,17 +243,17 @@ module _ (one other : ConfigView) (realm : ℕ) (same : HaveSamePart one other r
   home-found : (ip : List ℕ) → home_in one realm ip ≡ home_in other realm ip
   home-found ip = rw same.entry refl
 
-  place-same : (at : Place) (from : Endpoint) (octets : List ℕ) (p : Packet) → let a : Arrival =
-      record { at = at; from = from; octets = octets } in
+  place-same : (at : Place) (from : Endpoint) (octets : List ℕ) (seconds : Option ℕ) (p : Packet) → let a : Arrival =
+      record { at = at; from = from; octets = octets; seconds = seconds } in
       own realm (sent_admission one a p (sender one a at)) ≡ own realm (sent_admission other a p (sender other a at))
-  place-same place.Auth from octets p =
-      let a : Arrival = record { at = place.Auth; from = from; octets = octets } in
+  place-same place.Auth from octets seconds p =
+      let a : Arrival = record { at = place.Auth; from = from; octets = octets; seconds = seconds } in
       rw (peer-found one other alike from.ip) (known-same a p (sender other a place.Auth) (λ k is. absurd (cc is)))
-  place-same place.Acct from octets p =
-      let a : Arrival = record { at = place.Acct; from = from; octets = octets } in
+  place-same place.Acct from octets seconds p =
+      let a : Arrival = record { at = place.Acct; from = from; octets = octets; seconds = seconds } in
       rw (peer-found one other alike from.ip) (known-same a p (sender other a place.Acct) (λ k is. absurd (cc is)))
-  place-same (place.Out k) from octets p =
-      let a : Arrival = record { at = place.Out k; from = from; octets = octets } in
+  place-same (place.Out k) from octets seconds p =
+      let a : Arrival = record { at = place.Out k; from = from; octets = octets; seconds = seconds } in
       elim (cases_Bool (k == realm)) [
         | inl yes' ↦ (
             let here : k ≡ realm = (Decides-eqb k realm).0 yes' in
@@ -249,11 +263,11 @@ module _ (one other : ConfigView) (realm : ℕ) (same : HaveSamePart one other r
             (ap (λ o. option_map (λ l. side.Link l) o) (link-found from)) in
             known-same a p (sender one a (place.Out k)) (λ j is. absurd (cc is))
             ∙ ap (λ (s : Option Side). own realm (sent_admission other a p s)) found_by)
-        | inr no' ↦ out-none realm one k from octets p (sender one a (place.Out k)) no'
-            ∙ sym (out-none realm other k from octets p (sender other a (place.Out k)) no')
+        | inr no' ↦ out-none realm one k from octets seconds p (sender one a (place.Out k)) no'
+            ∙ sym (out-none realm other k from octets seconds p (sender other a (place.Out k)) no')
       ]
-  place-same (place.Reverse k) from octets p =
-      let a : Arrival = record { at = place.Reverse k; from = from; octets = octets } in
+  place-same (place.Reverse k) from octets seconds p =
+      let a : Arrival = record { at = place.Reverse k; from = from; octets = octets; seconds = seconds } in
       elim (cases_Bool (k == realm)) [
         | inl yes' ↦ (
             let here : k ≡ realm = (Decides-eqb k realm).0 yes' in
@@ -263,14 +277,14 @@ module _ (one other : ConfigView) (realm : ℕ) (same : HaveSamePart one other r
             (ap (λ o. option_map (λ i. side.Home i) o) (home-found from.ip)) in
             known-same a p (sender one a (place.Reverse k)) (λ j is. (let at_k : k ≡ j = cc is in sym at_k ∙ here))
             ∙ ap (λ (s : Option Side). own realm (sent_admission other a p s)) found_by)
-        | inr no' ↦ reverse-none realm one k from octets p (home_in one k from.ip) no'
-            ∙ sym (reverse-none realm other k from octets p (home_in other k from.ip) no')
+        | inr no' ↦ reverse-none realm one k from octets seconds p (home_in one k from.ip) no'
+            ∙ sym (reverse-none realm other k from octets seconds p (home_in other k from.ip) no')
       ]
 
   read-same : (a : Arrival) (read : Result Packet Refusal) →
       own realm (read_admission one a read) ≡ own realm (read_admission other a read)
   read-same a (Err why) = refl
-  read-same a (Ok p) = place-same a.at a.from a.octets p
+  read-same a (Ok p) = place-same a.at a.from a.octets a.seconds p
 
 pub own_part_decides : OwnPartDecides
 unfolding admission

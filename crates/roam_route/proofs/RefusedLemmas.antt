@@ -15,14 +15,16 @@ use Rattle.roam_conf.specs.declared.place.Link.{Link}
 use Rattle.roam_conf.specs.declared.place.Place.{Place}
 use Rattle.roam_conf.specs.declared.place.Place.TheVariants as place
 use Rattle.roam_route.specs.UserName.{realm_of}
+use Rattle.roam_route.specs.Freshness.{IsFresh, is_fresh}
 use Rattle.roam_route.specs.LocalAnswer.{answer_length, local_reject}
 use Rattle.roam_route.specs.LocalReject.{is_rejected, takes_of}
 use Rattle.roam_route.specs.Shapings.{sent_length}
-use Rattle.roam_route.specs.Admission.{Arrival, Admission, refused, checked, accounted, accounting_in, by_accounting, is_answered_unnamed, job_of, forwarded_for, answered_by, rejected_for, for_named_realm, route_request, request_admission, packet_admission, sent_admission, admission, is_rightly_signed, is_rightly_sealed, has_needed_seal, has_few_hops, seal_required, peer_secret, home_secret}
-use Rattle.roam_route.specs.AdmittedRequests.{IsRequestAt, IsRightlySigned, sealing_authenticator, HasNeededSeal, FailsFirst, NothingFails, IsPassedOn, FailsToAccount, FailsForSize, FailsInRealm, FailsNamed, FailsToGo, FailsFor, RefusedFailsFirst}
+use Rattle.roam_route.specs.Admission.{Arrival, Admission, refused, checked, accounted, accounting_in, by_accounting, is_answered_unnamed, job_of, forwarded_for, answered_by, rejected_for, for_named_realm, route_request, request_admission, packet_admission, sent_admission, admission, has_few_attributes, is_rightly_signed, is_rightly_sealed, has_needed_seal, has_few_hops, seal_required, peer_secret, home_secret}
+use Rattle.roam_route.specs.AdmittedRequests.{IsRequestAt, HasFewAttributes, IsRightlySigned, sealing_authenticator, HasNeededSeal, FailsFirst, NothingFails, IsPassedOn, FailsToAccount, FailsForSize, FailsInRealm, FailsNamed, FailsToGo, FailsFor, RefusedFailsFirst}
 use Rattle.roam_route.specs.declared.job.Side.{Side}
 use Rattle.roam_route.specs.declared.job.Side.TheVariants as side
-use Rattle.roam_route.proofs.RequestTestLemmas.{signed_decided, sealed_decided, needed_decided, size_by, passed_decided}
+use Rattle.roam_route.proofs.FreshnessLemmas.{fresh_decided}
+use Rattle.roam_route.proofs.RequestTestLemmas.{signed_decided, sealed_decided, needed_decided, size_by, passed_decided, attributes_decided}
 use Rattle.roam_route.proofs.RoutedLemmas.{asked_named, fails, Fits}
 use Rattle.roam_route.proofs.RightLemmas.{other_hops, access_hops, front_checked, reverse_other}
 use Rattle.roam_route.proofs.AdmittedLemmas.{judged_is, as_sent}
@@ -93,7 +95,7 @@ answer_fails secret a p why =
 
 -- an Access-Request
 access_fails : (config : ConfigView) (secret : List ℕ) (a : Arrival) (s : Side) (p : Packet) (why : Refusal)
-    → (route_request config secret a s p place.Auth ≡ refused why) ↔ FailsToGo config s p place.Auth why
+    → (route_request config secret a s p place.Auth ≡ refused why) ↔ FailsToGo config a.seconds s p place.Auth why
 access_fails config secret a s p why =
     let passed = passed_decided config s p in
     elim (cases_Bool (is_rejected config s p)) [
@@ -126,9 +128,10 @@ access_fails config secret a s p why =
 front_fails : (F : Refusal → Type 0) (config : ConfigView) (secret : List ℕ) (s : Side) (p : Packet)
     (further : Admission) (why : Refusal) → ((further ≡ refused why) ↔ F why)
     → (front_checked config secret s p further ≡ refused why)
-    ↔ FailsFirst (IsRightlySigned secret p) refusal.BadAuthenticator
+    ↔ FailsFirst (HasFewAttributes config.max_attributes p) refusal.TooManyAttributes
+    (FailsFirst (IsRightlySigned secret p) refusal.BadAuthenticator
     (FailsFirst (IsWellSealed secret (sealing_authenticator p ∷ []) p) refusal.BadMessageAuthenticator
-    (FailsFirst (HasNeededSeal (seal_required config s p) p) refusal.MissingMessageAuthenticator F)) why
+    (FailsFirst (HasNeededSeal (seal_required config s p) p) refusal.MissingMessageAuthenticator F))) why
 front_fails F config secret s p further why f =
     let needed : Bool = has_needed_seal (seal_required config s p) p in
     let third = fails F needed refusal.MissingMessageAuthenticator further why
@@ -137,19 +140,28 @@ front_fails F config secret s p further why f =
     (FailsFirst (HasNeededSeal (seal_required config s p) p) refusal.MissingMessageAuthenticator F)
     (is_rightly_sealed secret p) refusal.BadMessageAuthenticator
     (checked needed refusal.MissingMessageAuthenticator further) why (sealed_decided secret p) third in
-    fails
+    let first = fails
     (FailsFirst (IsWellSealed secret (sealing_authenticator p ∷ []) p) refusal.BadMessageAuthenticator
     (FailsFirst (HasNeededSeal (seal_required config s p) p) refusal.MissingMessageAuthenticator F))
     (is_rightly_signed secret p) refusal.BadAuthenticator
     (checked (is_rightly_sealed secret p) refusal.BadMessageAuthenticator
-    (checked needed refusal.MissingMessageAuthenticator further)) why (signed_decided secret p) second
+    (checked needed refusal.MissingMessageAuthenticator further)) why (signed_decided secret p) second in
+    fails
+    (FailsFirst (IsRightlySigned secret p) refusal.BadAuthenticator
+    (FailsFirst (IsWellSealed secret (sealing_authenticator p ∷ []) p) refusal.BadMessageAuthenticator
+    (FailsFirst (HasNeededSeal (seal_required config s p) p) refusal.MissingMessageAuthenticator F)))
+    (has_few_attributes config.max_attributes p) refusal.TooManyAttributes
+    (checked (is_rightly_signed secret p) refusal.BadAuthenticator
+    (checked (is_rightly_sealed secret p) refusal.BadMessageAuthenticator
+    (checked needed refusal.MissingMessageAuthenticator further))) why
+    (attributes_decided config.max_attributes p) first
 
 -- its hops, and where it goes
 goes_fails : (config : ConfigView) (secret : List ℕ) (a : Arrival) (s : Side) (p : Packet) (at : Place)
     (why : Refusal) → IsRequestAt at s p.code
     → (checked (has_few_hops config.max_hops p) refusal.TooManyHops (route_request config secret a s p at)
     ≡ refused why)
-    ↔ FailsToGo config s p at why
+    ↔ FailsToGo config a.seconds s p at why
 goes_fails config secret a (side.Peer i) p place.Auth why code =
     rw (access_hops config.max_hops p code) (access_fails config secret a (side.Peer i) p why)
 goes_fails config secret a (side.Peer i) p place.Acct why code =
@@ -159,11 +171,15 @@ goes_fails config secret a (side.Peer i) p place.Acct why code =
     (other_hops config.max_hops p other) (acct_fails config secret a (side.Peer i) p why)
 goes_fails config secret a (side.Home i) p (place.Reverse k) why code =
     let size : ℕ = sent_length config (side.Home i) p k in
-    fails (FailsFirst (Fits size) refusal.TooLong NothingFails)
-    (has_few_hops config.max_hops p) refusal.TooManyHops
-    (forwarded_for size a (side.Home i) p k (realm_of config p.attributes)) why
-    (other_hops config.max_hops p (reverse_other k i p.code code))
-    (size_fails size a (side.Home i) p k (realm_of config p.attributes) why)
+    let fresh : Bool = is_fresh config.fresh a.seconds p.attributes in
+    let last : Admission = forwarded_for size a (side.Home i) p k (realm_of config p.attributes) in
+    let timely = fails (FailsFirst (Fits size) refusal.TooLong NothingFails) fresh refusal.Stale last why
+    (fresh_decided config a.seconds k p) (size_fails size a (side.Home i) p k (realm_of config p.attributes) why) in
+    fails
+    (FailsFirst (IsFresh config a.seconds (place.Reverse k) p) refusal.Stale
+    (FailsFirst (Fits size) refusal.TooLong NothingFails))
+    (has_few_hops config.max_hops p) refusal.TooManyHops (checked fresh refusal.Stale last) why
+    (other_hops config.max_hops p (reverse_other k i p.code code)) timely
 goes_fails config secret a (side.Peer i) p (place.Reverse k) why code = absurd code
 goes_fails config secret a (side.Link l) p (place.Reverse k) why code = absurd code
 goes_fails config secret a (side.Link l) p place.Auth why code = absurd code
@@ -178,22 +194,23 @@ goes_fails config secret a (side.Home i) p (place.Out k) why code = absurd code
 request_fails : (config : ConfigView) (secret : List ℕ) (a : Arrival) (s : Side) (p : Packet) (at : Place)
     (why : Refusal) → a.at ≡ at → IsRequestAt at s p.code
     → (request_admission config secret a s p ≡ refused why)
-    ↔ FailsFirst (IsRightlySigned secret p) refusal.BadAuthenticator
+    ↔ FailsFirst (HasFewAttributes config.max_attributes p) refusal.TooManyAttributes
+    (FailsFirst (IsRightlySigned secret p) refusal.BadAuthenticator
     (FailsFirst (IsWellSealed secret (sealing_authenticator p ∷ []) p) refusal.BadMessageAuthenticator
     (FailsFirst (HasNeededSeal (seal_required config s p) p) refusal.MissingMessageAuthenticator
-    (FailsToGo config s p at))) why
+    (FailsToGo config a.seconds s p at)))) why
 request_fails config secret a s p at why is code =
     let goes = subst (λ (x : Place).
     (checked (has_few_hops config.max_hops p) refusal.TooManyHops (route_request config secret a s p x)
     ≡ refused why)
-    ↔ FailsToGo config s p at why) (sym is) (goes_fails config secret a s p at why code) in
-    front_fails (FailsToGo config s p at) config secret s p
+    ↔ FailsToGo config a.seconds s p at why) (sym is) (goes_fails config secret a s p at why code) in
+    front_fails (FailsToGo config a.seconds s p at) config secret s p
     (checked (has_few_hops config.max_hops p) refusal.TooManyHops (route_request config secret a s p a.at))
     why goes
 
 packet_fails : (config : ConfigView) (a : Arrival) (s : Side) (p : Packet) (at : Place) (why : Refusal)
     → a.at ≡ at → IsRequestAt at s p.code
-    → (packet_admission config a s p at ≡ refused why) ↔ FailsFor config at s p why
+    → (packet_admission config a s p at ≡ refused why) ↔ FailsFor config a.seconds at s p why
 packet_fails config a (side.Peer i) p place.Auth why is code =
     request_fails config (peer_secret config i) a (side.Peer i) p place.Auth why is code
 packet_fails config a (side.Peer i) p place.Acct why is code =

@@ -15,8 +15,8 @@ use Rattle.roam_auth.proofs.DecidingLemmas.{signed_request_decided, well_sealed_
 use Rattle.roam_hide.specs.Hiding.{IsPasswordSize, password_fits}
 use Rattle.roam_conf.specs.Config.{ConfigView}
 use Rattle.roam_route.specs.LocalReject.{asked_realm, has_bad_password, has_too_many_hops, is_rejected}
-use Rattle.roam_route.specs.Admission.{is_rightly_signed, is_rightly_sealed, has_needed_seal}
-use Rattle.roam_route.specs.AdmittedRequests.{IsRightlySigned, sealing_authenticator, HasNeededSeal, HasFewHops, HasGoodPasswords, IsPassedOn}
+use Rattle.roam_route.specs.Admission.{has_few_attributes, is_rightly_signed, is_rightly_sealed, has_needed_seal}
+use Rattle.roam_route.specs.AdmittedRequests.{HasFewAttributes, IsRightlySigned, sealing_authenticator, HasNeededSeal, HasFewHops, HasGoodPasswords, IsPassedOn}
 use Rattle.roam_route.specs.declared.job.Side.{Side}
 
 -- ---- the tests
@@ -67,6 +67,15 @@ pub needed_decided : (required : Bool) (p : Packet)
 needed_decided required p =
     needed_by required p.code (count_of EAP_MESSAGE p.attributes)
     (count_of MESSAGE_AUTHENTICATOR p.attributes)
+
+pub attributes_decided : (most : Option ℕ) (p : Packet)
+    → IsTrue (has_few_attributes most p) ↔ HasFewAttributes most p
+attributes_decided None p = (λ h. λ limit is. absurd (cc is), λ h. refl)
+attributes_decided (Some most) p =
+    let count = length p.attributes in (
+      λ h. λ limit is. (let same : most ≡ limit = cc is in grind (arith, nat_tests, h, same)),
+      λ h. (let few : count ≤ most = h most refl in grind (arith, nat_tests, few)),
+    )
 
 pub hops_decided : (most : Option ℕ) (p : Packet)
     → IsTrue (not (has_too_many_hops most p)) ↔ HasFewHops most p

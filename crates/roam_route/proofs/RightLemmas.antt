@@ -1,4 +1,4 @@
--- What a request gives from its signature on is right, by the place and the sender.
+-- What a request gives from its attributes on is right, by the place and the sender.
 use Rattle.std.proofs.Common.{◌≡◌, ◌≢◌, ◌↔◌, ℕ, Bool, true, false, List, [], ◌∷◌, Option, IsTrue, inl, inr, refl, arith}
 use Rattle.std.specs.Prelude.{◌==◌}
 use Rattle.std.proofs.lemmas.Bool.Decides.{Decides-eqb}
@@ -10,15 +10,17 @@ use Rattle.roam_conf.specs.Config.{ConfigView}
 use Rattle.roam_conf.specs.declared.place.Place.{Place}
 use Rattle.roam_conf.specs.declared.place.Place.TheVariants as place
 use Rattle.roam_route.specs.UserName.{realm_of}
+use Rattle.roam_route.specs.Freshness.{is_fresh}
 use Rattle.roam_route.specs.Shapings.{sent_length}
-use Rattle.roam_route.specs.Admission.{Arrival, PlainJob, Admission, admitted, checked, forwarded_for, route_request, is_rightly_signed, is_rightly_sealed, has_needed_seal, has_few_hops, seal_required, peer_secret, home_secret}
-use Rattle.roam_route.specs.AdmittedRequests.{IsRequestAt, IsRightlySigned, sealing_authenticator, HasNeededSeal, HasFewHops, IsRightRequest, IsPassedOn}
+use Rattle.roam_route.specs.Admission.{Arrival, PlainJob, Admission, admitted, checked, forwarded_for, route_request, has_few_attributes, is_rightly_signed, is_rightly_sealed, has_needed_seal, has_few_hops, seal_required, peer_secret, home_secret}
+use Rattle.roam_route.specs.AdmittedRequests.{IsRequestAt, HasFewAttributes, IsRightlySigned, sealing_authenticator, HasNeededSeal, HasFewHops, IsRightRequest, IsPassedOn}
 use Rattle.roam_route.specs.declared.job.Side.{Side}
 use Rattle.roam_route.specs.declared.job.Side.TheVariants as side
-use Rattle.roam_route.proofs.RequestTestLemmas.{is_false, signed_decided, sealed_decided, needed_decided, hops_decided}
+use Rattle.roam_route.proofs.FreshnessLemmas.{fresh_decided}
+use Rattle.roam_route.proofs.RequestTestLemmas.{is_false, signed_decided, sealed_decided, needed_decided, hops_decided, attributes_decided}
 use Rattle.roam_route.proofs.RoutedLemmas.{IsJob, access_admitted, acct_goes, asked_takes, forwarded_admitted, takes_asked, through}
 
--- ---- a request, from its signature on
+-- ---- a request, from its attributes on
 
 -- the hops of a request that isn't an Access-Request
 pub other_hops : (most : Option ℕ) (p : Packet) → p.code ≢ ACCESS_REQUEST
@@ -34,12 +36,14 @@ access_hops most p is = rw is refl
 -- what is looked at before where the request goes
 abbrev pub front_checked : ConfigView → List ℕ → Side → Packet → Admission → Admission
 front_checked config secret s p further =
-    checked (is_rightly_signed secret p) refusal.BadAuthenticator
+    checked (has_few_attributes config.max_attributes p) refusal.TooManyAttributes
+    (checked (is_rightly_signed secret p) refusal.BadAuthenticator
     (checked (is_rightly_sealed secret p) refusal.BadMessageAuthenticator
-    (checked (has_needed_seal (seal_required config s p) p) refusal.MissingMessageAuthenticator further))
+    (checked (has_needed_seal (seal_required config s p) p) refusal.MissingMessageAuthenticator further)))
 
 -- the same as facts
 record IsFrontRight (config : ConfigView) (secret : List ℕ) (s : Side) (p : Packet) : Type 0 where
+  attributes : HasFewAttributes config.max_attributes p
   signed : IsRightlySigned secret p
   well_sealed : IsWellSealed secret (sealing_authenticator p ∷ []) p
   needed_seal : HasNeededSeal (seal_required config s p) p
@@ -57,18 +61,30 @@ front_admitted config secret s p further job q =
     (checked needed refusal.MissingMessageAuthenticator further) job (sealed_decided secret p) third in
     let first = through (is_rightly_signed secret p) refusal.BadAuthenticator
     (checked (is_rightly_sealed secret p) refusal.BadMessageAuthenticator
-    (checked needed refusal.MissingMessageAuthenticator further)) job (signed_decided secret p) second in (
+    (checked needed refusal.MissingMessageAuthenticator further)) job (signed_decided secret p) second in
+    let counted = through (has_few_attributes config.max_attributes p) refusal.TooManyAttributes
+    (checked (is_rightly_signed secret p) refusal.BadAuthenticator
+    (checked (is_rightly_sealed secret p) refusal.BadMessageAuthenticator
+    (checked needed refusal.MissingMessageAuthenticator further))) job
+    (attributes_decided config.max_attributes p) first in (
       λ h. (
-          let all = first.0 h in
-          (record { signed = all.0; well_sealed = all.1.0; needed_seal = all.1.1.0 }, all.1.1.1)
+          let all = counted.0 h in (
+            record {
+              attributes = all.0;
+              signed = all.1.0;
+              well_sealed = all.1.1.0;
+              needed_seal = all.1.1.1.0;
+            },
+            all.1.1.1.1,
+          )
           ),
-      λ h. first.1 (h.0.signed, (h.0.well_sealed, (h.0.needed_seal, h.1))),
+      λ h. counted.1 (h.0.attributes, (h.0.signed, (h.0.well_sealed, (h.0.needed_seal, h.1)))),
     )
 
 -- what a request of a sender gives at a place is right, with the secret that they share
 abbrev pub Right : ConfigView → Arrival → Place → Side → Packet → PlainJob → Type 0
 Right config a at s p job =
-    IsJob a s p (realm_of config p.attributes) job × IsRightRequest config at s p job.realm
+    IsJob a s p (realm_of config p.attributes) job × IsRightRequest config a.seconds at s p job.realm
 
 -- an Access-Request of a peer
 pub auth_admitted : (config : ConfigView) (a : Arrival) (i : ℕ) (p : Packet) (job : PlainJob)
@@ -94,12 +110,14 @@ auth_admitted config a i p job access =
             rest.1.1,
             record {
               code = access;
+              attributes = all.0.attributes;
               signed = all.0.signed;
               well_sealed = all.0.well_sealed;
               needed_seal = all.0.needed_seal;
               hops = passed.hops;
               passwords = λ is. passed.passwords;
               realm_is = rest.0;
+              fresh = tt;
               asks = asked_takes config (side.Peer i) (realm_of config p.attributes) job.realm passed.names rest.0;
               accounting = λ is. absurd (omega (arith, access, is));
               size = rest.1.0;
@@ -114,6 +132,7 @@ auth_admitted config a i p job access =
             hops = r.hops;
           } in
           let front : IsFrontRight config secret (side.Peer i) p = record {
+            attributes = r.attributes;
             signed = r.signed;
             well_sealed = r.well_sealed;
             needed_seal = r.needed_seal;
@@ -145,12 +164,14 @@ acct_admitted config a i p job code =
             rest.1.1.1.1,
             record {
               code = code;
+              attributes = all.0.attributes;
               signed = all.0.signed;
               well_sealed = all.0.well_sealed;
               needed_seal = all.0.needed_seal;
               hops = all.1.0;
               passwords = λ is. absurd (other is);
               realm_is = rest.0;
+              fresh = tt;
               asks = rest.1.0;
               accounting = λ _. rest.1.1.0;
               size = rest.1.1.1.0;
@@ -160,6 +181,7 @@ acct_admitted config a i p job code =
       λ h. (
           let r = h.1 in
           let front : IsFrontRight config secret (side.Peer i) p = record {
+            attributes = r.attributes;
             signed = r.signed;
             well_sealed = r.well_sealed;
             needed_seal = r.needed_seal;
@@ -188,25 +210,28 @@ reverse_admitted config a own i p job code =
     let secret : List ℕ = home_secret config own i in
     let other : p.code ≢ ACCESS_REQUEST = reverse_other own i p.code code in
     let size : ℕ = sent_length config (side.Home i) p own in
-    let goes = forwarded_admitted size a (side.Home i) p own (realm_of config p.attributes) job in
-    let further = through (has_few_hops config.max_hops p) refusal.TooManyHops
-    (forwarded_for size a (side.Home i) p own (realm_of config p.attributes)) job
+    let fresh : Bool = is_fresh config.fresh a.seconds p.attributes in
+    let last : Admission = forwarded_for size a (side.Home i) p own (realm_of config p.attributes) in
+    let goes = through fresh refusal.Stale last job (fresh_decided config a.seconds own p)
+    (forwarded_admitted size a (side.Home i) p own (realm_of config p.attributes) job) in
+    let further = through (has_few_hops config.max_hops p) refusal.TooManyHops (checked fresh refusal.Stale last) job
     (other_hops config.max_hops p other) goes in
     let whole = front_admitted config secret (side.Home i) p
-    (checked (has_few_hops config.max_hops p) refusal.TooManyHops
-    (forwarded_for size a (side.Home i) p own (realm_of config p.attributes))) job further in (
+    (checked (has_few_hops config.max_hops p) refusal.TooManyHops (checked fresh refusal.Stale last)) job further in (
       λ h. (
           let all = whole.0 h in
-          let rest = all.1.1 in (
+          let rest = all.1.1.1 in (
             rest.1.1,
             record {
               code = code;
+              attributes = all.0.attributes;
               signed = all.0.signed;
               well_sealed = all.0.well_sealed;
               needed_seal = all.0.needed_seal;
               hops = all.1.0;
               passwords = λ is. absurd (other is);
               realm_is = rest.1.0;
+              fresh = all.1.1.0;
               asks = tt;
               accounting = λ is. absurd (not_accounting own i p.code code is);
               size = rest.0;
@@ -216,10 +241,11 @@ reverse_admitted config a own i p job code =
       λ h. (
           let r = h.1 in
           let front : IsFrontRight config secret (side.Home i) p = record {
+            attributes = r.attributes;
             signed = r.signed;
             well_sealed = r.well_sealed;
             needed_seal = r.needed_seal;
           } in
-          whole.1 (front, (r.hops, (r.size, (r.realm_is, h.0))))
+          whole.1 (front, (r.hops, (r.fresh, (r.size, (r.realm_is, h.0)))))
           ),
     )

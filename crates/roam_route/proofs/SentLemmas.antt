@@ -12,9 +12,11 @@ use Rattle.roam_conf.specs.Lookup.{peer_with_ip}
 use Rattle.roam_conf.specs.declared.place.Place.{Place}
 use Rattle.roam_conf.specs.declared.place.Place.TheVariants as place
 use Rattle.roam_route.specs.UserName.{realm_of}
+use Rattle.roam_route.specs.Freshness.{is_fresh}
 use Rattle.roam_route.specs.LocalAnswer.{accounting_answer, status_answer}
 use Rattle.roam_route.specs.LocalReject.{is_rejected}
-use Rattle.roam_route.specs.Admission.{Arrival, PlainOut, Admission, sender, checked, accounted, is_answered_unnamed, answered_by, rejected_for, for_named_realm, route_request, packet_admission, sent_admission, is_taken, has_seal, is_status_request, status_admission, status_from, peer_secret, home_secret}
+use Rattle.roam_route.specs.Shapings.{sent_length}
+use Rattle.roam_route.specs.Admission.{Arrival, PlainOut, Admission, sender, checked, accounted, is_answered_unnamed, answered_by, forwarded_for, rejected_for, for_named_realm, route_request, packet_admission, sent_admission, is_taken, has_seal, is_status_request, status_admission, status_from, peer_secret, home_secret, has_few_attributes}
 use Rattle.roam_route.specs.declared.job.Side.{Side}
 use Rattle.roam_route.specs.declared.job.Side.TheVariants as side
 use Rattle.roam_route.proofs.PasswordLemmas.{unrejected_blocks}
@@ -65,10 +67,13 @@ home_admits : (config : ConfigView) (secret : List ℕ) (a : Arrival) (i : ℕ) 
     → IsFor config a (side.Home i) p realm → HasAtMostOneMessageAuthenticator p
     → Admits config a p (route_request config secret a (side.Home i) p (place.Reverse realm))
 home_admits config secret a i p realm test h seal =
-    forwarded_admits config a (side.Home i) p realm (realm_of config p.attributes) h (record {
+    let names : Option ℕ = realm_of config p.attributes in
+    checked_admits config a p (is_fresh config.fresh a.seconds p.attributes) refusal.Stale
+    (forwarded_for (sent_length config (side.Home i) p realm) a (side.Home i) p realm names) (λ _.
+    forwarded_admits config a (side.Home i) p realm names h (record {
       seal = seal;
       passwords = λ access. absurd (code_at_reverse realm i p.code test access);
-    }) refl
+    }) refl)
 
 from_peer : (config : ConfigView) (a : Arrival) (i : ℕ) (p : Packet)
     → option_map (λ n. side.Peer n) (peer_with_ip config.peers a.from.ip) ≡ Some (side.Peer i)
@@ -135,20 +140,24 @@ packet_admits config a (side.Link l) p place.Acct is from test = absurd (cc test
 packet_admits config a (side.Link l) p (place.Reverse realm) is from test = absurd (cc test)
 
 -- a Status-Server is no event
-status_admits : (config : ConfigView) (secret : List ℕ) (a : Arrival) (p : Packet)
-    → Admits config a p (status_admission secret a p)
-status_admits config secret a p =
+status_admits : (config : ConfigView) (most : Option ℕ) (secret : List ℕ) (a : Arrival) (p : Packet)
+    → Admits config a p (status_admission most secret a p)
+status_admits config most secret a p =
     let answer : Admission = answered_by a (status_answer a.at secret p) in
     let bytes : List ℕ = packet_text (status_answer a.at secret p) in
     let out : PlainOut = record { realm = None; from = a.at; to = a.from; bytes = bytes } in
-    checked_admits config a p (is_well_sealed secret (p.authenticator ∷ []) p)
-    refusal.BadMessageAuthenticator (checked (has_seal p) refusal.MissingMessageAuthenticator answer) (λ _.
+    let has : Admission = checked (has_seal p) refusal.MissingMessageAuthenticator answer in
+    let sealed : Bool = is_well_sealed secret (p.authenticator ∷ []) p in
+    checked_admits config a p (has_few_attributes most p) refusal.TooManyAttributes
+    (checked sealed refusal.BadMessageAuthenticator has) (λ _.
+    checked_admits config a p sealed refusal.BadMessageAuthenticator has (λ _.
     checked_admits config a p (has_seal p) refusal.MissingMessageAuthenticator answer (λ _.
-    rejected_admits config a p out))
+    rejected_admits config a p out)))
 
 status_from_admits : (config : ConfigView) (a : Arrival) (s : Side) (p : Packet)
     → Admits config a p (status_from config a s p)
-status_from_admits config a (side.Peer i) p = status_admits config (peer_secret config i) a p
+status_from_admits config a (side.Peer i) p =
+    status_admits config config.max_attributes (peer_secret config i) a p
 status_from_admits config a (side.Link l) p = refused_admits config a p refusal.WrongCode
 status_from_admits config a (side.Home i) p = refused_admits config a p refusal.WrongCode
 

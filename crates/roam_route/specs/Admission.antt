@@ -1,6 +1,6 @@
 -- What an arrival gives: a refusal, a local answer, or an event of a realm (RFC 2865 sections 2.3 and
 -- 3, RFC 2866, RFC 5176, RFC 5997; the order of the checks is ours).
-use Rattle.std.specs.Prelude.{ℕ, ◌==◌, ◌&&◌, ◌||◌, not, nat_lt, nat_le, Bool, false, List, [], ◌∷◌, Option, Some, None, option_map, is_some, slice_get, Result, Ok, Err, if◌then◌else◌}
+use Rattle.std.specs.Prelude.{ℕ, ◌==◌, ◌&&◌, ◌||◌, not, nat_lt, nat_le, Bool, true, false, List, [], ◌∷◌, length, Option, Some, None, option_map, is_some, slice_get, Result, Ok, Err, if◌then◌else◌}
 use Rattle.std.specs.Option.{option_map_or}
 use Rattle.roam_wire.specs.Packet.{Attribute, Packet, packet_text}
 use Rattle.roam_wire.specs.Attributes.{count_of, first_value}
@@ -14,7 +14,7 @@ use Rattle.roam_wire.specs.declared.packet_size.TheConstants.{MAX_PACKET_LENGTH}
 use Rattle.roam_auth.specs.Authenticators.{zero_octets}
 use Rattle.roam_auth.specs.Deciding.{is_signed_request, is_well_sealed}
 use Rattle.roam_conf.specs.Config.{ConfigView, PeerView}
-use Rattle.roam_conf.specs.Lookup.{peer_with_ip, link_in, home_in, servers_in}
+use Rattle.roam_conf.specs.Lookup.{peer_with_ip, link_in, home_in}
 use Rattle.roam_conf.specs.Secrets as secrets
 use Rattle.roam_conf.specs.declared.accounting.Accounting.{Accounting}
 use Rattle.roam_conf.specs.declared.accounting.Accounting.TheVariants.{Forwarded, Answered, Dropped}
@@ -23,35 +23,14 @@ use Rattle.roam_conf.specs.declared.place.Link.{Link}
 use Rattle.roam_conf.specs.declared.place.Link.TheVariants as link
 use Rattle.roam_conf.specs.declared.place.Place.{Place}
 use Rattle.roam_conf.specs.declared.place.Place.TheVariants as place
+pub use Rattle.roam_route.specs.Arrivals.{Arrival, PlainJob, PlainOut}
+use Rattle.roam_route.specs.Freshness.{is_fresh}
 use Rattle.roam_route.specs.UserName.{realm_of}
 use Rattle.roam_route.specs.LocalAnswer.{accounting_answer, answer_length, local_reject, status_answer}
 use Rattle.roam_route.specs.LocalReject.{has_too_many_hops, is_rejected, takes_of}
 use Rattle.roam_route.specs.Shapings.{sent_length}
 use Rattle.roam_route.specs.declared.job.Side.{Side}
 use Rattle.roam_route.specs.declared.job.Side.TheVariants as side
-
--- a datagram that arrived: at which place, from where, and its octets
-pub record Arrival : Type 0 where
-  pub at : Place
-  pub from : Endpoint
-  pub octets : List ℕ
-
--- what a realm is given: a request or a reply, with the place and the source, who sent it, the octets
--- up to Length, and the realm that the first User-Name of a request names; none in a reply
-pub record PlainJob : Type 0 where
-  pub realm : ℕ
-  pub place : Place
-  pub from : Endpoint
-  pub side : Side
-  pub octets : List ℕ
-  pub named : Option ℕ
-
--- a packet that leaves: for which realm, from which place, where to, and its octets
-pub record PlainOut : Type 0 where
-  pub realm : Option ℕ
-  pub from : Place
-  pub to : Endpoint
-  pub bytes : List ℕ
 
 -- what an arrival gives; what is rejected is answered by the broker itself, by a local reject or as a
 -- Status-Server
@@ -61,19 +40,20 @@ pub data Admission : Type 0 where
   admitted : PlainJob → Admission
 
 -- who the source is at a place, if it shares a secret with the broker there: a peer by its address, a
--- link of the realm by its endpoint, a home server of the realm by its address (RFC 2865, section 3)
+-- link of the realm by its endpoint, a home server of the realm by its address, or else a `coa_client` of the realm by
+-- its own (RFC 2865, section 3)
 abbrev pub sender : ConfigView → Arrival → Place → Option Side
 sender config a place.Auth = option_map (λ i. side.Peer i) (peer_with_ip config.peers a.from.ip)
 sender config a place.Acct = option_map (λ i. side.Peer i) (peer_with_ip config.peers a.from.ip)
 sender config a (place.Out realm) = option_map (λ l. side.Link l) (link_in config realm a.from)
 sender config a (place.Reverse realm) = option_map (λ i. side.Home i) (home_in config realm a.from.ip)
 
--- the secret shared with a peer; with a realm's home server
+-- the secret shared with a peer; with a source of a realm's reverse requests
 abbrev pub peer_secret : ConfigView → ℕ → List ℕ
 peer_secret config i = secrets.peer_secret config.peers i
 
 abbrev pub home_secret : ConfigView → ℕ → ℕ → List ℕ
-home_secret config realm i = secrets.server_secret (servers_in config realm) i
+home_secret config realm i = secrets.home_secret_in config realm i
 
 -- the codes that a link sends (RFC 2865 section 4, RFC 2866 section 4, RFC 5176 section 2.3)
 abbrev pub is_code_of_link : Link → ℕ → Bool
@@ -141,6 +121,19 @@ wants_seal peer p =
 abbrev pub seal_required : ConfigView → Side → Packet → Bool
 seal_required config (side.Peer i) p = option_map_or (λ peer. wants_seal peer p) (slice_get config.peers i) false
 seal_required config _ p = false
+
+-- ## Attributes
+-- A request may have so many attributes as `max_attributes` says, where that is set: one with more is refused (28) before
+-- a digest of it is looked at, whatever its code. What came is counted; what is forwarded may have five more. Replies
+-- aren't counted.
+-- Source: ours
+-- Rules out: a request whose many attributes are gone through again and again before it is known to be anybody's
+-- Stands in: `roam_route` `Admission.antt`: `has_few_attributes`; `prepare`
+--
+-- whether a request has no more attributes than may be, where there is a limit
+abbrev pub has_few_attributes : Option ℕ → Packet → Bool
+has_few_attributes None p = true
+has_few_attributes (Some most) p = nat_le (length p.attributes) most
 
 -- whether a request that is forwarded hasn't too many hops: an Access-Request that has is answered by a
 -- local reject (ours)
@@ -213,11 +206,16 @@ is_unnamed attributes = not (is_some (first_value USER_NAME attributes))
 abbrev pub is_answered_unnamed : ConfigView → Packet → Bool
 is_answered_unnamed config p = config.answer_unnamed && is_unnamed p.attributes
 
+-- a request of a home server, for the realm of its place, where it isn't stale
+abbrev pub reversed : ConfigView → Arrival → Side → Packet → ℕ → Admission
+reversed config a s p realm =
+    checked (is_fresh config.fresh a.seconds p.attributes) refusal.Stale
+    (forwarded_for (sent_length config s p realm) a s p realm (realm_of config p.attributes))
+
 -- what a request that passed the checks of its signature and seal gives: to the realm of its place
 -- where it came from a home server; else to the realm that it names
 abbrev pub route_request : ConfigView → List ℕ → Arrival → Side → Packet → Place → Admission
-route_request config secret a s p (place.Reverse realm) =
-    forwarded_for (sent_length config s p realm) a s p realm (realm_of config p.attributes)
+route_request config secret a s p (place.Reverse realm) = reversed config a s p realm
 route_request config secret a s p place.Auth =
     if is_rejected config s p then rejected_for secret a p
     else for_named_realm config a s p (realm_of config p.attributes)
@@ -228,11 +226,12 @@ route_request config secret a s p _ =
 -- what a request gives
 abbrev pub request_admission : ConfigView → List ℕ → Arrival → Side → Packet → Admission
 request_admission config secret a s p =
-    checked (is_rightly_signed secret p) refusal.BadAuthenticator
+    checked (has_few_attributes config.max_attributes p) refusal.TooManyAttributes
+    (checked (is_rightly_signed secret p) refusal.BadAuthenticator
     (checked (is_rightly_sealed secret p) refusal.BadMessageAuthenticator
     (checked (has_needed_seal (seal_required config s p) p) refusal.MissingMessageAuthenticator
     (checked (has_few_hops config.max_hops p) refusal.TooManyHops
-    (route_request config secret a s p a.at))))
+    (route_request config secret a s p a.at)))))
 
 -- what a packet of a known sender and a code that is taken gives: a reply goes to the realm of its
 -- place as it is, and is judged there
@@ -255,17 +254,18 @@ is_status_request config _ _ code = false
 abbrev pub has_seal : Packet → Bool
 has_seal p = nat_lt 0 (count_of MESSAGE_AUTHENTICATOR p.attributes)
 
--- what a Status-Server gives: the local answer, where it is sealed over its own Authenticator (RFC 5997,
--- section 3)
-abbrev pub status_admission : List ℕ → Arrival → Packet → Admission
-status_admission secret a p =
-    checked (is_well_sealed secret (p.authenticator ∷ []) p) refusal.BadMessageAuthenticator
+-- what a Status-Server gives: the local answer, where it has few attributes and is sealed over its own Authenticator
+-- (RFC 5997, section 3)
+abbrev pub status_admission : Option ℕ → List ℕ → Arrival → Packet → Admission
+status_admission most secret a p =
+    checked (has_few_attributes most p) refusal.TooManyAttributes
+    (checked (is_well_sealed secret (p.authenticator ∷ []) p) refusal.BadMessageAuthenticator
     (checked (has_seal p) refusal.MissingMessageAuthenticator
-    (answered_by a (status_answer a.at secret p)))
+    (answered_by a (status_answer a.at secret p))))
 
 -- the same of a sender, of whom the peers alone have it answered
 abbrev pub status_from : ConfigView → Arrival → Side → Packet → Admission
-status_from config a (side.Peer i) p = status_admission (peer_secret config i) a p
+status_from config a (side.Peer i) p = status_admission config.max_attributes (peer_secret config i) a p
 status_from config a s p = refused refusal.WrongCode
 
 -- what a packet gives: the source first, then the code
@@ -281,12 +281,13 @@ read_admission config a (Err why) = refused why
 read_admission config a (Ok p) = sent_admission config a p (sender config a a.at)
 
 -- ## Admission
--- What one arrival gives: a refusal, the first of the refusals 1 to 8, 24, 9, 25, 26 and 10 whose cause holds; a local
+-- What one arrival gives: a refusal, the first of the refusals 1 to 5, 28, 6 to 8, 24, 9, 29, 25, 26 and 10 whose cause
+-- holds; a local
 -- answer: a local reject, for an Access-Request that has too many hops, names no realm that takes its peer's requests
 -- or whose password can't be carried, looked at between 8 and 9, the answer to a Status-Server, or to an
 -- Accounting-Request that isn't forwarded; or an event of a realm: a request from a peer or a home server, or a
 -- reply from a link. It is one function of the configuration and the
--- arrival: of no state, and of no time.
+-- arrival: of no state, and of no time but the wall clock's seconds that came with a reverse request.
 -- Source: RFC 2865 sections 2.3 and 3, RFC 5176; order and causes ours
 -- Rules out: one realm's packets judged by another's secrets; an answer that depends on what came before
 -- Stands in: `roam_route` `Admission.antt`: `admission`, `sender`, `is_taken`; `prepare`

@@ -21,6 +21,7 @@ use Rattle.roam_conf.specs.declared.place.Place.TheVariants as place
 use Rattle.roam_fwd.specs.Forwarded.{Forwarding, forwarded}
 use Rattle.roam_fwd.specs.Shaped.{Shaping, shaped}
 use Rattle.roam_route.specs.Admission.{Arrival, PlainJob, accounting_in, admission, admitted, home_secret, is_answered_unnamed, is_status_request, peer_secret, refused, seal_required, sender}
+use Rattle.roam_route.specs.Freshness.{IsFresh}
 use Rattle.roam_route.specs.LocalAnswer.{answer_length}
 use Rattle.roam_route.specs.LocalReject.{asked_realm, takes_of}
 use Rattle.roam_route.specs.Shapings.{sent_length}
@@ -37,6 +38,10 @@ IsRequestAt place.Acct (side.Peer i) code = code ≡ ACCOUNTING_REQUEST
 IsRequestAt (place.Reverse realm) (side.Home i) code =
     (code ≡ DISCONNECT_REQUEST) ⊎ (code ≡ COA_REQUEST)
 IsRequestAt _ _ code = ⊥
+
+-- where there is a limit of attributes, it has no more than that (ours)
+abbrev pub HasFewAttributes : Option ℕ → Packet → Type 0
+HasFewAttributes most p = (limit : ℕ) → most ≡ Some limit → length p.attributes ≤ limit
 
 -- the secret that the sender of a request shares with the broker (RFC 2865, section 3)
 abbrev pub shared_secret : ConfigView → Place → Side → List ℕ
@@ -92,7 +97,8 @@ IsForwarded config realm = accounting_in config realm ≡ Forwarded
 -- ## A right request
 -- A request that a realm is given, by the side that sent it, a peer or a home server of the realm. Its code
 -- belongs to its place and its sender: a peer's Access-Request where those are taken, its Accounting-Request
--- where those are, a home server's Disconnect-Request or CoA-Request at its realm's own place. It is signed
+-- where those are, a home server's Disconnect-Request or CoA-Request at its realm's own place. Where there is a limit of
+-- attributes, it has at most so many. It is signed
 -- with the secret that the two share where its code has a signature, which is each but an Access-Request. It
 -- has no Message-Authenticator, or just one, and that is over its own Authenticator in an Access-Request and
 -- over sixteen zero octets in any other. An Access-Request has one where it has an EAP-Message, and where its
@@ -100,10 +106,12 @@ IsForwarded config realm = accounting_in config realm ≡ Forwarded
 -- Access-Request's passwords can be carried: at most one User-Password, of 16 to 128 octets in whole blocks,
 -- and none beside a CHAP-Password. It is for a realm: a home server's for the realm of its place, a peer's for
 -- the one that its User-Name names, which takes that peer's requests and, of an Accounting-Request, has its accounting
--- forwarded. The packet that is forwarded for it has at most 4096 octets: of a peer's request as the peer and the
+-- forwarded. A home server's isn't stale, where the wall clock's seconds came with it. The packet that is forwarded for
+-- it has at most 4096 octets: of a peer's request as the peer and the
 -- realm have it shaped, of a home server's as it came. An arrival gives a realm a request just where it is one; what
--- isn't is refused for the first of these parts that fails, in this order: code, signature, Message-Authenticator,
--- that there is one where it must be, hops, realm, that it may be asked, its accounting, size. (An Access-Request
+-- isn't is refused for the first of these parts that fails, in this order: code, attributes, signature,
+-- Message-Authenticator, that there is one where it must be, hops, realm, that it is fresh, that it may be asked, its
+-- accounting, size. (An Access-Request
 -- that fails in its realm, passwords or hops is answered by a local reject, whose size is then the last part; an
 -- Accounting-Request without a name, or for a realm that has these answered, may be answered by the broker, and isn't
 -- refused then.)
@@ -116,19 +124,21 @@ IsForwarded config realm = accounting_in config realm ≡ Forwarded
 -- `admitted_requests`
 --
 -- a request that a realm is given
-pub record IsRightRequest (config : ConfigView) (at : Place) (s : Side) (p : Packet) (realm : ℕ) : Type 0
-  where
-    pub code : IsRequestAt at s p.code
-    pub signed : IsRightlySigned (shared_secret config at s) p
-    pub well_sealed :
-        IsWellSealed (shared_secret config at s) (sealing_authenticator p ∷ []) p
-    pub needed_seal : HasNeededSeal (seal_required config s p) p
-    pub hops : HasFewHops config.max_hops p
-    pub passwords : p.code ≡ ACCESS_REQUEST → HasGoodPasswords p
-    pub realm_is : IsForRealm config at p realm
-    pub asks : MayAsk config s realm
-    pub accounting : p.code ≡ ACCOUNTING_REQUEST → IsForwarded config realm
-    pub size : sent_length config s p realm ≤ MAX_PACKET_LENGTH
+pub record IsRightRequest (config : ConfigView) (seconds : Option ℕ) (at : Place) (s : Side) (p : Packet) (realm : ℕ)
+    : Type 0 where
+  pub code : IsRequestAt at s p.code
+  pub attributes : HasFewAttributes config.max_attributes p
+  pub signed : IsRightlySigned (shared_secret config at s) p
+  pub well_sealed :
+      IsWellSealed (shared_secret config at s) (sealing_authenticator p ∷ []) p
+  pub needed_seal : HasNeededSeal (seal_required config s p) p
+  pub hops : HasFewHops config.max_hops p
+  pub passwords : p.code ≡ ACCESS_REQUEST → HasGoodPasswords p
+  pub realm_is : IsForRealm config at p realm
+  pub fresh : IsFresh config seconds at p
+  pub asks : MayAsk config s realm
+  pub accounting : p.code ≡ ACCOUNTING_REQUEST → IsForwarded config realm
+  pub size : sent_length config s p realm ≤ MAX_PACKET_LENGTH
 
 -- a job is a packet's: from the place, the source and the sender of the arrival, with the packet's octets
 -- without padding, and the realm that its User-Name names
@@ -151,7 +161,7 @@ abbrev pub AdmittedIsRight : Type 0
 AdmittedIsRight = (config : ConfigView) (a : Arrival) (p : Packet) (job : PlainJob) →
     reading a.octets ≡ Ok p → IsOfRequest job.side →
     (admission config a ≡ admitted job)
-    ↔ (IsJobOf config a p job × IsRightRequest config a.at job.side p job.realm)
+    ↔ (IsJobOf config a p job × IsRightRequest config a.seconds a.at job.side p job.realm)
 
 -- a refusal is a part's own where that part doesn't hold, and what follows gives it where it does
 abbrev pub FailsFirst : Type 0 → Refusal → (Refusal → Type 0) → Refusal → Type 0
@@ -194,34 +204,36 @@ FailsForSize config s p None why = ⊥
 FailsForSize config s p (Some realm) why =
     FailsFirst (sent_length config s p realm ≤ MAX_PACKET_LENGTH) refusal.TooLong NothingFails why
 
--- why a request isn't forwarded that is signed and sealed as it must be: its hops, its realm, its size,
+-- why a request isn't forwarded that is signed and sealed as it must be: its hops, its realm, its time, its size,
 -- in this order. An Access-Request fails for the size alone, of its local reject where it gets one
-abbrev pub FailsToGo : ConfigView → Side → Packet → Place → Refusal → Type 0
-FailsToGo config s p place.Auth why =
+abbrev pub FailsToGo : ConfigView → Option ℕ → Side → Packet → Place → Refusal → Type 0
+FailsToGo config seconds s p place.Auth why =
     (IsPassedOn config s p × FailsForSize config s p (realm_of config p.attributes) why)
     ⊎ ((IsPassedOn config s p → ⊥)
     × FailsFirst (answer_length p ≤ MAX_PACKET_LENGTH) refusal.TooLong NothingFails why)
-FailsToGo config s p (place.Reverse own) why =
+FailsToGo config seconds s p (place.Reverse own) why =
     FailsFirst (HasFewHops config.max_hops p) refusal.TooManyHops
-    (FailsFirst (sent_length config s p own ≤ MAX_PACKET_LENGTH) refusal.TooLong NothingFails) why
-FailsToGo config s p _ why =
+    (FailsFirst (IsFresh config seconds (place.Reverse own) p) refusal.Stale
+    (FailsFirst (sent_length config s p own ≤ MAX_PACKET_LENGTH) refusal.TooLong NothingFails)) why
+FailsToGo config seconds s p _ why =
     FailsFirst (HasFewHops config.max_hops p) refusal.TooManyHops (FailsNamed config s p) why
 
--- why a request of a sender isn't admitted: the first part that fails, of its signature, its
+-- why a request of a sender isn't admitted: the first part that fails, of its attributes, its signature, its
 -- Message-Authenticator, that it has one where it must, and what is wanted to forward it (the order is ours)
-abbrev pub FailsFor : ConfigView → Place → Side → Packet → Refusal → Type 0
-FailsFor config at s p why =
-    FailsFirst (IsRightlySigned (shared_secret config at s) p) refusal.BadAuthenticator
+abbrev pub FailsFor : ConfigView → Option ℕ → Place → Side → Packet → Refusal → Type 0
+FailsFor config seconds at s p why =
+    FailsFirst (HasFewAttributes config.max_attributes p) refusal.TooManyAttributes
+    (FailsFirst (IsRightlySigned (shared_secret config at s) p) refusal.BadAuthenticator
     (FailsFirst (IsWellSealed (shared_secret config at s) (sealing_authenticator p ∷ []) p)
     refusal.BadMessageAuthenticator
     (FailsFirst (HasNeededSeal (seal_required config s p) p) refusal.MissingMessageAuthenticator
-    (FailsToGo config s p at))) why
+    (FailsToGo config seconds s p at)))) why
 
 -- a request is refused just for the first part that fails
 abbrev pub RefusedFailsFirst : Type 0
 RefusedFailsFirst = (config : ConfigView) (a : Arrival) (p : Packet) (s : Side) (why : Refusal) →
     reading a.octets ≡ Ok p → sender config a a.at ≡ Some s → IsRequestAt a.at s p.code →
-    (admission config a ≡ refused why) ↔ FailsFor config a.at s p why
+    (admission config a ≡ refused why) ↔ FailsFor config a.seconds a.at s p why
 
 -- what is looked at before: an arrival that reads as no packet is refused for what is wrong with it
 abbrev pub UnreadIsRefused : Type 0

@@ -3,7 +3,7 @@ use Rattle.std.specs.Prelude.{◌≡◌, ℕ, ◌<◌, true, length, Option, Non
 use Rattle.roam_wire.specs.Packet.{AreOctets, Packet, packet_length}
 use Rattle.roam_wire.specs.Reading.{IsPacketText, packet_of}
 use Rattle.roam_conf.specs.Config.{ConfigView}
-use Rattle.roam_conf.specs.Lookup.{IsLinkIn, servers_in}
+use Rattle.roam_conf.specs.Lookup.{IsLinkIn, homes_in}
 use Rattle.roam_fwd.specs.Forwarded.{CanBeForwarded}
 use Rattle.roam_fwd.specs.Shaped.{CanBeShaped}
 use Rattle.roam_route.specs.declared.job.Prepared.{Prepared}
@@ -15,9 +15,9 @@ use Rattle.roam_route.specs.Shapings.{shaping_of}
 use Rattle.roam_route.specs.Shown.{shown_job, shown_out}
 use Rattle.roam_route.specs.UserName.{realm_of}
 
--- the arrival of a job's own octets, from its source at its place
+-- the arrival of a job's own octets, from its source at its place, with no wall clock: what was admitted isn't stale
 abbrev pub arrival_of : PlainJob → Arrival
-arrival_of job = record { at = job.place; from = job.from; octets = job.octets }
+arrival_of job = record { at = job.place; from = job.from; octets = job.octets; seconds = None }
 
 -- ## Event of a realm
 -- A job is an event of a configuration where the arrival of its own octets is admitted as just this job. Then,
@@ -44,7 +44,7 @@ IsPrepared config a (prepared.Reject out) =
 abbrev pub IsConfigured : ConfigView → ℕ → Side → Type 0
 IsConfigured config realm (side.Peer i) = i < length config.peers
 IsConfigured config realm (side.Link l) = IsLinkIn config realm l
-IsConfigured config realm (side.Home i) = i < length (servers_in config realm)
+IsConfigured config realm (side.Home i) = i < homes_in config realm
 
 -- a request can be forwarded, a peer's as it is shaped for the realm; a reply comes from a link
 abbrev pub IsForwardable : ConfigView → ℕ → Side → Packet → Type 0

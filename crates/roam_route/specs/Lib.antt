@@ -1,7 +1,9 @@
 pub mod AccountingLaws
 pub mod Admission
 pub mod AdmittedRequests
+pub mod Arrivals
 pub mod Events
+pub mod Freshness
 pub mod LocalAnswer
 pub mod LocalReject
 pub mod NameLaws

@@ -11,12 +11,14 @@ own realm (refused why) = None
 own realm (rejected out) = None
 own realm (admitted job) = if job.realm == realm then Some job else None
 
--- two configurations have the same peers, the same meaning of each name, the same limit of hops, and the
--- same entry for a realm: its part of the configuration
+-- two configurations have the same peers, the same meaning of each name, the same limits of attributes, of hops and of a
+-- reverse request's age, and the same entry for a realm: its part of the configuration
 pub record HaveSamePart (one other : ConfigView) (realm : ℕ) : Type 0 where
   pub peers : one.peers ≡ other.peers
   pub names : (name : List ℕ) → realm_named one name ≡ realm_named other name
+  pub max_attributes : one.max_attributes ≡ other.max_attributes
   pub max_hops : one.max_hops ≡ other.max_hops
+  pub fresh : one.fresh ≡ other.fresh
   pub entry : slice_get one.realms realm ≡ slice_get other.realms realm
 
 -- what an arrival gives to a realm is decided by that part: no other realm's sockets, servers, secrets or
@@ -32,12 +34,13 @@ answered (refused why) = None
 answered (rejected out) = Some out
 answered (admitted job) = None
 
--- two configurations have the same peers, the same meaning of each name, the same limit of hops, and both have
+-- two configurations have the same peers, the same meaning of each name, the same limits of attributes and hops, and both have
 -- Status-Servers answered, or neither, and unnamed accounting; of each realm the same peers may ask, and its accounting
 -- becomes the same: what the broker's own answers are made by
 pub record AnswerAlike (one other : ConfigView) : Type 0 where
   pub peers : one.peers ≡ other.peers
   pub names : (name : List ℕ) → realm_named one name ≡ realm_named other name
+  pub max_attributes : one.max_attributes ≡ other.max_attributes
   pub max_hops : one.max_hops ≡ other.max_hops
   pub status_server : one.status_server ≡ other.status_server
   pub answer_unnamed : one.answer_unnamed ≡ other.answer_unnamed

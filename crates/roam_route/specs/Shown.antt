@@ -2,7 +2,7 @@
 use Rattle.std.specs.Prelude.{◌≡◌, ◌⊎◌, ℕ, ◌<◌, length, vec_len, Result, Ok, Err, IsErrOf}
 use Rattle.roam_wire.specs.declared.refusal.Refusal.{Refusal}
 use Rattle.roam_wire.specs.declared.refusal.Refusal.TheVariants as refusal
-use Rattle.roam_conf.specs.Lookup.{servers_in}
+use Rattle.roam_conf.specs.Lookup.{homes_in}
 use Rattle.roam_conf.specs.Shown.{shown as shown_config}
 use Rattle.roam_conf.specs.declared.config.Config.{Config}
 use Rattle.roam_route.specs.declared.datagram.Datagram.{Datagram}
@@ -14,7 +14,7 @@ use Rattle.roam_route.specs.Admission.{Arrival, PlainJob, PlainOut, Admission, r
 
 -- a datagram
 abbrev pub shown_arrival : {A : Type 0} → Datagram A → Arrival
-shown_arrival d = record { at = d.at; from = d.from; octets = d.octets }
+shown_arrival d = record { at = d.at; from = d.from; octets = d.octets; seconds = d.seconds }
 
 -- an event of a realm
 abbrev pub shown_job : {A : Type 0} → Job A → PlainJob
@@ -54,10 +54,10 @@ WantsMemory (refused why) = ⊥
 WantsMemory (rejected out) = Unit {0}
 WantsMemory (admitted job) = Unit {0}
 
--- a home server of a configured realm
+-- a source of a configured realm's reverse requests
 pub record IsHome (config : Config) (realm server : ℕ) : Type 0 where
   pub configured : realm < vec_len config.realms
-  pub there : server < length (servers_in (shown_config config) realm)
+  pub there : server < homes_in (shown_config config) realm
 
 -- what a call answers of an arrival: this admission, and want of memory only where it wants memory.
 -- So what is refused is refused for its cause, whatever memory there is

@@ -10,7 +10,8 @@ ghost use Rattle.roam_route.specs.Shown.{IsAdmission, IsHome, Prepares, WantsMem
 
 use crate::answering::status_answer;
 use crate::checks::{
-    has_few_hops, has_needed_seal, has_seal, is_rightly_sealed, is_rightly_signed, is_sealed_over,
+    has_few_attributes, has_few_hops, has_needed_seal, has_seal, is_rightly_sealed,
+    is_rightly_signed, is_sealed_over,
 };
 use crate::datagram::{Datagram, Out};
 use crate::job::{Prepared, Side};
@@ -22,7 +23,8 @@ use roam_conf::{Config, Place};
 use roam_wire::{Refusal, View};
 use std::alloc::Allocator;
 
-/// What a request gives: its signature is looked at, then its seal, its hops, and where it goes.
+/// What a request gives: its attributes are counted, its signature is looked at, then its seal, its hops, and where it
+/// goes.
 fn request<A: Allocator + Copy>(
     config: &Config,
     packet: &SentPacket<'_, A>,
@@ -34,6 +36,9 @@ fn request<A: Allocator + Copy>(
         (shown_arrival packet.now.datagram.now) packet.now.side packet.now.view) }
 {
     let view = &packet.view;
+    if !has_few_attributes(view, config.max_attributes) {
+        return Err(Refusal::TooManyAttributes);
+    }
     if !is_rightly_signed(view, secret) {
         return Err(Refusal::BadAuthenticator);
     }
@@ -81,17 +86,21 @@ fn admit_packet<A: Allocator + Copy>(
     }
 }
 
-/// What a Status-Server gives: the local answer, where it is sealed over its own Authenticator (RFC 5997,
-/// section 3).
+/// What a Status-Server gives: the local answer, where it has few attributes and is sealed over its own
+/// Authenticator (RFC 5997, section 3).
 fn status<A: Allocator + Copy>(
     packet: &SentPacket<'_, A>,
+    most: Option<u16>,
     secret: &[u8],
 ) -> Result<Prepared<A>, Refusal>
     requires secret { IsSecret secret.now }
-    ensures { Prepares result (status_admission secret.now
+    ensures { Prepares result (status_admission most secret.now
         (shown_arrival packet.now.datagram.now) packet.now.view) }
 {
     let view = &packet.view;
+    if !has_few_attributes(view, most) {
+        return Err(Refusal::TooManyAttributes);
+    }
     if !is_sealed_over(view, secret, view.authenticator()) {
         return Err(Refusal::BadMessageAuthenticator);
     }
@@ -117,7 +126,10 @@ fn status_from<A: Allocator + Copy>(
         (shown_arrival packet.now.datagram.now) packet.now.side packet.now.view) }
 {
     match packet.side {
-        Side::Peer(peer) => status(packet, secret_of_peer(config, peer)),
+        Side::Peer(peer) => {
+            let secret = secret_of_peer(config, peer);
+            status(packet, config.max_attributes, secret)
+        }
         Side::Link(_) | Side::Home(_) => Err(Refusal::WrongCode),
     }
 }
@@ -146,8 +158,9 @@ fn sent<A: Allocator + Copy>(
 }
 
 /// What an arrival gives: the event of a realm, with the packet's octets, or a local answer, or the
-/// first of `Short` to `TooLong` whose cause holds, where `TooManyHops` stands between
-/// `MissingMessageAuthenticator` and `NoRealm`, and `NotForPeer` and `AccountingDropped` behind that.
+/// first of `Short` to `TooLong` whose cause holds, where `TooManyAttributes` stands behind `WrongCode`,
+/// `TooManyHops` between `MissingMessageAuthenticator` and `NoRealm`, and `Stale`, `NotForPeer` and
+/// `AccountingDropped` behind that.
 /// `NoMemory` comes where a growth was refused, and nowhere else: memory is wanted only for what passes,
 /// and for an answer that is sent.
 #[tactic(auto, unfolding(crate::specs::Admission::admission))]

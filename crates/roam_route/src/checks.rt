@@ -1,12 +1,12 @@
-//! The checks of a request: its signature, its seal, its passwords.
+//! The checks of a request: how many attributes it has, its signature, its seal, its passwords.
 
 ghost use Rattle.std.specs.Prelude.{◌≡◌, [], ◌∷◌, false, not, option_map};
 ghost use Rattle.roam_wire.specs.Secret.{IsSecret};
 ghost use Rattle.std.specs.Option.{option_map_or};
 ghost use Rattle.roam_auth.specs.Deciding.{is_well_sealed};
 ghost use Rattle.roam_hide.specs.Hiding.{password_fits};
-ghost use Rattle.roam_route.specs.Admission.{has_few_hops, has_needed_seal, has_seal, is_rightly_sealed};
-ghost use Rattle.roam_route.specs.Admission.{is_rightly_signed, is_unnamed};
+ghost use Rattle.roam_route.specs.Admission.{has_few_attributes, has_few_hops, has_needed_seal, has_seal};
+ghost use Rattle.roam_route.specs.Admission.{is_rightly_sealed, is_rightly_signed, is_unnamed};
 ghost use Rattle.roam_route.specs.LocalReject.{has_bad_password, has_too_many_hops};
 
 use roam_auth::{ZERO_OCTETS, message_ok, request_ok};
@@ -72,6 +72,16 @@ pub(crate) fn has_too_many_hops(request: &View<'_>, most: Option<u8>) -> bool
     match most {
         Some(most) => request.count(PROXY_STATE) > usize::from(most),
         None => false,
+    }
+}
+
+/// Whether a request has no more attributes than may be, where there is a limit.
+pub(crate) fn has_few_attributes(request: &View<'_>, most: Option<u16>) -> bool
+    ensures { result ≡ has_few_attributes most request.now }
+{
+    match most {
+        None => true,
+        Some(most) => request.attributes().count() <= usize::from(most),
     }
 }
 

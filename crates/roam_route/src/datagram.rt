@@ -13,6 +13,9 @@ pub struct Datagram<A: Allocator> {
     pub from: Endpoint,
     /// All of its octets, padding too.
     pub octets: Octets<A>,
+    /// The wall clock's seconds since the beginning of 1970 when it arrived, where they are known: a reverse request
+    /// may be too old.
+    pub seconds: Option<u64>,
 }
 
 /// A packet that leaves.

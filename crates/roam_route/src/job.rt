@@ -12,7 +12,8 @@ pub enum Side {
     Peer(u16),
     /// A link of the realm: one of the remote endpoints to which its packets are forwarded.
     Link(Link),
-    /// The realm's home server of this place, in the order of use.
+    /// A source of the realm's reverse requests: its home server of this place, in the order of use, or, behind the
+    /// servers, its `coa_client` of the rest.
     Home(u8),
 }
 

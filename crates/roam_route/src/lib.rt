@@ -1,12 +1,13 @@
 //! From a datagram to the event of a realm (RFC 2865, sections 2.3 and 3).
 //!
-//! Nothing here has state, takes a lock or looks at a moment: what an arrival gives depends on the
-//! datagram and the configuration alone.
+//! Nothing here has state, takes a lock or reads a clock: what an arrival gives depends on the datagram and the
+//! configuration alone. The wall clock's seconds that came with a datagram say whether a reverse request is too old.
 //!
 //! # Proved
 //!
-//! - a realm is given a request just where it is right: code, sender, signature, seal, hops, passwords, realm, that
-//!   the realm takes its peer's requests, that its accounting is forwarded, and the size of what is then sent, each a
+//! - a realm is given a request just where it is right: code, sender, attributes, signature, seal, hops, passwords,
+//!   realm, that a reverse one isn't stale, that the realm takes its peer's requests, that its accounting is forwarded,
+//!   and the size of what is then sent, each a
 //!   fact with its section; one that isn't is refused for the first part that fails; what is forwarded has at most
 //!   one Proxy-State more than `max_hops`, however it is shaped | law `admitted_requests`: `admitted`,
 //!   `refused`, `hops`
@@ -16,7 +17,8 @@
 //! - it is a packet, well sealed for the link, signed for it unless it is an Access-Request, whose seal stands
 //!   first; the ticket is last | laws `forwarded_packet`, `forwarded_authenticator`, `forwarded_marks`, for
 //!   every code
-//! - an arrival of any code is refused for the first of the causes 1 to 8, 24, 9, 25, 26 and 10, or answered by the
+//! - an arrival of any code is refused for the first of the causes 1 to 5, 28, 6 to 8, 24, 9, 29, 25, 26 and 10, or
+//!   answered by the
 //!   broker itself, or is a job of its realm, with the realm that its User-Name names | `prepare`: `answer`
 //! - memory is wanted only for a job or an answer | `prepare`: `memory`
 //! - a job's own octets would give that job again; an answer is that of this arrival | `prepare`: `prepared`
@@ -24,8 +26,8 @@
 //!   sealed with its seal first, with the request's Proxy-States (RFC 5997) | law `status_answers`
 //! - a job's realm and sender are configured, its code is taken from that sender, and a request can be
 //!   forwarded | law `events`
-//! - the broker's own answers are decided by the peers, by what each name means, by `max_hops`, `status_server` and
-//!   `answer_unnamed`, and by which peers each realm takes requests of and its `accounting`: no realm's sockets,
+//! - the broker's own answers are decided by the peers, by what each name means, by `max_attributes`, `max_hops`,
+//!   `status_server` and `answer_unnamed`, and by which peers each realm takes requests of and its `accounting`: no realm's sockets,
 //!   secrets or limits are looked at | law `own_answers`
 //! - its answer to an Accounting-Request: no longer than that, read, signed, sealed where that is, with its
 //!   Proxy-States | `accounting_answer`, law `accounting_answers`
@@ -37,6 +39,7 @@ mod admission;
 mod answering;
 mod checks;
 mod datagram;
+mod freshness;
 mod job;
 mod laws;
 mod nas;

@@ -5,7 +5,7 @@ ghost use Rattle.roam_auth.specs.MessageAuthenticator.{HasAtMostOneMessageAuthen
 ghost use Rattle.roam_wire.specs.Secret.{IsSecret};
 ghost use Rattle.roam_conf.specs.Shown.{shown};
 ghost use Rattle.roam_route.specs.Admission.{accounted, answered_by, for_named_realm, forwarded_for, job_of, rejected_for};
-ghost use Rattle.roam_route.specs.Admission.{route_request};
+ghost use Rattle.roam_route.specs.Admission.{reversed, route_request};
 ghost use Rattle.roam_route.specs.LocalAnswer.{accounting_answer};
 ghost use Rattle.roam_route.specs.LocalReject.{is_rejected, taking};
 ghost use Rattle.roam_route.specs.Shapings.{sent_length};
@@ -15,6 +15,7 @@ ghost use Rattle.roam_route.specs.Shown.{Prepares, shown_arrival};
 use crate::answering::{accounting_answer, reject};
 use crate::checks::{has_bad_password, has_too_many_hops, is_unnamed};
 use crate::datagram::{Datagram, Out};
+use crate::freshness::is_fresh;
 use crate::job::{Job, Prepared, Side};
 use crate::shapings::sent_len;
 use crate::source::{accounting_of, takes_of};
@@ -171,6 +172,23 @@ fn accounted<A: Allocator + Copy>(
     }
 }
 
+/// A request of a home server, for the realm of its place, where it isn't stale.
+fn reversed<A: Allocator + Copy>(
+    config: &Config,
+    packet: &SentPacket<'_, A>,
+    own: u16,
+    realm: Option<u16>,
+) -> Result<Prepared<A>, Refusal>
+    requires { realm ≡ realm_of (shown config.now) packet.now.view.attributes }
+    ensures { Prepares result (reversed (shown config.now) (shown_arrival packet.now.datagram.now)
+        packet.now.side packet.now.view own) }
+{
+    if !is_fresh(config.fresh, packet.datagram.seconds, &packet.view) {
+        return Err(Refusal::Stale);
+    }
+    forwarded_for(config, packet, own, realm)
+}
+
 /// What a request gives that is rightly signed and sealed: it goes to the realm of its place where
 /// it came from a home server, else to the one that it names. An Access-Request that names none that takes its
 /// peer's requests, whose passwords can't be carried, or that has too many hops is answered by a local reject; an
@@ -189,7 +207,7 @@ pub(crate) fn route_request<A: Allocator + Copy>(
     let view = &packet.view;
     let realm = realm_of(config, view);
     if let Place::Reverse(own) = packet.datagram.at {
-        return forwarded_for(config, packet, own, realm);
+        return reversed(config, packet, own, realm);
     }
     if packet.datagram.at == Place::Auth {
         return if is_rejected(config, packet, realm) {

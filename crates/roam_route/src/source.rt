@@ -55,13 +55,13 @@ pub(crate) fn secret_of_peer(config: &Config, peer: u16) -> &[u8]
     config.peers[usize::from(peer)].secret()
 }
 
-/// The secret shared with a home server of a realm.
+/// The secret shared with a source of a realm's reverse requests: a home server, or a `coa_client`.
 pub(crate) fn secret_of_home(config: &Config, realm: u16, server: u8) -> &[u8]
     requires { IsHome config.now realm server }
     ensures text { result.now ≡ home_secret (shown config.now) realm server }
     ensures secret { IsSecret result.now }
 {
-    config.realms[usize::from(realm)].servers[usize::from(server)].secret()
+    config.realms[usize::from(realm)].secret_of_home(server)
 }
 
 /// Whether a peer is to seal an Access-Request: each, or each that has a Proxy-State, which an attack on an

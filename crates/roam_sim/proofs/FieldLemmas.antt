@@ -1,8 +1,8 @@
 -- What stands last in a line or in a place has no separator in it.
-use Rattle.std.proofs.Common.{◌≡◌, ℕ, ◌-◌, ◌^◌, ◌⊎◌, inl, inr, true, false, Bool, cond, eqb, List, [], ◌∷◌, length, get_or, Option, Some, None, Result, Ok, Err, refl, sym, arith}
+use Rattle.std.proofs.Common.{◌≡◌, ℕ, ◌-◌, ◌^◌, ◌⊎◌, inl, inr, true, false, Bool, cond, eqb, List, [], ◌∷◌, length, get_or, Option, Some, None, Result, Ok, Err, refl, sym, ap, arith}
 use Rattle.std.proofs.lemmas.Bool.Decides.{nat_tests}
 use Rattle.std.proofs.lemmas.Grind.{common_steps}
-use Rattle.std.proofs.lemmas.List.Splits.{slice_split_none}
+use Rattle.std.proofs.lemmas.List.Splits.{length-slice_split, slice_split_none}
 use Rattle.std.proofs.lemmas.Slice.Eq.{bytes_eq-Decides}
 use Rattle.std.specs.List.{AllPass}
 use Rattle.std.specs.Result.{result_ok}
@@ -14,7 +14,7 @@ use Rattle.roam_conf.specs.Texts.{endpoint_in, parts}
 use Rattle.roam_conf.specs.declared.place.Place.{Place}
 use Rattle.roam_conf.specs.declared.endpoint.Endpoint.{Endpoint}
 use Rattle.roam_conf.proofs.TextLemmas.{decimal_part, one_part}
-use Rattle.roam_sim.specs.Script.{index_in, moment_in, place_in, datagram_in, realm_place, realm_place_of, arrival, arrival_of, tick, tick_of}
+use Rattle.roam_sim.specs.Script.{times_in, times_of, with_seconds, index_in, moment_in, place_in, datagram_in, realm_place, realm_place_of, arrival, arrival_of, tick, tick_of}
 
 no_realm : (socket realm : List ℕ) → index_in realm ≡ None → realm_place socket realm ≡ None
 no_realm socket realm is = grind (arith, common_steps)
@@ -29,6 +29,30 @@ realm_place_at socket realm None (x ∷ y ∷ more) is cut = sym (no_realm socke
 -- what follows the colon is the index of a realm, or no place is read
 pub realm_place_of-parts : (socket realm : List ℕ) → realm_place_of (socket ∷ parts 58 realm) ≡ realm_place socket realm
 realm_place_of-parts socket realm = realm_place_at socket realm _ _ refl refl
+
+-- a text has a part at least
+parts-some : (separator : ℕ) (text : List ℕ) → parts separator text ≡ [] → ⊥
+unfolding parts
+parts-some separator text is =
+    let none : length (parts separator text) ≡ 0 = ap (λ (l : List (List ℕ)). length l) is in
+    omega (arith, none, length-slice_split (λ octet. eqb octet separator) text)
+
+no_seconds : (now : Option ℕ) → with_seconds now None ≡ None
+no_seconds None = refl
+no_seconds (Some x) = refl
+
+times_of_at : (now seconds : List ℕ) (number : Option ℕ) (rest : List (List ℕ)) → moment_in seconds ≡ number →
+    parts 47 seconds ≡ rest → times_of (now ∷ rest) ≡ with_seconds (moment_in now) number
+times_of_at now seconds (Some n) rest is cut =
+    rw (← cut, decimal_part 47 0 (2 ^ 64 - 1) seconds n refl is, is) refl
+times_of_at now seconds None [] is cut = absurd (parts-some 47 seconds cut)
+times_of_at now seconds None (x ∷ []) is cut = rw (one_part 47 seconds x cut, is) refl
+times_of_at now seconds None (x ∷ y ∷ more) is cut = sym (no_seconds _)
+
+-- what follows the slash is a number of seconds, or no times are read
+pub times_of-parts : (now seconds : List ℕ) →
+    times_of (now ∷ parts 47 seconds) ≡ with_seconds (moment_in now) (moment_in seconds)
+times_of-parts now seconds = times_of_at now seconds _ _ refl refl
 
 no_shard : (now : Option ℕ) → tick now None ≡ None
 no_shard None = refl
@@ -82,7 +106,7 @@ datagram_part text octets is =
       | inr decodes ↦ digits_part text octets decodes
     ]
 
-no_octets : (now : Option ℕ) (at : Option Place) (from : Option Endpoint) → arrival now at from None ≡ None
+no_octets : (now : Option (ℕ × Option ℕ)) (at : Option Place) (from : Option Endpoint) → arrival now at from None ≡ None
 no_octets None at from = refl
 no_octets (Some x) None from = refl
 no_octets (Some x) (Some y) None = refl
@@ -90,7 +114,7 @@ no_octets (Some x) (Some y) (Some z) = refl
 
 arrival_of_at : (now at from text : List ℕ) (octets : Option (List ℕ)) (rest : List (List ℕ)) →
     datagram_in text ≡ octets → parts 32 text ≡ rest →
-    arrival_of (now ∷ at ∷ from ∷ rest) ≡ arrival (moment_in now) (place_in at) (endpoint_in from) octets
+    arrival_of (now ∷ at ∷ from ∷ rest) ≡ arrival (times_in now) (place_in at) (endpoint_in from) octets
 arrival_of_at now at from text (Some octets) rest is cut = rw (← cut, datagram_part text octets is, is) refl
 arrival_of_at now at from text None [] is cut = sym (no_octets _ _ _)
 arrival_of_at now at from text None (x ∷ []) is cut = rw (one_part 32 text x cut, is) refl
@@ -99,7 +123,7 @@ arrival_of_at now at from text None (x ∷ y ∷ more) is cut = sym (no_octets _
 -- what follows the third field of an arrival is a datagram, or no arrival is read
 pub arrival_of-parts : (now at from text : List ℕ) →
     arrival_of (now ∷ at ∷ from ∷ parts 32 text)
-    ≡ arrival (moment_in now) (place_in at) (endpoint_in from) (datagram_in text)
+    ≡ arrival (times_in now) (place_in at) (endpoint_in from) (datagram_in text)
 arrival_of-parts now at from text = arrival_of_at now at from text _ _ refl refl
 
 decodes_from_some : (text octets : List ℕ) → decode_of text ≡ Ok octets → IsOk (decode_of text)
@@ -117,4 +141,4 @@ even_digits text is_digits even is = (
   (λ decodes. let r = ok_value (decode_of text) decodes in is.1 ((decode_of-ok text r.0 r.1).1)),
 )
 
-pub ruleset last_fields = (realm_place_of-parts, tick_of-parts, arrival_of-parts)
+pub ruleset last_fields = (realm_place_of-parts, times_of-parts, tick_of-parts, arrival_of-parts)

@@ -27,6 +27,24 @@ moment_in text = decimal_in 0 (2 ^ 64 - 1) text
 abbrev pub index_in : List ℕ → Option ℕ
 index_in text = decimal_in 0 (2 ^ 16 - 1) text
 
+-- when a datagram arrives: its moment and, where the wall clock's seconds are known, these, below 2 ^ 64
+abbrev pub without_seconds : Option ℕ → Option (ℕ × Option ℕ)
+without_seconds None = None
+without_seconds (Some now) = Some (now, None)
+
+abbrev pub with_seconds : Option ℕ → Option ℕ → Option (ℕ × Option ℕ)
+with_seconds (Some now) (Some seconds) = Some (now, Some seconds)
+with_seconds _ _ = None
+
+abbrev pub times_of : List (List ℕ) → Option (ℕ × Option ℕ)
+times_of (now ∷ []) = without_seconds (moment_in now)
+times_of (now ∷ seconds ∷ []) = with_seconds (moment_in now) (moment_in seconds)
+times_of _ = None
+
+-- a slash (47) stands before the seconds
+unfoldable pub times_in : List ℕ → Option (ℕ × Option ℕ)
+times_in text = times_of (parts 47 text)
+
 -- a socket of a realm: which of the two, and the realm's index
 abbrev pub realm_place : List ℕ → List ℕ → Option Place
 realm_place socket realm =
@@ -53,15 +71,16 @@ datagram_in text =
     else None
 
 -- an arrival, if all that it consists of is there
-abbrev pub arrival : Option ℕ → Option Place → Option Endpoint → Option (List ℕ) → Option PlainEvent
-arrival (Some now) (Some at) (Some from) (Some octets) =
-    Some (arrives now (record { at = at; from = from; octets = octets }))
+abbrev pub arrival :
+    Option (ℕ × Option ℕ) → Option Place → Option Endpoint → Option (List ℕ) → Option PlainEvent
+arrival (Some times) (Some at) (Some from) (Some octets) =
+    Some (arrives times.0 (record { at = at; from = from; octets = octets; seconds = times.1 }))
 arrival _ _ _ _ = None
 
--- what follows the letter of an arrival: `now place ip:port hex`
+-- what follows the letter of an arrival: `now place ip:port hex`, or `now/seconds place ip:port hex`
 abbrev pub arrival_of : List (List ℕ) → Option PlainEvent
 arrival_of (now ∷ at ∷ from ∷ octets ∷ []) =
-    arrival (moment_in now) (place_in at) (endpoint_in from) (datagram_in octets)
+    arrival (times_in now) (place_in at) (endpoint_in from) (datagram_in octets)
 arrival_of _ = None
 
 -- a tick, if both its numbers are there
@@ -108,8 +127,9 @@ lines_state number (line ∷ lines) = line_before (line_states line) number (lin
 -- ## Script
 -- Lines that end with a line feed, the last with or without it. Empty lines and lines that begin with `#` are
 -- skipped; every other line is an arrival, `A now place ip:port hex`, or a tick, `T now shard`, with fields
--- parted by one space, or it is faulty. A script states the list of its events, in order, or the number of its
--- first faulty line, counted from 1 with the skipped ones.
+-- parted by one space, or it is faulty. Behind the moment of an arrival may stand `/` and the wall clock's seconds.
+-- A script states the list of its events, in order, or the number of its first faulty line, counted from 1 with the
+-- skipped ones.
 -- Source: ours
 -- Rules out: a line that is half read; a fault of a line that isn't there
 -- Stands in: `roam_sim` `Script.antt`: `script_states`, `line_states`; `read_script`

@@ -43,6 +43,31 @@ fn moment(text: &str) -> Option<u64>
     decimal(text, 0, u64::MAX)
 }
 
+/// What stands before the first slash, and after it.
+fn cut_at_slash(text: &str) -> Option<(&str, &str)>
+    ensures { MatchOption result (parts 47 text.now ≡ text.now ∷ [])
+        (λ cut. parts 47 text.now ≡ cut.0.now ∷ parts 47 cut.1.now) }
+{
+    text.split_once('/')
+}
+
+/// The moment of an arrival and, behind a slash, the wall clock's seconds, where they stand there.
+#[tactic(auto, using(crate::proofs::FieldLemmas::last_fields), unfolding(crate::specs::Script::times_in))]
+fn times(text: &str) -> Option<(u64, Option<u64>)>
+    ensures { result ≡ spec.times_in text.now }
+{
+    match cut_at_slash(text) {
+        None => match moment(text) {
+            Some(now) => Some((now, None)),
+            None => None,
+        },
+        Some((now, seconds)) => match (moment(now), moment(seconds)) {
+            (Some(now), Some(seconds)) => Some((now, Some(seconds))),
+            _ => None,
+        },
+    }
+}
+
 /// The index of a shard or of a realm.
 fn index(text: &str) -> Option<u16>
     ensures { result ≡ spec.index_in text.now }
@@ -150,15 +175,20 @@ fn arrival<A: Allocator>(
     from: &str,
     octets: &str,
 ) -> Result<Option<Event<A>>, NoMemory>
-    ensures ok { IfOk result (λ e. option_map shown_event e ≡ spec.arrival (spec.moment_in now.now)
+    ensures ok { IfOk result (λ e. option_map shown_event e ≡ spec.arrival (spec.times_in now.now)
         (spec.place_in at.now) (endpoint_in from.now) (spec.datagram_in octets.now)) }
-    ensures memory { OnErr result (IsSome (spec.arrival (spec.moment_in now.now)
+    ensures memory { OnErr result (IsSome (spec.arrival (spec.times_in now.now)
         (spec.place_in at.now) (endpoint_in from.now) (spec.datagram_in octets.now))) }
 {
-    match (moment(now), place(at), Endpoint::from_text(from)) {
-        (Some(now), Some(at), Some(from)) => match datagram(alloc, octets)? {
+    match (times(now), place(at), Endpoint::from_text(from)) {
+        (Some((now, seconds)), Some(at), Some(from)) => match datagram(alloc, octets)? {
             Some(octets) => {
-                let datagram = Datagram { at, from, octets };
+                let datagram = Datagram {
+                    at,
+                    from,
+                    octets,
+                    seconds,
+                };
                 Ok(Some(Event::Arrive { now, datagram }))
             }
             None => Ok(None),
@@ -226,7 +256,8 @@ fn read_line<A: Allocator>(alloc: A, line: &str) -> Result<ScriptLine<A>, NoMemo
 
 /// The events that a script states, in its order.
 ///
-/// Each line is an event: `A now place ip:port hex` is a datagram that arrives, `T now shard` a tick.
+/// Each line is an event: `A now place ip:port hex` is a datagram that arrives, `A now/seconds ..` one with the wall
+/// clock's seconds, `T now shard` a tick.
 /// Lines that are empty or begin with `#` are skipped, and the last line may lack its line feed.
 ///
 /// # Errors

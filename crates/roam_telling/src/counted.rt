@@ -4,7 +4,7 @@ ghost use Rattle.std.specs.Prelude.{◌≡◌};
 ghost use Rattle.roam_telling.specs.Packets as spec;
 
 use roam_conf::{Config, Place};
-use roam_counters::{CountedEvent, CountedTurn, RequestKind, Subject};
+use roam_counters::{CountedEvent, CountedTurn, RequestKind, Subject, source_of};
 use roam_hub::{Past, Requester, Stood};
 use roam_route::{Job, Out};
 use std::alloc::Global;
@@ -36,7 +36,7 @@ pub fn turn_of(job: &Job<Global>) -> CountedTurn
 pub fn requester_of(past: Past) -> Subject {
     match past.requester {
         Requester::Peer(peer) => Subject::Peer(peer),
-        Requester::Home(server) => Subject::Server(past.realm, server),
+        Requester::Home(home) => source_of(past.realm, home),
     }
 }
 

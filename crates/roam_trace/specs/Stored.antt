@@ -1,5 +1,5 @@
 -- What the stored form of a step stands for (ours).
-use Rattle.std.specs.Prelude.{ℕ, List, [], ◌∷◌, Option, None}
+use Rattle.std.specs.Prelude.{◌≡◌, ℕ, List, [], ◌∷◌, Option, None}
 use Rattle.roam_conf.specs.declared.endpoint.Endpoint.{Endpoint}
 use Rattle.roam_conf.specs.declared.place.Place.{Place}
 use Rattle.roam_route.specs.Admission.{PlainOut}
@@ -10,9 +10,14 @@ use Rattle.roam_trace.specs.declared.stored_event.StoredEvent.TheVariants as cam
 use Rattle.roam_trace.specs.declared.stored_answer.StoredAnswer.{StoredAnswer}
 use Rattle.roam_trace.specs.declared.stored_answer.StoredAnswer.TheVariants as sent
 
+-- an event as a history keeps it: an arrival without the wall clock's seconds
+abbrev pub HasNoClock : PlainEvent → Type 0
+HasNoClock (arrives now a) = a.seconds ≡ None
+HasNoClock (ticks now shard) = Unit {0}
+
 abbrev pub shown_came : {A : Type 0} → StoredEvent A → PlainEvent
 shown_came (came.Arrived at from now octets) =
-    arrives now (record { at = at; from = from; octets = octets })
+    arrives now (record { at = at; from = from; octets = octets; seconds = None })
 shown_came (came.Ticked shard now) = ticks now shard
 
 -- a packet of these parts, and the answer that is this packet and no refusal

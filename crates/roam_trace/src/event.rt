@@ -19,6 +19,7 @@ pub(crate) fn event_of<A: Allocator>(now: u64, job: Job<A>) -> Event<A>
         at: job.place,
         from: job.from,
         octets: job.octets,
+        seconds: None,
     };
     Event::Arrive { now, datagram }
 }
@@ -32,6 +33,7 @@ pub fn job_event<A: Allocator>(alloc: A, now: u64, job: &Job<A>) -> Result<Event
         at: job.place,
         from: job.from,
         octets,
+        seconds: None,
     };
     Ok(Event::Arrive { now, datagram })
 }

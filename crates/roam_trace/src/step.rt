@@ -3,6 +3,7 @@
 ghost use Rattle.std.specs.Prelude.{◌≡◌, ◌↔◌, IsTrue};
 ghost use Rattle.roam_core.specs.Shown.{shown_event};
 ghost use Rattle.roam_trace.specs.Steps.{shown_answer};
+ghost use Rattle.roam_trace.specs.Stored.{HasNoClock};
 
 use crate::stored_answer::StoredAnswer;
 use crate::stored_event::StoredEvent;
@@ -34,8 +35,9 @@ impl<A: Allocator> Model for Step<A> {
 }
 
 impl<A: Allocator> Step<A> {
-    /// The step of an event and its answer. Takes no memory.
+    /// The step of an event and its answer, of an arrival without the wall clock's seconds. Takes no memory.
     pub fn new(event: Event<A>, answer: Answer<A>) -> Step<A>
+        requires { HasNoClock (shown_event event) }
         ensures event { result.event ≡ shown_event event }
         ensures answer { result.answer ≡ shown_answer answer }
     {

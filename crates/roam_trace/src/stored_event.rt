@@ -2,7 +2,7 @@
 
 ghost use Rattle.std.specs.Prelude.{◌≡◌, ◌↔◌, IsTrue};
 ghost use Rattle.roam_core.specs.Shown.{shown_event};
-ghost use Rattle.roam_trace.specs.Stored.{shown_came};
+ghost use Rattle.roam_trace.specs.Stored.{HasNoClock, shown_came};
 
 use roam_conf::{Endpoint, Place};
 use roam_core::Event;
@@ -31,13 +31,19 @@ pub(crate) enum StoredEvent<A: Allocator> {
 }
 
 impl<A: Allocator> StoredEvent<A> {
-    /// The same event. Takes no memory.
+    /// The same event, of an arrival without the wall clock's seconds. Takes no memory.
     pub(crate) fn new(event: Event<A>) -> StoredEvent<A>
+        requires { HasNoClock (shown_event event) }
         ensures { shown_came result ≡ shown_event event }
     {
         match event {
             Event::Arrive { now, datagram } => {
-                let Datagram { at, from, octets } = datagram;
+                let Datagram {
+                    at,
+                    from,
+                    octets,
+                    ..
+                } = datagram;
                 StoredEvent::Arrived {
                     at,
                     from,
@@ -69,6 +75,7 @@ impl<A: Allocator> StoredEvent<A> {
                 now == other
                     && *at == datagram.at
                     && *from == datagram.from
+                    && datagram.seconds.is_none()
                     && octets.as_slice() == datagram.octets.as_slice()
             }
             (

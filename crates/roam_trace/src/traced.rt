@@ -10,6 +10,7 @@ ghost use Rattle.roam_book.specs.RealmState.{RealmState};
 ghost use Rattle.roam_shard.specs.ShardView.{shown_opening};
 ghost use Rattle.roam_shard.specs.Twins.{NothingDue};
 ghost use Rattle.roam_trace.specs.History.{Ends, Stores, TraceView, without_steps};
+ghost use Rattle.roam_trace.specs.Stored.{HasNoClock};
 ghost use Rattle.roam_trace.specs.Steps.{PlainStep, octets_in, octets_of, shown_answer};
 
 use crate::event::{copy_of, event_of};
@@ -94,6 +95,7 @@ fn store<A: Allocator>(
     twin: Twin<A>,
 ) -> Answer<A>
     requires room { vec_len steps.old < vec_capacity steps.old }
+    requires clock { HasNoClock (shown_event event) }
     ensures items { steps.new.items ≡ steps.old.items ++ record {
       event = shown_event event;
       answer = shown_answer twin.copy;

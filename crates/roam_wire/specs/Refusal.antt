@@ -32,3 +32,5 @@ number_of refusal.TooManyHops = 24
 number_of refusal.NotForPeer = 25
 number_of refusal.AccountingDropped = 26
 number_of refusal.ShareTaken = 27
+number_of refusal.TooManyAttributes = 28
+number_of refusal.Stale = 29

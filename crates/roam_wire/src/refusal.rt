@@ -20,14 +20,15 @@ impl<T: Drop> From<AllocFailed<T>> for NoMemory {
     }
 }
 
-/// Why the broker refuses an event. Every refusal leaves the broker as it was.
+/// Why the broker refuses an event. Every refusal leaves the broker as it was, but that
+/// `BadReplyMessageAuthenticator` and `ReplyTooLong` show that a home server is there.
 ///
-/// An arrival is refused by the first of `Short` to `TooLong` whose cause holds, where `TooManyHops`
-/// stands between `MissingMessageAuthenticator` and `NoRealm`, and `NotForPeer` and then
-/// `AccountingDropped` between `NoRealm` and `TooLong`; and a tick by `NoShard`. Then comes
-/// `Moment`; then, for a request, the first of `Exhausted` to `Busy`, where `ShareTaken` stands behind
-/// `Exhausted`, and for a reply the first of `NoEntry` to `ReplyTooLong`. `NoMemory` comes wherever a
-/// growth was refused.
+/// An arrival is refused by the first of `Short` to `TooLong` whose cause holds, where
+/// `TooManyAttributes` stands between `WrongCode` and `BadAuthenticator`, `TooManyHops` between
+/// `MissingMessageAuthenticator` and `NoRealm`, and `Stale`, `NotForPeer` and then `AccountingDropped`
+/// between `NoRealm` and `TooLong`; and a tick by `NoShard`. Then comes `Moment`; then, for a request, the
+/// first of `Exhausted` to `Busy`, where `ShareTaken` stands behind `Exhausted`, and for a reply the
+/// first of `NoEntry` to `ReplyTooLong`. `NoMemory` comes wherever a growth was refused.
 #[derive(Clone, Copy, Debug, PartialEq, Eq)]
 pub enum Refusal {
     /// The datagram has fewer than 20 octets.
@@ -85,14 +86,18 @@ pub enum Refusal {
     NotForPeer,
     /// The realm that an Accounting-Request names has its accounting dropped.
     AccountingDropped,
-    /// As many requests of one code for one name wait in the realm as may.
+    /// As many requests of one code for one name, or of one peer, wait in the realm as may.
     ShareTaken,
+    /// A request has more attributes than may be.
+    TooManyAttributes,
+    /// A Disconnect- or CoA-Request's Event-Timestamp is too far from the wall clock.
+    Stale,
 }
 
 impl Refusal {
     ghost use Rattle.roam_wire.specs.Refusal.{number_of};
 
-    /// The number of the refusal, from 1 to 27, under which it is logged.
+    /// The number of the refusal, from 1 to 29, under which it is logged.
     pub fn number(self) -> u8
         ensures { result ≡ number_of self }
     {
@@ -124,6 +129,8 @@ impl Refusal {
             Refusal::NotForPeer => 25,
             Refusal::AccountingDropped => 26,
             Refusal::ShareTaken => 27,
+            Refusal::TooManyAttributes => 28,
+            Refusal::Stale => 29,
         }
     }
 }

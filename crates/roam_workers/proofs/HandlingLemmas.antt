@@ -81,6 +81,8 @@ as_refused refusal.TooManyHops = inr refl
 as_refused refusal.NotForPeer = inr refl
 as_refused refusal.AccountingDropped = inr refl
 as_refused refusal.ShareTaken = inr refl
+as_refused refusal.TooManyAttributes = inr refl
+as_refused refusal.Stale = inr refl
 
 -- where memory is wanting it failed
 wants : (o : HubOpening) (config : ConfigView) (now : ℕ) (d : Arrival) (why : Refusal) (old new : SeatView)

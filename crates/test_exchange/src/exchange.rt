@@ -62,7 +62,13 @@ fn job_of(
     octets: Vec<u8>,
 ) -> Option<Job<Global>> {
     let octets = Octets::from_vec(octets);
-    match prepare(alloc, config, &Datagram { at, from, octets }) {
+    let datagram = Datagram {
+        at,
+        from,
+        octets,
+        seconds: None,
+    };
+    match prepare(alloc, config, &datagram) {
         Ok(Prepared::Job(job)) => Some(job),
         _ => None,
     }

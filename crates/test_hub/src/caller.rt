@@ -68,6 +68,7 @@ pub(crate) fn datagram<A: Allocator + Copy>(
         octets: Octets::copy_of(alloc, octets.as_slice())
             .ok()
             .expect(rt, "memory"),
+        seconds: None,
     }
 }
 

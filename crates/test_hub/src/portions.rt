@@ -40,6 +40,7 @@ fn request<N: Opened, R: Abort + Wait>(
         octets: Octets::copy_of(alloc, octets.as_slice())
             .ok()
             .expect(rt, "memory"),
+        seconds: None,
     };
     let Ok(Prepared::Job(job)) = prepare(alloc, config, &datagram) else {
         panic!(rt; "no job");

@@ -46,6 +46,7 @@ fn waiting<A: Allocator + Copy>(alloc: A, ticket: u64, id: u8, deadline: u64) ->
             forwarded: Octets::from_vec(Vec::new(alloc)),
             sends_left: 2,
             deadline,
+            signs: 0,
         }),
     }
 }
@@ -58,6 +59,7 @@ fn done<A: Allocator + Copy>(alloc: A, ticket: u64, id: u8, deadline: u64) -> En
         standing: Standing::Done(Done {
             reply: Octets::from_vec(Vec::new(alloc)),
             deadline,
+            from: None,
         }),
     }
 }

@@ -158,7 +158,12 @@ fn arrival<A: Allocator + Copy>(
     octets: &[u8],
 ) -> Datagram<A> {
     let octets = Octets::from_vec(Vec::from_slice(alloc, octets).expect(rt, "memory"));
-    Datagram { at, from, octets }
+    Datagram {
+        at,
+        from,
+        octets,
+        seconds: None,
+    }
 }
 
 /// Lets each growth of the answer to an arrival be refused in turn.

@@ -60,6 +60,7 @@ fn without_padding<'r>(over: Over<'r>, event: &Event<Over<'r>>) -> Option<Event<
                     at: datagram.at,
                     from: datagram.from,
                     octets: Octets::copy_of(over, packet).ok()?,
+                    seconds: None,
                 },
             })
         }

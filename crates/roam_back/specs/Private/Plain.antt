@@ -18,6 +18,10 @@ is_carried access a = not (a.kind == PROXY_STATE) && not (access && a.kind == ME
 abbrev pub piece : Bool → List RemovedAttribute → Attribute → List Attribute
 piece access removed a = filter (is_carried access) (passed removed a)
 
+-- the same, where an attribute that isn't kept isn't looked at
+abbrev pub own_piece : Bool → List RemovedAttribute → (Attribute → Bool) → Attribute → List Attribute
+own_piece access removed keep a = if keep a then piece access removed a else []
+
 -- the Message-Authenticator that stands first in an Access reply
 abbrev pub first_seal : Bool → List Attribute
 first_seal access = if access then empty_message_authenticator ∷ [] else []

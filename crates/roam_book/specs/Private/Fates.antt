@@ -34,7 +34,7 @@ IsFateCopied twice (fate.Refused sent d) = IsCopied twice sent
 -- the entries that follow: where a NAK is held its entry is done, else it is gone
 abbrev pub once_held : {A : Type 0} → PlainEntry → List PlainEntry → Option (Done A) → List PlainEntry
 once_held e es None = without e.ticket es
-once_held e es (Some d) = put (with_standing (done d.reply d.deadline) e) es
+once_held e es (Some d) = put (with_standing (done d.reply d.deadline d.from) e) es
 
 abbrev pub fate_entries : {A : Type 0} → RealmConfig → ℕ → PlainEntry → List PlainEntry → DueAction A
     → List PlainEntry
@@ -48,8 +48,19 @@ fate_entries c now e es (fate.Refused sent d) = once_held e es d
 abbrev pub held_for : {A : Type 0} → RealmConfig → ℕ → List ℕ → Option (Done A)
 held_for c now reply =
     if nat_lt 0 c.realm.hold
-    then Some (record { reply = reply; deadline = now + c.realm.hold })
+    then Some (record { reply = reply; deadline = now + c.realm.hold; from = None })
     else None
+
+-- what is held came from no link
+abbrev pub HoldsNoLink : {A : Type 0} → Option (Done A) → Type 0
+HoldsNoLink None = Unit {0}
+HoldsNoLink (Some d) = d.from ≡ None
+
+abbrev pub KeepsNoLink : {A : Type 0} → DueAction A → Type 0
+KeepsNoLink fate.Expired = Unit {0}
+KeepsNoLink (fate.SentAgain sent) = Unit {0}
+KeepsNoLink (fate.Forwarded sent w) = Unit {0}
+KeepsNoLink (fate.Refused sent d) = HoldsNoLink d
 
 -- an entry waits no more
 abbrev pub Ends : {A : Type 0} → DueAction A → Type 0

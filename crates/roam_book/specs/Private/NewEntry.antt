@@ -1,17 +1,22 @@
 -- How a new request is admitted, in steps: words of private functions alone (ours).
-use Rattle.std.specs.Prelude.{◌≡◌, ℕ, ◌<◌, ◌^◌, List, [], ◌∷◌, Option, Some, None, Result, Ok, Err, option_map, unwrap_or, is_some, true}
+use Rattle.std.specs.Prelude.{◌≡◌, ℕ, ◌<◌, ◌^◌, Bool, List, [], ◌∷◌, Option, Some, None, Result, Ok, Err, option_map, unwrap_or, is_some, true, if◌then◌else◌}
 use Rattle.roam_wire.specs.declared.refusal.Refusal.{Refusal}
 use Rattle.roam_conf.specs.declared.place.Link.{Link}
 use Rattle.roam_conf.specs.declared.place.Link.TheVariants as link
 use Rattle.roam_pending.specs.PlainEntry.{PlainEntry, PlainRequest}
 use Rattle.roam_pending.specs.EntryList.{besides, find_client, first_done}
 use Rattle.roam_book.specs.RealmConfig.{RealmConfig, IsLink, links_from}
-use Rattle.roam_book.specs.RealmState.{RealmState, Target, next_toward}
+use Rattle.std.specs.List.{find}
+use Rattle.std.specs.Option.{option_and_then, option_or}
+use Rattle.roam_ids.specs.LaneState.{LaneState}
+use Rattle.roam_book.specs.Conversing.{asked_state, bound_link, rests_chosen}
+use Rattle.roam_book.specs.RealmState.{RealmState, Target, next_toward, with_rests}
 use Rattle.roam_book.specs.Shapings.{forwarded_size}
 use Rattle.roam_book.specs.Turn.{Turn, Answers, refuses}
 use Rattle.roam_book.specs.OnRequest.{admit, targets}
-use Rattle.roam_book.specs.Sound.{CountsAsGone, IsRequest, gone_ticket}
+use Rattle.roam_book.specs.Sound.{CountsAsGone, IsRequest, chosen_link, gone_ticket, is_sought}
 use Rattle.roam_book.specs.Private.Memory.{HasBuffers, IsOuts}
+use Rattle.roam_book.specs.declared.state.rest.Rest.{Rest}
 use Rattle.roam_book.specs.declared.rules.admit.Supplies.{Supplies}
 use Rattle.roam_book.specs.declared.rules.replaced.Replaced.{Replaced}
 use Rattle.roam_book.specs.declared.rules.requests.RequestPlan.{RequestPlan}
@@ -48,14 +53,14 @@ left_by way entries = besides way.done (once_gone way.gone entries)
 
 -- a way to a link where no entry has to go, or the one that counts as gone alone; a way once those
 -- that had to go are gone
-abbrev pub straight_to : Link → AdmitPlan
-straight_to link = record { gone = None; done = None; link = link }
+abbrev pub straight_to : Link → Bool → AdmitPlan
+straight_to link bound = record { gone = None; done = None; link = link; bound = bound }
 
-abbrev pub straight_after : Option Replaced → Link → AdmitPlan
-straight_after gone link = record { gone = gone; done = None; link = link }
+abbrev pub straight_after : Option Replaced → Link → Bool → AdmitPlan
+straight_after gone link bound = record { gone = gone; done = None; link = link; bound = bound }
 
 abbrev pub cleared : AdmitPlan → AdmitPlan
-cleared way = straight_to way.link
+cleared way = straight_to way.link way.bound
 
 -- a new request can go this way: what counts as gone and what makes way are there, the request's
 -- key is free then, and its link has a free Identifier
@@ -68,16 +73,41 @@ pub record IsWay (c : RealmConfig) (s : RealmState) (q : PlainRequest) (way : Ad
   pub link : IsLink c way.link
   pub free : HasNext c s.cursors (once_gone way.gone s.entries) way.link
 
+-- what a new request does that goes to a link, where no entry has to go and the link was chosen
+abbrev pub forwards : RealmConfig → ℕ → RealmState → PlainRequest → Link → Turn
+forwards c now s q l = admit c now s s.entries q (target_at c s.cursors s.entries l)
+
 -- what a new request does that goes this way
 abbrev pub admits : RealmConfig → ℕ → RealmState → PlainRequest → AdmitPlan → Turn
 admits c now s q way =
-    admit c now s (left_by way s.entries) q
+    admit c now (with_rests s (rests_chosen c now s.rests way.bound way.link)) (left_by way s.entries) q
     (target_at c s.cursors (once_gone way.gone s.entries) way.link)
 
 -- the links of targets, in the order of their use
 abbrev pub links_of : RealmConfig → Targets → List Link
 links_of c (kind.HomeServers service) = links_from c service 0
 links_of c (kind.AccessServer peer) = link.Coa peer ∷ []
+
+-- the one of some links that goes on with a request's conversation, where it is open
+abbrev pub bound_way :
+    RealmConfig → List Rest → List LaneState → Option Link → PlainRequest → List PlainEntry → List Link
+    → Option Link
+bound_way c rests lanes freed q entries links =
+    option_and_then (λ bound. find (is_sought c rests lanes (Some bound) freed) links) (bound_link c q entries)
+
+-- the first of some links that is open and has no moment until which it rests, where a request has a conversation
+abbrev pub untried_way :
+    RealmConfig → List Rest → List LaneState → Option Link → PlainRequest → List Link → Option Link
+untried_way c rests lanes freed q links =
+    if is_some (asked_state c q) then find (is_sought c rests lanes None freed) links else None
+
+-- the link of the target of a new request among some links
+abbrev pub way_link :
+    RealmConfig → ℕ → List Rest → List LaneState → Option Link → PlainRequest → List PlainEntry → List Link
+    → Option Link
+way_link c now rests lanes freed q entries links =
+    option_or (bound_way c rests lanes freed q entries links)
+    (option_or (untried_way c rests lanes freed q links) (chosen_link c now rests lanes freed links))
 
 -- the access server among targets is a configured peer
 abbrev pub AreConfigured : RealmConfig → Targets → Type 0

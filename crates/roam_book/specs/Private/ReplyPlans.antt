@@ -5,11 +5,12 @@ use Rattle.roam_pending.specs.EntryList.{find_ticket, put}
 use Rattle.roam_pending.specs.Realms.{with_standing}
 use Rattle.roam_reverse.specs.Sessions.{LedgerChange, Session, changed}
 use Rattle.roam_reverse.specs.Shown.{HasRoomFor, Ledger}
+use Rattle.roam_conf.specs.declared.place.Link.{Link}
 use Rattle.roam_book.specs.RealmConfig.{RealmConfig, IsLink}
-use Rattle.roam_book.specs.Rests.{after_reply}
+use Rattle.roam_book.specs.Rests.{after_sign}
 use Rattle.roam_book.specs.RealmState.{RealmState}
 use Rattle.roam_book.specs.Turn.{Turn, Answers, packets_of}
-use Rattle.roam_book.specs.OnReply.{counted}
+use Rattle.roam_book.specs.OnReply.{counted, once_heard_from}
 use Rattle.roam_book.specs.declared.rules.replies.Settled.{Settled}
 use Rattle.roam_book.specs.declared.rules.replies.ReplyPlan.{ReplyPlan}
 
@@ -19,19 +20,30 @@ CanSettle c es None = Unit {0}
 CanSettle c es (Some d) =
     IsLink c d.link × IsSomeAnd (find_ticket d.ticket es) (λ e. waits_at d.link d.id e ≡ true)
 
--- the state once an entry is done: a peer's sessions are counted, if they are, and its link is awake
+-- the state once an entry is done: a peer's sessions are counted, if they are, and its link gave a sign of life
 abbrev pub with_done :
     {A : Type 0} → RealmConfig → RealmState → Settled A → Option PlainEntry → RealmState
 with_done c s d None = s
 with_done c s d (Some e) = record s {
-  entries = put (with_standing (done d.done.reply d.done.deadline) e) s.entries;
+  entries = put (with_standing (done d.done.reply d.done.deadline d.done.from) e) s.entries;
   sessions = counted c e.request d.counted s.sessions;
-  rests = after_reply c s.rests d.link;
+  rests = after_sign c s.rests d.link;
 }
 
-abbrev pub once_settled : {A : Type 0} → RealmConfig → RealmState → Option (Settled A) → RealmState
-once_settled c s None = s
-once_settled c s (Some d) = with_done c s d (find_ticket d.ticket s.entries)
+-- the state once a link gave a sign of life, if one did
+abbrev pub once_heard_by : RealmConfig → RealmState → Option Link → RealmState
+once_heard_by c s None = s
+once_heard_by c s (Some l) = once_heard_from c s l
+
+abbrev pub once_settled :
+    {A : Type 0} → RealmConfig → RealmState → Option Link → Option (Settled A) → RealmState
+once_settled c s heard None = once_heard_by c s heard
+once_settled c s heard (Some d) = with_done c s d (find_ticket d.ticket s.entries)
+
+-- a link that gave a sign of life is the realm's
+abbrev pub IsHeard : RealmConfig → Option Link → Type 0
+IsHeard c None = Unit {0}
+IsHeard c (Some l) = IsLink c l
 
 -- the ledger has room for a change that was prepared, if one was, which then makes these sessions of
 -- its own
@@ -40,9 +52,11 @@ IsPrepared ledger None sessions = sessions ≡ ledger.sessions
 IsPrepared ledger (Some change) sessions =
     HasRoomFor change ledger × (sessions ≡ changed ledger.limit change ledger.sessions)
 
--- to answer so, and to settle that entry, is to do this turn; where nothing is sent no entry is settled
+-- to answer so, to note that sign of life, and to settle that entry, is to do this turn; where nothing is sent no entry
+-- is settled
 pub record IsReplyPlan {A : Type 0} (c : RealmConfig) (s : RealmState) (p : ReplyPlan A)
     (turn : Turn) : Type 0 where
   pub settles : CanSettle c s.entries p.settled
-  pub answers : Answers p.answer s (once_settled c s p.settled) turn
+  pub hears : IsHeard c p.heard
+  pub answers : Answers p.answer s (once_settled c s p.heard p.settled) turn
   pub silent : packets_of turn ≡ [] → p.settled ≡ None

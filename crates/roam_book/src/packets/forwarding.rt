@@ -11,7 +11,7 @@ ghost use Rattle.roam_pending.specs.declared.entry.Standing.TheVariants as stand
 ghost use Rattle.roam_route.specs.Shown.{shown_out};
 ghost use Rattle.roam_book.specs.RealmConfig.{IsLink, link_place, link_count};
 ghost use Rattle.roam_book.specs.RealmState.{next_toward};
-ghost use Rattle.roam_book.specs.Rests.{after_choice};
+ghost use Rattle.roam_book.specs.Rests.{signs_of};
 ghost use Rattle.roam_book.specs.Shapings.{forwarded_size};
 ghost use Rattle.roam_book.specs.OnRequest.{packet_to_link, packet_to_requester, drawn_at, position_after};
 ghost use Rattle.roam_book.specs.OnRequest.{forwarded_octets};
@@ -188,8 +188,7 @@ fn forward_into<A: Allocator>(
 }
 
 /// Forwards a request to a link that has a free Identifier: the next one is its Identifier there,
-/// and belongs to its ticket from now on, the words that it draws are spent, and where the link rests,
-/// its rest is put off. Gives the packet that is sent, and how the request then waits. Takes no memory.
+/// and belongs to its ticket from now on, and the words that it draws are spent. Gives the packet that is sent, and how the request then waits. Takes no memory.
 pub(crate) fn send_new<A: Allocator + Copy>(
     settings: &RealmSettings<'_>,
     numbers: &mut RealmNumbers<A>,
@@ -213,7 +212,8 @@ pub(crate) fn send_new<A: Allocator + Copy>(
         (record { link = hop.entry.link; id = result.1.id })) }
     ensures copied { IsCopied (is_some buffers.copy) result.0 }
     ensures standing { shown_standing (standing.Waiting result.1)
-        ≡ (forwarded_entry settings.now now (shown_request hop.entry.asked)
+        ≡ (forwarded_entry settings.now now (signs_of settings.now numbers.old.rests.items hop.entry.link)
+        (shown_request hop.entry.asked)
         numbers.old.stream_position hop.entry.ticket (record { link = hop.entry.link; id = result.1.id })).standing }
     ensures waiting { IsWaiting settings.now (shown_request hop.entry.asked) hop.entry.link result.1.id
         result.1.forwarded }
@@ -225,7 +225,8 @@ pub(crate) fn send_new<A: Allocator + Copy>(
     ensures tells { (es : List PlainEntry) → LanesTell settings.now es numbers.old.lanes.items
         → find_ticket hop.entry.ticket es ≡ None
         → LanesTell settings.now
-        (put (forwarded_entry settings.now now (shown_request hop.entry.asked)
+        (put (forwarded_entry settings.now now (signs_of settings.now numbers.old.rests.items hop.entry.link)
+        (shown_request hop.entry.asked)
         numbers.old.stream_position hop.entry.ticket (record { link = hop.entry.link; id = result.1.id })) es)
         numbers.new.lanes.items }
     ensures marks { marks_of numbers.new.lanes.items ≡ marks_of numbers.old.lanes.items }
@@ -234,9 +235,9 @@ pub(crate) fn send_new<A: Allocator + Copy>(
     ensures stream_position { numbers.new.stream_position
         ≡ position_after (shown_request hop.entry.asked) numbers.old.stream_position }
     ensures sessions { numbers.new.sessions ≡ numbers.old.sessions }
-    ensures rests { numbers.new.rests.items
-        ≡ after_choice settings.now now numbers.old.rests.items hop.entry.link }
+    ensures rests { numbers.new.rests.items ≡ numbers.old.rests.items }
 {
+    let signs = numbers.signs_of(settings, hop.link);
     let Some(id) = numbers.take_next(settings, hop.link, hop.ticket) else {
         unreachable!();
     };
@@ -248,7 +249,6 @@ pub(crate) fn send_new<A: Allocator + Copy>(
     let position = numbers.stream_position;
     forward_into(settings, hop, position, id, &mut sent);
     numbers.stream_position = position_after(hop.asked, position);
-    numbers.put_off(settings, now, hop.link);
     let forwarded = copied_into(kept, sent.as_slice());
     let waiting = Waiting {
         link: hop.link,
@@ -256,6 +256,7 @@ pub(crate) fn send_new<A: Allocator + Copy>(
         forwarded,
         sends_left: settings.tries().saturating_sub(1),
         deadline: now + u64::from(settings.wait()),
+        signs,
     };
     let out = packet_to_link(settings, hop.link, Octets::from_vec(sent));
     (PacketCopies::new(out, copy), waiting)

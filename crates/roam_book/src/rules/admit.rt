@@ -1,7 +1,7 @@
 //! How a new request is admitted, once its way is chosen: memory is taken, way is made, and the
 //! request is forwarded.
 
-ghost use Rattle.std.specs.Prelude.{◌≡◌, ℕ, ◌+◌, ◌<◌, ◌≤◌, ◌^◌, ◌∷◌, [], true, IfErr};
+ghost use Rattle.std.specs.Prelude.{◌≡◌, ℕ, ◌+◌, ◌<◌, ◌≤◌, ◌^◌, ◌∷◌, [], false, true, IfErr};
 ghost use Rattle.std.specs.Prelude.{IfOk, OnOk, is_some};
 ghost use Rattle.roam_pending.specs.PlainEntry.{PlainRequest};
 ghost use Rattle.roam_pending.specs.EntryList.{besides};
@@ -9,7 +9,10 @@ ghost use Rattle.roam_route.specs.Shown.{shown_out};
 ghost use Rattle.roam_book.specs.Private.Memory.{HasBuffers, IsCopied, Tells};
 ghost use Rattle.roam_book.specs.RealmConfig.{IsLink};
 ghost use Rattle.roam_book.specs.Shapings.{forwarded_size};
-ghost use Rattle.roam_book.specs.Private.NewEntry.{AreSupplies, IsWay, MakesWay, admits, cleared, straight_to};
+ghost use Rattle.roam_book.specs.Private.NewEntry.{AreSupplies, IsWay, MakesWay, admits, cleared, forwards};
+ghost use Rattle.roam_book.specs.Private.NewEntry.{straight_to};
+ghost use Rattle.roam_book.specs.Conversing.{rests_chosen};
+ghost use Rattle.roam_book.specs.RealmState.{with_rests};
 ghost use Rattle.roam_book.specs.RealmTurn.{IsRealm, Keeps, entries, room, state};
 ghost use Rattle.roam_book.specs.Sound.{CountsAsGone, IsRequest, IsSameButSlots, gone_ticket, lane_of, marks_of, shown_request};
 ghost use Rattle.roam_book.specs.Turn.{packets_of, state_after};
@@ -135,6 +138,20 @@ impl<A: Allocator + Copy, E: Entries<A>> RealmBroker<'_, '_, '_, '_, A, E> {
         self.numbers.make_lane(self.settings, link)
     }
 
+    /// A link is chosen for a new request: its rest is put off, where no conversation bound the request there.
+    fn choose(&mut self, now: u64, link: Link, bound: bool)
+        requires realm { IsRealm E.Entries self.old }
+        requires moment { now ≤ 2 ^ 62 }
+        requires link { IsLink self.old.settings.now link }
+        ensures state { state E.Entries self.new ≡ with_rests (state E.Entries self.old)
+            (rests_chosen self.old.settings.now now (state E.Entries self.old).rests bound link) }
+        ensures lanes { self.new.numbers.now.lanes.items ≡ self.old.numbers.now.lanes.items }
+        ensures room { room E.Entries self.new ≡ room E.Entries self.old }
+        ensures keeps { Keeps E.Entries self.old self.new }
+    {
+        self.numbers.put_off_unless(self.settings, now, link, bound);
+    }
+
     /// Forwards a new request to a link that has a free Identifier, under the next ticket. Its
     /// entry is put where there is room. Gives the packet that is sent. Takes no memory.
     fn forward_new(
@@ -148,18 +165,17 @@ impl<A: Allocator + Copy, E: Entries<A>> RealmBroker<'_, '_, '_, '_, A, E> {
         requires realm { IsRealm E.Entries self.old }
         requires moment { now ≤ 2 ^ 62 }
         requires way { IsWay self.old.settings.now (state E.Entries self.old) (shown_request asked)
-            (straight_to link) }
+            (straight_to link false) }
         requires made { (lane_of self.old.settings.now self.old.numbers.now.lanes.items link).made
             ≡ true }
         requires room { 0 < room E.Entries self.old }
         requires octets { octets ≡ asked.octets.now }
         requires buffers { HasBuffers (forwarded_size self.old.settings.now (shown_request asked) link) buffers }
-        ensures out { shown_out result.out ∷ [] ≡ packets_of (admits self.old.settings.now now
-            (state E.Entries self.old) (shown_request asked.entry) (straight_to link)) }
+        ensures out { shown_out result.out ∷ [] ≡ packets_of (forwards self.old.settings.now now
+            (state E.Entries self.old) (shown_request asked.entry) link) }
         ensures copied { IsCopied (is_some buffers.copy) result }
         ensures state { state E.Entries self.new ≡ state_after (state E.Entries self.old)
-            (admits self.old.settings.now now (state E.Entries self.old) (shown_request asked.entry)
-            (straight_to link)) }
+            (forwards self.old.settings.now now (state E.Entries self.old) (shown_request asked.entry) link) }
         ensures keeps { Keeps E.Entries self.old self.new }
     {
         let ticket = self.numbers.ticket;
@@ -212,6 +228,7 @@ impl<A: Allocator + Copy, E: Entries<A>> RealmBroker<'_, '_, '_, '_, A, E> {
             buffers,
             mut outs,
         } = supplies;
+        self.choose(now, way.link, way.bound);
         let sent = self.forward_new(now, asked, way.link, octets, buffers);
         outs.push(sent);
         outs.finish()

@@ -10,4 +10,13 @@ pub(crate) struct AdmitPlan {
     pub gone: Option<Replaced>,
     pub done: Option<u64>,
     pub link: Link,
+    /// Whether its conversation goes on there: its link's rest stays as it is then.
+    pub bound: bool,
+}
+
+/// A link that is chosen for a new request, and whether its conversation goes on there.
+#[derive(Clone, Copy)]
+pub(crate) struct LinkChoice {
+    pub link: Link,
+    pub bound: bool,
 }

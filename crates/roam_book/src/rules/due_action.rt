@@ -12,7 +12,7 @@ ghost use Rattle.roam_book.specs.OnRequest.{is_reverse, packet_to_link};
 ghost use Rattle.roam_book.specs.OnTick.{due_standing, fail_over, given_up_at};
 ghost use Rattle.roam_book.specs.Sound.{AreOwnLanes, IsEntry, IsRequest, cursors_of, chosen_link, has_free, lane_of};
 ghost use Rattle.roam_book.specs.Sound.{marks_of, state_of};
-ghost use Rattle.roam_book.specs.Private.Fates.{GivesUp, held_for, IsHeld, IsFate, IsFateCopied};
+ghost use Rattle.roam_book.specs.Private.Fates.{GivesUp, HoldsNoLink, held_for, IsHeld, IsFate, IsFateCopied, KeepsNoLink};
 ghost use Rattle.roam_book.specs.Private.Memory.{HasBuffers, IsCopied};
 
 use crate::packets::buffers::{Buffers, copied_into};
@@ -107,7 +107,8 @@ fn held_for<A: Allocator>(
     reply: Octets<A>,
 ) -> Option<Done<A>>
     requires { now ≤ 2 ^ 62 }
-    ensures { result ≡ held_for settings.now now reply }
+    ensures held { result ≡ held_for settings.now now reply }
+    ensures no_link { HoldsNoLink result }
 {
     if settings.hold() == 0 {
         return None;
@@ -115,6 +116,7 @@ fn held_for<A: Allocator>(
     Some(Done {
         reply,
         deadline: now + u64::from(settings.hold()),
+        from: None,
     })
 }
 
@@ -132,6 +134,7 @@ fn refuse<A: Allocator>(
     requires buffers { HasBuffers (length entry.now.request.octets + 304) buffers }
     ensures fate { GivesUp settings.now now (shown entry.now) result }
     ensures copied { IsFateCopied (is_some buffers.copy) result }
+    ensures no_link { KeepsNoLink result }
 {
     let request = View::of_packet(entry.request.octets.as_slice());
     let secret = settings.secret_of_requester(entry.request.requester);
@@ -158,6 +161,7 @@ fn give_up<A: Allocator>(
     requires buffers { HasBuffers (length entry.now.request.octets + 304) buffers }
     ensures fate { GivesUp settings.now now (shown entry.now) result }
     ensures copied { IsFateCopied (is_some buffers.copy) result }
+    ensures no_link { KeepsNoLink result }
 {
     let request = View::of_packet(entry.request.octets.as_slice());
     if is_reverse_request(request.code()) {
@@ -167,8 +171,8 @@ fn give_up<A: Allocator>(
     }
 }
 
-/// Gives back the Identifier of an entry that isn't sent to its link again, counts that silence there,
-/// and forwards the request to the target that is then chosen, where there is one.
+/// Gives back the Identifier of an entry that isn't sent to its link again, counts that silence there, where it is
+/// one, and forwards the request to the target that is then chosen, if there is one.
 fn fail_over<A: Allocator + Copy>(
     settings: &RealmSettings<'_>,
     numbers: &mut RealmNumbers<A>,
@@ -176,6 +180,7 @@ fn fail_over<A: Allocator + Copy>(
     entry: &Entry<A>,
     link: Link,
     id: u8,
+    signs: u64,
     buffers: Buffers<A>,
 ) -> DueAction<A>
     requires moment { now ≤ 2 ^ 62 }
@@ -188,16 +193,17 @@ fn fail_over<A: Allocator + Copy>(
     ensures fate { (es : List PlainEntry) → IsHeld settings.now es (shown entry.now) numbers.old
         → IsFate settings.now now es (shown entry.now) numbers.new result
         (fail_over settings.now now
-        (given_up_at settings.now now link (state_of es numbers.old) (shown entry.now))
+        (given_up_at settings.now now link signs (state_of es numbers.old) (shown entry.now))
         (shown entry.now)
         (chosen_target settings.now now
-        (after_silence settings.now now numbers.old.rests.items link)
+        (after_silence settings.now now numbers.old.rests.items link signs)
         (cursors_of numbers.old.lanes.items) (without entry.now.ticket es)
         (later_targets settings.now link))) }
     ensures copied { IsFateCopied (is_some buffers.copy) result }
+    ensures no_link { KeepsNoLink result }
 {
     numbers.give_back(settings, link, id);
-    numbers.count_silence(settings, now, link);
+    numbers.count_silence(settings, now, link, signs);
     let Some(target) = later_target(settings, numbers, now, link) else {
         return give_up(settings, now, entry, buffers);
     };
@@ -213,6 +219,7 @@ fn fail_over<A: Allocator + Copy>(
         link: target,
     };
     gains_few(settings, asked, target);
+    numbers.put_off(settings, now, target);
     let (sent, waiting) = send_new(settings, numbers, now, hop, buffers);
     DueAction::Forwarded(sent, waiting)
 }
@@ -235,6 +242,7 @@ pub(crate) fn act_on_due<A: Allocator + Copy>(
         (due_standing settings.now now (state_of es numbers.old) (shown entry.now)
         (shown entry.now).standing) }
     ensures copied { IsFateCopied (is_some buffers.copy) result }
+    ensures no_link { KeepsNoLink result }
 {
     match &entry.standing {
         Standing::Done(_) => DueAction::Expired,
@@ -249,6 +257,7 @@ pub(crate) fn act_on_due<A: Allocator + Copy>(
                     entry,
                     waiting.link,
                     waiting.id,
+                    waiting.signs,
                     buffers,
                 )
             }

@@ -1,9 +1,10 @@
 //! What a reply does to its realm (RFC 2865, section 2.3).
 //!
-//! First it is decided what the answer is and which entry is done then, and all memory is taken, that
-//! of the ledger of sessions too; that changes nothing. Then the entry is settled.
+//! First it is decided what the answer is, whether its link gave a sign of life and which entry is done then, and all
+//! memory is taken, that of the ledger of sessions too; that changes nothing. Then the entry is settled: where
+//! its reply wants memory to be found by its State, that is taken first.
 
-ghost use Rattle.std.specs.Prelude.{◌≡◌, ◌≤◌, ◌^◌, [], None, IfOk, IsOk};
+ghost use Rattle.std.specs.Prelude.{◌≡◌, ◌≤◌, ◌^◌, [], None, Some, IfOk, IsOk, OnErr, OnOk, if◌then◌else◌};
 ghost use Rattle.roam_wire.specs.Reading.{IsPacketText};
 ghost use Rattle.roam_pending.specs.EntryList.{find_link};
 ghost use Rattle.roam_pending.specs.Shown.{seen};
@@ -12,14 +13,15 @@ ghost use Rattle.roam_book.specs.RealmState.{RealmState};
 ghost use Rattle.roam_book.specs.Turn.{packets_of, refuses};
 ghost use Rattle.roam_book.specs.OnReply.{on_reply, to_entry};
 ghost use Rattle.roam_book.specs.RealmTurn.{IsRealm, Keeps, Turns, TurnsTwice, entries, state};
-ghost use Rattle.roam_book.specs.Private.ReplyPlans.{CanSettle, IsPrepared, IsReplyPlan, once_settled};
+ghost use Rattle.roam_book.specs.Private.ReplyPlans.{CanSettle, IsHeard, IsPrepared, IsReplyPlan, once_heard_by};
+ghost use Rattle.roam_book.specs.Private.ReplyPlans.{once_settled};
 
 use crate::packets::answer::{Answer, Twin, refused};
 use crate::rules::reply_outcome::{ReplyOutcome, to_standing};
 use crate::rules::requests::LATEST;
 use crate::state::realm_broker::RealmBroker;
 use roam_conf::Link;
-use roam_pending::{Done, Entries, Entry, Standing, set_standing};
+use roam_pending::{Done, Entries, Entry, Standing, hold_standing};
 use roam_reverse::PreparedChange;
 use roam_wire::{NoMemory, Refusal, View};
 use std::alloc::Allocator;
@@ -35,10 +37,12 @@ pub(crate) struct Settled<A: Allocator> {
     pub counted: Option<u16>,
 }
 
-/// What a reply does: its answer, and the entry that is then done, if one is.
+/// What a reply does: its answer, the sign of life that it is, and the entry that is then done, if one is.
 #[derive(Drop)]
 pub(crate) struct ReplyPlan<A: Allocator> {
     pub answer: Answer<A>,
+    /// The link that gave a sign of life, if one did.
+    pub heard: Option<Link>,
     pub settled: Option<Settled<A>>,
 }
 
@@ -48,8 +52,16 @@ fn refused_reply<A: Allocator>(alloc: A, why: Refusal) -> ReplyPlan<A>
 {
     ReplyPlan {
         answer: refused(alloc, why),
+        heard: None,
         settled: None,
     }
+}
+
+/// The link that gave a sign of life, if it did.
+fn heard_from(heard: bool, link: Link) -> Option<Link>
+    ensures { result ≡ (if heard then Some link else None) }
+{
+    if heard { Some(link) } else { None }
 }
 
 impl<A: Allocator + Copy, E: Entries<A>> RealmBroker<'_, '_, '_, '_, A, E> {
@@ -86,6 +98,7 @@ impl<A: Allocator + Copy, E: Entries<A>> RealmBroker<'_, '_, '_, '_, A, E> {
         };
         let ReplyOutcome {
             answer,
+            heard,
             done,
             counted,
         } = to_standing(self.numbers.alloc, self.settings, now, entry, reply)?;
@@ -101,7 +114,11 @@ impl<A: Allocator + Copy, E: Entries<A>> RealmBroker<'_, '_, '_, '_, A, E> {
                 })
             }
         };
-        Ok(ReplyPlan { answer, settled })
+        Ok(ReplyPlan {
+            answer,
+            heard: heard_from(heard, link),
+            settled,
+        })
     }
 
     /// What a reply that came from a link does. Nothing changes yet.
@@ -128,7 +145,7 @@ impl<A: Allocator + Copy, E: Entries<A>> RealmBroker<'_, '_, '_, '_, A, E> {
     ) -> Result<Option<PreparedChange<A>>, NoMemory>
         requires realm { IsRealm E.Entries self.old }
         ensures change { IfOk result (λ change. IsPrepared self.new.numbers.now.sessions change
-            (once_settled self.old.settings.now (state E.Entries self.old) settled.now).sessions) }
+            (once_settled self.old.settings.now (state E.Entries self.old) None settled.now).sessions) }
         ensures succeeds { settled.now ≡ None → IsOk result }
         ensures entries { entries E.Entries self.new ≡ entries E.Entries self.old }
         ensures state { state E.Entries self.new ≡ state E.Entries self.old }
@@ -145,35 +162,81 @@ impl<A: Allocator + Copy, E: Entries<A>> RealmBroker<'_, '_, '_, '_, A, E> {
             return Ok(None);
         };
         let request = View::of_packet(entry.request.octets.as_slice());
-        let change = self.numbers.prepare_ledger(peer, &request)?;
+        let own = self.settings.own_sessions();
+        let change = self.numbers.prepare_ledger(own, peer, &request)?;
         Ok(Some(change))
     }
 
-    /// The entry that is to be done, if one is, is done: its Identifier is then free, the change of the
-    /// ledger, if there is one, is made, and its link is awake. Takes no memory.
-    fn settle(&mut self, settled: Option<Settled<A>>, change: Option<PreparedChange<A>>)
+    /// A link gave a sign of life, if one did.
+    fn hear(&mut self, heard: Option<Link>)
         requires realm { IsRealm E.Entries self.old }
-        requires settled { CanSettle self.old.settings.now (entries E.Entries self.old) settled }
-        requires change { IsPrepared self.old.numbers.now.sessions change
-            (once_settled self.old.settings.now (state E.Entries self.old) settled).sessions }
+        requires heard { IsHeard self.old.settings.now heard }
         ensures state { state E.Entries self.new
-            ≡ once_settled self.old.settings.now (state E.Entries self.old) settled }
+            ≡ once_heard_by self.old.settings.now (state E.Entries self.old) heard }
         ensures keeps { Keeps E.Entries self.old self.new }
     {
-        let Some(settled) = settled else {
-            return;
-        };
-        set_standing(
+        if let Some(link) = heard {
+            self.numbers.hear(self.settings, link);
+        }
+    }
+
+    /// The entry that is to be done is done: its Identifier is then free, the change of the ledger, if there
+    /// is one, is made, and its link gave a sign of life. `NoMemory` comes where a growth was refused; the
+    /// realm is then as it was.
+    fn settle(
+        &mut self,
+        settled: Settled<A>,
+        change: Option<PreparedChange<A>>,
+    ) -> Result<(), NoMemory>
+        requires realm { IsRealm E.Entries self.old }
+        requires settled { CanSettle self.old.settings.now (entries E.Entries self.old) (Some settled) }
+        requires change { IsPrepared self.old.numbers.now.sessions change
+            (once_settled self.old.settings.now (state E.Entries self.old) None (Some settled)).sessions }
+        ensures state { OnOk result (state E.Entries self.new
+            ≡ once_settled self.old.settings.now (state E.Entries self.old) None (Some settled)) }
+        ensures no_memory { OnErr result (state E.Entries self.new ≡ state E.Entries self.old) }
+        ensures keeps { Keeps E.Entries self.old self.new }
+    {
+        hold_standing(
             self.numbers.alloc,
             self.entries,
             self.settings.index(),
             settled.ticket,
             Standing::Done(settled.done),
-        );
+        )?;
         self.numbers
             .give_back(self.settings, settled.link, settled.id);
         self.numbers.change_ledger(change);
-        self.numbers.wake(self.settings, settled.link);
+        self.numbers.hear(self.settings, settled.link);
+        Ok(())
+    }
+
+    /// What was planned is done: a sign of life is noted, or an entry settled. `NoMemory` comes where a
+    /// growth was refused; the realm is then as it was.
+    fn carry_out(
+        &mut self,
+        heard: Option<Link>,
+        settled: Option<Settled<A>>,
+        change: Option<PreparedChange<A>>,
+    ) -> Result<(), NoMemory>
+        requires realm { IsRealm E.Entries self.old }
+        requires heard { IsHeard self.old.settings.now heard }
+        requires settled { CanSettle self.old.settings.now (entries E.Entries self.old) settled }
+        requires change { IsPrepared self.old.numbers.now.sessions change
+            (once_settled self.old.settings.now (state E.Entries self.old) None settled).sessions }
+        ensures state { OnOk result (state E.Entries self.new
+            ≡ once_settled self.old.settings.now (state E.Entries self.old) heard settled) }
+        ensures no_memory { OnErr result (state E.Entries self.new ≡ state E.Entries self.old) }
+        ensures succeeds { settled ≡ None → IsOk result }
+        ensures keeps { Keeps E.Entries self.old self.new }
+    {
+        match settled {
+            None => {
+                self.hear(heard);
+                Ok(())
+            }
+            Some(settled) => self.settle(settled, change),
+        }
     }
 
     /// A reply that came from a link: it is returned, and held until `now + hold`, where the
@@ -188,9 +251,13 @@ impl<A: Allocator + Copy, E: Entries<A>> RealmBroker<'_, '_, '_, '_, A, E> {
         ensures turn { Turns E.Entries self.old self.new result
             (λ s. on_reply self.old.settings.now now s link octets.now) }
     {
-        let ReplyPlan { answer, settled } = self.plan_reply(now, link, octets)?;
+        let ReplyPlan {
+            answer,
+            heard,
+            settled,
+        } = self.plan_reply(now, link, octets)?;
         let change = self.prepare_ledger(&settled)?;
-        self.settle(settled, change);
+        self.carry_out(heard, settled, change)?;
         Ok(answer)
     }
 
@@ -206,10 +273,14 @@ impl<A: Allocator + Copy, E: Entries<A>> RealmBroker<'_, '_, '_, '_, A, E> {
         ensures turn { TurnsTwice E.Entries self.old self.new result
             (λ s. on_reply self.old.settings.now now s link octets.now) }
     {
-        let ReplyPlan { answer, settled } = self.plan_reply(now, link, octets)?;
+        let ReplyPlan {
+            answer,
+            heard,
+            settled,
+        } = self.plan_reply(now, link, octets)?;
         let copy = answer.copy(self.numbers.alloc)?;
         let change = self.prepare_ledger(&settled)?;
-        self.settle(settled, change);
+        self.carry_out(heard, settled, change)?;
         Ok(Twin { answer, copy })
     }
 }

@@ -10,8 +10,9 @@ ghost use Rattle.roam_pending.specs.PlainEntry.{PlainEntry, waits_at};
 ghost use Rattle.roam_pending.specs.Shown.{shown, shown_request};
 ghost use Rattle.roam_book.specs.RealmConfig.{IsLink, RealmConfig, link_secret, seal_required};
 ghost use Rattle.roam_book.specs.RealmState.{RealmState};
-ghost use Rattle.roam_book.specs.Turn.{packets_of, refuses};
-ghost use Rattle.roam_book.specs.OnReply.{counted_peer, judge, passing_to, reply_fault, return_reply, returned_octets};
+ghost use Rattle.roam_book.specs.Turn.{hears, packets_of, refuses};
+ghost use Rattle.roam_book.specs.OnReply.{counted_peer, faulted, judge, once_heard_from, passing_to, reply_fault};
+ghost use Rattle.roam_book.specs.OnReply.{return_reply, returned_octets, shows_life};
 ghost use Rattle.roam_book.specs.OnReply.{returning};
 ghost use Rattle.roam_book.specs.OnReply.{to_standing};
 ghost use Rattle.roam_book.specs.Sound.{IsRequest, IsWaiting, StandsWell};
@@ -31,6 +32,8 @@ use std::alloc::Allocator;
 #[derive(Drop)]
 pub(crate) struct ReplyOutcome<A: Allocator> {
     pub answer: Answer<A>,
+    /// Whether the reply is a sign of life of its link.
+    pub heard: bool,
     /// How the entry is done from now on. `None` where the reply isn't taken.
     pub done: Option<Done<A>>,
     /// The peer whose sessions change, if any do.
@@ -44,8 +47,41 @@ fn not_taken<A: Allocator>(alloc: A, why: Refusal) -> ReplyOutcome<A>
 {
     ReplyOutcome {
         answer: refused(alloc, why),
+        heard: false,
         done: None,
         counted: None,
+    }
+}
+
+/// A reply that isn't taken, and is a sign of life of its link. Takes no memory.
+fn only_heard<A: Allocator>(alloc: A, why: Refusal) -> ReplyOutcome<A>
+    ensures { (c : RealmConfig) (e : PlainEntry) (l : Link)
+        → IsVerdict c result e l (λ s. hears why (once_heard_from c s l)) }
+{
+    ReplyOutcome {
+        answer: refused(alloc, why),
+        heard: true,
+        done: None,
+        counted: None,
+    }
+}
+
+/// Whether a reply of which this is wrong is a sign of life of its link: its seal alone is wrong, or missing.
+fn shows_life(why: Refusal) -> bool
+    ensures { result ≡ shows_life why }
+{
+    why.number() == Refusal::BadReplyMessageAuthenticator.number()
+}
+
+/// A reply of which this is wrong. Takes no memory.
+fn faulted<A: Allocator>(alloc: A, why: Refusal) -> ReplyOutcome<A>
+    ensures { (c : RealmConfig) (e : PlainEntry) (l : Link)
+        → IsVerdict c result e l (λ s. faulted c s l why) }
+{
+    if shows_life(why) {
+        only_heard(alloc, why)
+    } else {
+        not_taken(alloc, why)
     }
 }
 
@@ -100,6 +136,7 @@ fn returned_packet<A: Allocator + Copy>(
         judging.reply,
         &View::of_packet(request.octets.as_slice()),
         &removal,
+        judging.settings.own_names(),
         forwarded.authenticator(),
         judging.settings.secret_of_link(link),
         judging.settings.secret_of_requester(request.requester),
@@ -127,17 +164,18 @@ fn counted_peer(requester: Requester, reply: &View<'_>) -> Option<u16>
     }
 }
 
-/// A packet goes back to the sender of a request, and is held until `hold` after the moment.
+/// A packet goes back to the sender of a request, and is held until `hold` after the moment, with the link that its
+/// reply came from.
 fn return_packet<A: Allocator + Copy>(
     judging: &Judging<'_, '_, '_, '_, A>,
+    link: Link,
     key: Key,
     counted: Option<u16>,
     packet: Vec<u8, A>,
 ) -> Result<ReplyOutcome<A>, NoMemory>
     requires moment { judging.now.moment ≤ 2 ^ 62 }
-    ensures { IfOk result (λ v. (e : PlainEntry) (l : Link)
-        → IsVerdict judging.now.settings.now v e l (λ s. returns_octets judging.now.settings.now
-        judging.now.moment key counted packet.items e l s)) }
+    ensures { IfOk result (λ v. (e : PlainEntry) → IsVerdict judging.now.settings.now v e link
+        (λ s. returns_octets judging.now.settings.now judging.now.moment key counted packet.items e link s)) }
 {
     let reply = Octets::copy_of(judging.alloc, packet.as_slice())?;
     let deadline = judging.moment + u64::from(judging.settings.hold());
@@ -145,7 +183,12 @@ fn return_packet<A: Allocator + Copy>(
     let answer = one_packet(judging.alloc, out)?;
     Ok(ReplyOutcome {
         answer,
-        done: Some(Done { reply, deadline }),
+        heard: true,
+        done: Some(Done {
+            reply,
+            deadline,
+            from: Some(link),
+        }),
         counted,
     })
 }
@@ -172,9 +215,9 @@ fn return_reply<A: Allocator + Copy>(
     match returned_packet(judging, &entry.request, link, forwarded) {
         Ok(packet) => {
             let counted = counted_peer(entry.request.requester, judging.reply);
-            return_packet(judging, entry.request.key, counted, packet)
+            return_packet(judging, link, entry.request.key, counted, packet)
         }
-        Err(Refusal::ReplyTooLong) => Ok(not_taken(judging.alloc, Refusal::ReplyTooLong)),
+        Err(Refusal::ReplyTooLong) => Ok(only_heard(judging.alloc, Refusal::ReplyTooLong)),
         Err(_) => Err(NoMemory),
     }
 }
@@ -207,7 +250,7 @@ fn outcome_of<A: Allocator + Copy>(
     let secret = judging.settings.secret_of_link(link);
     let seal_required = judging.settings.seal_required(link);
     if let Some(why) = fault_of(judging.reply, &forwarded, secret, seal_required) {
-        return Ok(not_taken(judging.alloc, why));
+        return Ok(faulted(judging.alloc, why));
     }
     return_reply(judging, entry, link, &forwarded)
 }

@@ -3,20 +3,16 @@
 //! First it is decided whether it is a duplicate, answered by a NAK, refused or admitted, and which
 //! entries make way; that changes nothing. Then a new request is admitted.
 
-ghost use Rattle.std.specs.Prelude.{◌≡◌, ℕ, ◌<◌, ◌∷◌, [], true, None};
-ghost use Rattle.std.specs.Prelude.{Some, IfErr, IfOk, IfSome, IsOk, length};
+ghost use Rattle.std.specs.Prelude.{◌≡◌, ◌∷◌, [], true, None, IfErr, IfOk, IsOk};
 ghost use Rattle.std.specs.Result.{result_err};
 ghost use Rattle.roam_wire.specs.Reading.{IsPacketText};
 ghost use Rattle.roam_pending.specs.EntryList.{find_client, without_client};
-ghost use Rattle.roam_pending.specs.PlainEntry.{PlainRequest};
 ghost use Rattle.roam_pending.specs.Shown.{shown_standing};
-ghost use Rattle.roam_book.specs.Private.NewEntry.{AreConfigured, Chooses, IsNew, IsRequestPlan, IsWay, freed_link};
-ghost use Rattle.roam_book.specs.Private.NewEntry.{links_of, once_gone, straight_after, target_at};
-ghost use Rattle.roam_book.specs.OnRequest.{at_target, first_seen, held_reply, is_reverse, nak_octets, new_request};
-ghost use Rattle.roam_book.specs.OnRequest.{of_key, on_request, packet_to_requester, reverse_cause, targets};
-ghost use Rattle.roam_book.specs.RealmConfig.{IsLink};
+ghost use Rattle.roam_book.specs.Private.NewEntry.{AreConfigured, IsNew, IsRequestPlan, links_of, once_gone};
+ghost use Rattle.roam_book.specs.OnRequest.{first_seen, held_reply, is_reverse, nak_octets, new_request, of_key};
+ghost use Rattle.roam_book.specs.OnRequest.{on_request, packet_to_requester, reverse_cause, targets};
 ghost use Rattle.roam_book.specs.RealmTurn.{IsRealm, Turns, TurnsTwice, entries, state};
-ghost use Rattle.roam_book.specs.Sound.{CountsAsGone, IsRequest, chosen_link, gone_ticket, shown_request};
+ghost use Rattle.roam_book.specs.Sound.{CountsAsGone, IsRequest, shown_request};
 ghost use Rattle.roam_book.specs.Turn.{packets_of, shown_outs};
 
 use crate::packets::answer::{Answer, Twin, nothing, one_packet, refused};
@@ -26,9 +22,8 @@ use crate::rules::replaced::Replaced;
 use crate::rules::targets::Targets;
 use crate::state::realm_broker::RealmBroker;
 use crate::state::realm_settings::RealmSettings;
-use crate::state::service::{ServersFrom, Service};
+use crate::state::service::Service;
 use roam_back::nak;
-use roam_conf::Link;
 use roam_pending::{Entries, Entry, Standing};
 use roam_route::is_reverse_request;
 use roam_wire::{NoMemory, Octets, Refusal, View};
@@ -90,123 +85,7 @@ fn refused_by_nak<A: Allocator + Copy>(
     one_packet(alloc, packet_to_requester(settings, asked.key, octets))
 }
 
-/// The link where an Identifier becomes free once an entry is gone.
-fn freed_link(gone: Option<Replaced>) -> Option<Link>
-    ensures { result ≡ freed_link gone }
-{
-    let (link, _) = gone?.waits_at?;
-    Some(link)
-}
-
-/// The ticket of the entry that counts as gone.
-pub(crate) fn gone_ticket(gone: Option<Replaced>) -> Option<u64>
-    ensures { result ≡ gone_ticket gone }
-{
-    match gone {
-        None => None,
-        Some(gone) => Some(gone.ticket),
-    }
-}
-
 impl<A: Allocator + Copy, E: Entries<A>> RealmBroker<'_, '_, '_, '_, A, E> {
-    /// How many entries there are, besides one that counts as gone.
-    fn held_besides(&self, gone: Option<Replaced>) -> usize
-        requires { CountsAsGone gone (entries E.Entries self.now) }
-        ensures { result ≡ length (once_gone gone (entries E.Entries self.now)) }
-    {
-        let held = self.entries.len(self.settings.index());
-        match gone {
-            None => held,
-            Some(_) => held - 1,
-        }
-    }
-
-    /// A new request for which a link has a free Identifier: it is admitted where there is a place,
-    /// or where a done entry makes way.
-    fn plan_at(&self, gone: Option<Replaced>, link: Link) -> Result<AdmitPlan, Refusal>
-        requires { CountsAsGone gone (entries E.Entries self.now) }
-        ensures { (now : ℕ) (q : PlainRequest)
-            → IsWay self.now.settings.now (state E.Entries self.now) q (straight_after gone link)
-            → Chooses self.now.settings.now now (state E.Entries self.now) q result
-            (at_target self.now.settings.now now (state E.Entries self.now)
-            (once_gone gone (entries E.Entries self.now)) q
-            (Some (target_at self.now.settings.now (state E.Entries self.now).cursors
-            (once_gone gone (entries E.Entries self.now)) link))) }
-    {
-        let most = usize::from(self.settings.max_pending());
-        if self.held_besides(gone) < most {
-            return Ok(AdmitPlan {
-                gone,
-                done: None,
-                link,
-            });
-        }
-        match self
-            .entries
-            .first_done(self.settings.index(), gone_ticket(gone))
-        {
-            None => Err(Refusal::Busy),
-            Some(ticket) => {
-                Ok(AdmitPlan {
-                    gone,
-                    done: Some(ticket),
-                    link,
-                })
-            }
-        }
-    }
-
-    /// The one of a request's targets that is chosen at a moment, where the Identifiers of `freed` count
-    /// as free.
-    fn chosen_target(&self, now: u64, targets: Targets, freed: Option<Link>) -> Option<Link>
-        requires realm { IsRealm E.Entries self.now }
-        requires targets { AreConfigured self.now.settings.now targets }
-        ensures chosen { result ≡ chosen_link self.now.settings.now now
-            self.now.numbers.now.rests.items self.now.numbers.now.lanes.items freed
-            (links_of self.now.settings.now targets) }
-        ensures link { IfSome result (λ l. IsLink self.now.settings.now l) }
-    {
-        match targets {
-            Targets::HomeServers(service) => {
-                let servers = ServersFrom { service, first: 0 };
-                self.numbers.chosen(self.settings, now, servers, freed)
-            }
-            Targets::AccessServer(peer) => {
-                self.numbers.if_open(self.settings, Link::Coa(peer), freed)
-            }
-        }
-    }
-
-    /// A new request with these targets: there must be a ticket for it, less than its name's share waiting, and a
-    /// target with a free Identifier. The entry of its key, if there is one, counts as gone.
-    fn plan_admit(
-        &self,
-        now: u64,
-        asked: RequestRef<'_>,
-        gone: Option<Replaced>,
-        targets: Targets,
-    ) -> Result<AdmitPlan, Refusal>
-        requires realm { IsRealm E.Entries self.now }
-        requires gone { CountsAsGone gone (entries E.Entries self.now) }
-        requires targets { AreConfigured self.now.settings.now targets }
-        requires new { IsNew self.now.settings.now (entries E.Entries self.now) gone targets
-            (shown_request asked) }
-        ensures { Chooses self.now.settings.now now (state E.Entries self.now) (shown_request asked.entry) result
-            (new_request self.now.settings.now now (state E.Entries self.now)
-            (once_gone gone (entries E.Entries self.now)) (shown_request asked.entry)) }
-    {
-        if self.numbers.ticket == 1 << 63 {
-            return Err(Refusal::Exhausted);
-        }
-        if self.is_share_taken(asked, gone) {
-            return Err(Refusal::ShareTaken);
-        }
-        match self.chosen_target(now, targets, freed_link(gone)) {
-            None => Err(Refusal::NoIdentifier),
-            Some(link) => self.plan_at(gone, link),
-        }
-    }
-
     /// A new request with these targets is refused or admitted, while an entry counts as gone.
     fn plan_new(
         &self,

@@ -1,25 +1,27 @@
-//! The share of a name: how many requests for one name may wait for a service.
+//! The shares of a name and of a peer: how many requests for one name may wait for a service, and how many of one peer at
+//! all.
 //!
 //! What waits for a service is looked up by the Identifiers in use toward its servers, 256 for each, so that a look
 //! costs no more because replies are held or other requests are pending.
 
 ghost use Rattle.std.specs.Prelude.{◌≡◌, ◌≤◌, length, option_map, if◌then◌else◌};
+ghost use Rattle.roam_pending.specs.Shown.{shown};
 ghost use Rattle.roam_wire.specs.Reading.{IsPacketText};
 ghost use Rattle.roam_pending.specs.EntryList.{is_beside};
 ghost use Rattle.roam_book.specs.Private.NewEntry.{once_gone};
-ghost use Rattle.roam_book.specs.Private.Sharing.{has_part, has_part_below, sum_below};
+ghost use Rattle.roam_book.specs.Private.Sharing.{held_as, held_below, is_sharer, sum_below};
 ghost use Rattle.roam_book.specs.RealmConfig.{server_link};
 ghost use Rattle.roam_book.specs.RealmTurn.{IsRealm, entries};
-ghost use Rattle.roam_book.specs.Shares.{name_part, same_part, share_taken};
+ghost use Rattle.roam_book.specs.Shares.{name_part, name_taken, peer_taken, same_part, same_peer, share_taken};
 ghost use Rattle.roam_book.specs.Sound.{CountsAsGone, IsRequest, shown_request};
 
 use crate::packets::forwarding::RequestRef;
+use crate::rules::new_requests::gone_ticket;
 use crate::rules::replaced::Replaced;
-use crate::rules::requests::gone_ticket;
 use crate::state::realm_broker::RealmBroker;
 use crate::state::service::Service;
 use roam_conf::Link;
-use roam_pending::Entries;
+use roam_pending::{Entries, Entry, Requester};
 use roam_route::{is_reverse_request, realm_part};
 use roam_wire::View;
 use roam_wire::attribute_type::USER_NAME;
@@ -45,6 +47,36 @@ fn is_same_part(part: Option<&[u8]>, other: Option<&[u8]>) -> bool
     }
 }
 
+/// Whether two requests are of the same peer.
+fn is_same_peer(requester: Requester, other: Requester) -> bool
+    ensures { result ≡ same_peer requester other }
+{
+    match (requester, other) {
+        (Requester::Peer(peer), Requester::Peer(other)) => peer == other,
+        _ => false,
+    }
+}
+
+/// Whose share it is.
+#[derive(Clone, Copy)]
+pub(crate) enum Sharer<'a> {
+    /// That of a name part.
+    Name(Option<&'a [u8]>),
+    /// That of the peer that sent a request.
+    Peer(Requester),
+}
+
+/// Whether an entry's request counts in a share.
+fn is_sharer<A: Allocator>(entry: &Entry<A>, sharer: Sharer<'_>) -> bool
+    requires packet { IsPacketText entry.now.request.octets }
+    ensures { result ≡ is_sharer sharer.entry (shown entry.now) }
+{
+    match sharer {
+        Sharer::Name(part) => { is_same_part(name_part(entry.request.octets.as_slice()), part) }
+        Sharer::Peer(requester) => is_same_peer(entry.request.requester, requester),
+    }
+}
+
 /// Whether a ticket isn't the one that counts as gone.
 fn is_beside(gone: Option<u64>, ticket: u64) -> bool
     ensures { result ≡ is_beside gone ticket }
@@ -64,50 +96,82 @@ fn one_if(is_so: bool) -> usize
 }
 
 impl<A: Allocator + Copy, E: Entries<A>> RealmBroker<'_, '_, '_, '_, A, E> {
-    /// Whether a request of this name part waits on a link with an Identifier, besides the one that counts as gone.
-    fn holds_part(&self, link: Link, id: u8, part: Option<&[u8]>, gone: Option<u64>) -> bool
+    /// Whether a request of this share waits on a link with an Identifier, besides the one that counts as gone.
+    fn holds_sharer(&self, link: Link, id: u8, sharer: Sharer<'_>, gone: Option<u64>) -> bool
         requires realm { IsRealm E.Entries self.now }
-        ensures { result ≡ has_part (option_map (λ part. part.now) part.entry) gone link id
-            (entries E.Entries self.now) }
+        ensures { result ≡ held_as (is_sharer sharer.entry) gone link id (entries E.Entries self.now) }
     {
         match self.waiting_at(link, id) {
             None => false,
-            Some(entry) => {
-                is_beside(gone, entry.ticket)
-                    && is_same_part(name_part(entry.request.octets.as_slice()), part)
-            }
+            Some(entry) => is_beside(gone, entry.ticket) && is_sharer(entry, sharer),
         }
     }
 
-    /// How many requests of this name part wait on a link.
-    fn part_count_at(&self, link: Link, part: Option<&[u8]>, gone: Option<u64>) -> usize
+    /// How many requests of this share wait on a link.
+    fn sharers_at(&self, link: Link, sharer: Sharer<'_>, gone: Option<u64>) -> usize
         requires realm { IsRealm E.Entries self.now }
-        ensures count { result ≡ has_part_below 256 (option_map (λ part. part.now) part.entry) gone link
-            (entries E.Entries self.now) }
+        ensures count { result ≡ held_below 256 (is_sharer sharer.entry) gone link (entries E.Entries self.now) }
         ensures few { result ≤ 256 }
     {
         let mut count = 0;
         for id in 0..256u16 {
-            count += one_if(self.holds_part(link, id as u8, part, gone));
+            count += one_if(self.holds_sharer(link, id as u8, sharer, gone));
         }
         count
     }
 
-    /// How many requests of this name part wait for a service.
-    fn part_count(&self, service: Service, part: Option<&[u8]>, gone: Option<u64>) -> usize
+    /// How many requests of this share wait for a service.
+    fn sharers_for(&self, service: Service, sharer: Sharer<'_>, gone: Option<u64>) -> usize
         requires realm { IsRealm E.Entries self.now }
-        ensures { result ≡ sum_below (length self.now.settings.now.realm.servers) (λ server.
-            has_part_below 256 (option_map (λ part. part.now) part.entry) gone
+        ensures count { result ≡ sum_below (length self.now.settings.now.realm.servers) (λ server.
+            held_below 256 (is_sharer sharer.entry) gone
             (server_link service server) (entries E.Entries self.now)) }
+        ensures few { result ≤ 2048 }
     {
         let mut count = 0;
         for server in 0..self.settings.server_count() {
-            count += self.part_count_at(service.link(server as u8), part, gone);
+            count += self.sharers_at(service.link(server as u8), sharer, gone);
         }
         count
     }
 
     /// Whether the share of a new request's name is taken, while an entry counts as gone.
+    fn is_name_taken(&self, asked: RequestRef<'_>, gone: Option<Replaced>) -> bool
+        requires realm { IsRealm E.Entries self.now }
+        requires request { IsRequest self.now.settings.now (shown_request asked) }
+        ensures { result ≡ name_taken self.now.settings.now
+            (once_gone gone (entries E.Entries self.now)) (shown_request asked.entry) }
+    {
+        match self.settings.share() {
+            None => false,
+            Some(share) => {
+                let service = Service::of_code(View::of_packet(asked.octets).code());
+                let sharer = Sharer::Name(name_part(asked.octets));
+                let count = self.sharers_for(service, sharer, gone_ticket(gone));
+                count >= usize::from(share)
+            }
+        }
+    }
+
+    /// Whether the share of a new request's peer is taken, while an entry counts as gone.
+    fn is_peer_taken(&self, asked: RequestRef<'_>, gone: Option<Replaced>) -> bool
+        requires realm { IsRealm E.Entries self.now }
+        ensures { result ≡ peer_taken self.now.settings.now
+            (once_gone gone (entries E.Entries self.now)) (shown_request asked.entry) }
+    {
+        match self.settings.peer_share() {
+            None => false,
+            Some(share) => {
+                let sharer = Sharer::Peer(asked.requester);
+                let gone = gone_ticket(gone);
+                let first = self.sharers_for(Service::Authentication, sharer, gone);
+                let second = self.sharers_for(Service::Accounting, sharer, gone);
+                first + second >= usize::from(share)
+            }
+        }
+    }
+
+    /// Whether the share of a new request's name or of its peer is taken, while an entry counts as gone.
     pub(crate) fn is_share_taken(&self, asked: RequestRef<'_>, gone: Option<Replaced>) -> bool
         requires realm { IsRealm E.Entries self.now }
         requires request { IsRequest self.now.settings.now (shown_request asked) }
@@ -115,17 +179,9 @@ impl<A: Allocator + Copy, E: Entries<A>> RealmBroker<'_, '_, '_, '_, A, E> {
         ensures { result ≡ share_taken self.now.settings.now
             (once_gone gone (entries E.Entries self.now)) (shown_request asked.entry) }
     {
-        let code = View::of_packet(asked.octets).code();
-        if is_reverse_request(code) {
+        if is_reverse_request(View::of_packet(asked.octets).code()) {
             return false;
         }
-        match self.settings.share() {
-            None => false,
-            Some(share) => {
-                let part = name_part(asked.octets);
-                let count = self.part_count(Service::of_code(code), part, gone_ticket(gone));
-                count >= usize::from(share)
-            }
-        }
+        self.is_name_taken(asked, gone) || self.is_peer_taken(asked, gone)
     }
 }

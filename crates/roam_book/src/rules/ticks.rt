@@ -9,7 +9,7 @@ ghost use Rattle.roam_book.specs.OnTick.{on_tick, due_one};
 ghost use Rattle.roam_book.specs.Private.Memory.{HasBuffers, HasPlace, IsOuts, Tells};
 ghost use Rattle.roam_book.specs.RealmTurn.{IsRealm, Keeps, KeepsLoans, Turns, TurnsTwice, entries, state};
 ghost use Rattle.roam_book.specs.Rooms.{IsRoomFor, size_of};
-ghost use Rattle.roam_book.specs.Private.Fates.{IsFateCopied, fate_packets, fate_entries, once_held};
+ghost use Rattle.roam_book.specs.Private.Fates.{HoldsNoLink, IsFateCopied, KeepsNoLink, fate_packets, fate_entries, once_held};
 
 use crate::packets::answer::{Answer, AnswerCopies, Twin};
 use crate::packets::answer_builder::AnswerBuilder;
@@ -24,6 +24,7 @@ use std::alloc::Allocator;
 impl<A: Allocator + Copy, E: Entries<A>> RealmBroker<'_, '_, '_, '_, A, E> {
     /// An entry is done, and its reply is held, or it goes.
     fn hold(&mut self, ticket: u64, held: Option<Done<A>>)
+        requires no_link { HoldsNoLink held }
         ensures entries { IfSome (find_ticket ticket (entries E.Entries self.old))
             (λ e. RealmBecomes self.old.settings.now.index
             (once_held e (entries E.Entries self.old) held)
@@ -55,6 +56,7 @@ impl<A: Allocator + Copy, E: Entries<A>> RealmBroker<'_, '_, '_, '_, A, E> {
         requires moment { now ≤ 2 ^ 62 }
         requires place { HasPlace outs.old }
         requires copied { IsFateCopied outs.old.twice fate }
+        requires no_link { KeepsNoLink fate }
         ensures outs { (places : ℕ) (twice : Bool) (packets : List PlainOut)
             → IsOuts (places + 1) twice packets outs.old
             → IsOuts places twice (packets ++ fate_packets fate) outs.new }

@@ -1,9 +1,7 @@
 //! What a realm keeps besides its entries: the numbers that it hands out, and the ledger of sessions.
 
-ghost use Rattle.std.specs.Prelude.{◌≡◌, ℕ, ◌<◌, ◌≤◌, ◌+◌, ◌^◌, ◌*◌, ◌%◌, List, []};
-ghost use Rattle.std.specs.Prelude.{◌∷◌, true, Some, None, length, replicate, drop, slice_set, IfSome, IfNone};
-ghost use Rattle.std.specs.Prelude.{IfOk, IsOk, OnOk, is_some};
-ghost use Rattle.std.specs.List.{find};
+ghost use Rattle.std.specs.Prelude.{◌≡◌, ℕ, ◌<◌, ◌+◌, ◌*◌, ◌%◌, List, [], true, Some, None, length, replicate};
+ghost use Rattle.std.specs.Prelude.{slice_set, IfSome, IfNone, IfOk, IsOk, OnOk, is_some};
 ghost use Rattle.roam_ids.specs.LaneState.{place_at, ticket_at};
 ghost use Rattle.roam_ids.specs.declared.id_state.IdState.TheVariants.{Free};
 ghost use Rattle.roam_pending.specs.PlainEntry.{PlainEntry, waits_at};
@@ -11,16 +9,14 @@ ghost use Rattle.roam_pending.specs.EntryList.{IsEntryList, find_ticket, put, wi
 ghost use Rattle.roam_reverse.specs.Sessions.{Session, applied};
 ghost use Rattle.roam_reverse.specs.Shown.{HasRoomFor};
 ghost use Rattle.roam_book.specs.Private.ReplyPlans.{IsPrepared};
-ghost use Rattle.roam_book.specs.RealmConfig.{IsLink, link_place, link_count, server_links};
+ghost use Rattle.roam_book.specs.RealmConfig.{IsLink, link_place, link_count};
 ghost use Rattle.roam_book.specs.RealmState.{next_toward};
-ghost use Rattle.roam_book.specs.Rests.{after_choice, after_reply, after_silence, all_awake, rest_of, with_rest};
-ghost use Rattle.roam_book.specs.Stays.{IsStarted, RestsBecome, KeepsButLanes, KeepsButSessions};
-ghost use Rattle.roam_book.specs.Sound.{AreOwnLanes, LanesTell, lane_of, cursors_of, has_free, is_freed};
-ghost use Rattle.roam_book.specs.Sound.{marks_of, WaitsJustAt, chosen_link, is_ready, stands_back_at};
+ghost use Rattle.roam_book.specs.Rests.{all_awake};
+ghost use Rattle.roam_book.specs.Stays.{IsStarted, KeepsButLanes, KeepsButSessions};
+ghost use Rattle.roam_book.specs.Sound.{AreOwnLanes, LanesTell, lane_of, cursors_of, has_free, marks_of, WaitsJustAt};
 
 use crate::state::realm_settings::RealmSettings;
 use crate::state::rest::Rest;
-use crate::state::service::ServersFrom;
 use crate::state::start::Start;
 use roam_conf::Link;
 use roam_ids::LazyLane;
@@ -110,16 +106,6 @@ fn new_rests<A: Allocator + Copy>(
     Ok(rests)
 }
 
-/// Whether a link is the one where an Identifier becomes free.
-fn is_freed(freed: Option<Link>, link: Link) -> bool
-    ensures { result ≡ is_freed freed link }
-{
-    match freed {
-        Some(freed) => freed == link,
-        None => false,
-    }
-}
-
 impl<A: Allocator + Copy> RealmNumbers<A> {
     /// Nothing is in use yet, and the place and the next ticket are those given.
     pub fn new(
@@ -136,7 +122,7 @@ impl<A: Allocator + Copy> RealmNumbers<A> {
             lanes,
             ticket: start.ticket,
             stream_position: start.place,
-            sessions: Sessions::new(alloc, settings.max_sessions()),
+            sessions: Sessions::new(alloc, settings.max_sessions(), settings.hash_key()),
             rests,
         })
     }
@@ -152,15 +138,6 @@ impl<A: Allocator + Copy> RealmNumbers<A> {
         }
     }
 
-    /// Whether an Identifier is free toward a link.
-    fn has_free(&self, settings: &RealmSettings<'_>, link: Link) -> bool
-        requires link { IsLink settings.now link }
-        requires count { length self.now.lanes.items ≡ link_count settings.now }
-        ensures { result ≡ has_free (lane_of settings.now self.now.lanes.items link) }
-    {
-        !self.lanes[settings.place_of(link)].is_full()
-    }
-
     /// The ticket of the request that waits on a link with an Identifier, by the link's lane. `None`
     /// also where the link isn't the realm's.
     pub(crate) fn holder(&self, settings: &RealmSettings<'_>, link: Link, id: u8) -> Option<u64>
@@ -173,167 +150,6 @@ impl<A: Allocator + Copy> RealmNumbers<A> {
             return None;
         }
         self.lanes[settings.place_of(link)].holder(id)
-    }
-
-    /// Whether a link stands back at a moment, if one is given.
-    fn stands_back(&self, settings: &RealmSettings<'_>, at: Option<u64>, link: Link) -> bool
-        requires link { IsLink settings.now link }
-        ensures { result ≡ stands_back_at settings.now at self.now.rests.items link }
-    {
-        let Some(now) = at else {
-            return false;
-        };
-        self.rest_of(settings, link).is_resting(now)
-    }
-
-    /// Whether a link has a free Identifier, or is `freed`, and doesn't stand back at a moment, if one
-    /// is given.
-    fn is_ready(
-        &self,
-        settings: &RealmSettings<'_>,
-        at: Option<u64>,
-        freed: Option<Link>,
-        link: Link,
-    ) -> bool
-        requires link { IsLink settings.now link }
-        requires count { length self.now.lanes.items ≡ link_count settings.now }
-        ensures { result ≡ is_ready settings.now at self.now.rests.items self.now.lanes.items freed
-            link }
-    {
-        !self.stands_back(settings, at, link)
-            && (is_freed(freed, link) || self.has_free(settings, link))
-    }
-
-    /// The first of the servers' links, from a place on, that has a free Identifier, or that is `freed`,
-    /// and that doesn't stand back at a moment, if one is given.
-    fn first_ready(
-        &self,
-        settings: &RealmSettings<'_>,
-        at: Option<u64>,
-        servers: ServersFrom,
-        freed: Option<Link>,
-    ) -> Option<Link>
-        requires count { length self.now.lanes.items ≡ link_count settings.now }
-        requires lanes { AreOwnLanes settings.now (marks_of self.now.lanes.items) }
-        ensures first { result ≡ find (is_ready settings.now at self.now.rests.items
-            self.now.lanes.items freed) (server_links servers.service servers.first
-            (drop servers.first settings.now.realm.servers)) }
-        ensures link { IfSome result (λ l. IsLink settings.now l) }
-        ensures made { IfSome result (λ l.
-            (lane_of settings.now self.now.lanes.items l).made ≡ true) }
-    {
-        for server in servers.first..settings.server_count() {
-            let link = servers.service.link(server as u8);
-            if self.is_ready(settings, at, freed, link) {
-                return Some(link);
-            }
-        }
-        None
-    }
-
-    /// The one of the servers' links, from a place on, that is chosen at a moment: of those that have a
-    /// free Identifier, or are `freed`, the first that doesn't stand back; where all of these stand
-    /// back, the first of them.
-    pub(crate) fn chosen(
-        &self,
-        settings: &RealmSettings<'_>,
-        now: u64,
-        servers: ServersFrom,
-        freed: Option<Link>,
-    ) -> Option<Link>
-        requires count { length self.now.lanes.items ≡ link_count settings.now }
-        requires lanes { AreOwnLanes settings.now (marks_of self.now.lanes.items) }
-        ensures chosen { result ≡ chosen_link settings.now now self.now.rests.items
-            self.now.lanes.items freed (server_links servers.service servers.first
-            (drop servers.first settings.now.realm.servers)) }
-        ensures link { IfSome result (λ l. IsLink settings.now l) }
-        ensures made { IfSome result (λ l.
-            (lane_of settings.now self.now.lanes.items l).made ≡ true) }
-    {
-        match self.first_ready(settings, Some(now), servers, freed) {
-            None => self.first_ready(settings, None, servers, freed),
-            ready => ready,
-        }
-    }
-
-    /// A link, which alone is to be chosen from, where it has a free Identifier, or is `freed`.
-    pub(crate) fn if_open(
-        &self,
-        settings: &RealmSettings<'_>,
-        link: Link,
-        freed: Option<Link>,
-    ) -> Option<Link>
-        requires link { IsLink settings.now link }
-        requires count { length self.now.lanes.items ≡ link_count settings.now }
-        ensures chosen { (now : ℕ) → result ≡ chosen_link settings.now now self.now.rests.items
-            self.now.lanes.items freed (link ∷ []) }
-        ensures link { IfSome result (λ l. IsLink settings.now l) }
-    {
-        if self.is_ready(settings, None, freed, link) {
-            Some(link)
-        } else {
-            None
-        }
-    }
-
-    /// Writes how a link rests: a peer's `coa` never does, and the rests stay.
-    fn set_rest(&mut self, settings: &RealmSettings<'_>, link: Link, rest: Rest)
-        requires link { IsLink settings.now link }
-        ensures { RestsBecome (with_rest settings.now self.old.rests.items link rest)
-            self.old self.new }
-    {
-        let place = settings.place_of(link);
-        if place < self.rests.len() {
-            self.rests[place] = rest;
-        }
-    }
-
-    /// How a link rests: a peer's `coa` never does.
-    fn rest_of(&self, settings: &RealmSettings<'_>, link: Link) -> Rest
-        requires link { IsLink settings.now link }
-        ensures { result ≡ rest_of settings.now self.now.rests.items link }
-    {
-        let place = settings.place_of(link);
-        if place < self.rests.len() {
-            self.rests[place]
-        } else {
-            Rest::awake()
-        }
-    }
-
-    /// A link was chosen as a target: where it has a moment until which it rests, in the past or not,
-    /// that is `now + rest` from now on.
-    pub(crate) fn put_off(&mut self, settings: &RealmSettings<'_>, now: u64, link: Link)
-        requires moment { now ≤ 2 ^ 62 }
-        requires link { IsLink settings.now link }
-        ensures { RestsBecome (after_choice settings.now now self.old.rests.items link)
-            self.old self.new }
-    {
-        let rest = self.rest_of(settings, link).once_chosen(settings, now);
-        self.set_rest(settings, link, rest);
-    }
-
-    /// A request was given up at a link: that is counted there, and where it was so often enough, the
-    /// link rests. Where the realm's `rest` is 0 nothing is counted.
-    pub(crate) fn count_silence(&mut self, settings: &RealmSettings<'_>, now: u64, link: Link)
-        requires moment { now ≤ 2 ^ 62 }
-        requires link { IsLink settings.now link }
-        ensures { RestsBecome (after_silence settings.now now self.old.rests.items link)
-            self.old self.new }
-    {
-        if settings.rest() > 0 {
-            let rest = self.rest_of(settings, link).once_silent(settings, now);
-            self.set_rest(settings, link, rest);
-        }
-    }
-
-    /// A reply from a link was taken: it doesn't rest, and no request counts as given up there.
-    pub(crate) fn wake(&mut self, settings: &RealmSettings<'_>, link: Link)
-        requires link { IsLink settings.now link }
-        ensures { RestsBecome (after_reply settings.now self.old.rests.items link)
-            self.old self.new }
-    {
-        self.set_rest(settings, link, Rest::awake());
     }
 
     /// Takes the memory of a link's lane, where that isn't there. What the numbers stand for stays,
@@ -415,20 +231,21 @@ impl<A: Allocator + Copy> RealmNumbers<A> {
         }
     }
 
-    /// Makes all growth of the ledger that an Accounting-Request of a peer wants, and changes no
-    /// session.
+    /// Makes all growth of the ledger that an Accounting-Request of a peer wants, where the names of access
+    /// servers count or not, and changes no session.
     pub(crate) fn prepare_ledger(
         &mut self,
+        own: bool,
         peer: u16,
         request: &View<'_>,
     ) -> Result<PreparedChange<A>, NoMemory>
         ensures change { IfOk result (λ change. IsPrepared self.new.sessions (Some change)
-            (applied self.old.sessions.limit peer request.now.attributes
+            (applied self.old.sessions.limit own peer request.now.attributes
             self.old.sessions.sessions)) }
         ensures sessions { self.new.sessions.sessions ≡ self.old.sessions.sessions }
         ensures keeps { KeepsButSessions self.old self.new }
     {
-        self.sessions.prepare(peer, request)
+        self.sessions.prepare(own, peer, request)
     }
 
     /// Makes a change of the ledger that was prepared, if one was. Takes no memory.

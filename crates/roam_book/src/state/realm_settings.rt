@@ -12,7 +12,9 @@ ghost use Rattle.roam_book.specs.RealmConfig.{realm_config, server_secret, peer_
 ghost use Rattle.roam_book.specs.RealmConfig.{seal_required, link_endpoint, link_place, link_count, nowhere, IsLink};
 ghost use Rattle.roam_book.specs.RealmConfig.{IsRequester};
 
+use crate::state::hash_key::hash_key;
 use roam_conf::{Config, Endpoint, Link, Peer, Realm, Server};
+use roam_hash::HashKey;
 use roam_pending::Requester;
 use roam_reverse::{Sessions, route_of};
 use roam_wire::View;
@@ -104,11 +106,23 @@ impl<'c> RealmSettings<'c> {
         self.realm().rest_after
     }
 
+    /// What keys the hashes of its ledger.
+    pub(crate) fn hash_key(&self) -> HashKey {
+        hash_key(self.config)
+    }
+
     /// How many sessions the ledger holds at most.
     pub(crate) fn max_sessions(&self) -> u32
         ensures { result ≡ self.now.realm.max_sessions }
     {
         self.realm().max_sessions
+    }
+
+    /// Whether its reverse requests name sessions of its own ledger, which then keeps the names of access servers.
+    pub(crate) fn own_sessions(&self) -> bool
+        ensures { result ≡ self.now.realm.own_sessions }
+    {
+        self.realm().own_sessions
     }
 
     /// How many requests may be pending.
@@ -123,6 +137,27 @@ impl<'c> RealmSettings<'c> {
         ensures { result ≡ self.now.realm.share }
     {
         self.realm().share
+    }
+
+    /// How many requests of one peer may wait, if there is a limit.
+    pub(crate) fn peer_share(&self) -> Option<u16>
+        ensures { result ≡ self.now.realm.peer_share }
+    {
+        self.realm().peer_share
+    }
+
+    /// Whether of an Access-Accept own names alone are returned.
+    pub(crate) fn own_names(&self) -> bool
+        ensures { result ≡ self.now.realm.own_names }
+    {
+        self.realm().own_names
+    }
+
+    /// Whether a request that goes on with a conversation goes to the server that has that.
+    pub(crate) fn keeps_conversations(&self) -> bool
+        ensures { result ≡ self.now.realm.conversations }
+    {
+        self.realm().conversations
     }
 
     /// How many home servers the realm has: at most 8.
@@ -193,7 +228,7 @@ impl<'c> RealmSettings<'c> {
     {
         match requester {
             Requester::Peer(peer) => self.peer(peer).secret(),
-            Requester::Home(server) => self.server(server).secret(),
+            Requester::Home(home) => self.realm().secret_of_home(home),
         }
     }
 

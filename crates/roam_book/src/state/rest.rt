@@ -1,7 +1,7 @@
 //! How a link to a home server rests that keeps silent.
 
 ghost use Rattle.std.specs.Prelude.{◌≡◌, ◌≤◌, ◌^◌};
-ghost use Rattle.roam_book.specs.Rests.{awake, is_resting, once_chosen, once_silent, one_more};
+ghost use Rattle.roam_book.specs.Rests.{awake, is_resting, once_chosen, once_heard, once_silent, one_more};
 
 use crate::state::realm_settings::RealmSettings;
 
@@ -10,8 +10,10 @@ use crate::state::realm_settings::RealmSettings;
 pub struct Rest {
     /// Until when, in milliseconds. `None` where it doesn't rest.
     pub until: Option<u64>,
-    /// How many requests were given up there since a reply was last taken: at most 256.
+    /// How many requests were given up there since it last gave a sign of life: at most 256.
     pub given_up: u16,
+    /// How many signs of life it has given, modulo 2^64.
+    pub signs: u64,
 }
 
 /// How many requests were given up once one more was: at most 256.
@@ -22,13 +24,14 @@ fn one_more(count: u16) -> u16
 }
 
 impl Rest {
-    /// It doesn't rest, and no request was given up.
+    /// It doesn't rest, no request was given up, and it has given no sign of life.
     pub(crate) fn awake() -> Rest
         ensures { result ≡ awake }
     {
         Rest {
             until: None,
             given_up: 0,
+            signs: 0,
         }
     }
 
@@ -54,6 +57,7 @@ impl Rest {
         Rest {
             until,
             given_up: self.given_up,
+            signs: self.signs,
         }
     }
 
@@ -69,6 +73,21 @@ impl Rest {
         } else {
             self.until
         };
-        Rest { until, given_up }
+        Rest {
+            until,
+            given_up,
+            signs: self.signs,
+        }
+    }
+
+    /// Once its link gave a sign of life: it doesn't rest, and no request counts as given up.
+    pub(crate) fn once_heard(self) -> Rest
+        ensures { result ≡ once_heard self }
+    {
+        Rest {
+            until: None,
+            given_up: 0,
+            signs: self.signs.wrapping_add(1),
+        }
     }
 }

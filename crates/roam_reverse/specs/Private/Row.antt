@@ -1,6 +1,22 @@
--- A session as one row of octets, by which a ledger finds it (ours).
-use Rattle.std.specs.Prelude.{ℕ, ◌/◌, ◌%◌, List, ◌∷◌}
+-- What is asked as one row of octets, by which a ledger finds sessions (ours).
+use Rattle.std.specs.Prelude.{ℕ, ◌/◌, ◌%◌, ◌+◌, List, [], ◌∷◌, ◌++◌, length, Option, Some, None, option_map}
+use Rattle.roam_reverse.specs.Private.Masks.{asked_for, narrow}
+use Rattle.roam_reverse.specs.Sessions.{Asked, Session}
+use Rattle.roam_reverse.specs.declared.asked.Mask.{Mask}
 
--- the number of a peer, the high octet first, and then the octets of an id
-abbrev pub session_row : ℕ → List ℕ → List ℕ
-session_row peer id = peer / 256 ∷ peer % 256 ∷ id
+-- a part: an octet 0 where it isn't there, else its size and 1, and its octets
+abbrev pub part_text : Option (List ℕ) → List ℕ
+part_text None = 0 ∷ []
+part_text (Some octets) = 1 + length octets ∷ octets
+
+-- the number of the peer, the high octet first, and each part
+abbrev pub row_text : Asked → List ℕ
+row_text q =
+    q.peer / 256 ∷ q.peer % 256 ∷ part_text q.nas.address ++ (part_text q.nas.identifier ++ part_text q.id)
+
+-- the row of a session by some of its parts; by all that it is
+abbrev pub row_under : Mask → Session → Option (List ℕ)
+row_under mask s = option_map row_text (narrow mask s)
+
+abbrev pub whole_row : Session → List ℕ
+whole_row s = row_text (asked_for s)

@@ -1,4 +1,4 @@
-use Rattle.roam_back.proofs.PassingLawLemmas.{accept_carries_what_passes, access_passes, nothing_named, others_pass_whole}
+use Rattle.roam_back.proofs.PassingLawLemmas.{accept_carries_what_passes, access_passes, nothing_named, other_attributes_pass, others_pass_whole, own_names_pass}
 use Rattle.roam_back.proofs.laws.passing_replies.Goals as goal
 
 -- the laws are the lemmas
@@ -8,4 +8,6 @@ returns c = record {
   accept = accept_carries_what_passes;
   others = others_pass_whole;
   nothing = nothing_named;
+  own_names = own_names_pass;
+  other_attributes = other_attributes_pass;
 }

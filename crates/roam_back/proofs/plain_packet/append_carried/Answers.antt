@@ -6,7 +6,7 @@ use Rattle.roam_back.proofs.plain_packet.append_carried.Goals as goal
 -- there is room for what is returned of this attribute
 pub append_piece-requires-clause-room : goal.append_piece-requires-clause-room
 append_piece-requires-clause-room g c =
-    IsReturning-room _ _ _ _ _ _ _ _ _ (shown c.in-Some.next) c.in-Some.ensures.steps
+    IsReturning-room _ _ _ _ _ _ _ _ _ _ (shown c.in-Some.next) c.in-Some.ensures.steps
     c.loop-next.invariant.returning
 
 pub loop-next-preserved : goal.loop-next-preserved
@@ -15,7 +15,7 @@ loop-next-preserved g c =
     let after : vec_len c.append_piece.new.out ≡ length c.append_piece.new.out.items = omega arith in
     let room = c.append_piece.ensures.capacity in
     record {
-      returning = rw room (IsReturning-more _ _ _ _ _ _ _ _ _ _ _ (shown c.in-Some.next) c.in-Some.ensures.steps
+      returning = rw room (IsReturning-more _ _ _ _ _ _ _ _ _ _ _ _ (shown c.in-Some.next) c.in-Some.ensures.steps
           c.append_piece.ensures.items before after c.loop-next.invariant.returning);
       capacity = room ∙ c.loop-next.invariant.capacity;
     }
@@ -23,4 +23,4 @@ loop-next-preserved g c =
 -- where none is left, all was appended
 pub returns-clause-items : goal.returns-clause-items
 returns-clause-items g c =
-    IsReturning-end _ _ _ _ _ _ _ _ c.in-None.ensures.steps.0 c.loop-next.invariant.returning
+    IsReturning-end _ _ _ _ _ _ _ _ _ c.in-None.ensures.steps.0 c.loop-next.invariant.returning

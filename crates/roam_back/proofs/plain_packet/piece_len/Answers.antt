@@ -2,18 +2,19 @@ use Rattle.std.proofs.Common.{List, length, sym, ap, ◌∙◌}
 use Rattle.roam_wire.specs.Packet.{Attribute, attributes_text}
 use Rattle.roam_wire.specs.Shown.{shown}
 use Rattle.roam_filter.specs.Removal.{removed_by}
-use Rattle.roam_back.proofs.PassingLemmas.{piece-carried, piece-gone}
+use Rattle.roam_back.specs.Returned.{is_own}
+use Rattle.roam_back.proofs.PassingLemmas.{own_piece-gone, own_piece-kept}
 use Rattle.roam_back.proofs.plain_packet.piece_len.Goals as goal
 
-pub returns-then-is_carried : goal.returns-then-is_carried
-returns-then-is_carried c =
+pub returns-then-is_kept : goal.returns-then-is_kept
+returns-then-is_kept c =
     c.passed_len.ensures.all
     ∙ ap (λ (l : List Attribute). length (attributes_text l))
-    (sym (piece-carried c.args.access (removed_by c.args.removal.now) (shown c.args.attribute.now)
-    (sym c.is_carried.ensures ∙ c.if-is_carried.true)))
+    (sym (own_piece-kept c.args.access (removed_by c.args.removal.now) (is_own c.args.own c.args.request.now) (shown c.args.attribute.now)
+    (sym c.is_kept.ensures ∙ c.if-is_kept.true)))
 
-pub returns-else-is_carried : goal.returns-else-is_carried
-returns-else-is_carried c =
+pub returns-else-is_kept : goal.returns-else-is_kept
+returns-else-is_kept c =
     ap (λ (l : List Attribute). length (attributes_text l))
-    (sym (piece-gone c.args.access (removed_by c.args.removal.now) (shown c.args.attribute.now)
-    (sym c.is_carried.ensures ∙ c.if-is_carried.false)))
+    (sym (own_piece-gone c.args.access (removed_by c.args.removal.now) (is_own c.args.own c.args.request.now) (shown c.args.attribute.now)
+    (sym c.is_kept.ensures ∙ c.if-is_kept.false)))

@@ -7,7 +7,7 @@ use Rattle.roam_wire.specs.declared.code.TheConstants.{ACCESS_ACCEPT}
 use Rattle.roam_hide.specs.declared.packet_values.Hidden.TheVariants.{SaltedStrings}
 use Rattle.roam_hide.specs.PacketAnew.{packet_anew}
 use Rattle.roam_filter.specs.Removal.{removed_by}
-use Rattle.roam_back.specs.Returned.{Returning, passing}
+use Rattle.roam_back.specs.Returned.{Returning, named, passing}
 use Rattle.roam_back.specs.Shown.{shown}
 use Rattle.roam_back.proofs.PlainLemmas.{can_be-salted, from_key, rehidden_text, plain_text_stays}
 use Rattle.roam_back.proofs.returning.rehide_accept.Goals as goal
@@ -26,7 +26,8 @@ returns-then-code-eq-ACCESS_ACCEPT c =
     ∙ ap (λ (first : List ℕ). packet_text
     (packet_anew SaltedStrings (from_key r) (record { secret = r.client_secret; first = first })
     (packet_of c.args.octets.now))) c.authenticator.ensures
-    ∙ rehidden_text r (passing (removed_by c.args.returning.now.removal) c.args.reply.now) c.args.request.now
+    ∙ rehidden_text r (passing (removed_by c.args.returning.now.removal)
+    (named c.args.returning.now.own c.args.request.now c.args.reply.now)) c.args.request.now
     (packet_of c.args.octets.now) c.requires.plain.packet accept
 
 -- any other reply stays
@@ -36,5 +37,6 @@ returns-else-code-eq-ACCESS_ACCEPT c =
     let other : (c.args.reply.now.code == ACCESS_ACCEPT) ≡ false =
     ne_eqb c.args.reply.now.code ACCESS_ACCEPT (λ e. c.if-code-eq-ACCESS_ACCEPT.false (c.code.ensures ∙ e)) in
     c.requires.plain.text.spelt ∙ plain_text_stays r
-    (passing (removed_by c.args.returning.now.removal) c.args.reply.now) c.args.request.now
+    (passing (removed_by c.args.returning.now.removal)
+    (named c.args.returning.now.own c.args.request.now c.args.reply.now)) c.args.request.now
     (packet_of c.args.octets.now) c.requires.plain.packet other

@@ -3,7 +3,7 @@ use Rattle.roam_wire.specs.Reading.{packet_of}
 use Rattle.roam_wire.proofs.LawLemmas.{AreTextOf}
 use Rattle.roam_auth.specs.MessageAuthenticator.{HasAtMostOneMessageAuthenticator}
 use Rattle.roam_filter.specs.Removal.{removed_by}
-use Rattle.roam_back.specs.Returned.{Returning, passing, unsealed_return}
+use Rattle.roam_back.specs.Returned.{Returning, named, passing, unsealed_return}
 use Rattle.roam_back.specs.Shown.{shown}
 use Rattle.roam_back.proofs.ReturnedLemmas.{returned_text}
 use Rattle.roam_back.proofs.EveryCodeLemmas.{AtMostOne-unsealed}
@@ -14,9 +14,11 @@ use Rattle.roam_back.proofs.returning.seal_for_requester.Goals as goal
 pub seal_and_sign-requires-clause-packet : goal.seal_and_sign-requires-clause-packet
 seal_and_sign-requires-clause-packet c =
     let r : Returning = shown c.args.returning.now in
-    let there : AreTextOf (unsealed_return r (passing (removed_by c.args.returning.now.removal) c.args.reply.now)
+    let there : AreTextOf (unsealed_return r (passing (removed_by c.args.returning.now.removal)
+    (named c.args.returning.now.own c.args.request.now c.args.reply.now))
     c.args.request.now) c.rehide_accept.new.octets =
-    unsealed_there r (passing (removed_by c.args.returning.now.removal) c.args.reply.now) c.args.request.now
+    unsealed_there r (passing (removed_by c.args.returning.now.removal)
+    (named c.args.returning.now.own c.args.request.now c.args.reply.now)) c.args.request.now
     c.args.octets.now c.rehide_accept.new.octets
     c.requires.plain.text c.requires.plain.packet c.rehide_accept.ensures in
     there.text
@@ -25,24 +27,30 @@ seal_and_sign-requires-clause-packet c =
 pub seal_and_sign-requires-clause-at_most_one : goal.seal_and_sign-requires-clause-at_most_one
 seal_and_sign-requires-clause-at_most_one c =
     let r : Returning = shown c.args.returning.now in
-    let there : AreTextOf (unsealed_return r (passing (removed_by c.args.returning.now.removal) c.args.reply.now)
+    let there : AreTextOf (unsealed_return r (passing (removed_by c.args.returning.now.removal)
+    (named c.args.returning.now.own c.args.request.now c.args.reply.now))
     c.args.request.now) c.rehide_accept.new.octets =
-    unsealed_there r (passing (removed_by c.args.returning.now.removal) c.args.reply.now) c.args.request.now
+    unsealed_there r (passing (removed_by c.args.returning.now.removal)
+    (named c.args.returning.now.own c.args.request.now c.args.reply.now)) c.args.request.now
     c.args.octets.now c.rehide_accept.new.octets
     c.requires.plain.text c.requires.plain.packet c.rehide_accept.ensures in
     subst HasAtMostOneMessageAuthenticator (sym there.packet)
-    (AtMostOne-unsealed r (passing (removed_by c.args.returning.now.removal) c.args.reply.now) c.args.request.now
+    (AtMostOne-unsealed r (passing (removed_by c.args.returning.now.removal)
+    (named c.args.returning.now.own c.args.request.now c.args.reply.now)) c.args.request.now
     c.requires.at_most_one)
 
 -- sealed and signed, it is the returned packet
 pub returns : goal.returns
 returns c =
     let r : Returning = shown c.args.returning.now in
-    let there : AreTextOf (unsealed_return r (passing (removed_by c.args.returning.now.removal) c.args.reply.now)
+    let there : AreTextOf (unsealed_return r (passing (removed_by c.args.returning.now.removal)
+    (named c.args.returning.now.own c.args.request.now c.args.reply.now))
     c.args.request.now) c.rehide_accept.new.octets =
-    unsealed_there r (passing (removed_by c.args.returning.now.removal) c.args.reply.now) c.args.request.now
+    unsealed_there r (passing (removed_by c.args.returning.now.removal)
+    (named c.args.returning.now.own c.args.request.now c.args.reply.now)) c.args.request.now
     c.args.octets.now c.rehide_accept.new.octets
     c.requires.plain.text c.requires.plain.packet c.rehide_accept.ensures in
-    c.seal_and_sign.ensures ∙ returned_text r (passing (removed_by c.args.returning.now.removal) c.args.reply.now)
+    c.seal_and_sign.ensures ∙ returned_text r (passing (removed_by c.args.returning.now.removal)
+    (named c.args.returning.now.own c.args.request.now c.args.reply.now))
     c.args.request.now
     (packet_of c.rehide_accept.new.octets) c.authenticator.result c.authenticator.ensures there.packet

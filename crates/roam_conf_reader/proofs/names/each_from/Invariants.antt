@@ -7,6 +7,6 @@ use Rattle.roam_conf_reader.proofs.names.each_from.Given as goal
 -- the names of all items are those that were read and those of the items that are left
 abbrev pub invariant-loop-value : goal.invariant-loop-value
 invariant-loop-value l =
-    each_of (text 64 (letters_of Any)) (items_view l.fn.items.items)
+    each_of (text l.fn.most (letters_of Any)) (items_view l.fn.items.items)
     ≡ option_map (λ more. map string_bytes l.all.items ++ more)
-    (each_of (text 64 (letters_of Any)) (items_view (drop l.value-index l.items.items)))
+    (each_of (text l.most (letters_of Any)) (items_view (drop l.value-index l.items.items)))

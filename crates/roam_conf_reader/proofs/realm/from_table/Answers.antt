@@ -8,7 +8,7 @@ use Rattle.roam_conf.specs.declared.accounting.Accounting.{Accounting}
 use Rattle.roam_conf.specs.declared.accounting.Accounting.TheVariants.{Forwarded, Answered, Dropped}
 use Rattle.roam_conf.specs.declared.endpoint.Endpoint.{Endpoint}
 use Rattle.roam_conf.specs.declared.server.Server.{Server}
-use Rattle.roam_conf.specs.Parts.{shown_names, shown_server}
+use Rattle.roam_conf.specs.Parts.{shown_client, shown_names, shown_server}
 use Rattle.roam_conf.specs.Patterns.{is_pattern, shown_pattern}
 use Rattle.roam_conf_reader.specs.Document.{StatesServer, sessions_unless_said, are_accounted}
 use Rattle.roam_conf_reader.specs.Values.{pattern, removed}
@@ -36,12 +36,14 @@ invariant_of-result c =
     let peers = c.in_ok-of_peers.field-0 in
     let request = c.in_ok-of_requests.field-0 in
     let reply = c.in_ok-of_replies.field-0 in
+    let clients = c.in_ok-all_from-2.field-0 in
     let servers = c.in_ok-servers.servers in
     let accounted : are_accounted c.in-Some.text.accounting (map shown_server servers.items) ≡ true =
     rw (← c.as_slice.ensures.value, ← c.are_accounted.ensures) c.if-not-are_accounted.false in
     let stated = c.in-Some.ensures.0 (map shown_pattern patterns.items) (option_map shown_names peers) request.items
-    reply.items (map shown_server servers.items) c.in_ok-all_from.ensures.ok c.in_ok-of_peers.ensures.ok
-    c.in_ok-of_requests.ensures.ok c.in_ok-of_replies.ensures.ok c.in_ok-servers.ensures.ok accounted in
+    reply.items (map shown_client clients.items) (map shown_server servers.items) c.in_ok-all_from.ensures.ok
+    c.in_ok-of_peers.ensures.ok c.in_ok-of_requests.ensures.ok c.in_ok-of_replies.ensures.ok
+    c.in_ok-all_from-2.ensures.ok c.in_ok-servers.ensures.ok accounted in
     let count = each_range StatesServer shown_server 8 (codes "server") members
     (array_view c.in-Some.text.servers.now) servers.items c.in-Some.ensures.1 c.in_ok-servers.ensures.ok in
     let name = text_at 253 _ (codes "name") members _ stated.name in
@@ -67,6 +69,8 @@ invariant_of-result c =
       request_removals = of_requests.all;
       reply_removals = of_replies.all;
       share_range = optional_number_at 1 4096 (codes "share") members _ stated.share;
+      peer_share_range = optional_number_at 1 4096 (codes "peer_share") members _ stated.peer_share;
+      coa_client_count = c.in_ok-all_from-2.ensures.count;
       accounted = all_take c.in-Some.text.accounting servers.items accounted;
       ports = (
         port_at (codes "out") members _ stated.out,
@@ -92,13 +96,15 @@ returns-clause-ok c =
     let peers = c.in_ok-of_peers.field-0 in
     let request = c.in_ok-of_requests.field-0 in
     let reply = c.in_ok-of_replies.field-0 in
+    let clients = c.in_ok-all_from-2.field-0 in
     let servers = c.in_ok-servers.servers in
     let accounted : are_accounted c.in-Some.text.accounting (map shown_server servers.items) ≡ true =
     rw (← c.as_slice.ensures.value, ← c.are_accounted.ensures) c.if-not-are_accounted.false in
     rw c.in_ok-from_str.ensures.ok (c.in-Some.ensures.0 (map shown_pattern patterns.items)
-    (option_map shown_names peers) request.items reply.items (map shown_server servers.items)
-    c.in_ok-all_from.ensures.ok c.in_ok-of_peers.ensures.ok c.in_ok-of_requests.ensures.ok
-    c.in_ok-of_replies.ensures.ok c.in_ok-servers.ensures.ok accounted)
+    (option_map shown_names peers) request.items reply.items (map shown_client clients.items)
+    (map shown_server servers.items) c.in_ok-all_from.ensures.ok c.in_ok-of_peers.ensures.ok
+    c.in_ok-of_requests.ensures.ok c.in_ok-of_replies.ensures.ok c.in_ok-all_from-2.ensures.ok
+    c.in_ok-servers.ensures.ok accounted)
 
 -- A realm whose accounting is forwarded to a server that takes none is stated by no table.
 pub returns-then-not-are_accounted-clause-bad : goal.returns-then-not-are_accounted-clause-bad

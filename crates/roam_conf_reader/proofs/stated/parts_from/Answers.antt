@@ -33,6 +33,8 @@ invariant_of-result c =
       trace_octets_range = number_or_at 67108864 1 1073741824 (codes "trace_octets") members _ (omega arith)
           (omega arith) stated.trace_octets;
       max_hops_range = optional_number_at 1 100 (codes "max_hops") members _ stated.max_hops;
+      max_attributes_range = optional_number_at 1 2000 (codes "max_attributes") members _ stated.max_attributes;
+      fresh_range = optional_number_at 10 3600 (codes "fresh") members _ stated.fresh;
       reject_count = omega (arith, rejects.count, reject.ok, length-map reject.items shown_pattern);
       reject_names = rejects.all;
       peer_count = (omega (arith, of_peers, peers.ok), omega (arith, of_peers, peers.ok));

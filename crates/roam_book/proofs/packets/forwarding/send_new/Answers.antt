@@ -1,9 +1,9 @@
-use Rattle.std.proofs.Common.{refl, subst, sym}
+use Rattle.std.proofs.Common.{refl}
 use Rattle.roam_pending.specs.PlainEntry.{PlainEntry, PlainRequest}
 use Rattle.roam_book.specs.RealmState.{Target}
 use Rattle.roam_book.specs.OnRequest.{forwarded_entry}
-use Rattle.roam_pending.specs.EntryList.{put}
-use Rattle.roam_book.specs.Sound.{LanesTell, shown_request}
+use Rattle.roam_book.specs.Rests.{signs_of}
+use Rattle.roam_book.specs.Sound.{shown_request}
 use Rattle.roam_book.proofs.packets.forwarding.send_new.Goals as goal
 
 -- the lanes tell the entry that waits on the link with the Identifier that was taken
@@ -12,8 +12,8 @@ returns-clause-tells g c =
     λ es tells none.
     let q : PlainRequest = shown_request c.args.hop.asked in
     let target : Target = record { link = c.args.hop.link; id = c.in-Some.id } in
-    let e : PlainEntry = forwarded_entry c.args.settings.now c.args.now q c.args.numbers.now.stream_position
+    let signs = signs_of c.args.settings.now c.args.numbers.now.rests.items c.args.hop.link in
+    let e : PlainEntry = forwarded_entry c.args.settings.now c.args.now signs q c.args.numbers.now.stream_position
     c.args.hop.ticket
     target in
-    subst (LanesTell c.args.settings.now (put e es)) (sym c.put_off.ensures.lanes)
-    (c.in-Some.ensures.tells e es tells none refl (λ l i. refl))
+    c.in-Some.ensures.tells e es tells none refl (λ l i. refl)

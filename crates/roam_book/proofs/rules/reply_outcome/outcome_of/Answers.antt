@@ -21,7 +21,7 @@ returns-in-Some-clause-turn g c =
       c.of_packet-forwarded.ensures,
       c.as_slice.ensures,
     ) at c.in-Some.ensures.fault in
-    λ s. same-verdict c.args.judging.now.settings.now c.not_taken.result e c.args.waiting.now.link s _ _
-    (c.not_taken.ensures c.args.judging.now.settings.now e c.args.waiting.now.link s)
+    λ s. same-verdict c.args.judging.now.settings.now c.faulted.result e c.args.waiting.now.link s _ _
+    (c.faulted.ensures c.args.judging.now.settings.now e c.args.waiting.now.link s)
     (ap (judge c.args.judging.now.settings.now c.args.judging.now.moment s e c.args.waiting.now.link forwarded
     c.args.judging.now.reply.now) fault)

@@ -1,7 +1,6 @@
 use Rattle.std.proofs.Common.{ℕ, List, ap}
 use Rattle.std.specs.Prelude.{Err}
 use Rattle.std.proofs.lemmas.Result.{IfOk-weaker}
-use Rattle.roam_conf.specs.declared.place.Link.{Link}
 use Rattle.roam_pending.specs.PlainEntry.{PlainEntry}
 use Rattle.roam_pending.specs.Shown.{shown}
 use Rattle.roam_book.specs.OnReply.{return_reply}
@@ -15,13 +14,13 @@ returns-in-Ok-clause-turn g c =
     let e : PlainEntry = shown c.args.entry.now in
     let octets : List ℕ = c.in-Ok.packet.items in
     IfOk-weaker c.return_packet.result
-    (λ v. (x : PlainEntry) (l : Link) → IsVerdict c.args.judging.now.settings.now v x l
+    (λ v. (x : PlainEntry) → IsVerdict c.args.judging.now.settings.now v x c.args.link
     (λ s. returns_octets c.args.judging.now.settings.now c.args.judging.now.moment e.request.key
-    c.counted_peer-counted.result octets x l s))
+    c.counted_peer-counted.result octets x c.args.link s))
     (λ v. IsVerdict c.args.judging.now.settings.now v e c.args.link
     (λ s. return_reply c.args.judging.now.settings.now c.args.judging.now.moment s e c.args.link
     c.args.forwarded.now c.args.judging.now.reply.now))
-    (λ v h s. same-verdict c.args.judging.now.settings.now v e c.args.link s _ _ (h e c.args.link s)
+    (λ v h s. same-verdict c.args.judging.now.settings.now v e c.args.link s _ _ (h e s)
     (returned-turn c.args.judging.now.settings.now c.args.judging.now.moment s e c.args.link c.args.forwarded.now
     c.args.judging.now.reply.now
     c.counted_peer-counted.result octets
@@ -34,7 +33,7 @@ pub returns-in-Err-ReplyTooLong-clause-turn : goal.returns-in-Err-ReplyTooLong-c
 returns-in-Err-ReplyTooLong-clause-turn g c =
     let e : PlainEntry = shown c.args.entry.now in
     let long = c.in-Err-ReplyTooLong.ensures.too_long.0 (ap Err c.in-Err-ReplyTooLong.field-0-is) in
-    λ s. same-verdict c.args.judging.now.settings.now c.not_taken.result e c.args.link s _ _
-    (c.not_taken.ensures c.args.judging.now.settings.now e c.args.link s)
+    λ s. same-verdict c.args.judging.now.settings.now c.only_heard.result e c.args.link s _ _
+    (c.only_heard.ensures c.args.judging.now.settings.now e c.args.link s)
     (long-turn c.args.judging.now.settings.now c.args.judging.now.moment s e c.args.link c.args.forwarded.now
     c.args.judging.now.reply.now long)

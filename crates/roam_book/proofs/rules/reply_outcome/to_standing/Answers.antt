@@ -16,7 +16,7 @@ returns-in-Waiting-clause-turn g c =
     let turn = ap (λ (st : PlainStanding). to_standing c.args.settings.now c.args.now s e c.args.reply.now st)
     (sym stands) in
     same-verdict c.args.settings.now v e l s _ _
-    (verdict-from c.args.settings.now v e s _ _ l (link-stands l i _ _ _ _ _ _ stands waits) (h s)) turn)
+    (verdict-from c.args.settings.now v e s _ _ l (link-stands l i _ _ _ _ _ _ _ stands waits) (h s)) turn)
     c.outcome_of.ensures.turn
 
 -- an entry that is done

@@ -1,4 +1,4 @@
-use Rattle.roam_conf.proofs.EqualLemmas.{config_decides}
+use Rattle.roam_conf.proofs.EqualRealmLemmas.{config_decides}
 use Rattle.roam_conf.proofs.config.Config.is_same.Goals as goal
 
 pub returns : goal.returns

@@ -1,32 +1,51 @@
-use Rattle.std.proofs.Common.{◌≡◌, true, [], ◌∷◌, ap, ◌∙◌, refl, subst, sym}
+use Rattle.std.proofs.Common.{◌≡◌, true, false, [], ◌∷◌, ap, ◌∙◌, refl, subst, sym}
 use Rattle.roam_route.specs.Shown.{shown_out}
-use Rattle.roam_book.specs.RealmConfig.{RealmConfig}
+use Rattle.roam_book.specs.Conversing.{rests_chosen}
+use Rattle.roam_book.specs.RealmConfig.{RealmConfig, IsLink}
+use Rattle.roam_book.specs.RealmState.{RealmState, with_rests}
 use Rattle.roam_book.specs.RealmTurn.{state}
 use Rattle.roam_book.specs.Turn.{packets_of, state_after}
-use Rattle.roam_book.specs.Private.NewEntry.{IsWay, admits, cleared}
+use Rattle.roam_book.specs.Private.NewEntry.{IsWay, admits, cleared, forwards, straight_to}
 use Rattle.roam_book.specs.Private.Memory.{IsCopied}
 use Rattle.roam_book.specs.Sound.{lane_of, shown_request}
 use Rattle.roam_book.proofs.LinkLaneLemmas.{made-same}
 use Rattle.roam_book.proofs.MemoryLemmas.{has-place, told-tells}
 use Rattle.roam_book.proofs.RealmLemmas.{keeps-both}
+use Rattle.roam_book.proofs.WayLemmas.{way-chosen}
 use Rattle.roam_book.proofs.state.realm_broker.RealmBroker.admit_reserved.Goals as goal
+
+-- the way's link is the realm's
+pub choose-requires-clause-link : goal.choose-requires-clause-link
+choose-requires-clause-link g c =
+    subst (λ (k : RealmConfig). IsLink k c.args.way.link) (sym c.make_way.ensures.keeps.loans.settings)
+    c.requires.way.link
+
+-- the settings are the same
+settings-same : (g : _) (c : goal.After-choose g)
+    → c.choose.new.self.settings.now ≡ c.args.self.now.settings.now
+settings-same g c = c.choose.ensures.keeps.loans.settings ∙ c.make_way.ensures.keeps.loans.settings
 
 -- the way is clear
 pub forward_new-sent-requires-clause-way : goal.forward_new-sent-requires-clause-way
 forward_new-sent-requires-clause-way g c =
+    let config = c.args.self.now.settings.now in
     let mid = c.make_way.new.self in
+    let last = c.choose.new.self in
     let q = shown_request c.args.asked in
-    subst (λ (k : RealmConfig). IsWay k (state g.E.Entries mid) q (cleared c.args.way))
-    (sym c.make_way.ensures.keeps.loans.settings) (c.make_way.ensures.way q c.requires.way)
+    let chosen = way-chosen config (state g.E.Entries mid) q c.args.way _ (c.make_way.ensures.way q c.requires.way) in
+    let way : IsWay config (state g.E.Entries last) q (straight_to c.args.way.link false) =
+    subst (λ (s : RealmState). IsWay config s q (straight_to c.args.way.link false)) (sym c.choose.ensures.state)
+    chosen in
+    subst (λ (k : RealmConfig). IsWay k (state g.E.Entries last) q (straight_to c.args.way.link false))
+    (sym (settings-same g c)) way
 
 -- the memory of the link's lane is there
 pub forward_new-sent-requires-clause-made : goal.forward_new-sent-requires-clause-made
 forward_new-sent-requires-clause-made g c =
     let mid = c.make_way.new.self.numbers.now.lanes.items in
-    subst (λ (k : RealmConfig). (lane_of k mid c.args.way.link).made ≡ true)
-    (sym c.make_way.ensures.keeps.loans.settings)
-    (made-same c.args.self.now.settings.now c.args.self.now.numbers.now.lanes.items mid
-    c.args.way.link c.make_way.ensures.marks c.requires.made)
+    let made = made-same c.args.self.now.settings.now c.args.self.now.numbers.now.lanes.items mid
+    c.args.way.link c.make_way.ensures.marks c.requires.made in
+    rw (settings-same g c, c.choose.ensures.lanes) made
 
 -- there is a place for the one packet, and it has its copy
 pub push-requires-clause-place : goal.push-requires-clause-place
@@ -44,25 +63,37 @@ returns-clause-turn g c =
     let config = c.args.self.now.settings.now in
     let old = state g.E.Entries c.args.self.now in
     let mid = state g.E.Entries c.make_way.new.self in
+    let last = state g.E.Entries c.choose.new.self in
     let new = state g.E.Entries c.forward_new-sent.new.self in
     let q = shown_request c.args.asked in
-    let at = c.make_way.ensures.keeps.loans.settings in
+    let at = settings-same g c in
+    let cleared_way = cleared c.args.way in
     let same = c.make_way.ensures.turn c.args.now q c.requires.way in
+    let chosen : last ≡ with_rests mid
+    (rests_chosen config c.args.now mid.rests c.args.way.bound c.args.way.link) =
+    subst (λ (k : RealmConfig). last ≡ with_rests mid
+    (rests_chosen k c.args.now mid.rests c.args.way.bound c.args.way.link)) c.make_way.ensures.keeps.loans.settings
+    c.choose.ensures.state in
+    let turn : forwards config c.args.now last q c.args.way.link ≡ admits config c.args.now mid q cleared_way =
+    ap (λ (s : RealmState). forwards config c.args.now s q c.args.way.link) chosen in
     let out = shown_out c.forward_new-sent.result.out in
-    let packets : out ∷ [] ≡ packets_of (admits config c.args.now mid q (cleared c.args.way)) =
-    subst (λ (k : RealmConfig). out ∷ [] ≡ packets_of (admits k c.args.now mid q (cleared c.args.way)))
+    let packets : out ∷ [] ≡ packets_of (forwards config c.args.now last q c.args.way.link) =
+    subst (λ (k : RealmConfig). out ∷ [] ≡ packets_of (forwards k c.args.now last q c.args.way.link))
     at c.forward_new-sent.ensures.out in
-    let after : new ≡ state_after mid (admits config c.args.now mid q (cleared c.args.way)) =
-    subst (λ (k : RealmConfig). new ≡ state_after mid (admits k c.args.now mid q (cleared c.args.way)))
+    let after : new ≡ state_after last (forwards config c.args.now last q c.args.way.link) =
+    subst (λ (k : RealmConfig). new ≡ state_after last (forwards k c.args.now last q c.args.way.link))
     at c.forward_new-sent.ensures.state in
     let twice = c.args.supplies.outs.twice in
     let gathered = c.push.ensures.outs 0 twice [] c.requires.supplies.outs in
+    let whole = turn ∙ same in
     told-tells 0 twice (out ∷ []) c.push.new.self c.finish.result old new
     (admits config c.args.now old q c.args.way) gathered c.finish.ensures.packets c.finish.ensures.refusal
     c.finish.ensures.wanted c.finish.ensures.copies c.finish.ensures.copied_refusal
-    (packets ∙ ap packets_of same) refl (after ∙ ap (state_after mid) same)
+    (packets ∙ ap packets_of whole) refl (after ∙ ap (state_after last) whole)
 
 pub returns-clause-keeps : goal.returns-clause-keeps
 returns-clause-keeps g c =
-    keeps-both g.E.Entries c.args.self.now c.make_way.new.self c.forward_new-sent.new.self
-    c.make_way.ensures.keeps c.forward_new-sent.ensures.keeps
+    keeps-both g.E.Entries c.args.self.now c.choose.new.self c.forward_new-sent.new.self
+    (keeps-both g.E.Entries c.args.self.now c.make_way.new.self c.choose.new.self c.make_way.ensures.keeps
+    c.choose.ensures.keeps)
+    c.forward_new-sent.ensures.keeps

@@ -5,6 +5,7 @@ use Rattle.roam_pending.proofs.OrderLemmas.{list-new}
 use Rattle.roam_book.specs.RealmState.{Target}
 use Rattle.roam_book.specs.RealmTurn.{entries}
 use Rattle.roam_book.specs.OnRequest.{forwarded_entry}
+use Rattle.roam_book.specs.Rests.{signs_of}
 use Rattle.roam_book.specs.Sound.{shown_request}
 use Rattle.roam_book.proofs.AdmissionLemmas.{entry-is, new-sound, waits-well}
 use Rattle.roam_book.proofs.LaneLemmas.{next-tells}
@@ -41,13 +42,14 @@ returns-clause-keeps g c =
     let sent = c.send_new-sent.ensures in
     let w = c.send_new-sent.result.1 in
     let target : Target = record { link = c.args.link; id = w.id } in
-    let e = forwarded_entry config c.args.now q old.numbers.now.stream_position old.numbers.now.ticket
+    let signs = signs_of config old.numbers.now.rests.items c.args.link in
+    let e = forwarded_entry config c.args.now signs q old.numbers.now.stream_position old.numbers.now.ticket
     target in
     let is = entry-is q c.args.octets old.numbers.now.ticket _ e.standing c.requires.octets
     sent.standing in
     let become = rw c.index.ensures at c.insert_entry.ensures.entries in
     let here = become.here ∙ ap (λ (x : PlainEntry). put x es) is in
-    let well = waits-well config q c.args.link w.link w.id w.sends_left w.deadline w.forwarded
+    let well = waits-well config q c.args.link w.link w.id w.sends_left w.deadline w.signs w.forwarded
     e.standing sent.standing refl sent.waiting in
     let unheld = unheld-ticket config old.numbers.now.ticket es kept.sound.each in
     let new : IsNew e es = record { ticket = unheld; key = c.requires.way.key } in

@@ -19,10 +19,10 @@ returns-in_err-change g c =
 pub returns : goal.returns
 returns g c =
     let made = c.prepare_ledger.ensures in
-    let settled = c.settle.ensures in
+    let settled = c.carry_out.ensures in
     record {
-      turn = turns-settled g.E.Entries c.args.self.now c.prepare_ledger.new.self c.settle.new.self
-          c.in_ok-answer.field-0.answer c.in_ok-answer.field-0.settled
+      turn = turns-settled g.E.Entries c.args.self.now c.prepare_ledger.new.self c.carry_out.new.self
+          c.in_ok-answer.field-0.answer c.in_ok-answer.field-0.heard c.in_ok-answer.field-0.settled
           (λ s. on_reply c.args.self.now.settings.now c.args.now s c.args.link c.args.octets.now)
           c.in_ok-answer.ensures.plan made.state
           made.keeps settled.state settled.keeps;

@@ -1,12 +1,13 @@
-use Rattle.std.proofs.Common.{ap, sym, ◌∙◌}
+use Rattle.std.proofs.Common.{List, Option, ap, is_some, sym, ◌∙◌}
+use Rattle.roam_conf.specs.declared.place.Link.{Link}
 use Rattle.roam_book.specs.RealmTurn.{entries, state}
-use Rattle.roam_book.specs.Private.NewEntry.{once_gone}
-use Rattle.roam_book.specs.Sound.{chosen_link, shown_request}
+use Rattle.roam_book.specs.Private.NewEntry.{bound_way, once_gone, way_link}
+use Rattle.roam_book.specs.Sound.{shown_request}
 use Rattle.roam_book.proofs.RequestLemmas.{at-none, at-open, share-refused}
 use Rattle.roam_book.proofs.WayLemmas.{chosen-same, straight-way}
 use Rattle.roam_book.proofs.state.realm_broker.RealmBroker.plan_admit.Goals as goal
 
--- the share of its name is taken
+-- the share of its name or of its peer is taken
 pub returns-then-is_share_taken : goal.returns-then-is_share_taken
 returns-then-is_share_taken g c =
     let r = c.args.self.now in
@@ -18,11 +19,14 @@ pub returns-in-None : goal.returns-in-None
 returns-in-None g c =
     let r = c.args.self.now in
     let n = r.numbers.now in
-    at-none r.settings.now c.args.now (entries g.E.Entries r) n c.args.gone (shown_request c.args.asked)
+    let es = entries g.E.Entries r in
+    let q = shown_request c.args.asked in
+    at-none r.settings.now c.args.now es n c.args.gone q
     c.freed_link.result c.requires.realm.sound c.requires.realm.list c.requires.gone c.if-self.false
     (sym c.is_share_taken.ensures ∙ c.if-is_share_taken.false) c.freed_link.ensures
     (c.in-None.ensures.chosen
-    ∙ ap (chosen_link r.settings.now c.args.now n.rests.items n.lanes.items c.freed_link.result) c.requires.new.targets)
+    ∙ ap (way_link r.settings.now c.args.now n.rests.items n.lanes.items c.freed_link.result q es)
+    c.requires.new.targets)
 
 -- the link that is chosen is the target's
 pub returns-in-Some : goal.returns-in-Some
@@ -30,14 +34,19 @@ returns-in-Some g c =
     let r = c.args.self.now in
     let n = r.numbers.now in
     let s = state g.E.Entries r in
+    let es = entries g.E.Entries r in
     let q = shown_request c.args.asked in
     let new = c.requires.new in
-    let at = at-open r.settings.now c.args.now (entries g.E.Entries r) n c.args.gone q
-    c.freed_link.result c.in-Some.link c.requires.realm.sound c.requires.realm.list c.requires.gone
-    c.if-self.false (sym c.is_share_taken.ensures ∙ c.if-is_share_taken.false) c.freed_link.ensures
+    let at = at-open r.settings.now c.args.now es n c.args.gone q
+    c.freed_link.result c.in-Some.choice.link c.in-Some.choice.bound c.requires.realm.sound c.requires.realm.list
+    c.requires.gone c.if-self.false (sym c.is_share_taken.ensures ∙ c.if-is_share_taken.false)
+    c.freed_link.ensures
     (c.in-Some.ensures.chosen
-    ∙ ap (chosen_link r.settings.now c.args.now n.rests.items n.lanes.items c.freed_link.result) new.targets) in
-    let way = straight-way r.settings.now s q c.args.gone c.in-Some.link new.request
+    ∙ ap (way_link r.settings.now c.args.now n.rests.items n.lanes.items c.freed_link.result q es) new.targets)
+    (c.in-Some.ensures.bound
+    ∙ ap (λ (links : List Link). is_some (bound_way r.settings.now n.rests.items n.lanes.items c.freed_link.result q es
+    links)) new.targets) in
+    let way = straight-way r.settings.now s q c.args.gone c.in-Some.choice.link c.in-Some.choice.bound new.request
     c.requires.realm.sound.ticket c.if-self.false c.requires.gone new.key c.in-Some.ensures.link
     (at.1) in
     chosen-same r.settings.now c.args.now s q c.plan_at.result _ _ at.0 (c.plan_at.ensures c.args.now q way)

@@ -13,22 +13,22 @@ returns-clause-keeps g c =
     let old = c.args.self.now in
     let config = old.settings.now in
     let es = entries g.E.Entries old in
-    let t = c.in-Some.settled.ticket in
-    let can = rw c.in-Some.is at c.requires.settled in
+    let t = c.args.settled.ticket in
+    let can = c.requires.settled in
     let found = found-with (find_ticket t es)
-    (λ (x : PlainEntry). waits_at c.in-Some.settled.link c.in-Some.settled.id x ≡ true) can.1 in
+    (λ (x : PlainEntry). waits_at c.args.settled.link c.args.settled.id x ≡ true) can.1 in
     let here : find_ticket found.0.ticket es ≡ Some found.0 =
     ap (λ (n : ℕ). find_ticket n es) (found-ticket t es found.0 found.1) ∙ found.1 in
-    let become = rw (c.index.ensures, found.1) at c.set_standing.ensures.entries in
+    let become = rw (c.index.ensures, found.1) at c.hold_standing.ensures.entries in
     let back = c.give_back.ensures in
     let made = c.change_ledger.ensures in
-    let woken = c.wake.ensures in
+    let woken = c.hear.ensures in
     let lanes = woken.lanes ∙ made.keeps.lanes in
     record {
       realm = record {
-        kept_here = rw c.set_standing.ensures.keeps c.requires.realm.kept_here;
-        sound = done-sound config t found.0 es _ c.in-Some.settled.done.reply c.in-Some.settled.done.deadline
-            old.numbers.now c.wake.new.self c.requires.realm.sound found.1 become.here
+        kept_here = rw c.hold_standing.ensures.keeps c.requires.realm.kept_here;
+        sound = done-sound config t found.0 es _ c.args.settled.done.reply c.args.settled.done.deadline
+            c.args.settled.done.from old.numbers.now c.hear.new.self c.requires.realm.sound found.1 become.here
             (rw lanes (back.tells found.0 es c.requires.realm.sound.lanes_tell here found.2))
             (rw lanes back.keeps.count) (woken.ticket ∙ made.keeps.ticket ∙ back.keeps.ticket)
             (woken.stream_position ∙ made.keeps.stream_position ∙ back.keeps.stream_position)
@@ -41,7 +41,7 @@ returns-clause-keeps g c =
         settings = refl;
         same_entries = refl;
         same_numbers = refl;
-        keeps = c.set_standing.ensures.keeps;
+        keeps = c.hold_standing.ensures.keeps;
       };
       others = become.others;
     }

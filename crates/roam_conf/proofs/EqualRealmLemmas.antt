@@ -1,0 +1,203 @@
+-- What the derived `==` of a realm and a configuration says: that what is shown is equal.
+use Rattle.std.proofs.Common.{◌≡◌, Bool, true, false, eqb, ◌&&◌, Decides, ap}
+use Rattle.std.proofs.Math.Bool.{beq}
+use Rattle.std.proofs.lemmas.Bool.Decides.{Decides-and, Decides-like, Decides-eqb}
+use Rattle.std.proofs.lemmas.Slice.Eq.{bytes_eq-Decides}
+use Rattle.std.specs.Cmp.{booleans_Decides}
+use Rattle.std.specs.Cmp.Lexicographic.{pointwise}
+use Rattle.std.specs.Option.{option_eq}
+use Rattle.std.specs.String.{string_eq}
+use Rattle.roam_conf.specs.declared.config.Config.{Config}
+use Rattle.roam_conf.specs.declared.realm.Realm.{Realm}
+use Rattle.roam_conf.specs.Config.{RealmView, ConfigView}
+use Rattle.roam_conf.specs.Parts.{shown_server, shown_client, shown_names, shown_peer, shown_realm}
+use Rattle.roam_conf.specs.Patterns.{shown_pattern}
+use Rattle.roam_conf.specs.Shown.{shown}
+use Rattle.roam_conf.proofs.EqualLemmas.{server_eq, server_decides, client_eq, client_decides, peer_eq, peer_decides}
+use Rattle.roam_conf.proofs.EqualPartsLemmas.{list_decides, whole_list_decides, option_decides, whole_option_decides, text_decides, endpoint_eq, endpoint_decides, removed_eq, removed_decides, accounting_eq, accounting_decides, pattern_eq, pattern_decides, names_eq, names_decides}
+
+-- the tests as the derives write them
+abbrev pub realm_eq : Realm → Realm → Bool
+realm_eq a b =
+    string_eq a.name b.name &&
+    (pointwise pattern_eq a.also.items b.also.items &&
+    (option_eq names_eq a.peers b.peers &&
+    (beq a.loop_prevention b.loop_prevention &&
+    (accounting_eq a.accounting b.accounting &&
+    (pointwise removed_eq a.request_without.items b.request_without.items &&
+    (pointwise removed_eq a.reply_without.items b.reply_without.items &&
+    (option_eq eqb a.share b.share &&
+    (option_eq eqb a.peer_share b.peer_share &&
+    (beq a.own_names b.own_names &&
+    (beq a.conversations b.conversations &&
+    (beq a.own_sessions b.own_sessions &&
+    (pointwise client_eq a.coa_clients.items b.coa_clients.items &&
+    (endpoint_eq a.out b.out &&
+    (option_eq endpoint_eq a.reverse b.reverse &&
+    (eqb a.tries b.tries &&
+    (eqb a.wait b.wait &&
+    (eqb a.hold b.hold &&
+    (eqb a.max_pending b.max_pending &&
+    (eqb a.max_sessions b.max_sessions &&
+    (eqb a.rest b.rest &&
+    (eqb a.rest_after b.rest_after &&
+    (pointwise server_eq a.servers.items b.servers.items))))))))))))))))))))))
+
+abbrev pub config_eq : Config → Config → Bool
+config_eq a b =
+    eqb a.shards b.shards &&
+    (pointwise eqb a.seed b.seed &&
+    (endpoint_eq a.auth b.auth &&
+    (endpoint_eq a.acct b.acct &&
+    (eqb a.trace_limit b.trace_limit &&
+    (eqb a.trace_octets b.trace_octets &&
+    (option_eq eqb a.max_hops b.max_hops &&
+    (option_eq eqb a.max_attributes b.max_attributes &&
+    (beq a.status_server b.status_server &&
+    (beq a.spread b.spread &&
+    (pointwise pattern_eq a.reject.items b.reject.items &&
+    (beq a.well_formed b.well_formed &&
+    (beq a.answer_unnamed b.answer_unnamed &&
+    (option_eq eqb a.fresh b.fresh &&
+    (pointwise peer_eq a.peers.items b.peers.items &&
+    (pointwise realm_eq a.realms.items b.realms.items &&
+    (true))))))))))))))))
+
+pub realm_decides : (a b : Realm) → Decides (realm_eq a b) (shown_realm a ≡ shown_realm b)
+realm_decides a b =
+    let v = shown_realm a in
+    let w = shown_realm b in
+    Decides-like {P = (v.name ≡ w.name)
+    × ((v.also ≡ w.also)
+    × ((v.peers ≡ w.peers)
+    × ((v.loop_prevention ≡ w.loop_prevention)
+    × ((v.accounting ≡ w.accounting)
+    × ((v.request_without ≡ w.request_without)
+    × ((v.reply_without ≡ w.reply_without)
+    × ((v.share ≡ w.share)
+    × ((v.peer_share ≡ w.peer_share)
+    × ((v.own_names ≡ w.own_names)
+    × ((v.conversations ≡ w.conversations)
+    × ((v.own_sessions ≡ w.own_sessions)
+    × ((v.coa_clients ≡ w.coa_clients)
+    × ((v.out ≡ w.out)
+    × ((v.reverse ≡ w.reverse)
+    × ((v.tries ≡ w.tries)
+    × ((v.wait ≡ w.wait)
+    × ((v.hold ≡ w.hold)
+    × ((v.max_pending ≡ w.max_pending)
+    × ((v.max_sessions ≡ w.max_sessions)
+    × ((v.rest ≡ w.rest)
+    × ((v.rest_after ≡ w.rest_after)
+    × ((v.servers ≡ w.servers)))))))))))))))))))))))} _
+    (λ p. λ i. record {
+      name = p.0 i;
+      also = p.1.0 i;
+      peers = p.1.1.0 i;
+      loop_prevention = p.1.1.1.0 i;
+      accounting = p.1.1.1.1.0 i;
+      request_without = p.1.1.1.1.1.0 i;
+      reply_without = p.1.1.1.1.1.1.0 i;
+      share = p.1.1.1.1.1.1.1.0 i;
+      peer_share = p.1.1.1.1.1.1.1.1.0 i;
+      own_names = p.1.1.1.1.1.1.1.1.1.0 i;
+      conversations = p.1.1.1.1.1.1.1.1.1.1.0 i;
+      own_sessions = p.1.1.1.1.1.1.1.1.1.1.1.0 i;
+      coa_clients = p.1.1.1.1.1.1.1.1.1.1.1.1.0 i;
+      out = p.1.1.1.1.1.1.1.1.1.1.1.1.1.0 i;
+      reverse = p.1.1.1.1.1.1.1.1.1.1.1.1.1.1.0 i;
+      tries = p.1.1.1.1.1.1.1.1.1.1.1.1.1.1.1.0 i;
+      wait = p.1.1.1.1.1.1.1.1.1.1.1.1.1.1.1.1.0 i;
+      hold = p.1.1.1.1.1.1.1.1.1.1.1.1.1.1.1.1.1.0 i;
+      max_pending = p.1.1.1.1.1.1.1.1.1.1.1.1.1.1.1.1.1.1.0 i;
+      max_sessions = p.1.1.1.1.1.1.1.1.1.1.1.1.1.1.1.1.1.1.1.0 i;
+      rest = p.1.1.1.1.1.1.1.1.1.1.1.1.1.1.1.1.1.1.1.1.0 i;
+      rest_after = p.1.1.1.1.1.1.1.1.1.1.1.1.1.1.1.1.1.1.1.1.1.0 i;
+      servers = p.1.1.1.1.1.1.1.1.1.1.1.1.1.1.1.1.1.1.1.1.1.1 i;
+    })
+    (λ e. (ap (λ (x : RealmView). x.name) e, (ap (λ (x : RealmView). x.also) e, (ap (λ (x : RealmView). x.peers) e, (ap (λ (x : RealmView). x.loop_prevention) e, (ap (λ (x : RealmView). x.accounting) e, (ap (λ (x : RealmView). x.request_without) e, (ap (λ (x : RealmView). x.reply_without) e, (ap (λ (x : RealmView). x.share) e, (ap (λ (x : RealmView). x.peer_share) e, (ap (λ (x : RealmView). x.own_names) e, (ap (λ (x : RealmView). x.conversations) e, (ap (λ (x : RealmView). x.own_sessions) e, (ap (λ (x : RealmView). x.coa_clients) e, (ap (λ (x : RealmView). x.out) e, (ap (λ (x : RealmView). x.reverse) e, (ap (λ (x : RealmView). x.tries) e, (ap (λ (x : RealmView). x.wait) e, (ap (λ (x : RealmView). x.hold) e, (ap (λ (x : RealmView). x.max_pending) e, (ap (λ (x : RealmView). x.max_sessions) e, (ap (λ (x : RealmView). x.rest) e, (ap (λ (x : RealmView). x.rest_after) e, ap (λ (x : RealmView). x.servers) e)))))))))))))))))))))))
+    (Decides-and _ _ (text_decides a.name b.name)
+    (Decides-and _ _ (list_decides pattern_eq shown_pattern pattern_decides a.also.items b.also.items)
+    (Decides-and _ _ (option_decides names_eq shown_names names_decides a.peers b.peers)
+    (Decides-and _ _ (booleans_Decides a.loop_prevention b.loop_prevention)
+    (Decides-and _ _ (accounting_decides a.accounting b.accounting)
+    (Decides-and _ _ (whole_list_decides removed_eq removed_decides a.request_without.items b.request_without.items)
+    (Decides-and _ _ (whole_list_decides removed_eq removed_decides a.reply_without.items b.reply_without.items)
+    (Decides-and _ _ (whole_option_decides eqb Decides-eqb a.share b.share)
+    (Decides-and _ _ (whole_option_decides eqb Decides-eqb a.peer_share b.peer_share)
+    (Decides-and _ _ (booleans_Decides a.own_names b.own_names)
+    (Decides-and _ _ (booleans_Decides a.conversations b.conversations)
+    (Decides-and _ _ (booleans_Decides a.own_sessions b.own_sessions)
+    (Decides-and _ _ (list_decides client_eq shown_client client_decides a.coa_clients.items b.coa_clients.items)
+    (Decides-and _ _ (endpoint_decides a.out b.out)
+    (Decides-and _ _ (whole_option_decides endpoint_eq endpoint_decides a.reverse b.reverse)
+    (Decides-and _ _ (Decides-eqb a.tries b.tries)
+    (Decides-and _ _ (Decides-eqb a.wait b.wait)
+    (Decides-and _ _ (Decides-eqb a.hold b.hold)
+    (Decides-and _ _ (Decides-eqb a.max_pending b.max_pending)
+    (Decides-and _ _ (Decides-eqb a.max_sessions b.max_sessions)
+    (Decides-and _ _ (Decides-eqb a.rest b.rest)
+    (Decides-and _ _ (Decides-eqb a.rest_after b.rest_after)
+    (list_decides server_eq shown_server server_decides a.servers.items b.servers.items)))))))))))))))))))))))
+
+-- what is always true tells nothing more
+still_decides : {P : Type 0} (b : Bool) → Decides b P → Decides (b && true) P
+still_decides true decides = decides
+still_decides false decides = decides
+
+-- two configurations are equal by `==` exactly where they show the same
+pub config_decides : (a b : Config) → Decides (config_eq a b) (shown a ≡ shown b)
+config_decides a b =
+    let v = shown a in
+    let w = shown b in
+    Decides-like {P = (v.shards ≡ w.shards)
+    × ((v.seed ≡ w.seed)
+    × ((v.auth ≡ w.auth)
+    × ((v.acct ≡ w.acct)
+    × ((v.trace_limit ≡ w.trace_limit)
+    × ((v.trace_octets ≡ w.trace_octets)
+    × ((v.max_hops ≡ w.max_hops)
+    × ((v.max_attributes ≡ w.max_attributes)
+    × ((v.status_server ≡ w.status_server)
+    × ((v.spread ≡ w.spread)
+    × ((v.reject ≡ w.reject)
+    × ((v.well_formed ≡ w.well_formed)
+    × ((v.answer_unnamed ≡ w.answer_unnamed)
+    × ((v.fresh ≡ w.fresh)
+    × ((v.peers ≡ w.peers)
+    × ((v.realms ≡ w.realms))))))))))))))))} _
+    (λ p. λ i. record {
+      shards = p.0 i;
+      seed = p.1.0 i;
+      auth = p.1.1.0 i;
+      acct = p.1.1.1.0 i;
+      trace_limit = p.1.1.1.1.0 i;
+      trace_octets = p.1.1.1.1.1.0 i;
+      max_hops = p.1.1.1.1.1.1.0 i;
+      max_attributes = p.1.1.1.1.1.1.1.0 i;
+      status_server = p.1.1.1.1.1.1.1.1.0 i;
+      spread = p.1.1.1.1.1.1.1.1.1.0 i;
+      reject = p.1.1.1.1.1.1.1.1.1.1.0 i;
+      well_formed = p.1.1.1.1.1.1.1.1.1.1.1.0 i;
+      answer_unnamed = p.1.1.1.1.1.1.1.1.1.1.1.1.0 i;
+      fresh = p.1.1.1.1.1.1.1.1.1.1.1.1.1.0 i;
+      peers = p.1.1.1.1.1.1.1.1.1.1.1.1.1.1.0 i;
+      realms = p.1.1.1.1.1.1.1.1.1.1.1.1.1.1.1 i;
+    })
+    (λ e. (ap (λ (x : ConfigView). x.shards) e, (ap (λ (x : ConfigView). x.seed) e, (ap (λ (x : ConfigView). x.auth) e, (ap (λ (x : ConfigView). x.acct) e, (ap (λ (x : ConfigView). x.trace_limit) e, (ap (λ (x : ConfigView). x.trace_octets) e, (ap (λ (x : ConfigView). x.max_hops) e, (ap (λ (x : ConfigView). x.max_attributes) e, (ap (λ (x : ConfigView). x.status_server) e, (ap (λ (x : ConfigView). x.spread) e, (ap (λ (x : ConfigView). x.reject) e, (ap (λ (x : ConfigView). x.well_formed) e, (ap (λ (x : ConfigView). x.answer_unnamed) e, (ap (λ (x : ConfigView). x.fresh) e, (ap (λ (x : ConfigView). x.peers) e, ap (λ (x : ConfigView). x.realms) e))))))))))))))))
+    (Decides-and _ _ (Decides-eqb a.shards b.shards)
+    (Decides-and _ _ (bytes_eq-Decides a.seed b.seed)
+    (Decides-and _ _ (endpoint_decides a.auth b.auth)
+    (Decides-and _ _ (endpoint_decides a.acct b.acct)
+    (Decides-and _ _ (Decides-eqb a.trace_limit b.trace_limit)
+    (Decides-and _ _ (Decides-eqb a.trace_octets b.trace_octets)
+    (Decides-and _ _ (whole_option_decides eqb Decides-eqb a.max_hops b.max_hops)
+    (Decides-and _ _ (whole_option_decides eqb Decides-eqb a.max_attributes b.max_attributes)
+    (Decides-and _ _ (booleans_Decides a.status_server b.status_server)
+    (Decides-and _ _ (booleans_Decides a.spread b.spread)
+    (Decides-and _ _ (list_decides pattern_eq shown_pattern pattern_decides a.reject.items b.reject.items)
+    (Decides-and _ _ (booleans_Decides a.well_formed b.well_formed)
+    (Decides-and _ _ (booleans_Decides a.answer_unnamed b.answer_unnamed)
+    (Decides-and _ _ (whole_option_decides eqb Decides-eqb a.fresh b.fresh)
+    (Decides-and _ _ (list_decides peer_eq shown_peer peer_decides a.peers.items b.peers.items)
+    (still_decides _ (list_decides realm_eq shown_realm realm_decides a.realms.items b.realms.items)))))))))))))))))

@@ -1,0 +1,104 @@
+//! How the index of what reverse requests name a peer by is made, from the list of peers.
+
+ghost use Rattle.std.specs.Prelude.{◌≡◌, ℕ, List, ◌≤◌, ◌^◌, IfOk, OnOk, Some, None, if◌then◌else◌, length, map};
+ghost use Rattle.std.specs.Option.{option_or};
+ghost use Rattle.std.specs.Str.{str_to_ascii_lowercase};
+ghost use Rattle.roam_conf.specs.Duplicates.{same_if_there, same_name_if_there};
+ghost use Rattle.roam_conf.specs.Index.{owners, owner_of};
+ghost use Rattle.roam_conf.specs.Parts.{shown_peer};
+ghost use Rattle.roam_conf.specs.TargetIndex.{FindsTargets};
+ghost use Rattle.roam_conf.specs.Targets.{peer_with_nas_ip, peer_with_operator, some_operator};
+
+use crate::Peer;
+use crate::index::{Index, note, row_of};
+use crate::names::lower_row;
+use crate::nas_index::{lengths_of, nas_of};
+use crate::target_index::TargetIndex;
+use indexmap::IndexMap;
+use std::alloc::{AllocError, Global};
+
+/// Notes a peer for its NAS-IP-Address, where it has one.
+fn note_nas_ip(index: &mut Index, alloc: Global, peer: &Peer, place: u16) -> Result<(), AllocError>
+    ensures { OnOk result ((ip : List ℕ) → owner_of (owners index.new) ip ≡ option_or (owner_of (owners index.old) ip)
+        (if same_if_there peer.now.nas_ip (Some ip) then Some place else None)) }
+{
+    if let Some(ip) = peer.nas_ip {
+        note(index, row_of(alloc, &ip)?, place)?;
+    }
+    Ok(())
+}
+
+/// The first peer of each NAS-IP-Address.
+fn nas_ips_of(alloc: Global, peers: &[Peer]) -> Result<Index, AllocError>
+    requires { length peers.now ≤ 2 ^ 16 }
+    ensures { IfOk result (λ index. (ip : List ℕ)
+        → owner_of (owners index) ip ≡ peer_with_nas_ip (map shown_peer peers.now) ip) }
+{
+    let mut index = IndexMap::new(alloc);
+    for (place, peer) in peers.iter().enumerate() {
+        note_nas_ip(&mut index, alloc, peer, place as u16)?;
+    }
+    Ok(index)
+}
+
+/// Notes a peer for its `operator_name`, where it has one.
+fn note_operator(
+    index: &mut Index,
+    alloc: Global,
+    peer: &Peer,
+    place: u16,
+) -> Result<(), AllocError>
+    ensures { OnOk result ((name : List ℕ) → owner_of (owners index.new) (str_to_ascii_lowercase name)
+        ≡ option_or (owner_of (owners index.old) (str_to_ascii_lowercase name))
+        (if same_name_if_there (shown_peer peer.now).operator_name (Some name) then Some place else None)) }
+{
+    if let Some(name) = &peer.operator_name {
+        note(index, lower_row(alloc, name.as_bytes())?, place)?;
+    }
+    Ok(())
+}
+
+/// The first peer of each `operator_name`.
+fn operators_of(alloc: Global, peers: &[Peer]) -> Result<Index, AllocError>
+    requires { length peers.now ≤ 2 ^ 16 }
+    ensures { IfOk result (λ index. (name : List ℕ) → owner_of (owners index) (str_to_ascii_lowercase name)
+        ≡ peer_with_operator (map shown_peer peers.now) name) }
+{
+    let mut index = IndexMap::new(alloc);
+    for (place, peer) in peers.iter().enumerate() {
+        note_operator(&mut index, alloc, peer, place as u16)?;
+    }
+    Ok(index)
+}
+
+/// Whether one of the peers has an `operator_name`.
+fn some_operator(peers: &[Peer]) -> bool
+    ensures { result ≡ some_operator (map shown_peer peers.now) }
+{
+    for peer in peers {
+        if peer.operator_name.is_some() {
+            return true;
+        }
+    }
+    false
+}
+
+impl TargetIndex {
+    /// The index of these peers.
+    pub(crate) fn new(alloc: Global, peers: &[Peer]) -> Result<TargetIndex, AllocError>
+        requires { length peers.now ≤ 1024 }
+        ensures { IfOk result (λ index. FindsTargets index (map shown_peer peers.now)) }
+    {
+        let nas = nas_of(alloc, peers)?;
+        let nas_ips = nas_ips_of(alloc, peers)?;
+        let operators = operators_of(alloc, peers)?;
+        let front_lengths = lengths_of(&nas.fronts);
+        Ok(TargetIndex {
+            nas,
+            front_lengths,
+            nas_ips,
+            operators,
+            some_operator: some_operator(peers),
+        })
+    }
+}

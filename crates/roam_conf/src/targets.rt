@@ -1,0 +1,88 @@
+//! The peers that the names in a reverse request mean. None of this takes memory.
+
+ghost use Rattle.std.specs.Prelude.{◌≡◌};
+
+use crate::Config;
+use crate::index::owner_of;
+use crate::names::lower_in;
+use crate::nas_index::front_of;
+
+impl Config {
+    ghost use Rattle.std.specs.Prelude.{◌≡◌, ℕ, List, ◌≤◌, ◌-◌, IfSome, IsFalse, None, length, map, vec_len};
+    ghost use Rattle.roam_conf.specs.Lookup.{first_answer};
+    ghost use Rattle.roam_conf.specs.Shown.{shown};
+    ghost use Rattle.roam_conf.specs.Targets.{begins, exactly, fronts, fronts_to, peer_with_nas, peer_meant};
+    ghost use Rattle.roam_conf.specs.Targets.{peer_with_nas_ip, peer_with_operator, some_operator};
+
+    /// Whether there may be a front of so many octets.
+    fn may_have_front(&self, octets: usize) -> bool
+        ensures { IsFalse result → (front : List ℕ) → length front ≡ octets
+            → peer_with_nas (shown self.now).peers (begins front) ≡ None }
+    {
+        octets > 253 || self.found_by.targets.front_lengths[octets]
+    }
+
+    /// Whose the front is.
+    fn peer_of_front(&self, front: &[u8]) -> Option<u16>
+        ensures { result ≡ peer_with_nas (shown self.now).peers (begins front.now) }
+    {
+        if self.may_have_front(front.len()) {
+            owner_of(&self.found_by.targets.nas.fronts, front)
+        } else {
+            None
+        }
+    }
+
+    /// Whose the longest front is with which a NAS-Identifier begins.
+    fn peer_of_longest_front(&self, identifier: &[u8]) -> Option<u16>
+        ensures { result ≡ first_answer (peer_with_nas (shown self.now).peers) (map begins (fronts identifier.now)) }
+    {
+        for i in 0..identifier.len() {
+            if let Some(peer) = self.peer_of_front(front_of(identifier, identifier.len() - i)) {
+                return Some(peer);
+            }
+        }
+        None
+    }
+
+    /// The index of the peer that a NAS-Identifier means: the one among whose `nas_id` and `nas_ids` it stands whole;
+    /// else the one with the longest pattern of `nas_ids` that it fits.
+    #[tactic(auto, unfolding(crate::specs::Targets::peer_meant))]
+    pub fn peer_meant(&self, identifier: &[u8]) -> Option<u16>
+        ensures value { result ≡ peer_meant (shown self.now).peers identifier.now }
+        ensures bound { IfSome result (λ p. p < vec_len self.now.peers) }
+    {
+        match owner_of(&self.found_by.targets.nas.identifiers, identifier) {
+            Some(peer) => Some(peer),
+            None => self.peer_of_longest_front(identifier),
+        }
+    }
+
+    /// The index of the peer with this NAS-IP-Address; nobody has one that isn't of four octets.
+    pub fn peer_by_nas_ip(&self, ip: &[u8]) -> Option<u16>
+        ensures value { result ≡ peer_with_nas_ip (shown self.now).peers ip.now }
+        ensures bound { IfSome result (λ p. p < vec_len self.now.peers) }
+    {
+        owner_of(&self.found_by.targets.nas_ips, ip)
+    }
+
+    /// The index of the peer with this name as its `operator_name`, without ASCII case.
+    pub fn peer_by_operator(&self, name: &[u8]) -> Option<u16>
+        ensures value { result ≡ peer_with_operator (shown self.now).peers name.now }
+        ensures bound { IfSome result (λ p. p < vec_len self.now.peers) }
+    {
+        if name.len() > 252 {
+            return None;
+        }
+        let mut buffer = [0; 254];
+        lower_in(&mut buffer, name);
+        owner_of(&self.found_by.targets.operators, &buffer[..name.len()])
+    }
+
+    /// Whether some peer has an `operator_name`.
+    pub fn has_operators(&self) -> bool
+        ensures { result ≡ some_operator (shown self.now).peers }
+    {
+        self.found_by.targets.some_operator
+    }
+}

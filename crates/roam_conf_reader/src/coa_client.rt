@@ -1,0 +1,103 @@
+//! The further sources of reverse requests that tables state.
+
+ghost use Rattle.std.specs.Prelude.{◌≡◌, ◌≤◌, codes, Err, IfOk, List, MatchOption, map, vec_len};
+ghost use Rattle.toml.specs.Data.{get_member};
+ghost use Rattle.toml.specs.View.{array_view, table_view};
+ghost use Rattle.roam_conf.specs.Config.{CoaClientView};
+ghost use Rattle.roam_conf.specs.Parts.{shown_client};
+ghost use Rattle.roam_conf_reader.specs.Document.{StatesClient, StatesEach, StatesFew};
+ghost use Rattle.roam_conf_reader.specs.Reading.{IsValueFault};
+ghost use Rattle.roam_conf_reader.specs.Texts.{client_in};
+
+use crate::tables::{CLIENT_KEYS, has_only};
+use crate::values::{Letters, value};
+use crate::{ConfFault, keys};
+use roam_conf::CoaClient;
+use std::alloc::Global;
+use toml::Table;
+use toml::value::Array;
+
+/// What a table states of a source of reverse requests. Its secret still stands in the document.
+#[derive(Clone, Copy)]
+struct ClientText<'a> {
+    ip: [u8; 4],
+    secret: &'a str,
+}
+
+/// What a table states of such a source; nothing where one of its values is bad.
+fn client_text(table: &Table) -> Option<ClientText<'_>>
+    ensures { MatchOption result
+        ((c : CoaClientView) → ¬ (StatesClient (table_view table.now) c))
+        (λ text. StatesClient (table_view table.now) (client_in text)) }
+{
+    if !has_only(table, &CLIENT_KEYS, &[]) {
+        return None;
+    }
+    Some(ClientText {
+        ip: keys::address(table, "ip")?,
+        secret: keys::text(table, "secret", 64, Letters::Any)?,
+    })
+}
+
+/// The source that a table states. Memory is asked for only where the table states one.
+fn from_table(alloc: Global, table: &Table) -> Result<CoaClient, ConfFault>
+    ensures ok { IfOk result (λ c. StatesClient (table_view table.now) (shown_client c)) }
+    ensures bad { result ≡ Err ConfFault.BadValue
+        → (c : CoaClientView) → ¬ (StatesClient (table_view table.now) c) }
+    ensures memory { result ≡ Err ConfFault.Memory
+        → (c : CoaClientView) × StatesClient (table_view table.now) c }
+    ensures causes { IsValueFault result }
+{
+    let Some(text) = client_text(table) else {
+        return Err(ConfFault::BadValue);
+    };
+    Ok(CoaClient {
+        ip: text.ip,
+        secret: String::from_str(alloc, text.secret)?,
+    })
+}
+
+/// The sources that the tables of an array state, in its order.
+fn each_from(alloc: Global, items: &Array) -> Result<Vec<CoaClient>, ConfFault>
+    ensures ok { IfOk result
+        (λ v. StatesEach StatesClient (array_view items.now) (map shown_client v.items)) }
+    ensures bad { result ≡ Err ConfFault.BadValue
+        → (vs : List CoaClientView) → ¬ (StatesEach StatesClient (array_view items.now) vs) }
+    ensures causes { IsValueFault result }
+{
+    let mut all = Vec::new(alloc);
+    for value in items {
+        match value.as_table() {
+            Some(table) => {
+                let client = from_table(alloc, table)?;
+                all.push(client)?;
+            }
+            None => return Err(ConfFault::BadValue),
+        }
+    }
+    Ok(all)
+}
+
+/// The sources that a realm's table states, at most 8; none where the key is absent.
+#[tactic(auto, using(crate::proofs::ArrayLemmas::item_count_of))]
+pub(crate) fn all_from(alloc: Global, table: &Table) -> Result<Vec<CoaClient>, ConfFault>
+    ensures ok { IfOk result (λ v. StatesFew StatesClient 8 (get_member (codes "coa_client") (table_view table.now))
+        (map shown_client v.items)) }
+    ensures count { IfOk result (λ v. vec_len v ≤ 8) }
+    ensures bad { result ≡ Err ConfFault.BadValue → (vs : List CoaClientView)
+        → ¬ (StatesFew StatesClient 8 (get_member (codes "coa_client") (table_view table.now)) vs) }
+    ensures causes { IsValueFault result }
+{
+    let Some(value) = value(table, "coa_client") else {
+        return Ok(Vec::new(alloc));
+    };
+    match value.as_array() {
+        Some(items) => {
+            if items.len() > 8 {
+                return Err(ConfFault::BadValue);
+            }
+            each_from(alloc, items)
+        }
+        None => Err(ConfFault::BadValue),
+    }
+}

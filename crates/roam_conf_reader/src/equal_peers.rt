@@ -1,0 +1,71 @@
+//! Which peers may not stand beside each other in a configuration.
+
+ghost use Rattle.std.specs.Prelude.{◌≡◌, IfOk, map};
+ghost use Rattle.std.specs.List.{list_any};
+ghost use Rattle.roam_conf.specs.Duplicates.{has_pair, same_if_there, same_name_if_there, same_peer, has_duplicate_peer};
+ghost use Rattle.roam_conf.specs.Parts.{shown_peer};
+ghost use Rattle.roam_conf_reader.specs.Reading.{IsMemoryFault};
+
+use crate::ConfFault;
+use crate::duplicates::from_place;
+use roam_conf::{Peer, has_duplicate_nas_text, is_same_name};
+use std::alloc::Global;
+
+fn have_same_ip(a: Option<[u8; 4]>, b: Option<[u8; 4]>) -> bool
+    ensures { result ≡ same_if_there a b }
+{
+    match (a, b) {
+        (Some(a), Some(b)) => a == b,
+        _ => false,
+    }
+}
+
+fn have_same_operator(a: &Peer, b: &Peer) -> bool
+    ensures { result ≡ same_name_if_there (shown_peer a.now).operator_name (shown_peer b.now).operator_name }
+{
+    match (&a.operator_name, &b.operator_name) {
+        (Some(a), Some(b)) => is_same_name(a.as_bytes(), b.as_bytes()),
+        _ => false,
+    }
+}
+
+fn is_same_peer(a: &Peer, b: &Peer) -> bool
+    ensures { result ≡ same_peer (shown_peer a.now) (shown_peer b.now) }
+{
+    a.name.as_str() == b.name.as_str()
+        || a.ip == b.ip
+        || have_same_ip(a.nas_ip, b.nas_ip)
+        || have_same_operator(a, b)
+}
+
+fn is_among_peers(peer: &Peer, others: &[Peer]) -> bool
+    ensures { result ≡ list_any (same_peer (shown_peer peer.now)) (map shown_peer others.now) }
+{
+    for other in others {
+        if is_same_peer(peer, other) {
+            return true;
+        }
+    }
+    false
+}
+
+/// Whether two peers are equal in their name, address, NAS-IP-Address or Operator-Name.
+fn has_equal_peers(peers: &[Peer]) -> bool
+    ensures { result ≡ has_pair same_peer (map shown_peer peers.now) }
+{
+    for i in 0..peers.len() {
+        if is_among_peers(&peers[i], from_place(peers, i + 1)) {
+            return true;
+        }
+    }
+    false
+}
+
+/// Whether two peers are, or two texts among their NAS-Identifiers are equal.
+#[tactic(auto, unfolding(roam_conf::specs::Duplicates::has_duplicate_peer))]
+pub(crate) fn has_duplicate_peer(alloc: Global, peers: &[Peer]) -> Result<bool, ConfFault>
+    ensures ok { IfOk result (λ b. b ≡ has_duplicate_peer (map shown_peer peers.now)) }
+    ensures causes { IsMemoryFault result }
+{
+    Ok(has_equal_peers(peers) || has_duplicate_nas_text(alloc, peers)?)
+}

@@ -1,0 +1,60 @@
+-- What the groups of a ledger's sessions stand for (ours).
+use Rattle.std.specs.Prelude.{◌≡◌, ℕ, ◌+◌, ◌<◌, ◌≤◌, Bool, true, false, List, Option, Some, None, option_and_then, option_map}
+use Rattle.std.specs.declared.vec.Vec.{Vec}
+use Rattle.roam_wire.specs.Numbered.{PutsAt, tickets_end}
+use Rattle.roam_reverse.specs.Sessions.{Asked, Nas, Session}
+use Rattle.roam_reverse.specs.Maps.{HasRoom, groups_of}
+use Rattle.roam_reverse.specs.Private.Groups.{IsGrouped}
+use Rattle.roam_reverse.specs.Private.Row.{row_under}
+use Rattle.roam_reverse.specs.declared.asked.Mask.{Mask}
+use Rattle.roam_reverse.specs.declared.facets.Facets.{Facets}
+use Rattle.roam_reverse.specs.declared.facets.FacetRows.{FacetRows}
+use Rattle.roam_reverse.specs.declared.groups.Groups.{Groups}
+
+-- the row of each ticket's session by some of its parts
+abbrev pub rows_under : Mask → (ℕ → Option Session) → ℕ → Option (List ℕ)
+rows_under mask F t = option_and_then (row_under mask) (F t)
+
+-- by the peer alone, or by some names of the access server, and by the id or not
+abbrev pub masked : Bool → Bool → Bool → Mask
+masked address identifier id = record { address = address; identifier = identifier; id = id }
+
+-- the sessions of these tickets are in their groups
+pub record AreFaceted {A : Type 0} (F : ℕ → Option Session) (f : Facets A) : Type 0 where
+  pub by_peer : IsGrouped (rows_under (masked false false f.with_id) F) (groups_of f.by_peer)
+  pub by_address : IsGrouped (rows_under (masked true false f.with_id) F) (groups_of f.by_address)
+  pub by_identifier : IsGrouped (rows_under (masked false true f.with_id) F) (groups_of f.by_identifier)
+  pub by_both : IsGrouped (rows_under (masked true true f.with_id) F) (groups_of f.by_both)
+
+-- the octets are the row of a session by some of its parts
+abbrev pub HasRow : {A : Type 0} → Mask → Session → Option (Vec ℕ A) → Type 0
+HasRow mask s row = option_map (λ r. r.items) row ≡ row_under mask s
+
+pub record HasFacetRows {A : Type 0} (id : Bool) (s : Session) (rows : FacetRows A) : Type 0 where
+  pub by_peer : HasRow (masked false false id) s rows.by_peer
+  pub by_address : HasRow (masked true false id) s rows.by_address
+  pub by_identifier : HasRow (masked false true id) s rows.by_identifier
+  pub by_both : HasRow (masked true true id) s rows.by_both
+
+-- a ticket behind all others has this session now
+pub record ComesIn (F G : ℕ → Option Session) (t : ℕ) (s : Session) : Type 0 where
+  pub puts : PutsAt F G t (Some s)
+  pub free : (u : ℕ) → t ≤ u → F u ≡ None
+  pub within : t + 1 < tickets_end
+
+-- there is room for so many sessions more
+pub record FacetsHaveRoom {A : Type 0} (n : ℕ) (f : Facets A) : Type 0 where
+  pub by_peer : HasRoom n f.by_peer
+  pub by_address : HasRoom n f.by_address
+  pub by_identifier : HasRoom n f.by_identifier
+  pub by_both : HasRoom n f.by_both
+
+-- the groups in which sessions are found by the names that are asked for
+abbrev pub facet_by : {A : Type 0} → Option (List ℕ) → Option (List ℕ) → Facets A → Groups A
+facet_by None None f = f.by_peer
+facet_by (Some address) None f = f.by_address
+facet_by None (Some identifier) f = f.by_identifier
+facet_by (Some address) (Some identifier) f = f.by_both
+
+abbrev pub facet_of : {A : Type 0} → Asked → Facets A → Groups A
+facet_of q f = facet_by q.nas.address q.nas.identifier f

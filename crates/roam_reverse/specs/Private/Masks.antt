@@ -1,0 +1,31 @@
+-- A session by some of its parts (ours).
+use Rattle.std.specs.Prelude.{ℕ, ◌&&◌, ◌||◌, not, Bool, true, false, List, Option, Some, None, is_some, is_none, if◌then◌else◌}
+use Rattle.roam_reverse.specs.Sessions.{Asked, Session}
+use Rattle.roam_reverse.specs.declared.asked.Mask.{Mask}
+
+-- what is asked for a session by all that it is
+abbrev pub asked_for : Session → Asked
+asked_for s = record { peer = s.peer; nas = s.nas; id = Some s.id }
+
+-- a session lacks a part that is asked for
+abbrev pub lacks : Mask → Session → Bool
+lacks mask s = (mask.address && is_none s.nas.address) || (mask.identifier && is_none s.nas.identifier)
+
+-- what is asked for a session by its peer and some of its parts
+abbrev pub asked_by : Mask → Session → Asked
+asked_by mask s = record {
+  peer = s.peer;
+  nas = record {
+    address = if mask.address then s.nas.address else None;
+    identifier = if mask.identifier then s.nas.identifier else None;
+  };
+  id = if mask.id then Some s.id else None;
+}
+
+-- the same, where the session has those parts
+abbrev pub narrow : Mask → Session → Option Asked
+narrow mask s = if lacks mask s then None else Some (asked_by mask s)
+
+-- the parts that are asked for
+abbrev pub mask_of : Asked → Mask
+mask_of q = record { address = is_some q.nas.address; identifier = is_some q.nas.identifier; id = is_some q.id }

@@ -1,0 +1,30 @@
+-- What arrives, what a realm is given, and what leaves (RFC 2865, section 3; ours).
+use Rattle.std.specs.Prelude.{ℕ, List, Option}
+use Rattle.roam_conf.specs.declared.endpoint.Endpoint.{Endpoint}
+use Rattle.roam_conf.specs.declared.place.Place.{Place}
+use Rattle.roam_route.specs.declared.job.Side.{Side}
+
+-- a datagram that arrived: at which place, from where, its octets, and, where they came with it, the wall clock's
+-- seconds since the beginning of 1970
+pub record Arrival : Type 0 where
+  pub at : Place
+  pub from : Endpoint
+  pub octets : List ℕ
+  pub seconds : Option ℕ
+
+-- what a realm is given: a request or a reply, with the place and the source, who sent it, the octets
+-- up to Length, and the realm that the first User-Name of a request names; none in a reply
+pub record PlainJob : Type 0 where
+  pub realm : ℕ
+  pub place : Place
+  pub from : Endpoint
+  pub side : Side
+  pub octets : List ℕ
+  pub named : Option ℕ
+
+-- a packet that leaves: for which realm, from which place, where to, and its octets
+pub record PlainOut : Type 0 where
+  pub realm : Option ℕ
+  pub from : Place
+  pub to : Endpoint
+  pub bytes : List ℕ
