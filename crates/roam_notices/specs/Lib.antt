@@ -11,4 +11,5 @@ pub mod Reloads
 pub mod Repeats
 pub mod Senders
 pub mod Tallies
+pub mod TurnedAway
 pub mod Values

@@ -30,6 +30,7 @@ mod sender;
 mod station_text;
 mod tally;
 mod text;
+mod turned_away;
 
 pub use details::Details;
 pub use dropped_text::{DropCause, DroppedText};
@@ -43,3 +44,4 @@ pub use row::{KINDS, Row};
 pub use sender::Sender;
 pub use tally::RefusalCount;
 pub use text::RefusedText;
+pub use turned_away::{ReplyFault, TurnedAway, TurnedAwayText, turned_away as replies_turned_away};

@@ -47,7 +47,7 @@ pub struct RefusedText<'n> {
 }
 
 /// The name of the realm of this index; empty where there is none.
-fn name_of(config: &Config, realm: Option<u16>) -> &str
+pub(crate) fn name_of(config: &Config, realm: Option<u16>) -> &str
     ensures { result.now ≡ name_of (shown config.now).realms realm }
 {
     let Some(number) = realm else {

@@ -27,7 +27,7 @@ use crate::jobs::handle_job;
 use crate::opening::Opening;
 use crate::realm_numbers::opened_numbers;
 use crate::rooms::{TickRooms, room_of_shard};
-use roam_book::{LATEST, RealmBroker, RealmNumbers, RealmSettings, Room, Start, Twin};
+use roam_book::{LATEST, RealmBroker, RealmNumbers, RealmSettings, Room, Start, Twin, hash_key};
 use roam_conf::Config;
 use roam_route::Job;
 use roam_tables::Tables;
@@ -77,7 +77,7 @@ impl<'c, A: Allocator + Copy> Shard<'c, A> {
         ensures states { IfOk result (λ s. s.states ≡ openings (shown config.now) starts.now) }
     {
         let numbers = opened_numbers(alloc, config, shard, starts)?;
-        let entries = Tables::new(alloc, config.realms.len())?;
+        let entries = Tables::new(alloc, hash_key(config), config.realms.len())?;
         let starts = Vec::from_slice(alloc, starts)?;
         Ok(Shard {
             alloc,

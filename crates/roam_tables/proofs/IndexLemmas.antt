@@ -21,7 +21,7 @@ module _ {K : Type 0} (eq : K → K → Bool) (equality : IsEquality eq) (I J : 
     | inr n ↦ puts q ∙ rw n refl
   ]
 
-decide : {K : Type 0} (eq : K → K → Bool) → IsEquality eq → (a b : K) → (a ≡ b) ⊎ (a ≢ b)
+pub decide : {K : Type 0} (eq : K → K → Bool) → IsEquality eq → (a b : K) → (a ≡ b) ⊎ (a ≢ b)
 decide eq equality a b = elim (cases_Bool (eq a b)) as (λ _. (a ≡ b) ⊎ (a ≢ b)) [
   | inl t ↦ inl (equality.same a b t)
   | inr n ↦ inr (λ is. (let t : eq a b ≡ true = subst (λ z. eq a z ≡ true) is (equality.itself a) in

@@ -12,6 +12,7 @@ use Rattle.roam_conf.specs.Duplicates.{same_endpoint}
 use Rattle.roam_pending.proofs.TestLemmas.{same, key_is_same}
 use Rattle.roam_pending.proofs.ClientLemmas.{key-equal}
 use Rattle.roam_tables.specs.declared.entry_index.ClientKey.{ClientKey}
+use Rattle.roam_tables.specs.Private.Rounds.{round_eq}
 use Rattle.roam_tables.specs.Stands.{ticket_eq, client_eq}
 use Rattle.roam_tables.proofs.IndexLemmas.{IsEquality}
 
@@ -35,6 +36,17 @@ ticket_equality = record {
       equal a.ticket b.ticket (and_right (eqb a.realm b.realm) (eqb a.ticket b.ticket) h) in
       λ i. record { realm = realm i; ticket = ticket i });
   itself = λ a. rw (same a.realm a.realm refl) (same a.ticket a.ticket refl);
+}
+
+pub round_equality : IsEquality round_eq
+round_equality = record {
+  same = λ a b h. (
+      let realm =
+      equal a.realm b.realm (and_left (eqb a.realm b.realm) (eqb a.hash b.hash) h) in
+      let hash =
+      equal a.hash b.hash (and_right (eqb a.realm b.realm) (eqb a.hash b.hash) h) in
+      λ i. record { realm = realm i; hash = hash i });
+  itself = λ a. rw (same a.realm a.realm refl) (same a.hash a.hash refl);
 }
 
 -- the derived tests of a place and of a key are those of the list's definitions

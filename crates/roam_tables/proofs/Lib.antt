@@ -17,3 +17,7 @@ pub mod UpdateLemmas
 pub mod GrowthLemmas
 pub mod OpeningLemmas
 pub mod MoreLemmas
+pub mod RoundLemmas
+pub mod RoundRunLemmas
+pub mod LastRoundLemmas
+pub mod RoundFoundLemmas

@@ -49,7 +49,7 @@ module _ {A : Type 0} (S : ℕ → Option Stored) (T : TicketKey → Option ℕ)
     (rs : List (RealmQueues A))
     (slots : (i : ℕ) → S i ≡ None) (tickets : (k : TicketKey) → T k ≡ None)
     (clients : (k : ClientKey) → C k ≡ None) where
-  nobody : (r t : ℕ) → entry_at S T r t ≡ None
+  pub nobody : (r t : ℕ) → entry_at S T r t ≡ None
   nobody r t = rw (tickets (record { realm = r; ticket = t })) refl
 
   pub no_entries_at : (r : ℕ) → entries_at S T r ≡ []

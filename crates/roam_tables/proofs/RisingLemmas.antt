@@ -40,7 +40,7 @@ due_same x y h =
     λ i. record { deadline = d i; ticket = t i }
 
 module _ {X : Type 0} where
-  All-at : (P : X → Type 0) (xs : List X) (k : ℕ) (d : X) → AllByRecursion P xs → k < length xs
+  pub All-at : (P : X → Type 0) (xs : List X) (k : ℕ) (d : X) → AllByRecursion P xs → k < length xs
       → P (get_or xs k d)
   All-at P [] k d all lt = absurd (omega arith)
   All-at P (x ∷ xs) zero d all lt = all.0
@@ -96,7 +96,7 @@ module _ {X : Type 0} where
   in-at (y ∷ ys) zero x lt e = inl e
   in-at (y ∷ ys) (suc k) x lt e = inr (in-at ys k x (omega arith) e)
 
-  at-in : (xs : List X) (x : X) → IsIn x xs
+  pub at-in : (xs : List X) (x : X) → IsIn x xs
       → (k : ℕ) × (k < length xs) × ((d : X) → get_or xs k d ≡ x)
   at-in [] x h = absurd h
   at-in (y ∷ ys) x h =
@@ -341,7 +341,7 @@ further d e x lt h = elim h as (λ _. (d ≡ x) ⊎ (due_cmp d x ≡ Less)) [
 
 -- The least ticket besides one
 
-nat_less : (a b : ℕ) → nat_cmp a b ≡ Less → a < b
+pub nat_less : (a b : ℕ) → nat_cmp a b ≡ Less → a < b
 nat_less a b h = grind (arith, nat_tests, common_steps)
 
 beside_same : (o : Option ℕ) (x y : ℕ) → is_beside o x ≡ false → is_beside o y ≡ false → x ≡ y

@@ -142,16 +142,16 @@ module _ {A : Type 0} (S : ℕ → Option Stored) (T : TicketKey → Option ℕ)
       (at : PutsAt S S2 i (Some (record { realm = r; entry = e })))
       (notes : Puts ticket_eq T T2 (record { realm = r; ticket = e.ticket }) (Some i))
       (names : Puts client_eq C C2 (record { realm = r; key = e.request.key }) (Some i)) where
-    new_none : entry_at S T r e.ticket ≡ None
+    pub new_none : entry_at S T r e.ticket ≡ None
     new_none = ticket_found S T C rs sound r e.ticket ∙ new.ticket
 
-    new_others : (q u : ℕ) → (q ≢ r) ⊎ (u ≢ e.ticket) → entry_at S2 T2 q u ≡ entry_at S T q u
+    pub new_others : (q u : ℕ) → (q ≢ r) ⊎ (u ≢ e.ticket) → entry_at S2 T2 q u ≡ entry_at S T q u
     new_others = stays S2 T2 i (Some (record { realm = r; entry = e })) r e.ticket at
         (λ k ne. puts_other ticket_eq ticket_equality T T2 (record { realm = r; ticket = e.ticket })
         (Some i) notes k ne)
         (λ y there. absurd (let k : None ≡ Some y = sym free ∙ there in cc))
 
-    new_here : entry_at S2 T2 r e.ticket ≡ Some e
+    pub new_here : entry_at S2 T2 r e.ticket ≡ Some e
     new_here =
         rw (
           puts_here ticket_eq ticket_equality T T2 (record { realm = r; ticket = e.ticket })
@@ -216,13 +216,13 @@ module _ {A : Type 0} (S : ℕ → Option Stored) (T : TicketKey → Option ℕ)
         (let k : Some x ≡ Some y = sym was
         ∙ there in let same : x ≡ y = cc in ap ticket_key (sym same))
 
-    gone_others : (q u : ℕ) → (q ≢ x.realm) ⊎ (u ≢ x.entry.ticket)
+    pub gone_others : (q u : ℕ) → (q ≢ x.realm) ⊎ (u ≢ x.entry.ticket)
         → entry_at S2 T2 q u ≡ entry_at S T q u
     gone_others =
         stays S2 T2 i None x.realm x.entry.ticket
         at (λ k ne. puts_other ticket_eq ticket_equality T T2 (ticket_key x) None notes k ne) mine
 
-    gone_here : entry_at S2 T2 x.realm x.entry.ticket ≡ None
+    pub gone_here : entry_at S2 T2 x.realm x.entry.ticket ≡ None
     gone_here = rw (puts_here ticket_eq ticket_equality T T2 (ticket_key x) None notes) refl
 
     pub gone_becomes : RealmBecomes x.realm (without x.entry.ticket (entries_at S T x.realm))
@@ -262,13 +262,13 @@ module _ {A : Type 0} (S : ℕ → Option Stored) (T : TicketKey → Option ℕ)
         (let k : Some x ≡ Some y = sym was
         ∙ there in let same : x ≡ y = cc in ap ticket_key (sym same))
 
-    changed_others : (q u : ℕ) → (q ≢ x.realm) ⊎ (u ≢ x.entry.ticket)
+    pub changed_others : (q u : ℕ) → (q ≢ x.realm) ⊎ (u ≢ x.entry.ticket)
         → entry_at S2 T q u ≡ entry_at S T q u
     changed_others =
         stays S2 T i (Some (record { realm = x.realm; entry = e })) x.realm x.entry.ticket
         at (λ k ne. refl) changed_mine
 
-    changed_here : entry_at S2 T x.realm x.entry.ticket ≡ Some e
+    pub changed_here : entry_at S2 T x.realm x.entry.ticket ≡ Some e
     changed_here = rw (sound.tickets.finds i x was, at.changed) refl
 
     pub changed_becomes : RealmBecomes x.realm (put e (entries_at S T x.realm)) (entries_at S T)

@@ -1,5 +1,5 @@
 -- What the calls that change the tables leave.
-use Rattle.std.proofs.Common.{◌≡◌, ℕ, ◌+◌, ◌<◌, ◌≤◌, List, length, Option, Some, None, refl, ap, sym, ◌∙◌, subst, inl, inr, arith}
+use Rattle.std.proofs.Common.{◌≡◌, ◌≢◌, ◌⊎◌, ℕ, ◌+◌, ◌<◌, ◌≤◌, List, length, Option, Some, None, refl, ap, sym, ◌∙◌, subst, inl, inr, arith}
 use Rattle.std.specs.Prelude.{option_map, slice_get, if◌then◌else◌, IfSome, MatchOption}
 use Rattle.slab.specs.Slab.{Slab, HasRoomFor}
 use Rattle.indexmap.specs.IndexMap.{IndexMap, spare}
@@ -12,7 +12,9 @@ use Rattle.roam_tables.specs.declared.entry_index.TicketKey.{TicketKey}
 use Rattle.roam_tables.specs.declared.entry_index.ClientKey.{ClientKey}
 use Rattle.roam_tables.specs.declared.due_mark.DueMark.{DueMark}
 use Rattle.roam_tables.specs.declared.realm_queues.RealmQueues.{RealmQueues}
+use Rattle.roam_tables.specs.declared.round_runs.RoundKey.{RoundKey}
 use Rattle.roam_tables.specs.Private.Indexes.{Puts}
+use Rattle.roam_tables.specs.Private.Rounds.{Goes, IsJustIn, Moved, RoundsTell}
 use Rattle.roam_wire.specs.Numbered.{PutsAt}
 use Rattle.roam_wire.specs.Numbered.{tickets_end}
 use Rattle.roam_tables.specs.Private.Marks.{CanEnter, CanLeave, Changes, Enters, HoldsAsMany, Leaves, mark_of, held}
@@ -22,7 +24,9 @@ use Rattle.roam_tables.proofs.KeptLemmas.{keeps_same}
 use Rattle.roam_tables.proofs.LookLemmas.{below_end, numbered, ticket_found}
 use Rattle.roam_tables.proofs.MarkLemmas.{can_enter, can_leave}
 use Rattle.roam_tables.proofs.RoomLemmas.{at_realm_fewer, each_positive, four_fewer, room_of, room_within}
-use Rattle.roam_tables.proofs.StepLemmas.{changed_becomes, changed_sound, gone_becomes, gone_sound, new_becomes, new_sound}
+use Rattle.roam_tables.proofs.RoundLemmas.{hash_if, just_in, moved_tells, stayed, still_tells}
+use Rattle.roam_tables.proofs.RoundRunLemmas.{gone_moved}
+use Rattle.roam_tables.proofs.StepLemmas.{changed_becomes, changed_here, changed_others, changed_sound, gone_becomes, gone_here, gone_others, gone_sound, new_becomes, new_here, new_none, new_others, new_sound}
 use Rattle.roam_tables.proofs.TablesLemmas.{tables_become, tables_realms, tables_room, tables_ticket}
 use Rattle.roam_tables.proofs.ViewLemmas.{seen_at, seen_room}
 
@@ -97,6 +101,23 @@ module _ {A H : Type 0} (s : Slab (Slot A)) (t : IndexMap TicketKey ℕ H)
         names
         own_runs (room_of rs r (room_positive r room).3)
 
+    -- what keeps no round leaves the runs of rounds as they are
+    pub insert_rounds : (hash : PlainEntry → Option ℕ) (R : RoundKey → List ℕ)
+        → RoundsTell hash (entry_at (place s) (ticket_at t)) R → hash e ≡ None
+        → RoundsTell hash (entry_at (place s2) (ticket_at t2)) R
+    insert_rounds hash R tells none =
+        still_tells hash (entry_at (place s) (ticket_at t)) (entry_at (place s2) (ticket_at t2)) R r
+        e.ticket
+        (new_others (place s) (ticket_at t) (client_at c) rs sound r e i (place s2) (ticket_at t2)
+        (client_at c2) rs2 (fresh r e new) (within_realms r room) (omega arith) free at own_notes
+        names) tells
+        (ap (hash_if hash) (new_here (place s) (ticket_at t) (client_at c) rs sound r e i (place s2)
+        (ticket_at t2) (client_at c2) rs2 (fresh r e new) (within_realms r room) (omega arith) free
+        at own_notes names) ∙ none
+        ∙ sym (ap (hash_if hash) (new_none (place s) (ticket_at t) (client_at c) rs sound r e i
+        (place s2) (ticket_at t2) (client_at c2) rs2 (fresh r e new) (within_realms r room)
+        (omega arith) free at own_notes names)))
+
     pub insert_becomes : RealmBecomes r (put e (entries_in v r)) (entries_in v)
         (entries_in (tables_view s2 t2 c2 rs2))
     insert_becomes =
@@ -150,6 +171,12 @@ module _ {A H : Type 0} (s : Slab (Slot A)) (t : IndexMap TicketKey ℕ H)
         ticket_found (place s) (ticket_at t) (client_at c) rs sound r n
         ∙ ap (find_ticket n) (sym (seen_at s t c rs sound v is r)) ∙ sym remove_found
 
+    -- its ticket is in the run of what it keeps
+    pub remove_just : (hash : PlainEntry → Option ℕ) (R : RoundKey → List ℕ)
+        → RoundsTell hash (entry_at (place s) (ticket_at t)) R → IsJustIn r n (hash e) R
+    remove_just hash R tells =
+        just_in hash (entry_at (place s) (ticket_at t)) R r n (hash e) tells (ap (hash_if hash) remove_at)
+
     pub remove_can : (q : RealmQueues A) → slice_get rs r ≡ Some q → CanLeave m q
     remove_can q at =
         subst (λ (z : DueMark). CanLeave z q) (sym mark)
@@ -179,6 +206,24 @@ module _ {A H : Type 0} (s : Slab (Slot A)) (t : IndexMap TicketKey ℕ H)
             (record { realm = r; entry = e }) (place s2) (ticket_at t2) (client_at c2) rs2
             remove_was
             at left_notes names left_runs
+
+        pub remove_rounds : (hash : PlainEntry → Option ℕ) (R S : RoundKey → List ℕ)
+            → RoundsTell hash (entry_at (place s) (ticket_at t)) R → Goes r n (hash e) R S
+            → RoundsTell hash (entry_at (place s2) (ticket_at t2)) S
+        remove_rounds hash R S tells goes =
+            let own = remove_own.1 in
+            moved_tells hash (entry_at (place s) (ticket_at t)) (entry_at (place s2) (ticket_at t2)) R S r n
+            None
+            (subst (λ (k : ℕ). (q u : ℕ) → (q ≢ r) ⊎ (u ≢ k)
+            → entry_at (place s2) (ticket_at t2) q u ≡ entry_at (place s) (ticket_at t) q u) own
+            (gone_others (place s) (ticket_at t) (client_at c) rs sound i
+            (record { realm = r; entry = e }) (place s2) (ticket_at t2) (client_at c2) rs2
+            remove_was at left_notes names)) tells
+            (gone_moved r n R S (hash e) tells.rise (remove_just hash R tells) goes)
+            (ap (hash_if hash) (ap (entry_at (place s2) (ticket_at t2) r) (sym own)
+            ∙ gone_here (place s) (ticket_at t) (client_at c) rs sound i
+            (record { realm = r; entry = e }) (place s2) (ticket_at t2) (client_at c2) rs2
+            remove_was at left_notes names))
 
         pub remove_becomes : RealmBecomes r (without n (entries_in v r)) (entries_in v)
             (entries_in (tables_view s2 t2 c2 rs2))
@@ -253,6 +298,23 @@ module _ {A H : Type 0} (s : Slab (Slot A)) (t : IndexMap TicketKey ℕ H)
         ∙ ticket_found (place s) (ticket_at t) (client_at c) rs sound r n
         ∙ ap (find_ticket n) (sym (seen_at s t c rs sound v is r)) ∙ sym stood_found
 
+    stood_here : entry_at (place s) (ticket_at t) r n ≡ Some stood
+    stood_here = ap (entry_at (place s) (ticket_at t) r) (sym stood_ticket) ∙ stood_at
+
+    -- what the entry keeps, as it is read from its slot
+    pub kept_there : (hash : PlainEntry → Option ℕ) (o : Option ℕ)
+        → IfSome (place s i) (λ x. o ≡ hash x.entry) → o ≡ hash stood
+    kept_there hash o read =
+        subst (λ (p : Option Stored). IfSome p (λ x. o ≡ hash x.entry)) point.1 read
+
+    -- its ticket is in the run of what it keeps
+    pub stood_just : (hash : PlainEntry → Option ℕ) (R : RoundKey → List ℕ) (from : Option ℕ)
+        → RoundsTell hash (entry_at (place s) (ticket_at t)) R → IfSome (place s i) (λ x. from ≡ hash x.entry)
+        → IsJustIn r n from R
+    stood_just hash R from tells read =
+        just_in hash (entry_at (place s) (ticket_at t)) R r n from tells
+        (ap (hash_if hash) stood_here ∙ sym (kept_there hash from read))
+
     pub one_exchanged : (standing : PlainStanding)
         → IfSome (place s i) (λ x. standing ≡ x.entry.standing)
         → IfSome (find_ticket n (entries_in v r)) (λ e. standing ≡ e.standing)
@@ -310,6 +372,34 @@ module _ {A H : Type 0} (s : Slab (Slot A)) (t : IndexMap TicketKey ℕ H)
             changed_sound (place s) (ticket_at t) (client_at c) rs sound i
             (record { realm = r; entry = stood }) (change stood) (place s2) rs2 stood_there
             change_puts (ticket stood) (key stood) change_runs
+
+        -- its ticket moved, or stayed where it was
+        pub change_rounds : (hash : PlainEntry → Option ℕ) (R S : RoundKey → List ℕ) (kept : Option ℕ)
+            → RoundsTell hash (entry_at (place s) (ticket_at t)) R → Moved r n kept R S
+            → kept ≡ hash (change stood) → RoundsTell hash (entry_at (place s2) (ticket_at t)) S
+        change_rounds hash R S kept tells moved is =
+            moved_tells hash (entry_at (place s) (ticket_at t)) (entry_at (place s2) (ticket_at t)) R S r n
+            kept
+            (subst (λ (k : ℕ). (q u : ℕ) → (q ≢ r) ⊎ (u ≢ k)
+            → entry_at (place s2) (ticket_at t) q u ≡ entry_at (place s) (ticket_at t) q u) stood_ticket
+            (changed_others (place s) (ticket_at t) (client_at c) rs sound i
+            (record { realm = r; entry = stood }) (change stood) (place s2) rs2 stood_there
+            change_puts (ticket stood) (key stood))) tells moved
+            (ap (hash_if hash) (ap (entry_at (place s2) (ticket_at t) r) (sym stood_ticket)
+            ∙ changed_here (place s) (ticket_at t) (client_at c) rs sound i
+            (record { realm = r; entry = stood }) (change stood) (place s2) rs2 stood_there
+            change_puts (ticket stood) (key stood)) ∙ sym is)
+
+        -- what is kept of it is the same
+        pub still_rounds : (hash : PlainEntry → Option ℕ) (R : RoundKey → List ℕ)
+            → RoundsTell hash (entry_at (place s) (ticket_at t)) R
+            → ((e : PlainEntry) → hash (change e) ≡ hash e)
+            → RoundsTell hash (entry_at (place s2) (ticket_at t)) R
+        still_rounds hash R tells same =
+            change_rounds hash R R (hash stood) tells
+            (stayed r n R (hash stood) tells.rise
+            (just_in hash (entry_at (place s) (ticket_at t)) R r n (hash stood) tells
+            (ap (hash_if hash) stood_here))) (sym (same stood))
 
         pub change_becomes : PutsChanged change r n (entries_in v)
             (entries_in (tables_view s2 t c rs2))

@@ -2,3 +2,4 @@
 pub mod Rising
 pub mod Marks
 pub mod Indexes
+pub mod Rounds

@@ -16,6 +16,8 @@ use Rattle.roam_tables.specs.contracts.entry_index.TicketKeyPartialEq.TheImpl as
 use Rattle.roam_tables.specs.contracts.entry_index.ClientKeyPartialEq.TheImpl as client_keys
 use Rattle.roam_tables.specs.declared.realm_queues.RealmQueues.{RealmQueues}
 use Rattle.roam_tables.specs.Private.Indexes.{IsIndex, look}
+use Rattle.roam_tables.specs.Private.Rounds.{RoundsTell}
+use Rattle.roam_tables.specs.declared.round_runs.RoundKey.{RoundKey}
 use Rattle.roam_wire.specs.Numbered.{listed, tickets_end}
 use Rattle.roam_tables.specs.Private.Marks.{IsRunsOf, held}
 
@@ -81,6 +83,12 @@ pub record Sound {A : Type 0} (S : ℕ → Option Stored) (T : TicketKey → Opt
   pub within : (i : ℕ) (x : Stored) → S i ≡ Some x → x.realm < length rs
   pub below_end : (i : ℕ) (x : Stored) → S i ≡ Some x → x.entry.ticket < tickets_end
   pub runs : (r : ℕ) (q : RealmQueues A) → slice_get rs r ≡ Some q → IsRunsOf (entry_at S T r) q
+
+-- and the runs of rounds are those of the entries
+pub record AllSound {A : Type 0} (S : ℕ → Option Stored) (T : TicketKey → Option ℕ) (C : ClientKey → Option ℕ)
+    (rs : List (RealmQueues A)) (hash : PlainEntry → Option ℕ) (R : RoundKey → List ℕ) : Type 0 where
+  pub tables : Sound S T C rs
+  pub rounds : RoundsTell hash (entry_at S T) R
 
 -- the runs of one realm became these, and every other realm's are as they were
 pub record AtRealm {X : Type 0} (Becomes : X → X → Type 0) (old new : List X) (r : ℕ) : Type 0 where

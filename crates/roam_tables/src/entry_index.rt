@@ -7,9 +7,9 @@ ghost use Rattle.roam_tables.specs.Stands.{client_at, client_eq, ticket_at, tick
 ghost use Rattle.roam_wire.specs.Numbered.{tickets_end};
 
 use indexmap::IndexMap;
+use roam_hash::HashKey;
 use roam_pending::Key;
 use std::alloc::Allocator;
-use std::hash::{BuildHasherDefault, FoldHasher};
 
 /// A ticket of a realm.
 #[derive(Clone, Copy, PartialEq, Eq, Hash)]
@@ -25,8 +25,8 @@ pub(crate) struct ClientKey {
     pub key: Key,
 }
 
-/// The slot of each key.
-pub(crate) type EntryIndex<K, A> = IndexMap<K, usize, BuildHasherDefault<FoldHasher>, A>;
+/// The slot of each key. Who picks keys doesn't know where they lie.
+pub(crate) type EntryIndex<K, A> = IndexMap<K, usize, HashKey, A>;
 
 /// The slot of a ticket.
 pub(crate) fn ticket_slot<A: Allocator + Copy>(

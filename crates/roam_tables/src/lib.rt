@@ -2,8 +2,9 @@
 //!
 //! [`Tables`] keeps what a list for each realm keeps, by the same contracts
 //! ([`roam_pending::Entries`]). The entries lie in one slab; one index finds each by its realm and
-//! ticket, and one by its realm and request key. Beside them each realm has three runs in order: when
-//! its waiting entries are due, when its done ones are, and the tickets of the done ones.
+//! ticket, one by its realm and request key, and one those that keep a round of a conversation, by its
+//! realm and the round's hash. Their hashes are keyed. Beside them each realm has three runs in order:
+//! when its waiting entries are due, when its done ones are, and the tickets of the done ones.
 //!
 //! Nothing here builds or reads a packet, looks at a clock or chooses a target.
 //!
@@ -19,6 +20,8 @@ mod growth;
 mod queue;
 mod realm_queues;
 mod realms;
+mod round_runs;
+mod rounds;
 mod slots;
 mod tables;
 

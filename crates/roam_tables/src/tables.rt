@@ -1,9 +1,11 @@
 //! The entries of all realms of a shard in one slab, with indexes and runs beside it.
 
-ghost use Rattle.std.specs.Prelude.{◌≡◌, ℕ, ◌<◌, ◌≤◌, ◌+◌, [], OnOk, IfNone, IfOk, IfSome, length};
-ghost use Rattle.roam_pending.specs.EntryList.{IsEntryList, IsNew, put};
+ghost use Rattle.std.specs.Prelude.{◌≡◌, ℕ, ◌<◌, ◌≤◌, ◌+◌, [], None, OnOk, IfNone, IfOk, IfSome, length, option_and_then};
+ghost use Rattle.roam_pending.specs.Conversations.{if_round, kept_state, last_round};
+ghost use Rattle.roam_pending.specs.EntryList.{IsEntryList, IsNew, find_ticket, put};
 ghost use Rattle.roam_pending.specs.Realms.{RealmBecomes};
-ghost use Rattle.roam_pending.specs.Shown.{shown};
+ghost use Rattle.roam_pending.specs.Shown.{seen, shown, shown_standing};
+ghost use Rattle.roam_tables.specs.Private.Rounds.{IsLastOf};
 ghost use Rattle.roam_tables.specs.Stands.{HasTicket, entries_in, room_in};
 
 use crate::due_mark::mark_of;
@@ -14,9 +16,12 @@ use crate::entry_index::{
 use crate::growth::grow;
 use crate::realm_queues::RealmQueues;
 use crate::realms::{add_at, add_empty, change_at, no_entries, runs_of, take_at};
+use crate::round_runs::{RoundIndex, RoundKey, RoundRun, run_of};
+use crate::rounds::{go, hashes_in, kept_hash, move_round};
 use crate::slots::{Slot, entry_in, exchange, put, send_again, take};
 use indexmap::IndexMap;
-use roam_pending::{Due, Entries, Entry, Key, Standing};
+use roam_hash::HashKey;
+use roam_pending::{Due, Entries, Entry, Key, Standing, is_round};
 use roam_wire::NoMemory;
 use slab::Slab;
 use std::alloc::Allocator;
@@ -29,37 +34,47 @@ use std::marker::Model;
 /// and its ticket find their places in runs of its realm near an end.
 #[derive(Drop)]
 pub struct Tables<A: Allocator> {
+    /// Whence the memory of rounds comes.
+    alloc: A,
+    /// What keys the hashes of all indexes.
+    key: HashKey,
     slots: Slab<Slot<A>, A>,
     /// The slot of each realm's ticket.
     by_ticket: EntryIndex<TicketKey, A>,
     /// The slot of each realm's request, by its key.
     by_client: EntryIndex<ClientKey, A>,
+    /// The tickets of the entries that keep a round, by its hash.
+    rounds: RoundIndex<A>,
     realms: Vec<RealmQueues<A>, A>,
 }
 
 impl<A: Allocator> Model for Tables<A> {
-    ghost use Rattle.roam_tables.specs.Stands.{RealmView, Sound, client_at, place, tables_view, ticket_at};
+    ghost use Rattle.roam_tables.specs.Private.Rounds.{kept_hash, run_at};
+    ghost use Rattle.roam_tables.specs.Stands.{AllSound, RealmView, client_at, place, tables_view, ticket_at};
     ghost use Rattle.std.specs.Prelude.{List};
 
     ghost Value = { List RealmView };
 
     ghost view = { λ t. tables_view t.slots t.by_ticket t.by_client t.realms.items };
 
-    ghost invariant = { λ t. Sound (place t.slots) (ticket_at t.by_ticket) (client_at t.by_client)
-        t.realms.items };
+    ghost invariant = { λ t. AllSound (place t.slots) (ticket_at t.by_ticket) (client_at t.by_client)
+        t.realms.items (kept_hash t.key) (run_at t.rounds) };
 }
 
 impl<A: Allocator + Copy> Tables<A> {
-    /// The tables of so many realms without entries.
-    pub fn new(alloc: A, realms: usize) -> Result<Tables<A>, NoMemory>
+    /// The tables of so many realms without entries, whose hashes have this key.
+    pub fn new(alloc: A, key: HashKey, realms: usize) -> Result<Tables<A>, NoMemory>
         ensures realms { IfOk result (λ t. length t ≡ realms) }
         ensures entries { IfOk result (λ t. (r : ℕ) → entries_in t r ≡ []) }
     {
         let runs = no_entries(alloc, realms)?;
         Ok(Tables {
+            alloc,
+            key,
             slots: Slab::new(alloc),
-            by_ticket: IndexMap::new(alloc),
-            by_client: IndexMap::new(alloc),
+            by_ticket: IndexMap::with_hasher(alloc, key),
+            by_client: IndexMap::with_hasher(alloc, key),
+            rounds: IndexMap::with_hasher(alloc, key),
             realms: runs,
         })
     }
@@ -68,6 +83,7 @@ impl<A: Allocator + Copy> Tables<A> {
     pub fn insert_reserved(&mut self, realm: u16, entry: Entry<A>)
         requires new { IsNew (shown entry) (entries_in self.old realm) }
         requires room { 0 < room_in self.old realm }
+        requires no_round { kept_state (shown_standing entry.standing) ≡ None }
         ensures entries { RealmBecomes realm
             (put (shown entry) (entries_in self.old realm))
             (entries_in self.old) (entries_in self.new) }
@@ -108,6 +124,47 @@ impl<A: Allocator + Copy> Tables<A> {
                     Some(due) => Some(due.ticket),
                 }
             }
+        }
+    }
+
+    /// The entry of a ticket, where it keeps a peer's round of this State.
+    fn round_of_ticket(&self, realm: u16, ticket: u64, peer: u16, state: &[u8]) -> Option<&Entry<A>>
+        ensures { seen result ≡ option_and_then (if_round peer state.now)
+            (find_ticket ticket (entries_in self.now realm)) }
+    {
+        let entry = self.find_ticket(realm, ticket)?;
+        if is_round(entry, peer, state) {
+            Some(entry)
+        } else {
+            None
+        }
+    }
+
+    /// Of the tickets of a run the last whose entry keeps a peer's round of this State: the run's last, unless
+    /// different rounds have one hash.
+    fn last_of(&self, realm: u16, run: &RoundRun<A>, peer: u16, state: &[u8]) -> Option<&Entry<A>>
+        ensures { IsLastOf (λ ticket. option_and_then (if_round peer state.now)
+            (find_ticket ticket (entries_in self.now realm))) run.now.tickets.items (seen result) }
+    {
+        let mut left = run.tickets.len();
+        while left > 0 {
+            left -= 1;
+            let ticket = run.tickets[left];
+            if let Some(entry) = self.round_of_ticket(realm, ticket, peer, state) {
+                return Some(entry);
+            }
+        }
+        None
+    }
+
+    /// At how many entries a look for a peer's round of a State looks, besides the index: those of its hash.
+    pub fn round_looks(&self, realm: u16, peer: u16, state: &[u8]) -> usize
+        ensures { result ≡ 0 → last_round peer state.now (entries_in self.now realm) ≡ None }
+    {
+        let hash = self.key.hash_of(peer, state);
+        match run_of(&self.rounds, RoundKey { realm, hash }) {
+            None => 0,
+            Some(run) => run.tickets.len(),
         }
     }
 
@@ -161,6 +218,14 @@ impl<A: Allocator + Copy> Entries<A> for Tables<A> {
         }
     }
 
+    fn find_round(&self, realm: u16, peer: u16, state: &[u8]) -> Option<&Entry<A>> {
+        let hash = self.key.hash_of(peer, state);
+        match run_of(&self.rounds, RoundKey { realm, hash }) {
+            None => None,
+            Some(run) => self.last_of(realm, run, peer, state),
+        }
+    }
+
     fn due_after(&self, realm: u16, now: u64, last: Option<Due>) -> Option<Due> {
         match runs_of(&self.realms, realm) {
             None => None,
@@ -194,6 +259,12 @@ impl<A: Allocator + Copy> Entries<A> for Tables<A> {
             None => None,
             Some(at) => {
                 let slot = take(&mut self.slots, at);
+                go(
+                    &mut self.rounds,
+                    realm,
+                    ticket,
+                    kept_hash(self.key, &slot.entry),
+                );
                 let client = ClientKey {
                     realm,
                     key: slot.entry.request.key,
@@ -208,9 +279,26 @@ impl<A: Allocator + Copy> Entries<A> for Tables<A> {
 
     fn exchange_standing(&mut self, realm: u16, ticket: u64, standing: &mut Standing<A>) {
         if let Some(at) = ticket_slot(&self.by_ticket, TicketKey { realm, ticket }) {
+            let (from, _to) = hashes_in(&self.slots, at, self.key, standing);
+            go(&mut self.rounds, realm, ticket, from);
             let marks = exchange(&mut self.slots, at, standing);
             change_at(&mut self.realms, realm, marks.0, marks.1);
         }
+    }
+
+    fn hold(
+        &mut self,
+        realm: u16,
+        ticket: u64,
+        standing: &mut Standing<A>,
+    ) -> Result<(), NoMemory> {
+        if let Some(at) = ticket_slot(&self.by_ticket, TicketKey { realm, ticket }) {
+            let hashes = hashes_in(&self.slots, at, self.key, standing);
+            move_round(self.alloc, &mut self.rounds, realm, ticket, hashes)?;
+            let marks = exchange(&mut self.slots, at, standing);
+            change_at(&mut self.realms, realm, marks.0, marks.1);
+        }
+        Ok(())
     }
 
     fn send_again(&mut self, realm: u16, ticket: u64, deadline: u64) {

@@ -22,6 +22,7 @@ mod notice;
 mod notices;
 mod reload_lines;
 mod said;
+mod said_lately;
 
 pub use counted::turn_of;
 pub use counters::{Counters, ThreadCounts};

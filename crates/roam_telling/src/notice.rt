@@ -5,7 +5,7 @@ ghost use Rattle.roam_telling.specs.Notices.{notices_in};
 
 use log::{Log, info, warn};
 use roam_conf::{Config, Endpoint, Link, Realm};
-use roam_notices::{RefusalCount, RefusedText};
+use roam_notices::{RefusalCount, RefusedText, TurnedAway, TurnedAwayText};
 use roam_port::LossCause;
 use roam_sockets::Reason;
 
@@ -28,6 +28,8 @@ pub enum Notice {
     Silent(u16, Link),
     /// It answers again.
     Answers(u16, Link),
+    /// It answers, and these replies are refused.
+    TurnedAway(TurnedAway),
     /// The server is asked to stop.
     Stopping,
     /// What serves a configuration can't be started now: that is tried again until it can.
@@ -103,6 +105,7 @@ pub fn tell<R: Log>(rt: &R, config: &Config, notice: Notice) {
             let LinkText { at, realm } = link_text(config, realm, link);
             info!(rt; "home server {} of {} answers again", at, realm)
         }
+        Notice::TurnedAway(replies) => warn!(rt; "{}", TurnedAwayText::new(config, replies)),
         Notice::Stopping => info!(rt; "asked to stop: no request is taken any more"),
         Notice::TriesAgain => warn!(rt; "what serves can't be started: tried again"),
         Notice::Serving(realms, peers, shards) => {

@@ -3,14 +3,19 @@
 ghost use Rattle.std.specs.Prelude.{◌≡◌, ◌≢◌, ℕ, ◌+◌, ◌-◌, ◌^◌, ◌<◌, ◌≤◌, [], ◌∷◌, ◌++◌, Some, None, IsTrue, IsFalse};
 ghost use Rattle.std.specs.Prelude.{IfSome, MatchOption, min, unwrap_or};
 ghost use Rattle.std.specs.Option.{ForSome};
+ghost use Rattle.std.specs.Prelude.{IsSomeAnd};
+ghost use Rattle.std.specs.List.{list_any};
+ghost use Rattle.roam_notices.specs.TurnedAway.{turned_away};
+ghost use Rattle.roam_telling.specs.SaidLately.{is_recent};
 ghost use Rattle.rtrb.specs.Ring.{sent};
 ghost use Rattle.roam_notices.specs.Repeats.{all_tallies, row_at, row_of};
 ghost use Rattle.roam_notices.specs.Tallies.{IsNoted, counted_in};
 ghost use Rattle.roam_telling.specs.Notices.{notices_in, notices_among};
 
 use crate::notice::{Notice, notices_in};
+use crate::said_lately::SaidLately;
 use roam_conf::Link;
-use roam_notices::{Origin, Repeats};
+use roam_notices::{Origin, Repeats, replies_turned_away};
 use roam_port::LossCause;
 use roam_wire::Refusal;
 use rtrb::{Consumer, Producer, RingBuffer};
@@ -35,6 +40,8 @@ pub struct Notices {
     is_waiting: bool,
     /// From when on it may be said again that lines of exchanges were dropped.
     next_dropped: u64,
+    /// Of which servers it was said that they answer and are refused.
+    said: SaidLately,
 }
 
 /// A queue of notices: the end of the thread that has them, and that of the one who tells them.
@@ -47,6 +54,7 @@ pub fn queue_of_notices(alloc: Global) -> Result<(Notices, Consumer<Notice>), Al
         dropped: 0,
         is_waiting: false,
         next_dropped: 0,
+        said: SaidLately::new(),
     };
     Ok((notices, told))
 }
@@ -105,6 +113,26 @@ impl Notices {
             self.put(Notice::Silent(realm, link))
         } else {
             self.put(Notice::Answers(realm, link))
+        }
+    }
+
+    /// Where a reply is refused by this that shows that its server is there, says so, once a minute of each server at
+    /// most. Never waits. Answers whether it will be told.
+    pub fn turned_away(&mut self, refusal: Refusal, origin: Origin, now: u64) -> bool
+        ensures put { IsTrue result → IsSomeAnd (turned_away refusal origin) (λ replies.
+            sent self.new.queue ≡ sent self.old.queue ++ Notice.TurnedAway replies ∷ []) }
+        ensures not { IsFalse result → sent self.new.queue ≡ sent self.old.queue }
+        ensures again { (replies : _) → turned_away refusal origin ≡ Some replies
+            → IsTrue (list_any (is_recent replies now) self.old.said.rows) → IsFalse result }
+        ensures repeats { self.new.repeats ≡ self.old.repeats }
+        ensures due { self.new.due ≡ self.old.due }
+        ensures dropped { self.new.dropped ≡ self.old.dropped }
+    {
+        match replies_turned_away(refusal, origin) {
+            Some(replies) => {
+                self.said.take_turn(&replies, now) && self.put(Notice::TurnedAway(replies))
+            }
+            None => false,
         }
     }
 

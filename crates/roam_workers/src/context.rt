@@ -183,6 +183,7 @@ impl<G: Gate, N: Opened> WorkerContext<'_, '_, G, N> {
             × (self.new.now ≡ self.old.now) }
     {
         self.notices.refused(refusal, origin, self.now);
+        let _is_told = self.notices.turned_away(refusal, origin, self.now);
     }
 
     /// Hands what was refused, rejected or replaced to the logger, once a second, and wakes it where there is

@@ -2,6 +2,10 @@
 //!
 //! Which entry is expected is read off the tickets, deadlines, keys and links written here.
 
+use crate::round_tests::{
+    a_look_costs_the_same_whatever_is_held, each_growth_of_a_held_challenge,
+    the_last_by_ticket_counts,
+};
 use roam_conf::{Endpoint, Link, Place};
 use roam_pending::{
     Done, Due, Entries, Entry, Key, Pending, Request, Requester, Standing, Waiting, send_again,
@@ -229,6 +233,7 @@ fn note_reply<A: Allocator + Copy, E: Entries<A>>(alloc: A, entries: &mut E) {
     let held = Standing::Done(Done {
         reply: Octets::from_vec(Vec::new(alloc)),
         deadline: 600,
+        from: None,
     });
     set_standing(alloc, entries, 3, 5, held);
 }
@@ -327,5 +332,8 @@ fn all_examples(rt: HostRuntime) -> Result<(), Fail> {
     each_growth_of_an_insert(&rt)?;
     each_growth_of_reserve(&rt)?;
     removal_makes_room_for_one_insert(&rt)?;
+    a_look_costs_the_same_whatever_is_held(&rt)?;
+    the_last_by_ticket_counts(&rt)?;
+    each_growth_of_a_held_challenge(&rt)?;
     Ok(())
 }

@@ -1,13 +1,16 @@
-use Rattle.std.proofs.Common.{◌∙◌, refl, sym}
+use Rattle.std.proofs.Common.{◌∙◌, None, refl, sym}
 use Rattle.roam_pending.specs.Realms.{with_standing}
 use Rattle.roam_pending.specs.Shown.{shown_standing}
-use Rattle.roam_tables.proofs.UpdateLemmas.{change_becomes, change_enters, change_keeps, change_leaves, change_nothing, change_room, change_sound, nothing_exchanged, one_exchanged}
+use Rattle.roam_tables.proofs.UpdateLemmas.{change_becomes, change_enters, change_keeps, change_leaves, change_nothing, change_room, change_rounds, change_sound, nothing_exchanged, one_exchanged, stood_just}
+use Rattle.roam_tables.specs.Private.Rounds.{IsJustIn, kept_hash, run_at}
+use Rattle.roam_tables.proofs.RoundLemmas.{no_hash}
+use Rattle.roam_tables.proofs.RoundRunLemmas.{gone_moved}
 use Rattle.roam_tables.proofs.tables.TablesEntries.exchange_standing.Goals as goal
 
 pub change_at-requires-clause-leaves : goal.change_at-requires-clause-leaves
 change_at-requires-clause-leaves g c =
     let i = c.self.inside in
-    change_leaves i.slots i.by_ticket i.by_client i.realms.items c.self.invariant c.args.self.now
+    change_leaves i.slots i.by_ticket i.by_client i.realms.items c.self.invariant.tables c.args.self.now
     c.self.view_is c.args.realm c.args.ticket c.in-Some.at
     (sym c.ticket_slot.ensures ∙ c.in-Some.is) (with_standing (shown_standing c.args.standing.now))
     (λ e. refl) (λ e. refl) c.exchange-marks.result.0 c.exchange-marks.result.1 c.exchange-marks.ensures.from
@@ -16,26 +19,54 @@ change_at-requires-clause-leaves g c =
 pub change_at-requires-clause-enters : goal.change_at-requires-clause-enters
 change_at-requires-clause-enters g c =
     let i = c.self.inside in
-    change_enters i.slots i.by_ticket i.by_client i.realms.items c.self.invariant c.args.self.now
+    change_enters i.slots i.by_ticket i.by_client i.realms.items c.self.invariant.tables c.args.self.now
     c.self.view_is c.args.realm c.args.ticket c.in-Some.at
     (sym c.ticket_slot.ensures ∙ c.in-Some.is) (with_standing (shown_standing c.args.standing.now))
     (λ e. refl) (λ e. refl) c.exchange-marks.result.0 c.exchange-marks.result.1 c.exchange-marks.ensures.from
     c.exchange-marks.ensures.to
 
+-- the ticket goes out of the run of what it kept
+just : (g : _) (c : goal.After-hashes_in g)
+    → IsJustIn c.args.realm c.args.ticket c.hashes_in.result.0 (run_at c.self.inside.rounds)
+just g c =
+    let i = c.self.inside in
+    stood_just i.slots i.by_ticket i.by_client i.realms.items c.self.invariant.tables c.args.self.now
+    c.self.view_is c.args.realm c.args.ticket c.in-Some.at
+    (sym c.ticket_slot.ensures ∙ c.in-Some.is) (kept_hash i.key) (run_at i.rounds)
+    c.hashes_in.result.0 c.self.invariant.rounds c.hashes_in.ensures.from
+
+pub go-requires-clause-rise : goal.go-requires-clause-rise
+go-requires-clause-rise g c = c.self.invariant.rounds.rise
+
+pub go-requires-clause-held : goal.go-requires-clause-held
+go-requires-clause-held g c = (just g c).there
+
 pub invariant_of-self : goal.invariant_of-self
 invariant_of-self g c =
     let i = c.self.inside in
-    change_sound i.slots i.by_ticket i.by_client i.realms.items c.self.invariant c.args.self.now
-    c.self.view_is c.args.realm c.args.ticket c.in-Some.at
-    (sym c.ticket_slot.ensures ∙ c.in-Some.is) (with_standing (shown_standing c.args.standing.now))
-    (λ e. refl) (λ e. refl) c.exchange-marks.result.0 c.exchange-marks.result.1 c.exchange-marks.ensures.from
-    c.exchange-marks.ensures.to c.exchange-marks.new.slots c.change_at.new.realms.items c.exchange-marks.ensures.puts
-    c.change_at.ensures
+    record {
+      tables = change_sound i.slots i.by_ticket i.by_client i.realms.items c.self.invariant.tables c.args.self.now
+          c.self.view_is c.args.realm c.args.ticket c.in-Some.at
+          (sym c.ticket_slot.ensures ∙ c.in-Some.is) (with_standing (shown_standing c.args.standing.now))
+          (λ e. refl) (λ e. refl) c.exchange-marks.result.0 c.exchange-marks.result.1 c.exchange-marks.ensures.from
+          c.exchange-marks.ensures.to c.exchange-marks.new.slots c.change_at.new.realms.items c.exchange-marks.ensures.puts
+          c.change_at.ensures;
+      rounds = change_rounds i.slots i.by_ticket i.by_client i.realms.items c.self.invariant.tables c.args.self.now
+          c.self.view_is c.args.realm c.args.ticket c.in-Some.at
+          (sym c.ticket_slot.ensures ∙ c.in-Some.is) (with_standing (shown_standing c.args.standing.now))
+          (λ e. refl) (λ e. refl) c.exchange-marks.result.0 c.exchange-marks.result.1 c.exchange-marks.ensures.from
+          c.exchange-marks.ensures.to c.exchange-marks.new.slots c.change_at.new.realms.items c.exchange-marks.ensures.puts
+          c.change_at.ensures
+          (kept_hash i.key) (run_at i.rounds) (run_at c.go.new.rounds) None c.self.invariant.rounds
+          (gone_moved c.args.realm c.args.ticket (run_at i.rounds) (run_at c.go.new.rounds)
+          c.hashes_in.result.0 c.self.invariant.rounds.rise (just g c) c.go.ensures)
+          (sym (no_hash i.key _ c.requires));
+    }
 
 pub returns-in-Some-clause-exchanged : goal.returns-in-Some-clause-exchanged
 returns-in-Some-clause-exchanged g c =
     let i = c.self.inside in
-    one_exchanged i.slots i.by_ticket i.by_client i.realms.items c.self.invariant c.args.self.now
+    one_exchanged i.slots i.by_ticket i.by_client i.realms.items c.self.invariant.tables c.args.self.now
     c.self.view_is c.args.realm c.args.ticket c.in-Some.at
     (sym c.ticket_slot.ensures ∙ c.in-Some.is) (shown_standing c.exchange-marks.new.standing)
     c.exchange-marks.ensures.exchanged
@@ -43,7 +74,7 @@ returns-in-Some-clause-exchanged g c =
 pub returns-in-Some-clause-entries : goal.returns-in-Some-clause-entries
 returns-in-Some-clause-entries g c =
     let i = c.self.inside in
-    change_becomes i.slots i.by_ticket i.by_client i.realms.items c.self.invariant c.args.self.now
+    change_becomes i.slots i.by_ticket i.by_client i.realms.items c.self.invariant.tables c.args.self.now
     c.self.view_is c.args.realm c.args.ticket c.in-Some.at
     (sym c.ticket_slot.ensures ∙ c.in-Some.is) (with_standing (shown_standing c.args.standing.now))
     (λ e. refl) (λ e. refl) c.exchange-marks.result.0 c.exchange-marks.result.1 c.exchange-marks.ensures.from
@@ -53,7 +84,7 @@ returns-in-Some-clause-entries g c =
 pub returns-in-Some-clause-room : goal.returns-in-Some-clause-room
 returns-in-Some-clause-room g c =
     let i = c.self.inside in
-    change_room i.slots i.by_ticket i.by_client i.realms.items c.self.invariant c.args.self.now
+    change_room i.slots i.by_ticket i.by_client i.realms.items c.self.invariant.tables c.args.self.now
     c.self.view_is c.args.realm c.args.ticket c.in-Some.at
     (sym c.ticket_slot.ensures ∙ c.in-Some.is) (with_standing (shown_standing c.args.standing.now))
     (λ e. refl) (λ e. refl) c.exchange-marks.result.0 c.exchange-marks.result.1 c.exchange-marks.ensures.from
@@ -63,7 +94,7 @@ returns-in-Some-clause-room g c =
 pub returns-in-Some-clause-keeps : goal.returns-in-Some-clause-keeps
 returns-in-Some-clause-keeps g c =
     let i = c.self.inside in
-    change_keeps i.slots i.by_ticket i.by_client i.realms.items c.self.invariant c.args.self.now
+    change_keeps i.slots i.by_ticket i.by_client i.realms.items c.self.invariant.tables c.args.self.now
     c.self.view_is c.args.realm c.args.ticket c.in-Some.at
     (sym c.ticket_slot.ensures ∙ c.in-Some.is) (with_standing (shown_standing c.args.standing.now))
     (λ e. refl) (λ e. refl) c.exchange-marks.result.0 c.exchange-marks.result.1 c.exchange-marks.ensures.from
@@ -73,13 +104,13 @@ returns-in-Some-clause-keeps g c =
 pub returns-in_default-clause-exchanged : goal.returns-in_default-clause-exchanged
 returns-in_default-clause-exchanged g c =
     let i = c.self.inside in
-    nothing_exchanged i.slots i.by_ticket i.by_client i.realms.items c.self.invariant c.args.self.now
+    nothing_exchanged i.slots i.by_ticket i.by_client i.realms.items c.self.invariant.tables c.args.self.now
     c.self.view_is c.args.realm c.args.ticket (shown_standing c.args.standing.now)
     (sym c.ticket_slot.ensures ∙ c.in_default.is)
 
 pub returns-in_default-clause-entries : goal.returns-in_default-clause-entries
 returns-in_default-clause-entries g c =
     let i = c.self.inside in
-    change_nothing i.slots i.by_ticket i.by_client i.realms.items c.self.invariant c.args.self.now
+    change_nothing i.slots i.by_ticket i.by_client i.realms.items c.self.invariant.tables c.args.self.now
     c.self.view_is c.args.realm c.args.ticket (with_standing (shown_standing c.args.standing.now))
     (sym c.ticket_slot.ensures ∙ c.in_default.is)

@@ -1,0 +1,186 @@
+//! Rounds of conversations in shared tables: which one is found, how many entries a look at it looks at, and the growths
+//! of a reply that is held refused in turn.
+//!
+//! Which entry is expected is read off the tickets, peers and States written here.
+
+use roam_conf::{Endpoint, Link, Place};
+use roam_hash::HashKey;
+use roam_pending::{Done, Entries, Entry, Key, Request, Requester, Standing, Waiting};
+use roam_tables::Tables;
+use roam_wire::{NoMemory, Octets};
+use std::alloc::Allocator;
+use std::process::Abort;
+use std::test::Fail;
+use test_allocator::Refusing;
+
+/// The realm of these tests.
+const REALM: u16 = 1;
+
+/// The State of a number: its two octets, the high one first, behind two others.
+fn state_of(number: u16) -> [u8; 4] {
+    let [high, low] = number.to_be_bytes();
+    [0xaa, 0xbb, high, low]
+}
+
+/// An Access-Challenge with the State of a number (RFC 2865, section 4.4): 26 octets.
+fn challenge<A: Allocator>(alloc: A, number: u16) -> Result<Octets<A>, NoMemory> {
+    let [a, b, c, d] = state_of(number);
+    let packet = [
+        11, 7, 0, 26, 0, 0, 0, 0, 0, 0, 0, 0, 0, 0, 0, 0, 0, 0, 0, 0, 24, 6, a, b, c, d,
+    ];
+    let octets = Vec::from_slice(alloc, &packet).map_err(|_| NoMemory)?;
+    Ok(Octets::from_vec(octets))
+}
+
+/// The key of a request: its port is the ticket's.
+fn key(ticket: u16) -> Key {
+    Key {
+        place: Place::Auth,
+        from: Endpoint {
+            ip: [192, 0, 2, 1],
+            port: ticket,
+        },
+        id: 7,
+    }
+}
+
+/// A request of a peer that waits.
+fn waiting<A: Allocator + Copy>(alloc: A, ticket: u16, peer: u16) -> Entry<A> {
+    Entry {
+        request: Request {
+            key: key(ticket),
+            requester: Requester::Peer(peer),
+            octets: Octets::from_vec(Vec::new(alloc)),
+            came: 0,
+        },
+        ticket: u64::from(ticket),
+        standing: Standing::Waiting(Waiting {
+            link: Link::Auth(0),
+            id: 7,
+            forwarded: Octets::from_vec(Vec::new(alloc)),
+            sends_left: 2,
+            deadline: 100,
+            signs: 0,
+        }),
+    }
+}
+
+/// Takes a request of a peer in, whose ticket and key no other has.
+fn admit<A: Allocator + Copy>(
+    alloc: A,
+    tables: &mut Tables<A>,
+    ticket: u16,
+    peer: u16,
+) -> Result<(), NoMemory> {
+    let entry = waiting(alloc, ticket, peer);
+    tables.add_realms(alloc, 2)?;
+    tables.reserve(REALM)?;
+    if tables.find_ticket(REALM, entry.ticket).is_none()
+        && tables.find_client(REALM, &entry.request.key).is_none()
+    {
+        tables.insert_reserved(REALM, entry);
+    }
+    Ok(())
+}
+
+/// Holds a Challenge with the State of a number for the request of a ticket.
+fn hold<A: Allocator + Copy>(
+    alloc: A,
+    tables: &mut Tables<A>,
+    ticket: u16,
+    number: u16,
+) -> Result<(), NoMemory> {
+    let mut standing = Standing::Done(Done {
+        reply: challenge(alloc, number)?,
+        deadline: 600,
+        from: Some(Link::Auth(1)),
+    });
+    tables.hold(REALM, u64::from(ticket), &mut standing)
+}
+
+/// The ticket of the round of a peer with the State of a number; 0 where there is none.
+fn found<A: Allocator + Copy>(tables: &Tables<A>, peer: u16, number: u16) -> u64 {
+    match tables.find_round(REALM, peer, &state_of(number)) {
+        None => 0,
+        Some(entry) => entry.ticket,
+    }
+}
+
+/// Tables in which so many requests of peer 3 wait, from ticket 1 on, and each is held a Challenge for, whose State is
+/// that of its ticket.
+fn held<A: Allocator + Copy>(alloc: A, count: u16) -> Result<Tables<A>, NoMemory> {
+    let mut tables = Tables::new(alloc, HashKey::new([7; 16]), 2)?;
+    for ticket in 1..count + 1 {
+        admit(alloc, &mut tables, ticket, 3)?;
+        hold(alloc, &mut tables, ticket, ticket)?;
+    }
+    Ok(tables)
+}
+
+/// How many entries are looked at for the State of a ticket, and which is found; for one that nobody has, and for another
+/// peer.
+fn looks<A: Allocator + Copy>(tables: &Tables<A>, ticket: u16) -> [u64; 4] {
+    [
+        tables.round_looks(REALM, 3, &state_of(ticket)) as u64,
+        found(tables, 3, ticket),
+        tables.round_looks(REALM, 3, &state_of(50_000)) as u64,
+        found(tables, 4, ticket),
+    ]
+}
+
+/// A look costs the same where one Challenge is held and where 4,096 are: one index, and one entry.
+pub fn a_look_costs_the_same_whatever_is_held<R: Abort + AllocGlobal>(rt: &R) -> Result<(), Fail> {
+    for count in [1, 4096] {
+        let tables = held(rt.alloc(), count)?;
+        let looked = looks(&tables, count);
+        assert!(rt; looked == [1, u64::from(count), 0, 0], "of {count}");
+    }
+    Ok(())
+}
+
+/// Three requests of peer 3 with one State, answered in the order of tickets 2, 3 and 1: which is found at first, once
+/// the one of ticket 3 went, once that of 2 did, and once that of 1 did.
+fn one_state<A: Allocator + Copy>(alloc: A) -> Result<[u64; 4], NoMemory> {
+    let mut tables = Tables::new(alloc, HashKey::new([0; 16]), 2)?;
+    for ticket in 1..4 {
+        admit(alloc, &mut tables, ticket, 3)?;
+    }
+    for ticket in [2, 3, 1] {
+        hold(alloc, &mut tables, ticket, 9)?;
+    }
+    let first = found(&tables, 3, 9);
+    let mut seen = [first, 0, 0, 0];
+    for (place, ticket) in [(1, 3), (2, 2), (3, 1)] {
+        tables.remove(REALM, ticket);
+        seen[place] = found(&tables, 3, 9);
+    }
+    Ok(seen)
+}
+
+pub fn the_last_by_ticket_counts<R: Abort + AllocGlobal>(rt: &R) -> Result<(), Fail> {
+    let seen = one_state(rt.alloc())?;
+    assert!(rt; seen == [3, 2, 1, 0], "found");
+    Ok(())
+}
+
+/// Where a growth is refused the request waits as before, and no round is found; then it is held.
+pub fn each_growth_of_a_held_challenge<R: Abort + AllocGlobal>(rt: &R) -> Result<(), Fail> {
+    let refusing = Refusing::new(rt.alloc());
+    for n in refusing.each_growth() {
+        let mut tables = Tables::new(&refusing, HashKey::new([0; 16]), 2)?;
+        admit(&refusing, &mut tables, 1, 3)?;
+        refusing.refuse_nth(n);
+        let result = hold(&refusing, &mut tables, 1, 5);
+        let was_refused = refusing.was_refused();
+        assert!(rt; result.is_err() == was_refused, "at growth {n}");
+        let wanted = if was_refused { 0 } else { 1 };
+        let seen = found(&tables, 3, 5);
+        assert!(rt; seen == wanted, "found at growth {n}");
+        if was_refused {
+            hold(&refusing, &mut tables, 1, 5)?;
+        }
+        let seen = found(&tables, 3, 5);
+        assert!(rt; seen == 1, "found behind growth {n}");
+    }
+    Ok(())
+}
