@@ -50,9 +50,9 @@ pub record AreDetailsIn (request : Result Packet Refusal) (details : Details) : 
 pub record AreTold (request : Result Packet Refusal) (word : RequestWord) (user station : Option Value)
     (details : Details) : Type 0 where
   pub asked : word ≡ asked_in request
-  pub user : octets_if user ≡ told_in USER_NAME request
-  pub station : octets_if station ≡ told_in 31 request
-  pub details : AreDetailsIn request details
+  pub user_name : octets_if user ≡ told_in USER_NAME request
+  pub calling : octets_if station ≡ told_in 31 request
+  pub further : AreDetailsIn request details
 
 -- ## What a line has of a request
 -- By its code what was asked; of its attributes the first User-Name, Calling-Station-Id, Operator-Name, NAS-Identifier,

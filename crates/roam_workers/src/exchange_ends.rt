@@ -2,6 +2,7 @@
 
 ghost use Rattle.std.specs.Prelude.{◌≡◌};
 
+use crate::codes::is_accounting_request;
 use crate::context::WorkerContext;
 use roam_book::Answer;
 use roam_counters::{CountedEvent, CountedTurn, Process};
@@ -9,7 +10,7 @@ use roam_hub::{Gate, Opened, Past, Stood};
 use roam_notices::{Exchange, ExchangeEnd};
 use roam_route::Datagram;
 use roam_telling::{End, end_of, exchange_of, local_reject_of, local_response_of, nak_of};
-use roam_wire::code::{ACCESS_REJECT, ACCOUNTING_REQUEST};
+use roam_wire::code::ACCESS_REJECT;
 use std::alloc::Global;
 
 impl<G: Gate, N: Opened> WorkerContext<'_, '_, G, N> {
@@ -50,7 +51,7 @@ impl<G: Gate, N: Opened> WorkerContext<'_, '_, G, N> {
                 let exchange = local_reject_of(self.shared.config, datagram);
                 self.exchanges.reject(&exchange, self.now);
             }
-        } else if datagram.octets.as_slice().first() == Some(&ACCOUNTING_REQUEST) {
+        } else if is_accounting_request(datagram.octets.as_slice()) {
             self.tell_local_response(datagram);
         }
     }

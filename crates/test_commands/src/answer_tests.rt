@@ -8,7 +8,6 @@ use std::io;
 use std::io::{ErrorKind, Write};
 use std::process::Abort;
 use std::sync::Wait;
-use std::test::Fail;
 use std::time::Clock;
 
 /// Octets, and what is shown of them.
@@ -24,17 +23,14 @@ const SHOWN: &[(&[u8], &str)] = &[
     (b"\x9b31m\xc3\xa9", "\\x9b31m\\xc3\\xa9"),
 ];
 
-pub(crate) fn nothing_that_is_shown_steers_a_terminal<R: Abort + AllocGlobal>(
-    rt: &R,
-) -> Result<(), Fail> {
+pub(crate) fn nothing_that_is_shown_steers_a_terminal<R: Abort + AllocGlobal>(rt: &R) {
     for (octets, wanted) in SHOWN {
-        let shown = shown(rt.alloc(), octets)?;
+        let shown = shown(rt.alloc(), octets).ok().expect(rt, "memory");
         assert!(rt;
             shown.as_slice() == wanted.as_bytes(),
             "{octets:?} is shown as {shown:?}"
         );
     }
-    Ok(())
 }
 
 /// Answers, and whether each is whole (RFC 9110, section 8.6).
@@ -92,8 +88,10 @@ impl Write for Reluctant {
 
 pub(crate) fn a_log_writes_each_line_once_where_writes_fail<R: Abort + AllocGlobal + Wait + Clock>(
     rt: &R,
-) -> Result<(), Fail> {
-    let outlet = Outlet::new(rt.alloc(), LogReader::Journal)?;
+) {
+    let outlet = Outlet::new(rt.alloc(), LogReader::Journal)
+        .ok()
+        .expect(rt, "memory");
     let mut writer = Reluctant {
         taken: Vec::new(rt.alloc()),
         refuses: false,
@@ -101,12 +99,12 @@ pub(crate) fn a_log_writes_each_line_once_where_writes_fail<R: Abort + AllocGlob
     outlet.tell(rt, Level::Info, &"first");
     outlet.tell(rt, Level::Warn, &"second\nthird");
     outlet.end(rt);
-    write_on(rt, &outlet, &mut writer, Outlet::room(rt.alloc())?);
+    let room = Outlet::room(rt.alloc()).ok().expect(rt, "memory");
+    write_on(rt, &outlet, &mut writer, room);
     assert!(rt;
         writer.taken.as_slice() == b"<6>INFO first\n<4>WARN second\n<4>WARN third\n".as_slice()
     );
     assert!(rt; outlet.left(rt) == 0);
-    Ok(())
 }
 
 pub(crate) fn a_control_socket_that_cannot_be_had_is_told<R: Abort + AllocGlobal>(rt: &R) {

@@ -1,14 +1,12 @@
 //! What is printed of configurations with all their defaults.
 
-use crate::tests::{CONFIGURATION, expect, file};
+use crate::tests::{CONFIGURATION, expect, file, remove};
 use log::Log;
-use std::fs;
 use std::net::Net;
 use std::process::Abort;
 use std::random::RandomSource;
 use std::rt::{Env, Files};
 use std::sync::Wait;
-use std::test::Fail;
 use std::thread::Threads;
 use std::time::Clock;
 
@@ -23,6 +21,9 @@ status_server = false
 spread = false
 log_exchanges = \"all\"
 log_station = \"clear\"
+reject = []
+well_formed = false
+answer_unnamed = false
 
 [[peer]]
 name = \"nas1\"
@@ -32,10 +33,18 @@ coa = \"192.0.2.1:3799\"
 nas_ip = \"192.0.2.1\"
 nas_id = \"nas1\"
 require_seal = true
+limit_proxy_state = false
+ask_cui = false
+request_without = []
+reply_without = []
 
 [[realm]]
 name = \"a.example\"
 also = []
+loop_prevention = false
+accounting = \"forward\"
+request_without = []
+reply_without = []
 out = \"127.0.0.1:2000\"
 reverse = \"127.0.0.1:3000\"
 tries = 2
@@ -67,12 +76,20 @@ metrics = \"127.0.0.1:9812\"
 control = \"/run/a \\\"b\\\\c\"
 log_exchanges = \"final\"
 log_station = \"hmac\"
+reject = [\"*.Invalid\", \"guests.b.example\"]
+well_formed = true
+answer_unnamed = true
 
 [[peer]]
 name = \"nas-1_a.b\"
 ip = \"255.255.255.255\"
 secret = \"\\u0000\\u0009\\u000a\\u001f\\u007f\\u0080\\u009f\u{a0}\u{e9}\u{20ac} # '\\\"\\\\u\"
 require_seal = false
+limit_proxy_state = true
+operator_name = \"a.example\"
+ask_cui = true
+request_without = [\"64\", \"26.9\", \"26.311.7\"]
+reply_without = []
 
 [[peer]]
 name = \"nas2\"
@@ -82,10 +99,20 @@ coa = \"192.0.2.2:65535\"
 nas_ip = \"192.0.2.2\"
 nas_id = \"\\u001b[31m\"
 require_seal = true
+limit_proxy_state = false
+ask_cui = false
+request_without = []
+reply_without = [\"18\"]
 
 [[realm]]
 name = \"a.example\"
 also = [\"*\", \"*.Example\", \"b.example\"]
+peers = [\"nas2\", \"nas-1_a.b\"]
+loop_prevention = true
+accounting = \"answer\"
+request_without = [\"126\"]
+reply_without = [\"26.24757.1\", \"64\"]
+share = 4096
 out = \"127.0.0.1:2000\"
 tries = 10
 wait = 60000
@@ -103,18 +130,16 @@ require_seal = false
 
 [[realm.server]]
 auth = \"198.51.100.2:1\"
-acct = \"198.51.100.2:2\"
 secret = \"h2\"
 require_seal = true
 ";
 
 pub(crate) fn a_configuration_is_stated_with_its_defaults<
     R: Files + Env + AllocGlobal + Threads + Wait + Clock + Net + RandomSource + Log + Sync + Abort,
->(rt: &R, process: u32) -> Result<(), Fail> {
+>(rt: &R, process: u32) {
     for (text, stated) in [(CONFIGURATION, STATED), (STATED, STATED), (FULL, FULL)] {
-        let path = file(rt, process, "stated.conf", text.as_bytes())?;
+        let path = file(rt, process, "stated.conf", text.as_bytes());
         expect(rt, &["check", "--all", path.as_str()], 0, stated, "");
-        fs::remove_file(rt, path.as_str())?;
+        remove(rt, path.as_str());
     }
-    Ok(())
 }

@@ -11,7 +11,6 @@ use std::process::Abort;
 use std::random::RandomSource;
 use std::rt::{Env, Files};
 use std::sync::Wait;
-use std::test::Fail;
 use std::thread::Threads;
 use std::time::Clock;
 use std::{env, fs, io};
@@ -164,13 +163,13 @@ const ADVICE: &[(u32, &str)] = &[
 ];
 
 /// The lines of a diagnosis of the file of this path.
-fn lines_of<R: AllocGlobal>(rt: &R, path: &str, lines: &[(u32, &str)]) -> Result<String, Fail> {
+fn lines_of<R: AllocGlobal + Abort>(rt: &R, path: &str, lines: &[(u32, &str)]) -> String {
     let mut text = String::new(rt.alloc());
     for (number, words) in lines {
-        let line = format!(in rt.alloc(); "{path}:{number}: {words}\n")?;
-        text.push_str(line.as_str())?;
+        let line = format!(in rt.alloc(); "{path}:{number}: {words}\n").expect(rt, "memory");
+        text.push_str(line.as_str()).expect(rt, "memory");
     }
-    Ok(text)
+    text
 }
 
 /// A writer that takes all, and refuses to hand it on.
@@ -188,17 +187,22 @@ impl Write for Stuck {
 }
 
 /// Writes a file for this test alone, and answers its path.
-pub(crate) fn file<R: Files + Env + AllocGlobal>(
+pub(crate) fn file<R: Files + Env + AllocGlobal + Abort>(
     rt: &R,
     process: u32,
     name: &str,
     contents: &[u8],
-) -> Result<String, Fail> {
-    let folder = env::temp_dir(rt)?;
+) -> String {
+    let folder = env::temp_dir(rt).expect(rt, "a folder");
     let folder = folder.as_str();
-    let path = format!(in rt.alloc(); "{folder}/roam-{process}-{name}")?;
-    fs::write(rt, path.as_str(), contents)?;
-    Ok(path)
+    let path = format!(in rt.alloc(); "{folder}/roam-{process}-{name}").expect(rt, "memory");
+    fs::write(rt, path.as_str(), contents).expect(rt, "a file");
+    path
+}
+
+/// Removes such a file.
+pub(crate) fn remove<R: Files + Abort>(rt: &R, path: &str) {
+    fs::remove_file(rt, path).expect(rt, "a file that goes");
 }
 
 /// The program ends so: with this status, after it printed this, and this fault.
@@ -221,16 +225,15 @@ pub(crate) fn expect<
 
 pub(crate) fn where_nobody_listens_there_is_no_answer<
     R: Files + Env + AllocGlobal + Threads + Wait + Clock + Net + RandomSource + Log + Sync + Abort,
->(rt: &R, process: u32) -> Result<(), Fail> {
-    let path = file(rt, process, "no-socket", b"")?;
+>(rt: &R, process: u32) {
+    let path = file(rt, process, "no-socket", b"");
     for path in ["/nowhere/control", path.as_str()] {
-        let told = format!(in rt.alloc(); "roam: {path}: no answer\n")?;
+        let told = format!(in rt.alloc(); "roam: {path}: no answer\n").expect(rt, "memory");
         for order in ["status", "metrics", "stop", "reload"] {
             expect(rt, &["ctl", path, order], 1, "", told.as_str());
         }
     }
-    fs::remove_file(rt, path.as_str())?;
-    Ok(())
+    remove(rt, path.as_str());
 }
 
 /// One realm more.
@@ -250,9 +253,9 @@ server = [{ auth = \"198.51.100.1:1812\", acct = \"198.51.100.1:1813\", secret =
 /// What a comparison of two texts prints.
 fn expect_comparison<
     R: Files + Env + AllocGlobal + Threads + Wait + Clock + Net + RandomSource + Log + Sync + Abort,
->(rt: &R, process: u32, old: &str, new: &str, status: u8, printed: &str) -> Result<(), Fail> {
-    let old = file(rt, process, "old.conf", old.as_bytes())?;
-    let new = file(rt, process, "new.conf", new.as_bytes())?;
+>(rt: &R, process: u32, old: &str, new: &str, status: u8, printed: &str) {
+    let old = file(rt, process, "old.conf", old.as_bytes());
+    let new = file(rt, process, "new.conf", new.as_bytes());
     let told = match status {
         0 => String::new(rt.alloc()),
         _ => format!(in rt.alloc(); "roam: {}: may not follow\n", new.as_str())?,
@@ -264,29 +267,29 @@ fn expect_comparison<
         printed,
         told.as_str(),
     );
-    fs::remove_file(rt, old.as_str())?;
-    fs::remove_file(rt, new.as_str())?;
-    Ok(())
+    remove(rt, old.as_str());
+    remove(rt, new.as_str());
 }
 
 pub(crate) fn two_configurations_are_compared<
     R: Files + Env + AllocGlobal + Threads + Wait + Clock + Net + RandomSource + Log + Sync + Abort,
->(rt: &R, process: u32) -> Result<(), Fail> {
+>(rt: &R, process: u32) {
     let all =
         "realm a.example: carried over\nrealm b.example: carried over\nrealm c.example: carried over\n";
-    let more = format!(in rt.alloc(); "{LARGER}{FOURTH}")?;
-    let added = format!(in rt.alloc(); "may follow\n{all}realm d.example: added\n")?;
-    expect_comparison(rt, process, LARGER, more.as_str(), 0, added.as_str())?;
+    let more = format!(in rt.alloc(); "{LARGER}{FOURTH}").expect(rt, "memory");
+    let added = format!(in rt.alloc(); "may follow\n{all}realm d.example: added\n").expect(
+        rt, "memory",
+    );
+    expect_comparison(rt, process, LARGER, more.as_str(), 0, added.as_str());
     let removed = "may not follow: fewer realms\n";
-    expect_comparison(rt, process, more.as_str(), LARGER, 1, removed)?;
-    Ok(())
+    expect_comparison(rt, process, more.as_str(), LARGER, 1, removed);
 }
 
 pub(crate) fn a_configuration_is_counted<
     R: Files + Env + AllocGlobal + Threads + Wait + Clock + Net + RandomSource + Log + Sync + Abort,
->(rt: &R, process: u32) -> Result<(), Fail> {
-    let least = file(rt, process, "least.conf", CONFIGURATION.as_bytes())?;
-    let advice = lines_of(rt, least.as_str(), LEAST_ADVICE)?;
+>(rt: &R, process: u32) {
+    let least = file(rt, process, "least.conf", CONFIGURATION.as_bytes());
+    let advice = lines_of(rt, least.as_str(), LEAST_ADVICE);
     expect(
         rt,
         &["check", least.as_str()],
@@ -294,8 +297,8 @@ pub(crate) fn a_configuration_is_counted<
         "ok realms 1 peers 1 shards 1\n",
         advice.as_str(),
     );
-    let larger = file(rt, process, "larger.conf", LARGER.as_bytes())?;
-    let advice = lines_of(rt, larger.as_str(), ADVICE)?;
+    let larger = file(rt, process, "larger.conf", LARGER.as_bytes());
+    let advice = lines_of(rt, larger.as_str(), ADVICE);
     expect(
         rt,
         &["check", larger.as_str()],
@@ -303,9 +306,8 @@ pub(crate) fn a_configuration_is_counted<
         "ok realms 3 peers 2 shards 5\n",
         advice.as_str(),
     );
-    fs::remove_file(rt, least.as_str())?;
-    fs::remove_file(rt, larger.as_str())?;
-    Ok(())
+    remove(rt, least.as_str());
+    remove(rt, larger.as_str());
 }
 
 /// A line of the configuration, what stands in its place, the fault, and what is told behind the path of
@@ -357,35 +359,36 @@ const REFUSED: &[(&str, &str, &str, &str)] = &[
 ];
 
 /// The text with the first `old` in it replaced.
-fn changed<R: AllocGlobal>(rt: &R, text: &str, old: &str, new: &str) -> Result<String, Fail> {
-    let (front, back) = text.split_once(old).ok_or("the text isn't there")?;
-    Ok(format!(in rt.alloc(); "{front}{new}{back}")?)
+fn changed<R: AllocGlobal + Abort>(rt: &R, text: &str, old: &str, new: &str) -> String {
+    let (front, back) = text.split_once(old).expect(rt, "the text");
+    format!(in rt.alloc(); "{front}{new}{back}").expect(rt, "memory")
 }
 
 pub(crate) fn a_configuration_is_refused_by_name<
     R: Files + Env + AllocGlobal + Threads + Wait + Clock + Net + RandomSource + Log + Sync + Abort,
->(rt: &R, process: u32) -> Result<(), Fail> {
+>(rt: &R, process: u32) {
     for (old, new, name, place) in REFUSED {
-        let text = changed(rt, CONFIGURATION, old, new)?;
-        let path = file(rt, process, "refused.conf", text.as_bytes())?;
+        let text = changed(rt, CONFIGURATION, old, new);
+        let path = file(rt, process, "refused.conf", text.as_bytes());
         let path = path.as_str();
-        let told = format!(in rt.alloc(); "roam: {path}: {name}\n{path}{place}\n")?;
+        let told = format!(in rt.alloc(); "roam: {path}: {name}\n{path}{place}\n").expect(
+            rt, "memory",
+        );
         expect(rt, &["check", path], 1, "", told.as_str());
         expect(rt, &["check", "--all", path], 1, "", told.as_str());
         // Its own text is no script, and that isn't looked at.
         expect(rt, &["sim", path, path], 1, "", told.as_str());
         expect(rt, &["serve", path], 1, "", told.as_str());
         expect(rt, &["serve", path, "86400000"], 1, "", told.as_str());
-        fs::remove_file(rt, path)?;
+        remove(rt, path);
     }
-    Ok(())
 }
 
 /// A file can't be read, wherever its path stands. All files are read before a configuration is judged.
 fn expect_unreadable<
     R: Files + AllocGlobal + Threads + Wait + Clock + Net + RandomSource + Log + Sync + Abort,
->(rt: &R, accepted: &str, refused: &str, path: &str, why: &str) -> Result<(), Fail> {
-    let told = format!(in rt.alloc(); "roam: {path}{why}\n")?;
+>(rt: &R, accepted: &str, refused: &str, path: &str, why: &str) {
+    let told = format!(in rt.alloc(); "roam: {path}{why}\n").expect(rt, "memory");
     expect(rt, &["check", path], 1, "", told.as_str());
     expect(rt, &["check", "--all", path], 1, "", told.as_str());
     expect(rt, &["check", path, "/nowhere"], 1, "", told.as_str());
@@ -395,16 +398,15 @@ fn expect_unreadable<
     expect(rt, &["sim", path, "/nowhere"], 1, "", told.as_str());
     expect(rt, &["sim", accepted, path], 1, "", told.as_str());
     expect(rt, &["sim", refused, path], 1, "", told.as_str());
-    Ok(())
 }
 
 pub(crate) fn what_is_no_text_is_unreadable<
     R: Files + Env + AllocGlobal + Threads + Wait + Clock + Net + RandomSource + Log + Sync + Abort,
->(rt: &R, process: u32) -> Result<(), Fail> {
-    let accepted = file(rt, process, "good.conf", CONFIGURATION.as_bytes())?;
-    let refused = file(rt, process, "bad.conf", b"shards = \n")?;
-    let binary = file(rt, process, "binary", b"#\n\n#\xff\n\xff")?;
-    let folder = env::temp_dir(rt)?;
+>(rt: &R, process: u32) {
+    let accepted = file(rt, process, "good.conf", CONFIGURATION.as_bytes());
+    let refused = file(rt, process, "bad.conf", b"shards = \n");
+    let binary = file(rt, process, "binary", b"#\n\n#\xff\n\xff");
+    let folder = env::temp_dir(rt).expect(rt, "a folder");
     for (path, why) in [
         (binary.as_str(), ":3: isn't UTF-8"),
         (folder.as_str(), ": Is a directory"),
@@ -412,12 +414,11 @@ pub(crate) fn what_is_no_text_is_unreadable<
         ("/dev/null/file", ": Not a directory"),
         ("", ": No such file or directory"),
     ] {
-        expect_unreadable(rt, accepted.as_str(), refused.as_str(), path, why)?;
+        expect_unreadable(rt, accepted.as_str(), refused.as_str(), path, why);
     }
-    fs::remove_file(rt, accepted.as_str())?;
-    fs::remove_file(rt, refused.as_str())?;
-    fs::remove_file(rt, binary.as_str())?;
-    Ok(())
+    remove(rt, accepted.as_str());
+    remove(rt, refused.as_str());
+    remove(rt, binary.as_str());
 }
 
 /// What is wrong with a line of a script, and the line.
@@ -442,43 +443,43 @@ const FAULTY: &[(&str, &str)] = &[
 /// A script is refused for its fifth line, which follows an exchange.
 fn expect_faulty<
     R: Files + Env + AllocGlobal + Threads + Wait + Clock + Net + RandomSource + Log + Sync + Abort,
->(rt: &R, process: u32, configuration: &str, line: &str) -> Result<(), Fail> {
-    let text = format!(in rt.alloc(); "{EXCHANGE}\n{line}\nT 0 0\n{line}\n")?;
-    let script = file(rt, process, "faulty.script", text.as_bytes())?;
+>(rt: &R, process: u32, configuration: &str, line: &str) {
+    let text = format!(in rt.alloc(); "{EXCHANGE}\n{line}\nT 0 0\n{line}\n").expect(rt, "memory");
+    let script = file(rt, process, "faulty.script", text.as_bytes());
     let script = script.as_str();
-    let told = format!(in rt.alloc(); "roam: {script}: line 5\n")?;
+    let told = format!(in rt.alloc(); "roam: {script}: line 5\n").expect(rt, "memory");
     expect(rt, &["sim", configuration, script], 1, "", told.as_str());
-    fs::remove_file(rt, script)?;
-    Ok(())
+    remove(rt, script);
 }
 
 pub(crate) fn a_faulty_line_is_refused_by_its_number<
     R: Files + Env + AllocGlobal + Threads + Wait + Clock + Net + RandomSource + Log + Sync + Abort,
->(rt: &R, process: u32) -> Result<(), Fail> {
-    let configuration = file(rt, process, "faulty.conf", CONFIGURATION.as_bytes())?;
+>(rt: &R, process: u32) {
+    let configuration = file(rt, process, "faulty.conf", CONFIGURATION.as_bytes());
     for (_, line) in FAULTY {
-        expect_faulty(rt, process, configuration.as_str(), line)?;
+        expect_faulty(rt, process, configuration.as_str(), line);
     }
-    let mut too_long = String::from_str(rt.alloc(), "A 0 acct 192.0.2.1:5000 ")?;
+    let mut too_long = String::from_str(rt.alloc(), "A 0 acct 192.0.2.1:5000 ").expect(
+        rt, "memory",
+    );
     for _ in 0..65536u32 {
-        too_long.push_str("0a")?;
+        too_long.push_str("0a").expect(rt, "memory");
     }
-    expect_faulty(rt, process, configuration.as_str(), too_long.as_str())?;
-    fs::remove_file(rt, configuration.as_str())?;
-    Ok(())
+    expect_faulty(rt, process, configuration.as_str(), too_long.as_str());
+    remove(rt, configuration.as_str());
 }
 
 pub(crate) fn a_script_is_run<
     R: Files + Env + AllocGlobal + Threads + Wait + Clock + Net + RandomSource + Log + Sync + Abort,
->(rt: &R, process: u32) -> Result<(), Fail> {
-    let configuration = file(rt, process, "run.conf", CONFIGURATION.as_bytes())?;
+>(rt: &R, process: u32) {
+    let configuration = file(rt, process, "run.conf", CONFIGURATION.as_bytes());
     for (text, printed) in [
         (EXCHANGE, EXCHANGED),
         ("", ""),
         ("# T\n\n", ""),
         ("T 0 0", ""),
     ] {
-        let script = file(rt, process, "run.script", text.as_bytes())?;
+        let script = file(rt, process, "run.script", text.as_bytes());
         expect(
             rt,
             &["sim", configuration.as_str(), script.as_str()],
@@ -486,10 +487,9 @@ pub(crate) fn a_script_is_run<
             printed,
             "",
         );
-        fs::remove_file(rt, script.as_str())?;
+        remove(rt, script.as_str());
     }
-    fs::remove_file(rt, configuration.as_str())?;
-    Ok(())
+    remove(rt, configuration.as_str());
 }
 
 /// How much room the output has, and the status: where all that is printed has room, it is 0, and this is told.
@@ -526,17 +526,16 @@ fn expect_refused<
 
 pub(crate) fn a_refused_write_is_told<
     R: Files + Env + AllocGlobal + Threads + Wait + Clock + Net + RandomSource + Log + Sync + Abort,
->(rt: &R, process: u32) -> Result<(), Fail> {
-    let configuration = file(rt, process, "write.conf", CONFIGURATION.as_bytes())?;
-    let script = file(rt, process, "write.script", EXCHANGE.as_bytes())?;
+>(rt: &R, process: u32) {
+    let configuration = file(rt, process, "write.conf", CONFIGURATION.as_bytes());
+    let script = file(rt, process, "write.script", EXCHANGE.as_bytes());
     let (path, script_path) = (configuration.as_str(), script.as_str());
-    let advice = lines_of(rt, path, LEAST_ADVICE)?;
+    let advice = lines_of(rt, path, LEAST_ADVICE);
     expect_refused(rt, &["check", path], 29, advice.as_str());
     expect_refused(rt, &["check", "--all", path], STATED.len(), "");
     expect_refused(rt, &["sim", path, script_path], EXCHANGED.len(), "");
-    fs::remove_file(rt, configuration.as_str())?;
-    fs::remove_file(rt, script.as_str())?;
-    Ok(())
+    remove(rt, configuration.as_str());
+    remove(rt, script.as_str());
 }
 
 /// The status where nothing can be told.

@@ -7,7 +7,6 @@ use std::process::Abort;
 use std::random::RandomSource;
 use std::rt::{Env, Files};
 use std::sync::Wait;
-use std::test::Fail;
 use std::thread::Threads;
 use std::time::Clock;
 
@@ -87,16 +86,17 @@ const UNKNOWN_WORDS: &[&[&str]] = &[
 
 pub(crate) fn other_words_give_the_usage<
     R: Files + Env + AllocGlobal + Threads + Wait + Clock + Net + RandomSource + Log + Sync + Abort,
->(rt: &R) -> Result<(), Fail> {
+>(rt: &R) {
     for words in NO_COMMANDS {
         expect(rt, words, 2, "", USAGE);
     }
     for words in UNKNOWN_WORDS {
-        let word = words.first().ok_or("there is no word")?;
-        let told = format!(in rt.alloc(); "roam: {word}: no such command\n{USAGE}")?;
+        let word = words.first().expect(rt, "a word");
+        let told = format!(in rt.alloc(); "roam: {word}: no such command\n{USAGE}").expect(
+            rt, "memory",
+        );
         expect(rt, words, 2, "", told.as_str());
     }
-    Ok(())
 }
 
 pub(crate) fn usage_and_version_are_printed<
