@@ -1,6 +1,6 @@
 -- What is returned of a reply's attributes that pass, one by one.
 use Rattle.std.proofs.Common.{◌≡◌, ◌≢◌, ℕ, ◌+◌, ◌≤◌, Bool, true, false, inl, inr, Option, List, [], ◌∷◌, ◌++◌, length, filter, subst, refl, sym, ap, ◌∙◌, arith, append_assoc, append-nil, length-append}
-use Rattle.std.specs.Prelude.{◌==◌, ◌&&◌, ◌||◌, not, if◌then◌else◌, IsSomeAnd}
+use Rattle.std.specs.Prelude.{◌==◌, ◌&&◌, if◌then◌else◌, IsSomeAnd}
 use Rattle.std.specs.List.{AllByRecursion, list_any}
 use Rattle.std.proofs.lemmas.Bool.{cases_Bool}
 use Rattle.std.proofs.lemmas.Bool.Decides.{nat_tests}
@@ -118,12 +118,14 @@ carried_text-cons access removed keep a all =
     ]
 
 -- the octets counted so far, with those of what is returned of the attributes that are left, are all
-pub record IsCountedBack (access : Bool) (removed : List RemovedAttribute) (keep : Attribute → Bool) (all left : List Attribute) (size : ℕ)
+pub record IsCountedBack (access : Bool) (removed : List RemovedAttribute) (keep : Attribute →
+    Bool) (all left : List Attribute) (size : ℕ)
     : Type 0 where
   pub total : size + length (carried_text access removed keep left) ≡ length (carried_text access removed keep all)
   pub attributes : AllByRecursion IsAttribute left
 
-pub IsCountedBack-more : (access : Bool) (removed : List RemovedAttribute) (keep : Attribute → Bool) (all left rest : List Attribute)
+pub IsCountedBack-more : (access : Bool) (removed : List RemovedAttribute) (keep : Attribute →
+    Bool) (all left rest : List Attribute)
     (a : Attribute) (size n : ℕ) → left ≡ a ∷ rest → n ≡ length (attributes_text (own_piece access removed keep a)) →
     IsCountedBack access removed keep all left size → IsCountedBack access removed keep all rest (size + n)
 IsCountedBack-more access removed keep all left rest a size n split n-is h =
@@ -139,7 +141,8 @@ IsCountedBack-more access removed keep all left rest a size n split n-is h =
       attributes = (subst (AllByRecursion IsAttribute) split h.attributes).1;
     }
 
-pub IsCountedBack-within : (access : Bool) (removed : List RemovedAttribute) (keep : Attribute → Bool) (all left : List Attribute) (size : ℕ) →
+pub IsCountedBack-within : (access : Bool) (removed : List RemovedAttribute) (keep : Attribute →
+    Bool) (all left : List Attribute) (size : ℕ) →
     IsCountedBack access removed keep all left size → AllByRecursion IsAttribute all →
     20 + length (attributes_text all) ≤ 4096 → size ≤ 4076
 IsCountedBack-within access removed keep all left size h are limit =
@@ -152,20 +155,23 @@ IsCountedBack-within access removed keep all left size h are limit =
     )
 
 -- where none is left, all is counted
-pub IsCountedBack-end : (access : Bool) (removed : List RemovedAttribute) (keep : Attribute → Bool) (all left : List Attribute) (size : ℕ) →
+pub IsCountedBack-end : (access : Bool) (removed : List RemovedAttribute) (keep : Attribute →
+    Bool) (all left : List Attribute) (size : ℕ) →
     left ≡ [] → IsCountedBack access removed keep all left size → size ≡ length (carried_text access removed keep all)
 unfolding without
 IsCountedBack-end access removed keep all left size none h =
     omega (arith, h.total, ap (λ (l : List Attribute). length (carried_text access removed keep l)) none)
 
 -- what was appended, with what is returned of the attributes that are left, is all
-pub record IsReturning (access : Bool) (removed : List RemovedAttribute) (keep : Attribute → Bool) (all left : List Attribute)
+pub record IsReturning (access : Bool) (removed : List RemovedAttribute) (keep : Attribute →
+    Bool) (all left : List Attribute)
     (before after : List ℕ) (size capacity : ℕ) : Type 0 where
   pub items : after ++ carried_text access removed keep left ≡ before ++ carried_text access removed keep all
   pub room : size + length (carried_text access removed keep left) ≤ capacity
   pub attributes : AllByRecursion IsAttribute left
 
-pub IsReturning-room : (access : Bool) (removed : List RemovedAttribute) (keep : Attribute → Bool) (all left rest : List Attribute)
+pub IsReturning-room : (access : Bool) (removed : List RemovedAttribute) (keep : Attribute →
+    Bool) (all left rest : List Attribute)
     (before after : List ℕ) (size capacity : ℕ) (a : Attribute) → left ≡ a ∷ rest →
     IsReturning access removed keep all left before after size capacity →
     size + length (attributes_text (own_piece access removed keep a)) ≤ capacity
@@ -178,12 +184,14 @@ IsReturning-room access removed keep all left rest before after size capacity a 
       length-append (attributes_text (own_piece access removed keep a)) (carried_text access removed keep rest),
     )
 
-pub IsReturning-more : (access : Bool) (removed : List RemovedAttribute) (keep : Attribute → Bool) (all left rest : List Attribute)
+pub IsReturning-more : (access : Bool) (removed : List RemovedAttribute) (keep : Attribute →
+    Bool) (all left rest : List Attribute)
     (before after next : List ℕ) (size more capacity : ℕ) (a : Attribute) → left ≡ a ∷ rest →
     next ≡ after ++ attributes_text (own_piece access removed keep a) → size ≡ length after → more ≡ length next →
     IsReturning access removed keep all left before after size capacity →
     IsReturning access removed keep all rest before next more capacity
-IsReturning-more access removed keep all left rest before after next size more capacity a split next-is size-is more-is h =
+IsReturning-more access removed keep all left rest before after next size more capacity a split next-is size-is
+    more-is h =
     let here : List ℕ = attributes_text (own_piece access removed keep a) in
     let behind : List ℕ = carried_text access removed keep rest in
     let whole : carried_text access removed keep left ≡ here ++ behind =
@@ -207,9 +215,11 @@ IsReturning-more access removed keep all left rest before after next size more c
     }
 
 -- where none is left, all was appended
-pub IsReturning-end : (access : Bool) (removed : List RemovedAttribute) (keep : Attribute → Bool) (all left : List Attribute)
+pub IsReturning-end : (access : Bool) (removed : List RemovedAttribute) (keep : Attribute →
+    Bool) (all left : List Attribute)
     (before after : List ℕ) (size capacity : ℕ) → left ≡ [] →
-    IsReturning access removed keep all left before after size capacity → after ≡ before ++ carried_text access removed keep all
+    IsReturning access removed keep all left before after size capacity →
+    after ≡ before ++ carried_text access removed keep all
 unfolding without
 IsReturning-end access removed keep all left before after size capacity none h =
     sym (append-nil after)
@@ -328,7 +338,8 @@ all-kept request [] = refl
 all-kept request (a ∷ all) = ap (λ (l : List Attribute). a ∷ l) (all-kept request all)
 
 pub named-all : (request reply : Packet) → named false request reply ≡ reply
-named-all request reply = ap (λ (l : List Attribute). record reply { attributes = l }) (all-kept request reply.attributes)
+named-all request reply = ap (λ (l : List Attribute). record reply { attributes = l })
+    (all-kept request reply.attributes)
 
 -- of which nothing is named, all passes
 pub passing-none : (reply : Packet) → passing [] reply ≡ reply

@@ -44,7 +44,8 @@ AcceptCarriesWhatPasses = (r : Returning) (own : Bool) (removed : List RemovedAt
     (seal : List ℕ) × (carried : List Attribute)
     × ((returned r (passing_reply own request removed reply) request).attributes
     ≡ (record { kind = MESSAGE_AUTHENTICATOR; value = seal } ∷ carried) ++ proxy_states request)
-    × AllZip (IsAttributeAnew from to) (without removed (own_attributes (named (own_of own reply.code) request reply))) carried
+    × AllZip (IsAttributeAnew from to)
+    (without removed (own_attributes (named (own_of own reply.code) request reply))) carried
 
 -- any other reply passes whole
 abbrev pub OthersPassWhole : Type 0

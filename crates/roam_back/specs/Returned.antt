@@ -1,5 +1,5 @@
 -- The packet that is returned for a reply (RFC 2865, section 2.3).
-use Rattle.std.specs.Prelude.{◌==◌, ◌&&◌, ◌||◌, not, ℕ, Bool, false, List, [], ◌∷◌, ◌++◌, Option, Some, None, filter, map, option_and_then, if◌then◌else◌}
+use Rattle.std.specs.Prelude.{◌==◌, ◌&&◌, ◌||◌, not, ℕ, Bool, false, List, [], ◌∷◌, ◌++◌, Option, Some, filter, map, option_and_then, if◌then◌else◌}
 use Rattle.std.specs.Str.{str_eq_ignore_ascii_case}
 use Rattle.roam_wire.specs.Packet.{Attribute, Packet, packet_length}
 use Rattle.roam_wire.specs.Attributes.{first_value, only_kind, without_kind}
@@ -44,7 +44,8 @@ is_own own request a =
     not own || not (a.kind == USER_NAME) || is_same_name (realm_part a.value) (name_part request)
 
 -- ## Own names
--- In a realm with `own_names` a User-Name of an Access-Accept is returned where its name part, what follows its own last
+-- In a realm with `own_names` a User-Name of an Access-Accept is returned where its name part, what follows its own
+-- last
 -- `@`, is that of the request, without ASCII case; each other goes, one that has none too. An access server uses that
 -- name in its accounting (RFC 2865, section 5.1).
 -- Source: RFC 2865 section 5.1; ours

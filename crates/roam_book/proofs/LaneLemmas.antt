@@ -9,10 +9,10 @@ use Rattle.roam_conf.specs.declared.place.Link.{Link}
 use Rattle.roam_ids.specs.LaneState.{LaneState, is_used}
 use Rattle.roam_ids.specs.NextIdentifier.{next_identifier}
 use Rattle.roam_ids.proofs.NextIdentifierLemmas.{next_identifier-is_next, next_identifier-same}
-use Rattle.roam_pending.specs.PlainEntry.{PlainRequest, PlainEntry, PlainStanding, stands_at, stands_done, waiting, done, waits_at, same_link, is_done, has_ticket}
+use Rattle.roam_pending.specs.PlainEntry.{PlainRequest, PlainEntry, PlainStanding, stands_at, stands_done, waiting, done, waits_at, same_link, is_done}
 use Rattle.roam_pending.specs.EntryList.{IsInOrder, IsEntryList, find_ticket, find_link, without, put}
 use Rattle.roam_pending.specs.Realms.{sent_again, waits_on}
-use Rattle.roam_pending.proofs.TestLemmas.{same, all-find, all-weaker}
+use Rattle.roam_pending.proofs.TestLemmas.{same, all-weaker}
 use Rattle.roam_pending.proofs.OrderLemmas.{list-without, without-absent}
 use Rattle.roam_pending.proofs.ChangeLemmas.{find-passes, found-ticket, find-without, put-without}
 use Rattle.roam_pending.proofs.ClientLemmas.{identifier-used}
@@ -23,7 +23,7 @@ use Rattle.roam_book.specs.RealmConfig.{RealmConfig, IsLink, link_place, links_f
 use Rattle.roam_book.specs.RealmState.{Target, next_toward, chosen_target, first_target, ready_links, this_or, is_used_on}
 use Rattle.roam_book.specs.Rests.{stands_back}
 use Rattle.roam_book.specs.declared.state.rest.Rest.{Rest}
-use Rattle.roam_book.specs.Sound.{IsEntry, StandsWell, TellsAt, LanesTell, lane_of, cursors_of, waits_there, chosen_link, is_open, is_ready, standing_place, no_lane}
+use Rattle.roam_book.specs.Sound.{StandsWell, TellsAt, LanesTell, lane_of, cursors_of, waits_there, chosen_link, is_open, is_ready, standing_place, no_lane}
 use Rattle.roam_book.proofs.WaitingLemmas.{waits_as, without-waits, put-waits, tells-same}
 use Rattle.roam_book.proofs.UsedLemmas.{used-tells, freed-none, free_one}
 
@@ -233,28 +233,6 @@ open-freed c es lanes t e l id k list tells link at is octet =
           (without-waits k i t es (waits i ∙ rw n refl)) (tells k link i small) in
           rw n (ap is_some (next-at c (without t es) lanes k left.in_order stay))
     ]
-
--- the same where an entry counts as gone: the link where it waits is open
-pub target-freed :
-    (c : RealmConfig) (now : ℕ) (rests : List Rest) (n : ℕ) (es : List PlainEntry)
-    (lanes : List LaneState) (links : List Link) (t : ℕ) (e : PlainEntry)
-    (place : Option (Link × ℕ))
-    → IsEntryList es → AllByRecursion (IsEntry c n) es → LanesTell c es lanes
-    → AllByRecursion (IsLink c) links → find_ticket t es ≡ Some e
-    → standing_place e.standing ≡ place
-    → option_map (λ x. x.link) (chosen_target c now rests (cursors_of lanes) (without t es) links)
-    ≡ chosen_link c now rests lanes (option_map (λ p. p.0) place) links
-target-freed c now rests n es lanes links t e None list each tells are at is =
-    let gone = tells-gone c es lanes t e tells at (placeless-done e.standing is) in
-    target-tells c now rests (without t es) lanes links (list-without t es list) gone are
-target-freed c now rests n es lanes links t e (Some (l, id)) list each tells are at is =
-    let entry = all-find (IsEntry c n) (has_ticket t) es e at each in
-    let octet : id < 256 = placed-octet c e.request e.standing l id is entry.standing in
-    let cursors = cursors_of lanes in
-    let p = is_open c lanes (Some l) in
-    chosen-by c now rests cursors (without t es) p links
-    (all-weaker (IsLink c) (λ k. is_some (next_toward c cursors (without t es) k) ≡ p k) links
-    (λ k link. open-freed c es lanes t e l id k list tells link at is octet) are)
 
 next_step :
     (c : RealmConfig) (cursors : List ℕ) (es : List PlainEntry) (l : Link) (target : Target)

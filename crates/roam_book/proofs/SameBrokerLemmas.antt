@@ -44,7 +44,7 @@ use Rattle.roam_book.specs.OnTick.{Progress, as_turn, due_each, due_entry, due_o
 use Rattle.roam_book.specs.RealmConfig.{RealmConfig, later_targets, link_endpoint, link_place, link_secret, links_from, nowhere, requester_secret, seal_required, service_of}
 use Rattle.roam_book.specs.RealmState.{RealmState, Target, chosen_target, first_target, is_used_on, next_toward, ready_links, this_or, with_entries, with_next_ticket, with_rests}
 use Rattle.roam_book.specs.Reload.{Carries}
-use Rattle.roam_book.specs.Rests.{after_choice, after_silence, awake, is_resting, once_chosen, once_silent, rest_of, stands_back, with_rest, after_sign, has_moment, once_heard, signs_of}
+use Rattle.roam_book.specs.Rests.{after_choice, after_silence, awake, is_resting, once_chosen, once_silent, rest_of, stands_back, after_sign, has_moment, once_heard, signs_of}
 use Rattle.roam_book.specs.Turn.{Turn, in_time, packets_of, refuses, sends, state_after, hears}
 use Rattle.roam_book.specs.declared.state.rest.Rest.{Rest}
 use Rattle.roam_book.specs.Conversing.{asked_state, bound_link, bound_links, bound_target, new_target, rests_by, rests_chosen, rests_for, untried}
@@ -134,9 +134,6 @@ module _ (c : RealmConfig) where
   -- rests
   rest_same : (rests : List Rest) (l : Link) → rest_of (bare c) rests l ≡ rest_of c rests l
   rest_same rests l = λ i. slice_index_or rests (at l i) awake
-
-  with_same : (rests : List Rest) (l : Link) (r : Rest) → with_rest (bare c) rests l r ≡ with_rest c rests l r
-  with_same rests l r = λ i. slice_set rests (at l i) r
 
   back_same : (now : ℕ) (rests : List Rest) (l : Link) → stands_back (bare c) now rests l ≡ stands_back c now rests l
   back_same now rests l = λ i. is_resting now (rest_same rests l i)

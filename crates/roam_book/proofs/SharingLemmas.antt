@@ -346,7 +346,8 @@ one-of_both false true false apart = refl
 one-of_both false false q apart = refl
 
 pub both-services : (test : PlainEntry → Bool) (es : List PlainEntry) →
-    count_by (λ e. (waits_for service.Authentication e.standing || waits_for service.Accounting e.standing) && test e) es
+    count_by (λ e. (waits_for service.Authentication e.standing || waits_for service.Accounting e.standing) && test
+    e) es
     ≡ count_by (λ e. waits_for service.Authentication e.standing && test e) es
     + count_by (λ e. waits_for service.Accounting e.standing && test e) es
 both-services test [] = refl

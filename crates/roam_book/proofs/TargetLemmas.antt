@@ -1,6 +1,6 @@
 -- The peer that a reverse request is for is a configured one; and what names a realm, and whether a peer's
 -- Access-Requests need a Message-Authenticator, aren't looked at for it, nor for the cause of a NAK.
-use Rattle.std.proofs.Common.{◌≡◌, ℕ, zero, suc, ◌+◌, ◌<◌, ◌==◌, Bool, true, List, [], ◌∷◌, length, map, Option, Some, None, slice_get, if◌then◌else◌, refl, ap, ◌∙◌, inl, inr, arith}
+use Rattle.std.proofs.Common.{◌≡◌, ℕ, zero, suc, ◌+◌, ◌<◌, ◌==◌, Bool, true, List, [], ◌∷◌, length, map, Option, Some, None, if◌then◌else◌, refl, ap, ◌∙◌, inl, inr, arith}
 use Rattle.std.specs.Prelude.{◌||◌, IfSome, is_some}
 use Rattle.std.specs.List.{position_from}
 use Rattle.std.specs.Option.{option_or}

@@ -54,7 +54,8 @@ place-made c now s q gone l bound t full some way =
         link = way.link;
         free = way.free;
       };
-      does = in-else _ _ _ no ∙ ap (make_way c now (with_rests s (rests_chosen c now s.rests bound l)) es q target) some;
+      does = in-else _ _ _ no ∙ ap (make_way c now (with_rests s (rests_chosen c now s.rests bound l)) es q target)
+          some;
     }
 
 -- what is chosen for a turn is chosen for the same turn

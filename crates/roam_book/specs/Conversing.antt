@@ -1,5 +1,5 @@
 -- To which server a request goes that goes on with a conversation (ours).
-use Rattle.std.specs.Prelude.{ℕ, ◌==◌, ◌&&◌, not, Bool, List, [], ◌∷◌, Option, Some, None, option_and_then, is_some, if◌then◌else◌}
+use Rattle.std.specs.Prelude.{ℕ, ◌==◌, not, Bool, List, [], Option, Some, None, option_and_then, is_some, if◌then◌else◌}
 use Rattle.std.specs.List.{filter}
 use Rattle.std.specs.Option.{option_or}
 use Rattle.roam_wire.specs.Attributes.{first_value}
@@ -17,7 +17,8 @@ use Rattle.roam_book.specs.RealmState.{RealmState, Target, chosen_target, first_
 use Rattle.roam_book.specs.Rests.{after_choice, has_moment}
 use Rattle.roam_book.specs.declared.state.rest.Rest.{Rest}
 
--- the State with which a packet goes on with a conversation: the first one of an Access-Request (RFC 2865, section 5.24)
+-- the State with which a packet goes on with a conversation: the first one of an Access-Request (RFC 2865, section
+-- 5.24)
 abbrev pub state_in : Packet → Option (List ℕ)
 state_in p = if p.code == ACCESS_REQUEST then first_value STATE p.attributes else None
 
@@ -43,8 +44,10 @@ abbrev pub bound_links : Option Link → List Link → List Link
 bound_links None links = []
 bound_links (Some bound) links = filter (same_link bound) links
 
--- it as a target, where it is one of a request's links, and has a free Identifier beside these entries, whether it stands
--- back or not. (All entries of the state count here for a round, that of the request's key and those past their deadline
+-- it as a target, where it is one of a request's links, and has a free Identifier beside these entries, whether it
+-- stands
+-- back or not. (All entries of the state count here for a round, that of the request's key and those past their
+-- deadline
 -- too.)
 abbrev pub bound_target : RealmConfig → RealmState → List PlainEntry → PlainRequest → List Link → Option Target
 bound_target c s entries q links = first_target c s.cursors entries (bound_links (bound_link c q s.entries) links)
@@ -55,7 +58,8 @@ untried c rests q links =
     if is_some (asked_state c q) then filter (λ l. not (has_moment c rests l)) links else []
 
 -- ## Conversations that stay
--- In a realm with `conversations` an Access-Request with a State goes to that of its links which sent the Challenge with that State
+-- In a realm with `conversations` an Access-Request with a State goes to that of its links which sent the Challenge
+-- with that State
 -- which is held for the same peer, the last one, where this has a free Identifier, whether it stands back or not; that
 -- leaves its rest as it is. Where there is no such link it goes to the first that has no time until which it rests, in
 -- the past or not, and has a free Identifier; where each has such a time, the choice is as for other requests. So a

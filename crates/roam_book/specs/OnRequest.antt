@@ -209,7 +209,8 @@ of_key c now s named q (Some e) =
 -- Above time 2^62: Moment. Same key and same octets: nothing while it waits, the held reply once it is done,
 -- and nothing changes. A reverse request that isn't forwarded: its NAK, and nothing changes. Else the entry of
 -- that key counts as gone; Exhausted at ticket 2^63; ShareTaken where its name's share is, or its peer's; the target is
--- the one that goes on with its conversation, else the chosen one of the request's links, else NoIdentifier; with `max_pending` entries the done one of least ticket makes way, else
+-- the one that goes on with its conversation, else the chosen one of the request's links, else NoIdentifier; with
+-- `max_pending` entries the done one of least ticket makes way, else
 -- Busy; then the new entry stands last, its forwarded packet is sent, with `tries - 1` sends left and deadline
 -- `now + wait`.
 -- Source: RFC 2865 sections 2.3 and 2.5, RFC 5176; numbers ours

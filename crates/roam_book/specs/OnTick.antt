@@ -110,7 +110,8 @@ as_turn p = sends p.packets p.state
 -- ## Answer to a tick
 -- Above time 2^62: Moment. The entries whose deadline has come, in order of deadline and ticket, each once:
 -- done, it goes; with sends left, the same octets again, one fewer, deadline `now + wait`; with none left, its
--- link is one silence further, where it gave no sign of life since that packet was built, and it moves to the chosen one of its later targets, built anew under the same
+-- link is one silence further, where it gave no sign of life since that packet was built, and it moves to the
+-- chosen one of its later targets, built anew under the same
 -- ticket; without one it is given up and goes.
 -- Source: RFC 2865 section 2.5; failover ours
 -- Rules out: an order by place in a table; two packets for one entry

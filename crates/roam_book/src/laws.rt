@@ -30,8 +30,8 @@ pub fn silent_servers()
 {}
 
 /// A link stands back only where it kept silent: of its requests at least `rest_after` were given up, and it gave
-/// no sign of life since their packets were built, nor since. That links stand back leaves no request without a target: one is chosen
-/// just where some link has a free Identifier.
+/// no sign of life since their packets were built, nor since. That links stand back leaves no request without a
+/// target: one is chosen just where some link has a free Identifier.
 pub fn rests()
     ensures places { LinksHaveOwnPlaces }
     ensures silent { RestsOnlyWhenSilent }

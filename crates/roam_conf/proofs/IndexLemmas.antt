@@ -104,6 +104,11 @@ or_more None true o rest = refl
 or_more None false o rest = refl
 or_more (Some x) b o rest = refl
 
+-- the owners once a key was noted
+pub noted_key : (entries new : List (List ℕ × ℕ)) (key k : List ℕ) (o : ℕ) → new ≡ with_key entries k o →
+    owner_of new key ≡ option_or (owner_of entries key) (cond (bytes_eq key k) (Some o) None)
+noted_key entries new key k o is = ap (λ l. owner_of l key) is ∙ owner_with_key key entries k o
+
 -- one more key of a list of owners, noted behind those before it
 pub noted_one : (entries new : List (List ℕ × ℕ)) (key k : List ℕ) (o : ℕ) (rest : Option ℕ) →
     new ≡ with_key entries k o → option_or (owner_of new key) rest

@@ -56,14 +56,14 @@ finds lists p = lookup_from p 0 lists
 
 -- Duplicates: all patterns are new just where no two are the same.
 
-abbrev same_entry : List ℕ × ℕ → List ℕ × ℕ → Bool
+abbrev pub same_entry : List ℕ × ℕ → List ℕ × ℕ → Bool
 same_entry a b = bytes_eq a.0 b.0
 
 or_assoc : (a b c : Bool) → (a || b) || c ≡ a || (b || c)
 or_assoc true b c = refl
 or_assoc false b c = refl
 
-any_append : {X : Type 0} (test : X → Bool) (xs ys : List X) →
+pub any_append : {X : Type 0} (test : X → Bool) (xs ys : List X) →
     list_any test (xs ++ ys) ≡ list_any test xs || list_any test ys
 any_append test [] ys = refl
 any_append test (x ∷ xs) ys = ap (λ b. test x || b) (any_append test xs ys)
@@ -107,7 +107,7 @@ none_owns (e ∷ es) x =
       | inr no' ↦ rw no' (none_owns es x)
     ]
 
-new_or_pair : (done rest : List (List ℕ × ℕ)) → has_pair same_entry done ≡ false →
+pub new_or_pair : (done rest : List (List ℕ × ℕ)) → has_pair same_entry done ≡ false →
     all_new done rest ≡ not (has_pair same_entry (done ++ rest))
 new_or_pair done [] none = rw (append-nil done, none) refl
 new_or_pair done (x ∷ xs) none =
@@ -211,7 +211,7 @@ module _ (old done here rest all : List (List ℕ × ℕ)) where
   pub not_new : false ≡ all_new done here → all_new done (here ++ rest) ≡ all_new old all → false ≡ all_new old all
   not_new twice before = ap (λ b. b && all_new (done ++ here) rest) twice ∙ sym (all_new_split done here rest) ∙ before
 
-not_not : (a b : Bool) → a ≡ not b → not a ≡ b
+pub not_not : (a b : Bool) → a ≡ not b → not a ≡ b
 not_not a true is = ap not is
 not_not a false is = ap not is
 

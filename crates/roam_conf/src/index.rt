@@ -1,6 +1,8 @@
 //! Finding by a key of octets, at a cost that doesn't grow with the number of keys.
 
-ghost use Rattle.std.specs.Prelude.{◌≡◌, IfOk, OnOk, is_none};
+ghost use Rattle.std.specs.Prelude.{◌≡◌, ℕ, List, IfOk, OnOk, Some, None, is_none, if◌then◌else◌};
+ghost use Rattle.std.specs.Option.{option_or};
+ghost use Rattle.std.specs.Str.{bytes_eq};
 ghost use Rattle.roam_conf.specs.Index.{owners, owner_of, with_key};
 
 use indexmap::IndexMap;
@@ -27,6 +29,15 @@ pub(crate) fn note(index: &mut Index, key: Vec<u8>, owner: u16) -> Result<bool, 
     }
     index.insert(key, owner)?;
     Ok(true)
+}
+
+/// Notes the owner of a key, unless the key is there: then it keeps its owner.
+pub(crate) fn note_key(index: &mut Index, key: Vec<u8>, owner: u16) -> Result<(), AllocError>
+    ensures { OnOk result ((other : List ℕ) → owner_of (owners index.new) other
+        ≡ option_or (owner_of (owners index.old) other) (if bytes_eq other key.items then Some owner else None)) }
+{
+    note(index, key, owner)?;
+    Ok(())
 }
 
 /// A copy of these octets.

@@ -1,15 +1,15 @@
 //! The index of the NAS-Identifiers of all peers.
 
-ghost use Rattle.std.specs.Prelude.{◌≡◌, ℕ, ◌≤◌, ◌^◌, IfOk, OnOk, Some, None, if◌then◌else◌, false, length, map, string_bytes, take};
+ghost use Rattle.std.specs.Prelude.{◌≡◌, ℕ, ◌≤◌, ◌^◌, IfOk, OnOk, Some, None, if◌then◌else◌, true, length, map, string_bytes, take};
 ghost use Rattle.std.specs.List.{list_any};
-ghost use Rattle.std.specs.Option.{option_or};
-ghost use Rattle.roam_conf.specs.Index.{owners, AreLengths};
+ghost use Rattle.std.specs.Option.{option_or, option_to_list};
+ghost use Rattle.roam_conf.specs.Index.{owners, is_marked, AreLengths};
 ghost use Rattle.roam_conf.specs.Parts.{shown_peer};
 ghost use Rattle.roam_conf.specs.TargetIndex.{nas_seen, nas_owner};
-ghost use Rattle.roam_conf.specs.Targets.{NasPattern, nas_said, has_nas, same_nas, peer_with_nas};
+ghost use Rattle.roam_conf.specs.Targets.{NasPattern, exactly, nas_said, has_nas, same_nas, peer_with_nas};
 
 use crate::Peer;
-use crate::index::{Index, note, row_of};
+use crate::index::{Index, note_key, row_of};
 use indexmap::IndexMap;
 use std::alloc::{AllocError, Global};
 
@@ -56,13 +56,12 @@ fn note_pattern(
     peer: u16,
 ) -> Result<(), AllocError>
     ensures { OnOk result ((p : NasPattern) → nas_owner index.new p ≡ option_or (nas_owner index.old p)
-        (if same_nas p (nas_seen pattern) then Some peer else None)) }
+        (if same_nas p (nas_seen pattern.entry) then Some peer else None)) }
 {
     match pattern {
-        NasRef::Exactly(name) => note(&mut index.identifiers, row_of(alloc, name)?, peer)?,
-        NasRef::Begins(front) => note(&mut index.fronts, row_of(alloc, front)?, peer)?,
-    };
-    Ok(())
+        NasRef::Exactly(name) => note_key(&mut index.identifiers, row_of(alloc, name)?, peer),
+        NasRef::Begins(front) => note_key(&mut index.fronts, row_of(alloc, front)?, peer),
+    }
 }
 
 /// Notes the peer of what these texts of `nas_ids` say.
@@ -81,14 +80,24 @@ fn note_texts(
     Ok(())
 }
 
+/// Notes a peer for its `nas_id`, where it has one.
+fn note_id(index: &mut NasIndex, alloc: Global, peer: &Peer, place: u16) -> Result<(), AllocError>
+    ensures { OnOk result ((p : NasPattern) → nas_owner index.new p ≡ option_or (nas_owner index.old p)
+        (if list_any (same_nas p) (map exactly (option_to_list (shown_peer peer.now).nas_id))
+        then Some place else None)) }
+{
+    match &peer.nas_id {
+        Some(text) => note_pattern(index, alloc, NasRef::Exactly(text.as_bytes()), place),
+        None => Ok(()),
+    }
+}
+
 /// Notes a peer for all of its NAS-Identifiers.
 fn note_peer(index: &mut NasIndex, alloc: Global, peer: &Peer, place: u16) -> Result<(), AllocError>
     ensures { OnOk result ((p : NasPattern) → nas_owner index.new p ≡ option_or (nas_owner index.old p)
         (if has_nas p (shown_peer peer.now) then Some place else None)) }
 {
-    if let Some(identifier) = &peer.nas_id {
-        note_pattern(index, alloc, NasRef::Exactly(identifier.as_bytes()), place)?;
-    }
+    note_id(index, alloc, peer, place)?;
     note_texts(index, alloc, peer.nas_ids.as_slice(), place)
 }
 
@@ -108,15 +117,23 @@ pub(crate) fn nas_of(alloc: Global, peers: &[Peer]) -> Result<NasIndex, AllocErr
     Ok(index)
 }
 
+/// Marks the length of a key.
+fn mark_length(marks: &mut [bool; 254], key: &[u8])
+    ensures own { length key.now ≤ 253 → is_marked marks.new (length key.now) ≡ true }
+    ensures others { (n : ℕ) → is_marked marks.old n ≡ true → is_marked marks.new n ≡ true }
+{
+    if key.len() <= 253 {
+        marks[key.len()] = true;
+    }
+}
+
 /// The lengths of the fronts that have an owner; those of more than 253 octets aside.
 pub(crate) fn lengths_of(fronts: &Index) -> [bool; 254]
     ensures { AreLengths result (owners fronts.now) }
 {
     let mut marks = [false; 254];
     for key in fronts.keys().as_slice() {
-        if key.len() <= 253 {
-            marks[key.len()] = true;
-        }
+        mark_length(&mut marks, key.as_slice());
     }
     marks
 }

@@ -1,7 +1,6 @@
 //! Whether a text stands twice among the NAS-Identifiers of all peers.
 
 ghost use Rattle.std.specs.Prelude.{◌≡◌, ◌++◌, IfOk, true, map, string_bytes};
-ghost use Rattle.std.specs.Option.{option_to_list};
 ghost use Rattle.std.specs.Str.{bytes_eq};
 ghost use Rattle.roam_conf.specs.Duplicates.{has_pair, nas_texts, nas_texts_of};
 ghost use Rattle.roam_conf.specs.Index.{owners, all_new, of_nobody};
@@ -27,19 +26,6 @@ fn note_texts(index: &mut Index, alloc: Global, texts: &[String]) -> Result<bool
     Ok(true)
 }
 
-/// Notes the `nas_id` of a peer, where it has one: whether it is new.
-fn note_id(index: &mut Index, alloc: Global, peer: &Peer) -> Result<bool, AllocError>
-    ensures new { IfOk result (λ new. new ≡ all_new (owners index.old)
-        (map of_nobody (option_to_list (shown_peer peer.now).nas_id))) }
-    ensures noted { IfOk result (λ new. new ≡ true → owners index.new
-        ≡ owners index.old ++ map of_nobody (option_to_list (shown_peer peer.now).nas_id)) }
-{
-    match &peer.nas_id {
-        Some(text) => note(index, row_of(alloc, text.as_bytes())?, 0),
-        None => Ok(true),
-    }
-}
-
 /// Notes the texts of a peer, until one is there already: whether all are new.
 fn note_peer(index: &mut Index, alloc: Global, peer: &Peer) -> Result<bool, AllocError>
     ensures new { IfOk result (λ new. new ≡ all_new (owners index.old)
@@ -47,10 +33,15 @@ fn note_peer(index: &mut Index, alloc: Global, peer: &Peer) -> Result<bool, Allo
     ensures noted { IfOk result (λ new. new ≡ true → owners index.new
         ≡ owners index.old ++ map of_nobody (nas_texts_of (shown_peer peer.now))) }
 {
-    if !note_id(index, alloc, peer)? {
-        return Ok(false);
+    match &peer.nas_id {
+        Some(text) => {
+            if !note(index, row_of(alloc, text.as_bytes())?, 0)? {
+                return Ok(false);
+            }
+            note_texts(index, alloc, peer.nas_ids.as_slice())
+        }
+        None => note_texts(index, alloc, peer.nas_ids.as_slice()),
     }
-    note_texts(index, alloc, peer.nas_ids.as_slice())
 }
 
 /// Notes the texts of peers, until one is there already: whether all are new.

@@ -10,7 +10,7 @@ ghost use Rattle.roam_conf.specs.TargetIndex.{FindsTargets};
 ghost use Rattle.roam_conf.specs.Targets.{peer_with_nas_ip, peer_with_operator, some_operator};
 
 use crate::Peer;
-use crate::index::{Index, note, row_of};
+use crate::index::{Index, note_key, row_of};
 use crate::names::lower_row;
 use crate::nas_index::{lengths_of, nas_of};
 use crate::target_index::TargetIndex;
@@ -22,10 +22,10 @@ fn note_nas_ip(index: &mut Index, alloc: Global, peer: &Peer, place: u16) -> Res
     ensures { OnOk result ((ip : List ℕ) → owner_of (owners index.new) ip ≡ option_or (owner_of (owners index.old) ip)
         (if same_if_there peer.now.nas_ip (Some ip) then Some place else None)) }
 {
-    if let Some(ip) = peer.nas_ip {
-        note(index, row_of(alloc, &ip)?, place)?;
+    match peer.nas_ip {
+        Some(ip) => note_key(index, row_of(alloc, &ip)?, place),
+        None => Ok(()),
     }
-    Ok(())
 }
 
 /// The first peer of each NAS-IP-Address.
@@ -52,10 +52,10 @@ fn note_operator(
         ≡ option_or (owner_of (owners index.old) (str_to_ascii_lowercase name))
         (if same_name_if_there (shown_peer peer.now).operator_name (Some name) then Some place else None)) }
 {
-    if let Some(name) = &peer.operator_name {
-        note(index, lower_row(alloc, name.as_bytes())?, place)?;
+    match &peer.operator_name {
+        Some(name) => note_key(index, lower_row(alloc, name.as_bytes())?, place),
+        None => Ok(()),
     }
-    Ok(())
 }
 
 /// The first peer of each `operator_name`.

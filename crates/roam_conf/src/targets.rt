@@ -8,10 +8,10 @@ use crate::names::lower_in;
 use crate::nas_index::front_of;
 
 impl Config {
-    ghost use Rattle.std.specs.Prelude.{◌≡◌, ℕ, List, ◌≤◌, ◌-◌, IfSome, IsFalse, None, length, map, vec_len};
+    ghost use Rattle.std.specs.Prelude.{◌≡◌, ℕ, List, ◌<◌, IfSome, IsFalse, None, length, map, vec_len};
     ghost use Rattle.roam_conf.specs.Lookup.{first_answer};
     ghost use Rattle.roam_conf.specs.Shown.{shown};
-    ghost use Rattle.roam_conf.specs.Targets.{begins, exactly, fronts, fronts_to, peer_with_nas, peer_meant};
+    ghost use Rattle.roam_conf.specs.Targets.{begins, fronts, peer_with_nas, peer_meant};
     ghost use Rattle.roam_conf.specs.Targets.{peer_with_nas_ip, peer_with_operator, some_operator};
 
     /// Whether there may be a front of so many octets.

@@ -158,7 +158,8 @@ module _ (c : RealmConfig) (ends : Ends) (looked : ℕ → Bool) (tries : 1 ≤ 
       elim (cases_Bool (ltb 0 sends_left)) [
         | inl y ↦
             let some : 1 ≤ sends_left = grind (arith, nat_tests, y) in
-            let step = again-follows e.request.key l id forwarded sends_left deadline signs (now + c.realm.wait) e.standing
+            let step = again-follows e.request.key l id forwarded sends_left deadline signs (now + c.realm.wait)
+            e.standing
             is some in
             let split = both b (counted ends (packet_to_link c l forwarded ∷ []))
             (may_follow c ends e.request.key (waits_on (now + c.realm.wait) e.standing)) might step in

@@ -189,7 +189,8 @@ due_standing-few : (c : RealmConfig) (now : ℕ) (s : RealmState) (e : PlainEntr
 due_standing-few c now s e (done reply deadline from) = omega arith
 due_standing-few c now s e (waiting l id forwarded sends_left deadline signs) =
     either FewIn (ltb 0 sends_left) _ _ (omega arith)
-    (fail_over-few c now (given_up_at c now l signs s e) e (chosen_target c now (after_silence c now s.rests l signs) s.cursors
+    (fail_over-few c now (given_up_at c now l signs s e) e
+    (chosen_target c now (after_silence c now s.rests l signs) s.cursors
     (without e.ticket s.entries) (later_targets c l)))
 
 due_entry-few : (c : RealmConfig) (now : ℕ) (s : RealmState) (found : Option PlainEntry) →

@@ -123,7 +123,8 @@ module _ (c : RealmConfig) (Kept : List PlainEntry → Type 0) (Good : PlainEntr
       either (Keeps s)
       (ltb 4096 (returned_length (returning c e.request l forwarded) (passing_to c e.request reply)
       (packet_of e.request.octets))) _ _
-      old (more (with_standing (done octets (now + c.realm.hold) (Some l)) e) s.entries (done_good e octets (Some l)) old)
+      old (more (with_standing (done octets (now + c.realm.hold) (Some l)) e) s.entries (done_good e octets (Some l))
+      old)
 
   to_standing-keeps :
       (now : ℕ) (s : RealmState) (e : PlainEntry) (reply : Packet) (standing : PlainStanding)
@@ -171,7 +172,8 @@ module _ (c : RealmConfig) (Kept : List PlainEntry → Type 0) (Good : PlainEntr
       (more (with_standing (done octets (now + c.realm.hold) None) e) s.entries (tick.answered e octets None) old) old
 
   fail_over-keeps :
-      (now : ℕ) (s : RealmState) (e : PlainEntry) (l : Link) (id : ℕ) (forwarded : List ℕ) (sends_left deadline signs : ℕ)
+      (now : ℕ) (s : RealmState) (e : PlainEntry) (l : Link) (id : ℕ) (forwarded : List ℕ)
+      (sends_left deadline signs : ℕ)
       (target : Option Target)
       → TickIsGood now → e.standing ≡ waiting l id forwarded sends_left deadline signs
       → ((t : Target) → target ≡ Some t → IsOneOf c (later_targets c l) t.link)
@@ -203,7 +205,8 @@ module _ (c : RealmConfig) (Kept : List PlainEntry → Type 0) (Good : PlainEntr
             let some : 1 ≤ sends_left = grind (arith, nat_tests, y) in
             rw y (more (sent_again (now + c.realm.wait) e) s.entries
             (tick.again e l id forwarded sends_left deadline signs is some good) old)
-        | inr n ↦ rw n (fail_over-keeps now (given_up_at c now l signs s e) e l id forwarded sends_left deadline signs next tick
+        | inr n ↦ rw n (fail_over-keeps now (given_up_at c now l signs s e) e l id forwarded sends_left deadline
+            signs next tick
             is fits
             good others)
       ]

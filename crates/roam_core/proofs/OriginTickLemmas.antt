@@ -217,7 +217,8 @@ module _ (c : RealmConfig) (start : Start) (before : List RealmEvent) (now : ℕ
           );
           entries = all-put IsKnown again s.entries again_known kept;
         })
-        | inr n ↦ rw n (fail_over-keeps (given_up_at c now l signs s e) e next others known (rw n at sent) (rw n at drew))
+        | inr n ↦ rw n (fail_over-keeps (given_up_at c now l signs s e) e next others known (rw n at sent)
+            (rw n at drew))
       ]
 
   due_entry-keeps :

@@ -1,8 +1,7 @@
 -- In a realm with `own_sessions` each reverse request that is sent was of one session of the realm's own.
 use Rattle.std.proofs.Common.{◌≡◌, ◌+◌, ℕ, Bool, true, false, List, [], ◌∷◌, ◌++◌, Option, Some, None, refl, sym, ap, subst, ◌∙◌, inl, inr, arith}
-use Rattle.std.specs.Prelude.{◌⊎◌, not, nat_eq, nat_lt, slice_index, if◌then◌else◌}
+use Rattle.std.specs.Prelude.{◌==◌, not, nat_eq, nat_lt, if◌then◌else◌}
 use Rattle.std.specs.Cmp.Lexicographic.{pointwise}
-use Rattle.std.proofs.lemmas.Bool.{cases_Bool}
 use Rattle.std.proofs.lemmas.Bool.Decides.{nat_tests}
 use Rattle.roam_wire.specs.Codes.{is_reverse_request}
 use Rattle.roam_wire.specs.Packet.{Packet, packet_text}
@@ -13,12 +12,13 @@ use Rattle.roam_conf.specs.declared.place.Link.{Link}
 use Rattle.roam_fwd.proofs.LawLemmas.{code-forwarded}
 use Rattle.roam_fwd.proofs.ShapedLemmas.{code-shaped}
 use Rattle.roam_fwd.specs.Shaped.{shaped}
+use Rattle.roam_back.specs.Nak.{nak}
 use Rattle.roam_back.specs.ReplyCheck.{answers, reply_fault}
 use Rattle.roam_back.proofs.EveryCodeLemmas.{code-returned}
 use Rattle.roam_route.specs.Admission.{PlainOut}
 use Rattle.roam_reverse.specs.CauseLaws.{IsOfOneSession}
 use Rattle.roam_reverse.specs.Causes.{cause}
-use Rattle.roam_reverse.proofs.CauseLemmas.{forwarded_is_of_one_session}
+use Rattle.roam_reverse.proofs.OneSessionLemmas.{forwarded_is_of_one_session}
 use Rattle.roam_pending.specs.ListLaws.{IsIn}
 use Rattle.roam_pending.specs.PlainEntry.{PlainEntry, PlainRequest}
 use Rattle.roam_pending.specs.EntryList.{find_client}

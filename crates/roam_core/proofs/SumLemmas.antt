@@ -165,7 +165,8 @@ bound-all Q (Some k) links h = all-filter Q (same_link k) links h
 untried-all : (Q : Link → Type 0) (c : RealmConfig) (rests : List Rest) (q : PlainRequest) (links : List Link) →
     AllByRecursion Q links → AllByRecursion Q (untried c rests q links)
 untried-all Q c rests q links h =
-    either (AllByRecursion Q) (is_some (asked_state c q)) _ _ (all-filter Q (λ l. not (has_moment c rests l)) links h) tt
+    either (AllByRecursion Q) (is_some (asked_state c q)) _ _
+    (all-filter Q (λ l. not (has_moment c rests l)) links h) tt
 
 -- and of the one for a new request
 pub new-holds : (Q : Link → Type 0) (c : RealmConfig) (now : ℕ) (s : RealmState) (es : List PlainEntry)

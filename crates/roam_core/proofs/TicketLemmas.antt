@@ -114,7 +114,8 @@ due_standing-keeps : (c : RealmConfig) (now : ℕ) (s : RealmState) (e : PlainEn
 due_standing-keeps c now s e (done reply deadline from) = refl
 due_standing-keeps c now s e (waiting l id forwarded sends_left deadline signs) =
     either (Keeps s) (ltb 0 sends_left) _ _ refl
-    (fail_over-keeps c now (given_up_at c now l signs s e) e (chosen_target c now (after_silence c now s.rests l signs) s.cursors
+    (fail_over-keeps c now (given_up_at c now l signs s e) e
+    (chosen_target c now (after_silence c now s.rests l signs) s.cursors
     (without e.ticket s.entries) (later_targets c l)))
 
 due_entry-keeps : (c : RealmConfig) (now : ℕ) (s : RealmState) (found : Option PlainEntry) →

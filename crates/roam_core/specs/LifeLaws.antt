@@ -45,7 +45,8 @@ OneRequestHasTicketIn =
     (b : Stage) (life : List Happening) (q r : PlainRequest) (ticket : ℕ)
     → IsRequestIn b life q ticket → IsRequestIn b life r ticket → q ≡ r
 
--- in a realm with `own_sessions` a reverse request of the life that is given a ticket, and so isn't answered by a NAK, is
+-- in a realm with `own_sessions` a reverse request of the life that is given a ticket, and so isn't answered by a
+-- NAK, is
 -- of one session of the realm's ledger when it comes, under the configuration of that time
 abbrev pub AdmittedIsOfOwnSessionIn : Type 0
 AdmittedIsOfOwnSessionIn =

@@ -15,7 +15,8 @@ pub record PlainRequest : Type 0 where
   pub octets : List ℕ
 
 -- how an entry stands (ours): it waits for a reply to what was forwarded, and keeps how many signs of life its link had
--- given when that was built; or it is done and its reply is held, with the link that this came from, if it came from one
+-- given when that was built; or it is done and its reply is held, with the link that this came from, if it came
+-- from one
 pub data PlainStanding : Type 0 where
   waiting : (link : Link) → (id : ℕ) → (forwarded : List ℕ) → (sends_left deadline signs : ℕ) → PlainStanding
   done : (reply : List ℕ) → (deadline : ℕ) → (from : Option Link) → PlainStanding

@@ -32,6 +32,7 @@ secret = \"xyzzy5461\"
 coa = \"192.0.2.1:3799\"
 nas_ip = \"192.0.2.1\"
 nas_id = \"nas1\"
+nas_ids = []
 require_seal = true
 limit_proxy_state = false
 ask_cui = false
@@ -45,6 +46,9 @@ loop_prevention = false
 accounting = \"forward\"
 request_without = []
 reply_without = []
+own_names = false
+conversations = false
+own_sessions = false
 out = \"127.0.0.1:2000\"
 reverse = \"127.0.0.1:3000\"
 tries = 2
@@ -70,6 +74,7 @@ acct = \"0.0.0.0:1813\"
 trace_limit = 1000000
 trace_octets = 1
 max_hops = 100
+max_attributes = 2000
 status_server = true
 spread = true
 metrics = \"127.0.0.1:9812\"
@@ -79,11 +84,13 @@ log_station = \"hmac\"
 reject = [\"*.Invalid\", \"guests.b.example\"]
 well_formed = true
 answer_unnamed = true
+fresh = 3600
 
 [[peer]]
 name = \"nas-1_a.b\"
 ip = \"255.255.255.255\"
 secret = \"\\u0000\\u0009\\u000a\\u001f\\u007f\\u0080\\u009f\u{a0}\u{e9}\u{20ac} # '\\\"\\\\u\"
+nas_ids = []
 require_seal = false
 limit_proxy_state = true
 operator_name = \"a.example\"
@@ -98,6 +105,7 @@ secret = \"'''\"
 coa = \"192.0.2.2:65535\"
 nas_ip = \"192.0.2.2\"
 nas_id = \"\\u001b[31m\"
+nas_ids = [\"\\u001b*\", \"a \\\"b\\\"\"]
 require_seal = true
 limit_proxy_state = false
 ask_cui = false
@@ -113,6 +121,10 @@ accounting = \"answer\"
 request_without = [\"126\"]
 reply_without = [\"26.24757.1\", \"64\"]
 share = 4096
+peer_share = 1
+own_names = true
+conversations = true
+own_sessions = true
 out = \"127.0.0.1:2000\"
 tries = 10
 wait = 60000
@@ -132,6 +144,14 @@ require_seal = false
 auth = \"198.51.100.2:1\"
 secret = \"h2\"
 require_seal = true
+
+[[realm.coa_client]]
+ip = \"198.51.100.1\"
+secret = \"p\\\"c\"
+
+[[realm.coa_client]]
+ip = \"10.0.0.1\"
+secret = \"p2\"
 ";
 
 pub(crate) fn a_configuration_is_stated_with_its_defaults<

@@ -137,10 +137,16 @@ server = [{ auth = \"198.51.100.1:1812\", acct = \"198.51.100.1:1813\", secret =
 ";
 
 /// What is advised of the first one: a line of the file, and what is said there.
-const LEAST_ADVICE: &[(u32, &str)] = &[(
-    29,
-    "realm \"a.example\", server 1: secret: has less than 8 octets, and can be found by trying",
-)];
+const LEAST_ADVICE: &[(u32, &str)] = &[
+    (
+        16,
+        "realm \"a.example\": own_sessions: isn't true beside reverse: a Disconnect or CoA may name a session of another realm",
+    ),
+    (
+        29,
+        "realm \"a.example\", server 1: secret: has less than 8 octets, and can be found by trying",
+    ),
+];
 
 /// What is advised of the larger one.
 const ADVICE: &[(u32, &str)] = &[

@@ -1,8 +1,8 @@
 //! All examples, in one test: a test costs the proof more than an example.
 
 use crate::{
-    asking_tests, name_tests, order_tests, policy_tests, removed_tests, sample_tests, size_tests,
-    value_tests,
+    asking_tests, further_tests, name_tests, order_tests, policy_tests, removed_tests,
+    sample_tests, size_tests, target_tests, value_tests,
 };
 use std::test::Fail;
 
@@ -21,6 +21,11 @@ fn all_examples(rt: HostRuntime) -> Result<(), Fail> {
     policy_tests::the_faults_of_the_keys(&rt)?;
     policy_tests::the_keys_are_read(&rt)?;
     asking_tests::who_may_ask_whom(&rt)?;
+    further_tests::the_faults_of_the_further_keys(&rt)?;
+    further_tests::the_further_keys_are_read(&rt)?;
+    target_tests::the_peer_of_a_nas_identifier(&rt)?;
+    target_tests::the_peer_of_another_name(&rt)?;
+    target_tests::the_sources_of_reverse_requests(&rt)?;
     sample_tests::the_sample_is_read(&rt)?;
     sample_tests::numbers_that_are_not_written(&rt)?;
     sample_tests::a_realm_may_take_no_reverse_requests(&rt)?;

@@ -12,6 +12,8 @@ mod documents;
 #[cfg(test)]
 mod examples;
 #[cfg(test)]
+mod further_tests;
+#[cfg(test)]
 mod name_tests;
 #[cfg(test)]
 mod order_tests;
@@ -23,5 +25,7 @@ mod removed_tests;
 mod sample_tests;
 #[cfg(test)]
 mod size_tests;
+#[cfg(test)]
+mod target_tests;
 #[cfg(test)]
 mod value_tests;

@@ -4,7 +4,7 @@ use crate::samples::{Change, expect_told};
 use std::process::Abort;
 use std::test::Fail;
 
-const ADVICE: [Change; 21] = [
+const ADVICE: [Change; 30] = [
     ("shards = 1", "shards = 1", ""),
     ("0001", "0000", ""),
     (
@@ -82,9 +82,52 @@ const ADVICE: [Change; 21] = [
     ),
     // A server that takes no accounting, where none is forwarded.
     (
-        "\n[[realm.server]]\nauth = \"198.51.100.1:1812\"\nacct = \"198.51.100.1:1813\"\n",
+        "own_sessions = true\n[[realm.server]]\nauth = \"198.51.100.1:1812\"\nacct = \"198.51.100.1:1813\"\n",
         "accounting = \"answer\"\n[[realm.server]]\nauth = \"198.51.100.1:1812\"\n",
         "",
+    ),
+    // Sessions that reverse requests are to name, and that are never there; and other realms'.
+    (
+        "max_sessions = 100",
+        "max_sessions = 0",
+        "a.conf:23: realm \"a.example\": own_sessions: is true where no session is remembered, by max_sessions or accounting: no Disconnect or CoA is forwarded\n",
+    ),
+    (
+        "max_sessions = 100",
+        "accounting = \"drop\"",
+        "a.conf:23: realm \"a.example\": own_sessions: is true where no session is remembered, by max_sessions or accounting: no Disconnect or CoA is forwarded\n",
+    ),
+    ("max_sessions = 100\n", "", ""),
+    (
+        "reverse = \"127.0.0.1:3000\"\ntries = 2\nwait = 1000\nhold = 5000\nmax_pending = 300\nmax_sessions = 100\n",
+        "",
+        "a.conf:17: realm \"a.example\": own_sessions: is true where no session is remembered, by max_sessions or accounting: no Disconnect or CoA is forwarded\n",
+    ),
+    (
+        "own_sessions = true",
+        "own_sessions = false",
+        "a.conf:23: realm \"a.example\": own_sessions: isn't true beside reverse: a Disconnect or CoA may name a session of another realm\n",
+    ),
+    (
+        "max_sessions = 100\nown_sessions = true\n",
+        "",
+        "a.conf:14: realm \"a.example\": own_sessions: isn't true beside reverse: a Disconnect or CoA may name a session of another realm\n",
+    ),
+    (
+        "max_sessions = 100\nown_sessions = true\n",
+        "max_sessions = 0\n",
+        "",
+    ),
+    // A source of reverse requests, in front of the server.
+    (
+        "[[realm.server]]",
+        "[[realm.coa_client]]\nip = \"198.51.100.9\"\nsecret = \"short\"\n[[realm.server]]",
+        "a.conf:26: realm \"a.example\", coa_client 1: secret: has less than 8 octets, and can be found by trying\n",
+    ),
+    (
+        "[[realm.server]]",
+        "coa_client = [{ ip = \"198.51.100.9\", secret = \"change me\" }]\n[[realm.server]]",
+        "a.conf:24: realm \"a.example\", coa_client 1: secret: is a sample's, which everybody knows: make one of your own\n",
     ),
     (
         "\n[[realm]]\n",

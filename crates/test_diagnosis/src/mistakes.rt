@@ -27,7 +27,7 @@ pub const SYNTAX: [Change; 4] = [
 ];
 
 /// Required keys are absent.
-pub const MISSING: [Change; 6] = [
+pub const MISSING: [Change; 7] = [
     (
         "auth = \"127.0.0.1:1812\"\n",
         "",
@@ -58,10 +58,15 @@ pub const MISSING: [Change; 6] = [
         "",
         "Missing\na.conf:24: realm \"a.example\", server 1: acct: is missing\n",
     ),
+    (
+        "[[realm.server]]",
+        "[[realm.coa_client]]\nip = \"198.51.100.9\"\n[[realm.server]]",
+        "Missing\na.conf:24: realm \"a.example\", coa_client 1: secret: is missing\n",
+    ),
 ];
 
 /// What an operator decides: values that aren't of their form, what stands twice, and peers that aren't there.
-pub const POLICIES: [Change; 8] = [
+pub const POLICIES: [Change; 18] = [
     (
         "tries = 2",
         "tries = 2\nrequest_without = [\"31\", \"33\"]",
@@ -101,6 +106,56 @@ pub const POLICIES: [Change; 8] = [
         "tries = 2",
         "peers = [\"nas1\", \"NAS1\", \"nas2\"]",
         "UnknownPeer\na.conf:18: realm \"a.example\": peers: \"NAS1\" is no peer's name, but \"nas1\" is\na.conf:18: realm \"a.example\": peers: \"nas2\" is no peer's name\n",
+    ),
+    (
+        "coa = \"192.0.2.1:3799\"",
+        "nas_ids = \"wlc-*\"",
+        "BadValue\na.conf:11: peer \"nas1\": nas_ids: \"wlc-*\" is not in an array of 0..1024 texts of 1..253 octets: write [\"wlc-*\"]\n",
+    ),
+    (
+        "coa = \"192.0.2.1:3799\"",
+        "nas_ids = [\"a\", \"\"]",
+        "BadValue\na.conf:11: peer \"nas1\": nas_ids: \"\" is not in an array of 0..1024 texts of 1..253 octets\n",
+    ),
+    (
+        "tries = 2",
+        "coa_client = 1",
+        "BadValue\na.conf:18: realm \"a.example\": coa_client: 1 is no array of 0..8 tables\n",
+    ),
+    (
+        "[[realm.server]]",
+        "[realm.coa_client]\nip = \"198.51.100.9\"\nsecret = \"of the client\"\n[[realm.server]]",
+        "BadValue\na.conf:24: realm \"a.example\": coa_client: a table is no array of 0..8 tables: write [[realm.coa_client]]\n",
+    ),
+    (
+        "[[realm.server]]",
+        "[[realm.coa_client]]\nip = \"198.51.100.9/32\"\nsecret = \"of the client\"\nport = 1\n[[realm.server]]",
+        "BadValue\na.conf:25: realm \"a.example\", coa_client 1: ip: \"198.51.100.9/32\" is no IPv4 address in decimal, as \"192.0.2.1\"\na.conf:27: realm \"a.example\", coa_client 1: port: is no key of a coa_client\n",
+    ),
+    (
+        "[[realm]]",
+        "[[coa_client]]\nip = \"198.51.100.9\"\n[[realm]]",
+        "BadValue\na.conf:14: coa_client: is no key of the top table: write [[realm.coa_client]]\n",
+    ),
+    (
+        "shards = 1",
+        "fresh = 9",
+        "BadValue\na.conf:1: fresh: 9 is not in 10..3600\n",
+    ),
+    (
+        "require_seal = true\n\n",
+        "own_sessions = true\nrequire_seal = true\n\n",
+        "BadValue\na.conf:12: peer \"nas1\": own_sessions: is no key of a peer: it is one of a realm\n",
+    ),
+    (
+        "require_seal = true\n\n",
+        "nas_ids = [\"x*\", \"y\"]\nrequire_seal = true\n[[peer]]\nname = \"nas2\"\nip = \"192.0.2.2\"\nsecret = \"of the second\"\nnas_id = \"x*\"\n",
+        "DuplicatePeer\na.conf:18: peer \"nas2\": nas_id: \"x*\" stands also in line 12: peer \"nas1\": nas_ids\n",
+    ),
+    (
+        "[[realm.server]]",
+        "[[realm.coa_client]]\nip = \"1.2.3.4\"\nsecret = \"of the client\"\n[[realm.coa_client]]\nip = \"1.2.3.4\"\nsecret = \"of the other\"\n[[realm.server]]",
+        "DuplicateServer\na.conf:28: realm \"a.example\", coa_client 2: ip: \"1.2.3.4\" stands also in line 25: realm \"a.example\", coa_client 1: ip\n",
     ),
 ];
 

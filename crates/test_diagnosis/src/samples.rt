@@ -33,7 +33,7 @@ wait = 1000
 hold = 5000
 max_pending = 300
 max_sessions = 100
-
+own_sessions = true
 [[realm.server]]
 auth = \"198.51.100.1:1812\"
 acct = \"198.51.100.1:1813\"

@@ -2,7 +2,7 @@
 //! requests of the worked exchanges are signed; the others have an Authenticator of zeros, since
 //! nothing here looks at one. What is expected was worked out by hand.
 
-use crate::requests::{START_01, START_EMPTY, apply, octets};
+use crate::requests::{START_01, START_EMPTY, apply, key, octets};
 use roam_conf::Config;
 use roam_conf_reader::read_config;
 use roam_reverse::error_cause::{
@@ -320,7 +320,7 @@ const TO_PEERS_AMONG: [Row; 3] = [
 /// The first realm's ledger: the first peer's session `01`, and one of no octets of the first and
 /// of the third.
 fn ledger(rt: &impl Abort, alloc: Global) -> Result<Sessions<Global>, NoMemory> {
-    let mut sessions = Sessions::new(alloc, 100);
+    let mut sessions = Sessions::new(alloc, 100, key());
     apply(rt, alloc, &mut sessions, 0, START_01)?;
     apply(rt, alloc, &mut sessions, 0, START_EMPTY)?;
     apply(rt, alloc, &mut sessions, 2, START_EMPTY)?;

@@ -3,7 +3,8 @@
 
 use crate::requests::{
     INTERIM_01, NO_ID, NO_STATUS, OFF, ON, START_01, START_02, START_03, START_EMPTY, STATUS_9,
-    STOP_01, STOP_02, STOP_EMPTY, STOP_THEN_START, THREE_OCTETS, TWO_IDS, apply, octets,
+    STOP_01, STOP_02, STOP_EMPTY, STOP_THEN_START, THREE_OCTETS, TWO_IDS, apply, is_open, key,
+    octets,
 };
 use roam_reverse::Sessions;
 use roam_wire::View;
@@ -14,14 +15,24 @@ use test_allocator::Refusing;
 
 /// Which of these sessions are open, one bit each: of peer 0 no octets, `01`, `02` and `03`; of
 /// peer 1 `01` and `02`.
-fn open<A: Allocator + Copy>(sessions: &Sessions<A>) -> u32 {
-    u32::from(sessions.has(0, b""))
-        | u32::from(sessions.has(0, b"01")) << 1
-        | u32::from(sessions.has(0, b"02")) << 2
-        | u32::from(sessions.has(0, b"03")) << 3
-        | u32::from(sessions.has(1, b"01")) << 4
-        | u32::from(sessions.has(1, b"02")) << 5
+fn open<A: Allocator + Copy>(rt: &impl Abort, alloc: Global, sessions: &Sessions<A>) -> u32 {
+    let mut bits = 0;
+    for (bit, (peer, start)) in OPENED.iter().enumerate() {
+        if is_open(rt, alloc, sessions, *peer, start) {
+            bits |= 1 << bit;
+        }
+    }
+    bits
 }
+
+const OPENED: [(u16, &str); 6] = [
+    (0, START_EMPTY),
+    (0, START_01),
+    (0, START_02),
+    (0, START_03),
+    (1, START_01),
+    (1, START_02),
+];
 
 /// What happens, the peer, its request, and the sessions that are open then.
 type Step = (&'static str, u16, &'static str, u32);
@@ -84,10 +95,13 @@ const OF_MANY: [Step; 11] = [
 
 /// Each request of a row leaves these sessions open.
 fn check_steps(rt: &impl Abort, alloc: Global, limit: u32, steps: &[Step]) -> Result<(), Fail> {
-    let mut sessions = Sessions::new(alloc, limit);
+    let mut sessions = Sessions::new(alloc, limit, key());
     for (what, peer, request, expected) in steps {
         apply(rt, alloc, &mut sessions, *peer, request)?;
-        assert!(rt; open(&sessions) == *expected, "{what}, of at most {limit}");
+        assert!(rt;
+            open(rt, alloc, &sessions) == *expected,
+            "{what}, of at most {limit}"
+        );
     }
     Ok(())
 }
@@ -102,8 +116,8 @@ pub(crate) fn requests_change_the_ledger<R: Abort + AllocGlobal>(rt: &R) -> Resu
 /// A request of peer 0 to a ledger of `01` and `02` at most, the sessions that are open then, and
 /// how often it asks for memory at most.
 const GROWTHS: [(&str, u32, u64); 7] = [
-    (START_03, 0b001100, 2),
-    (STOP_01, 0b000100, 1),
+    (START_03, 0b001100, 4),
+    (STOP_01, 0b000100, 0),
     (STOP_EMPTY, 0b000110, 0),
     (START_01, 0b000110, 0),
     (INTERIM_01, 0b000110, 0),
@@ -117,7 +131,7 @@ fn two_sessions<'a>(
     alloc: Global,
     refusing: &'a Refusing<Global>,
 ) -> Sessions<&'a Refusing<Global>> {
-    let mut sessions = Sessions::new(refusing, 2);
+    let mut sessions = Sessions::new(refusing, 2, key());
     apply(rt, alloc, &mut sessions, 0, START_01).expect(rt, "memory");
     apply(rt, alloc, &mut sessions, 0, START_02).expect(rt, "memory");
     sessions
@@ -143,10 +157,16 @@ fn check_growths(
         );
         assert!(rt; refusing.growths() <= at_most, "growth {n} of {request}");
         if refused {
-            assert!(rt; open(&sessions) == 0b000110, "growth {n} of {request}");
+            assert!(rt;
+                open(rt, alloc, &sessions) == 0b000110,
+                "growth {n} of {request}"
+            );
             apply(rt, alloc, &mut sessions, 0, request)?;
         }
-        assert!(rt; open(&sessions) == expected, "growth {n} of {request}");
+        assert!(rt;
+            open(rt, alloc, &sessions) == expected,
+            "growth {n} of {request}"
+        );
     }
     Ok(())
 }
@@ -162,14 +182,15 @@ pub(crate) fn a_refused_growth_changes_nothing<R: Abort + AllocGlobal>(rt: &R) -
 pub(crate) fn a_prepared_change_wants_no_memory<R: Abort + AllocGlobal>(
     rt: &R,
 ) -> Result<(), Fail> {
-    let refusing = Refusing::new(rt.alloc());
-    let mut sessions = two_sessions(rt, rt.alloc(), &refusing);
-    let start = octets(rt, rt.alloc(), START_03);
-    let prepared = sessions.prepare(0, &View::read(&start)?)?;
-    assert!(rt; open(&sessions) == 0b000110, "prepared");
+    let alloc = rt.alloc();
+    let refusing = Refusing::new(alloc);
+    let mut sessions = two_sessions(rt, alloc, &refusing);
+    let start = octets(rt, alloc, START_03);
+    let prepared = sessions.prepare(false, 0, &View::read(&start)?)?;
+    assert!(rt; open(rt, alloc, &sessions) == 0b000110, "prepared");
     refusing.refuse_nth(1);
     sessions.apply_prepared(prepared);
     assert!(rt; refusing.growths() == 0, "applied");
-    assert!(rt; open(&sessions) == 0b001100, "applied");
+    assert!(rt; open(rt, alloc, &sessions) == 0b001100, "applied");
     Ok(())
 }

@@ -9,4 +9,10 @@ mod examples;
 #[cfg(test)]
 mod ledger_tests;
 #[cfg(test)]
+mod own_rows;
+#[cfg(test)]
+mod own_tests;
+#[cfg(test)]
 mod requests;
+#[cfg(test)]
+mod share_tests;

@@ -2,6 +2,7 @@
 //! here looks at one. What each holds is said above it.
 
 use hex::decode;
+use roam_hash::HashKey;
 use roam_reverse::Sessions;
 use roam_wire::{NoMemory, View};
 use std::alloc::{Allocator, Global};
@@ -52,7 +53,24 @@ pub fn octets(rt: &impl Abort, alloc: Global, digits: &str) -> Vec<u8> {
     decode(alloc, digits).expect(rt, "digits")
 }
 
-/// Applies an answered request of a peer.
+/// A key for the hashes of a ledger: what it answers doesn't depend on that.
+pub fn key() -> HashKey {
+    HashKey::new([5; 16])
+}
+
+/// Whether the session is open that an Accounting-Request of a peer names.
+pub fn is_open<A: Allocator + Copy>(
+    rt: &impl Abort,
+    alloc: Global,
+    sessions: &Sessions<A>,
+    peer: u16,
+    request: &str,
+) -> bool {
+    let octets = octets(rt, alloc, request);
+    sessions.is_open(false, peer, &View::read(&octets).expect(rt, "a packet"))
+}
+
+/// Applies an answered request of a peer, in a realm without sessions of its own.
 pub fn apply<A: Allocator + Copy>(
     rt: &impl Abort,
     alloc: Global,
@@ -62,5 +80,5 @@ pub fn apply<A: Allocator + Copy>(
 ) -> Result<(), NoMemory> {
     let octets = octets(rt, alloc, request);
     let view = View::read(&octets).expect(rt, "a packet");
-    sessions.apply(peer, &view)
+    sessions.apply(false, peer, &view)
 }

@@ -188,7 +188,8 @@ fn forward_into<A: Allocator>(
 }
 
 /// Forwards a request to a link that has a free Identifier: the next one is its Identifier there,
-/// and belongs to its ticket from now on, and the words that it draws are spent. Gives the packet that is sent, and how the request then waits. Takes no memory.
+/// and belongs to its ticket from now on, and the words that it draws are spent. Gives the packet that is sent, and how
+/// the request then waits. Takes no memory.
 pub(crate) fn send_new<A: Allocator + Copy>(
     settings: &RealmSettings<'_>,
     numbers: &mut RealmNumbers<A>,

@@ -3,7 +3,7 @@
 //! A request in the middle of a login goes to the server that sent its Challenge, and isn't used to try whether another
 //! one is back.
 
-ghost use Rattle.std.specs.Prelude.{◌≡◌, ◌∷◌, [], IfSome, is_some, option_map};
+ghost use Rattle.std.specs.Prelude.{◌≡◌, [], IfSome, is_some, option_map};
 ghost use Rattle.std.specs.List.{find};
 ghost use Rattle.roam_book.specs.Conversing.{asked_state, bound_link, round_link, state_in};
 ghost use Rattle.roam_book.specs.Private.NewEntry.{AreConfigured, bound_way, links_of, untried_way, way_link};
@@ -104,8 +104,8 @@ impl<A: Allocator + Copy, E: Entries<A>> RealmBroker<'_, '_, '_, '_, A, E> {
         }
     }
 
-    /// The one of a request's targets that goes on with its conversation, where it has a free Identifier, or is `freed`,
-    /// whether it stands back or not.
+    /// The one of a request's targets that goes on with its conversation, where it has a free Identifier, or is
+    /// `freed`, whether it stands back or not.
     fn bound_way(
         &self,
         asked: RequestRef<'_>,
@@ -148,9 +148,9 @@ impl<A: Allocator + Copy, E: Entries<A>> RealmBroker<'_, '_, '_, '_, A, E> {
         }
     }
 
-    /// The one of a request's targets that is chosen at a moment, where the Identifiers of `freed` count as free: the one
-    /// that goes on with its conversation; else, where it has one, the first that has no moment until which it rests;
-    /// else the usual one.
+    /// The one of a request's targets that is chosen at a moment, where the Identifiers of `freed` count as free: the
+    /// one that goes on with its conversation; else, where it has one, the first that has no moment until which it
+    /// rests; else the usual one.
     pub(crate) fn chosen_way(
         &self,
         now: u64,

@@ -21,8 +21,7 @@ use roam_wire::View;
 use std::alloc::Allocator;
 use std::marker::Model;
 
-/// What the rules of one realm read of a configuration: the seed, the realm's index and entry, and
-/// all peers. Contracts see just that.
+/// What the rules of one realm read of a configuration: the seed, its index and entry, and all peers.
 #[derive(Drop)]
 pub struct RealmSettings<'c> {
     config: &'c Config,
@@ -232,8 +231,7 @@ impl<'c> RealmSettings<'c> {
         }
     }
 
-    /// The peer that a reverse request is forwarded to, or the Error-Cause of one that can't be forwarded,
-    /// by the realm that it names, if it names one (RFC 5176, section 3.5).
+    /// The peer that a reverse request is for, or the Error-Cause, by the realm that it names (RFC 5176, section 3.5).
     pub(crate) fn route_of<A: Allocator + Copy>(
         &self,
         named: Option<u16>,

@@ -9,13 +9,15 @@ use Rattle.roam_back.proofs.plain_packet.append_piece.Goals as goal
 -- what passes of it is returned
 pub append_passed-requires-clause-room : goal.append_passed-requires-clause-room
 append_passed-requires-clause-room g c =
-    let is = own_piece-kept c.args.access (removed_by c.args.removal.now) (is_own c.args.own c.args.request.now) (shown c.args.attribute)
+    let is = own_piece-kept c.args.access (removed_by c.args.removal.now) (is_own c.args.own c.args.request.now)
+    (shown c.args.attribute)
     (sym c.is_kept.ensures ∙ c.if-is_kept.true) in
     omega (arith, c.requires.room, ap (λ (l : List Attribute). length (attributes_text l)) is)
 
 pub returns-then-is_kept-clause-items : goal.returns-then-is_kept-clause-items
 returns-then-is_kept-clause-items g c =
-    let is = own_piece-kept c.args.access (removed_by c.args.removal.now) (is_own c.args.own c.args.request.now) (shown c.args.attribute)
+    let is = own_piece-kept c.args.access (removed_by c.args.removal.now) (is_own c.args.own c.args.request.now)
+    (shown c.args.attribute)
     (sym c.is_kept.ensures ∙ c.if-is_kept.true) in
     c.append_passed.ensures.items
     ∙ ap (λ (l : List Attribute). c.args.out.now.items ++ attributes_text l) (sym is)
@@ -24,6 +26,7 @@ returns-then-is_kept-clause-items g c =
 pub returns-else-is_kept-clause-items : goal.returns-else-is_kept-clause-items
 returns-else-is_kept-clause-items g c =
     let out : List ℕ = c.args.out.now.items in
-    let is = own_piece-gone c.args.access (removed_by c.args.removal.now) (is_own c.args.own c.args.request.now) (shown c.args.attribute)
+    let is = own_piece-gone c.args.access (removed_by c.args.removal.now) (is_own c.args.own c.args.request.now)
+    (shown c.args.attribute)
     (sym c.is_kept.ensures ∙ c.if-is_kept.false) in
     sym (ap (λ (l : List Attribute). out ++ attributes_text l) is ∙ append-nil out)

@@ -10,11 +10,13 @@ pub returns-then-is_kept : goal.returns-then-is_kept
 returns-then-is_kept c =
     c.passed_len.ensures.all
     ∙ ap (λ (l : List Attribute). length (attributes_text l))
-    (sym (own_piece-kept c.args.access (removed_by c.args.removal.now) (is_own c.args.own c.args.request.now) (shown c.args.attribute.now)
+    (sym (own_piece-kept c.args.access (removed_by c.args.removal.now) (is_own c.args.own c.args.request.now)
+    (shown c.args.attribute.now)
     (sym c.is_kept.ensures ∙ c.if-is_kept.true)))
 
 pub returns-else-is_kept : goal.returns-else-is_kept
 returns-else-is_kept c =
     ap (λ (l : List Attribute). length (attributes_text l))
-    (sym (own_piece-gone c.args.access (removed_by c.args.removal.now) (is_own c.args.own c.args.request.now) (shown c.args.attribute.now)
+    (sym (own_piece-gone c.args.access (removed_by c.args.removal.now) (is_own c.args.own c.args.request.now)
+    (shown c.args.attribute.now)
     (sym c.is_kept.ensures ∙ c.if-is_kept.false)))

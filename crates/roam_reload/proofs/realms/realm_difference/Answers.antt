@@ -7,7 +7,7 @@ use Rattle.roam_conf.specs.declared.server.Server.{Server}
 use Rattle.roam_conf.proofs.EqualLemmas.{server_decides, server_eq}
 use Rattle.roam_conf.proofs.EqualPartsLemmas.{list_decides, endpoint_decides}
 use Rattle.roam_reload.specs.Reload.{realm_part}
-use Rattle.roam_reload.specs.SameLimits.{HaveSameLimits, HaveSamePolicy}
+use Rattle.roam_reload.specs.SameLimits.{HaveSameLimits, HaveSameParts, HaveSamePolicy}
 use Rattle.roam_reload.proofs.realms.realm_difference.Goals as goal
 
 -- servers of another list
@@ -31,7 +31,7 @@ sames a b test is no' = sym ((list_decides server_eq shown_server server_decides
 
 -- the same tables in this part
 same_part : (a b : RealmView) → b.out ≡ a.out → b.reverse ≡ a.reverse → b.servers ≡ a.servers →
-    HaveSamePolicy a b × HaveSameLimits a b → realm_part b ≡ realm_part a
+    HaveSamePolicy a b × (HaveSameParts a b × HaveSameLimits a b) → realm_part b ≡ realm_part a
 same_part a b out reverse servers same = λ i. record {
   name = [];
   also = [];
@@ -41,15 +41,20 @@ same_part a b out reverse servers same = λ i. record {
   request_without = same.0.request_without i;
   reply_without = same.0.reply_without i;
   share = same.0.share i;
+  peer_share = same.1.0.peer_share i;
+  own_names = same.1.0.own_names i;
+  conversations = same.1.0.conversations i;
+  own_sessions = same.1.0.own_sessions i;
+  coa_clients = same.1.0.coa_clients i;
   out = out i;
   reverse = reverse i;
-  tries = same.1.tries i;
-  wait = same.1.wait i;
-  hold = same.1.hold i;
-  max_pending = same.1.max_pending i;
-  max_sessions = same.1.max_sessions i;
-  rest = same.1.rest i;
-  rest_after = same.1.rest_after i;
+  tries = same.1.1.tries i;
+  wait = same.1.1.wait i;
+  hold = same.1.1.hold i;
+  max_pending = same.1.1.max_pending i;
+  max_sessions = same.1.1.max_sessions i;
+  rest = same.1.1.rest i;
+  rest_after = same.1.1.rest_after i;
   servers = servers i;
 }
 

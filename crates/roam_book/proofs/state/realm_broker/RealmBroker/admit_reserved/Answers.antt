@@ -1,4 +1,4 @@
-use Rattle.std.proofs.Common.{◌≡◌, true, false, [], ◌∷◌, ap, ◌∙◌, refl, subst, sym}
+use Rattle.std.proofs.Common.{◌≡◌, false, [], ◌∷◌, ap, ◌∙◌, refl, subst, sym}
 use Rattle.roam_route.specs.Shown.{shown_out}
 use Rattle.roam_book.specs.Conversing.{rests_chosen}
 use Rattle.roam_book.specs.RealmConfig.{RealmConfig, IsLink}
@@ -7,7 +7,7 @@ use Rattle.roam_book.specs.RealmTurn.{state}
 use Rattle.roam_book.specs.Turn.{packets_of, state_after}
 use Rattle.roam_book.specs.Private.NewEntry.{IsWay, admits, cleared, forwards, straight_to}
 use Rattle.roam_book.specs.Private.Memory.{IsCopied}
-use Rattle.roam_book.specs.Sound.{lane_of, shown_request}
+use Rattle.roam_book.specs.Sound.{shown_request}
 use Rattle.roam_book.proofs.LinkLaneLemmas.{made-same}
 use Rattle.roam_book.proofs.MemoryLemmas.{has-place, told-tells}
 use Rattle.roam_book.proofs.RealmLemmas.{keeps-both}

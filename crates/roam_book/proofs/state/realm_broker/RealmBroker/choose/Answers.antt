@@ -11,7 +11,8 @@ returns-clause-keeps g c =
     record {
       realm = record {
         kept_here = kept.kept_here;
-        sound = rests-sound old.settings.now (entries g.E.Entries old) _ old.numbers.now c.put_off_unless.new.self kept.sound
+        sound = rests-sound old.settings.now (entries g.E.Entries old) _ old.numbers.now c.put_off_unless.new.self
+            kept.sound
             c.put_off_unless.ensures;
         list = kept.list;
       };

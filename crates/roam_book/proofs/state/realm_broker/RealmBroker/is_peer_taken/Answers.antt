@@ -1,4 +1,4 @@
-use Rattle.std.proofs.Common.{◌≡◌, ◌∙◌, ◌+◌, ◌&&◌, Some, ap, sym, refl, arith}
+use Rattle.std.proofs.Common.{◌≡◌, ◌∙◌, ◌+◌, ◌&&◌, Some, sym, refl}
 use Rattle.std.specs.Prelude.{nat_le}
 use Rattle.std.specs.List.{count_by}
 use Rattle.roam_pending.specs.EntryList.{besides}
@@ -31,7 +31,8 @@ returns-in-Some g c =
     ∙ counted-is r.settings.now es r.numbers.now service.Accounting test gone c.requires.realm.sound
     c.requires.realm.list in
     let both : c.sharers_for-first.result + c.sharers_for-second.result ≡ count_by (of_peer q) (besides gone es) =
-    (λ i. first i + second i) ∙ sym (both-services (λ e. same_peer e.request.requester q.requester) (besides gone es)) in
+    (λ i. first i + second i) ∙ sym
+    (both-services (λ e. same_peer e.request.requester q.requester) (besides gone es)) in
     let counted : c.sharers_for-first.result + c.sharers_for-second.result
     ≡ count_by (of_peer q) (once_gone c.args.gone es) =
     both ∙ (λ i. count_by (of_peer q) (besides (c.gone_ticket-gone.ensures i) es)) in

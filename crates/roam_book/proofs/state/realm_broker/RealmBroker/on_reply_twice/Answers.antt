@@ -1,3 +1,5 @@
+use Rattle.std.proofs.Common.{◌∙◌}
+use Rattle.roam_book.proofs.RealmLemmas.{keeps-both}
 use Rattle.roam_book.proofs.TurnLemmas.{not-ok, turns-lost_twice}
 use Rattle.roam_book.proofs.state.realm_broker.RealmBroker.on_reply_twice.Goals as goal
 
@@ -12,4 +14,18 @@ returns-in_err-change g c =
           (λ none. not-ok c.prepare_ledger.result _ c.in_err-change.was
           (made.succeeds (plan.silent none)))
           made.keeps;
+    }
+
+-- nor for a State to be found by, with the same
+pub returns-in_err-carry_out : goal.returns-in_err-carry_out
+returns-in_err-carry_out g c =
+    let plan = c.in_ok-answer.ensures.plan in
+    let made = c.prepare_ledger.ensures in
+    let out = c.carry_out.ensures in
+    record {
+      turn = turns-lost_twice g.E.Entries c.args.self.now c.carry_out.new.self
+          c.from_residual-in_err-carry_out.result _ c.from_residual-in_err-carry_out.ensures.0
+          (c.in_err-carry_out.ensures.no_memory ∙ made.state)
+          (λ none. not-ok c.carry_out.result _ c.in_err-carry_out.was (out.succeeds (plan.silent none)))
+          (keeps-both g.E.Entries c.args.self.now c.prepare_ledger.new.self c.carry_out.new.self made.keeps out.keeps);
     }

@@ -1,4 +1,4 @@
-use Rattle.std.proofs.Common.{List, Option, ap, is_some, sym, ◌∙◌}
+use Rattle.std.proofs.Common.{List, ap, is_some, sym, ◌∙◌}
 use Rattle.roam_conf.specs.declared.place.Link.{Link}
 use Rattle.roam_book.specs.RealmTurn.{entries, state}
 use Rattle.roam_book.specs.Private.NewEntry.{bound_way, once_gone, way_link}

@@ -1,0 +1,92 @@
+//! Who makes way in a ledger of four at most. What is expected was worked out by hand from the rule: the new session goes last, and
+//! the oldest of the peer that has most makes way, of several that have most the oldest of all theirs.
+
+use crate::requests::{
+    INTERIM_01, ON, START_01, START_02, START_03, START_EMPTY, apply, is_open, key,
+};
+use roam_reverse::Sessions;
+use std::alloc::Global;
+use std::process::Abort;
+use std::test::Fail;
+
+/// Each session that a row looks at, one bit each.
+const OPENED: [(u16, &str); 8] = [
+    (0, START_EMPTY),
+    (0, START_01),
+    (0, START_02),
+    (0, START_03),
+    (1, START_EMPTY),
+    (1, START_01),
+    (1, START_02),
+    (1, START_03),
+];
+
+/// What happens, the peer, its request, and the sessions that are open then.
+type Step = (&'static str, u16, &'static str, u32);
+
+/// A peer that takes all places, and one that comes then.
+const ONE_AND_ANOTHER: [Step; 12] = [
+    ("the first", 0, START_EMPTY, 0b0000_0001),
+    ("the second", 0, START_01, 0b0000_0011),
+    ("the third", 0, START_02, 0b0000_0111),
+    ("the fourth", 0, START_03, 0b0000_1111),
+    (
+        "another peer's: the first one's oldest goes",
+        1,
+        START_01,
+        0b0010_1110,
+    ),
+    ("its second: again", 1, START_02, 0b0110_1100),
+    (
+        "its third: it has most, its own oldest goes",
+        1,
+        START_03,
+        0b1100_1100,
+    ),
+    ("its fourth: again", 1, START_EMPTY, 0b1001_1100),
+    (
+        "the first peer's third: it has most",
+        0,
+        START_01,
+        0b1001_1010,
+    ),
+    ("one that is there", 0, INTERIM_01, 0b1001_1010),
+    ("Accounting-On of the second", 1, ON, 0b0000_1010),
+    ("and of the first", 0, ON, 0b0000_0000),
+];
+
+/// Of three that have one each the oldest goes.
+const AS_MANY: [Step; 6] = [
+    ("of peer 1", 1, START_01, 0b0010_0000),
+    ("of peer 0", 0, START_01, 0b0010_0010),
+    ("of peer 2", 2, START_01, 0b0010_0010),
+    ("of peer 3", 3, START_01, 0b0010_0010),
+    ("of peer 4", 4, START_01, 0b0000_0010),
+    ("of peer 5", 5, START_01, 0b0000_0000),
+];
+
+/// Which of these sessions are open.
+fn open(rt: &impl Abort, alloc: Global, sessions: &Sessions<Global>) -> u32 {
+    let mut bits = 0;
+    for (bit, (peer, start)) in OPENED.iter().enumerate() {
+        if is_open(rt, alloc, sessions, *peer, start) {
+            bits |= 1 << bit;
+        }
+    }
+    bits
+}
+
+/// Each request of a row leaves these sessions open.
+fn check_steps(rt: &impl Abort, alloc: Global, steps: &[Step]) -> Result<(), Fail> {
+    let mut sessions = Sessions::new(alloc, 4, key());
+    for (what, peer, request, expected) in steps {
+        apply(rt, alloc, &mut sessions, *peer, request)?;
+        assert!(rt; open(rt, alloc, &sessions) == *expected, "{what}");
+    }
+    Ok(())
+}
+
+pub(crate) fn a_peer_keeps_its_share<R: Abort + AllocGlobal>(rt: &R) -> Result<(), Fail> {
+    check_steps(rt, rt.alloc(), &ONE_AND_ANOTHER)?;
+    check_steps(rt, rt.alloc(), &AS_MANY)
+}
