@@ -430,6 +430,19 @@ row.account("one more at the third: it and the first have two, and the first's o
 row.gone("the first one's third", b"3")
 row.kept("its last", b"9")
 
+row = Story("who-has-most-with-the-one-that-comes", "full-ledger")
+for session, server in ((b"1", FIRST), (b"2", FIRST), (b"3", THIRD), (b"4", THIRD)):
+    row.account("a Start, two at either access server", START, session, server)
+row.account("one more at the second: it has three then, and loses its own oldest", START, b"5", THIRD)
+row.gone("its oldest", b"3", THIRD)
+row.kept("the first one's oldest", b"1")
+row.account("one more at the first", START, b"6")
+row.gone("its oldest", b"1")
+row.kept("the second's older one", b"4", THIRD)
+row.account("one at a third: both have two, and the first's oldest is older", START, b"7", FOURTH)
+row.gone("the first one's oldest", b"2")
+row.kept("the second's older one", b"4", THIRD)
+
 
 def stamp(seconds):
     return attribute(55, seconds.to_bytes(4, "big"))
