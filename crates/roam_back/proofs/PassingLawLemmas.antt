@@ -73,7 +73,7 @@ own_among request [] = refl
 own_among request (a ∷ all) =
     elim (cases_Bool (has_kind USER_NAME a)) [
       | inl name ↦ elim (cases_Bool (is_same_name (realm_part a.value) (name_part request))) [
-        | inl same ↦ rw (name, same) (rw (name, same) (ap (λ (l : List Attribute). a ∷ l) (own_among request all)))
+        | inl same ↦ rw (name, same) (rw name (ap (λ (l : List Attribute). a ∷ l) (own_among request all)))
         | inr foreign ↦ rw (name, foreign) (own_among request all)
       ]
       | inr other ↦ rw other (rw other (own_among request all))

@@ -128,7 +128,7 @@ target-by c cursors es p (l ∷ ls) h =
     ∙ rw h.0 (ap (λ (o : Option Link). cond (p l) (Some l) o) (target-by c cursors es p ls h.1))
 
 -- the same among those that pass a test
-target-among :
+pub target-among :
     (c : RealmConfig) (cursors : List ℕ) (es : List PlainEntry) (p q : Link → Bool) (links : List Link)
     → AllByRecursion (λ l. is_some (next_toward c cursors es l) ≡ p l) links
     → option_map (λ t. t.link) (first_target c cursors es (filter q links))
@@ -143,17 +143,17 @@ target-among c cursors es p q (l ∷ ls) h =
     ]
 
 -- the link of one target, or of another where there is none
-link-or :
+pub link-or :
     (a b : Option Target) → option_map (λ t. t.link) (option_or a b)
     ≡ option_or (option_map (λ t. t.link) a) (option_map (λ t. t.link) b)
 link-or None b = refl
 link-or (Some t) b = refl
 
-or-same : (a b d e : Option Link) → a ≡ d → b ≡ e → option_or a b ≡ option_or d e
+pub or-same : (a b d e : Option Link) → a ≡ d → b ≡ e → option_or a b ≡ option_or d e
 or-same a b d e first second = rw (first, second) refl
 
 -- the target that is chosen is the link that is chosen by such a test
-chosen-by :
+pub chosen-by :
     (c : RealmConfig) (now : ℕ) (rests : List Rest) (cursors : List ℕ) (es : List PlainEntry)
     (p : Link → Bool) (links : List Link)
     → AllByRecursion (λ l. is_some (next_toward c cursors es l) ≡ p l) links
@@ -178,7 +178,7 @@ target-tells c now rests es lanes links list tells are =
     (λ l link. ap is_some (next-tells c es lanes l list tells link)) are)
 
 -- where an entry stands
-placeless-done : (s : PlainStanding) → standing_place s ≡ None → stands_done s ≡ true
+pub placeless-done : (s : PlainStanding) → standing_place s ≡ None → stands_done s ≡ true
 placeless-done (waiting l id forwarded sends_left deadline signs) is =
     absurd (let k : Some (l, id) ≡ None = is in cc)
 placeless-done (done reply deadline from) is = refl
@@ -194,7 +194,7 @@ placed-stands (waiting l' id' forwarded sends_left deadline signs) l id is k i =
 placed-stands (done reply deadline from) l id is k i =
     absurd (let away : None ≡ Some (l, id) = is in cc)
 
-placed-octet :
+pub placed-octet :
     (c : RealmConfig) (q : PlainRequest) (s : PlainStanding) (l : Link) (id : ℕ)
     → standing_place s ≡ Some (l, id) → StandsWell c q s → id < 256
 placed-octet c q (waiting l' id' forwarded sends_left deadline signs) l id is well =
@@ -206,7 +206,7 @@ placed-octet c q (done reply deadline from) l id is well =
     absurd (let away : None ≡ Some (l, id) = is in cc)
 
 -- a link is open once an entry is out: where it waited, or by its lane
-open-freed :
+pub open-freed :
     (c : RealmConfig) (es : List PlainEntry) (lanes : List LaneState) (t : ℕ) (e : PlainEntry) (l : Link)
     (id : ℕ) (k : Link)
     → IsEntryList es → LanesTell c es lanes → IsLink c k → find_ticket t es ≡ Some e
@@ -247,7 +247,7 @@ next_step c cursors es l target others (Some id) next later at =
     subst (λ (x : Target). next_toward c cursors es x.link ≡ Some x.id) here next
 
 -- the Identifier of the first target is the next toward its link
-first-next :
+pub first-next :
     (c : RealmConfig) (cursors : List ℕ) (es : List PlainEntry) (links : List Link) (target : Target)
     → first_target c cursors es links ≡ Some target
     → next_toward c cursors es target.link ≡ Some target.id
@@ -257,7 +257,7 @@ first-next c cursors es (l ∷ ls) target at =
     (first-next c cursors es ls target) at
 
 -- what is said of each of two is said of the one, or of the other where it isn't there
-either :
+pub either :
     {X : Type 0} (P : X → Type 0) (a b : Option X) (x : X) → (a ≡ Some x → P x) → (b ≡ Some x → P x)
     → option_or a b ≡ Some x → P x
 either P None b x f g at = g at

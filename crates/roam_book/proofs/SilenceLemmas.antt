@@ -295,7 +295,7 @@ module _ (c : RealmConfig) (l : Link) where
       let same = same_place k from (both_true (same_link k from) (i == id) at) in
       judge-wakes now s e k (packet_of forwarded) reply
       (reply_fault (link_secret c k) (seal_required c k) reply (packet_of forwarded)) (same ∙ is)
-  standing-wakes now s e from id reply (done old deadline from) at is = refuses-wakes s refusal.NoEntry
+  standing-wakes now s e from id reply (done old deadline kept) at is = refuses-wakes s refusal.NoEntry
 
   entry-wakes : (now : ℕ) (s : RealmState) (from : Link) (id : ℕ) (reply : Packet)
       (o : Option PlainEntry) → find_link from id s.entries ≡ o → link_place c from ≡ link_place c l

@@ -11,7 +11,7 @@ use Rattle.roam_conf.specs.declared.place.Link.{Link}
 use Rattle.roam_pending.specs.declared.key.Requester.{Requester}
 use Rattle.roam_pending.specs.declared.key.Requester.TheVariants as requester
 use Rattle.roam_pending.specs.Conversations.{kept_link, last_round}
-use Rattle.roam_pending.specs.PlainEntry.{PlainEntry, PlainRequest}
+use Rattle.roam_pending.specs.PlainEntry.{PlainEntry, PlainRequest, same_link}
 use Rattle.roam_book.specs.RealmConfig.{RealmConfig}
 use Rattle.roam_book.specs.RealmState.{RealmState, Target, chosen_target, first_target}
 use Rattle.roam_book.specs.Rests.{after_choice, has_moment}

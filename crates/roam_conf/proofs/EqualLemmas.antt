@@ -47,9 +47,7 @@ pub server_decides : (a b : Server) → Decides (server_eq a b) (shown_server a 
 server_decides a b =
     let v = shown_server a in
     let w = shown_server b in
-    Decides-like {P = (v.auth ≡ w.auth)
-    × ((v.acct ≡ w.acct)
-    × ((v.secret ≡ w.secret)
+    Decides-like {P = (v.auth ≡ w.auth) × ((v.acct ≡ w.acct) × ((v.secret ≡ w.secret)
     × ((v.require_seal ≡ w.require_seal))))} _
     (λ p. λ i. record {
       auth = p.0 i;
@@ -57,7 +55,16 @@ server_decides a b =
       secret = p.1.1.0 i;
       require_seal = p.1.1.1 i;
     })
-    (λ e. (ap (λ (x : ServerView). x.auth) e, (ap (λ (x : ServerView). x.acct) e, (ap (λ (x : ServerView). x.secret) e, ap (λ (x : ServerView). x.require_seal) e))))
+    (λ e. (
+      ap (λ (x : ServerView). x.auth) e,
+      (
+        ap (λ (x : ServerView). x.acct) e,
+        (
+          ap (λ (x : ServerView). x.secret) e,
+          ap (λ (x : ServerView). x.require_seal) e,
+        ),
+      ),
+    ))
     (Decides-and _ _ (endpoint_decides a.auth b.auth)
     (Decides-and _ _ (whole_option_decides endpoint_eq endpoint_decides a.acct b.acct)
     (Decides-and _ _ (text_decides a.secret b.secret)
@@ -67,8 +74,7 @@ pub client_decides : (a b : CoaClient) → Decides (client_eq a b) (shown_client
 client_decides a b =
     let v = shown_client a in
     let w = shown_client b in
-    Decides-like {P = (v.ip ≡ w.ip)
-    × ((v.secret ≡ w.secret))} _
+    Decides-like {P = (v.ip ≡ w.ip) × ((v.secret ≡ w.secret))} _
     (λ p. λ i. record {
       ip = p.0 i;
       secret = p.1 i;
@@ -81,19 +87,11 @@ pub peer_decides : (a b : Peer) → Decides (peer_eq a b) (shown_peer a ≡ show
 peer_decides a b =
     let v = shown_peer a in
     let w = shown_peer b in
-    Decides-like {P = (v.name ≡ w.name)
-    × ((v.ip ≡ w.ip)
-    × ((v.secret ≡ w.secret)
-    × ((v.coa ≡ w.coa)
-    × ((v.nas_ip ≡ w.nas_ip)
-    × ((v.nas_id ≡ w.nas_id)
-    × ((v.nas_ids ≡ w.nas_ids)
-    × ((v.require_seal ≡ w.require_seal)
-    × ((v.limit_proxy_state ≡ w.limit_proxy_state)
-    × ((v.operator_name ≡ w.operator_name)
-    × ((v.ask_cui ≡ w.ask_cui)
-    × ((v.request_without ≡ w.request_without)
-    × ((v.reply_without ≡ w.reply_without)))))))))))))} _
+    Decides-like {P = (v.name ≡ w.name) × ((v.ip ≡ w.ip) × ((v.secret ≡ w.secret) × ((v.coa ≡ w.coa)
+    × ((v.nas_ip ≡ w.nas_ip) × ((v.nas_id ≡ w.nas_id) × ((v.nas_ids ≡ w.nas_ids)
+    × ((v.require_seal ≡ w.require_seal) × ((v.limit_proxy_state ≡ w.limit_proxy_state)
+    × ((v.operator_name ≡ w.operator_name) × ((v.ask_cui ≡ w.ask_cui)
+    × ((v.request_without ≡ w.request_without) × ((v.reply_without ≡ w.reply_without)))))))))))))} _
     (λ p. λ i. record {
       name = p.0 i;
       ip = p.1.0 i;
@@ -109,7 +107,43 @@ peer_decides a b =
       request_without = p.1.1.1.1.1.1.1.1.1.1.1.0 i;
       reply_without = p.1.1.1.1.1.1.1.1.1.1.1.1 i;
     })
-    (λ e. (ap (λ (x : PeerView). x.name) e, (ap (λ (x : PeerView). x.ip) e, (ap (λ (x : PeerView). x.secret) e, (ap (λ (x : PeerView). x.coa) e, (ap (λ (x : PeerView). x.nas_ip) e, (ap (λ (x : PeerView). x.nas_id) e, (ap (λ (x : PeerView). x.nas_ids) e, (ap (λ (x : PeerView). x.require_seal) e, (ap (λ (x : PeerView). x.limit_proxy_state) e, (ap (λ (x : PeerView). x.operator_name) e, (ap (λ (x : PeerView). x.ask_cui) e, (ap (λ (x : PeerView). x.request_without) e, ap (λ (x : PeerView). x.reply_without) e)))))))))))))
+    (λ e. (
+      ap (λ (x : PeerView). x.name) e,
+      (
+        ap (λ (x : PeerView). x.ip) e,
+        (
+          ap (λ (x : PeerView). x.secret) e,
+          (
+            ap (λ (x : PeerView). x.coa) e,
+            (
+              ap (λ (x : PeerView). x.nas_ip) e,
+              (
+                ap (λ (x : PeerView). x.nas_id) e,
+                (
+                  ap (λ (x : PeerView). x.nas_ids) e,
+                  (
+                    ap (λ (x : PeerView). x.require_seal) e,
+                    (
+                      ap (λ (x : PeerView). x.limit_proxy_state) e,
+                      (
+                        ap (λ (x : PeerView). x.operator_name) e,
+                        (
+                          ap (λ (x : PeerView). x.ask_cui) e,
+                          (
+                            ap (λ (x : PeerView). x.request_without) e,
+                            ap (λ (x : PeerView). x.reply_without) e,
+                          ),
+                        ),
+                      ),
+                    ),
+                  ),
+                ),
+              ),
+            ),
+          ),
+        ),
+      ),
+    ))
     (Decides-and _ _ (text_decides a.name b.name)
     (Decides-and _ _ (bytes_eq-Decides a.ip b.ip)
     (Decides-and _ _ (text_decides a.secret b.secret)

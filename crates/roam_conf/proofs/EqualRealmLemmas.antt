@@ -67,29 +67,14 @@ pub realm_decides : (a b : Realm) → Decides (realm_eq a b) (shown_realm a ≡ 
 realm_decides a b =
     let v = shown_realm a in
     let w = shown_realm b in
-    Decides-like {P = (v.name ≡ w.name)
-    × ((v.also ≡ w.also)
-    × ((v.peers ≡ w.peers)
-    × ((v.loop_prevention ≡ w.loop_prevention)
-    × ((v.accounting ≡ w.accounting)
-    × ((v.request_without ≡ w.request_without)
-    × ((v.reply_without ≡ w.reply_without)
-    × ((v.share ≡ w.share)
-    × ((v.peer_share ≡ w.peer_share)
-    × ((v.own_names ≡ w.own_names)
-    × ((v.conversations ≡ w.conversations)
-    × ((v.own_sessions ≡ w.own_sessions)
-    × ((v.coa_clients ≡ w.coa_clients)
-    × ((v.out ≡ w.out)
-    × ((v.reverse ≡ w.reverse)
-    × ((v.tries ≡ w.tries)
-    × ((v.wait ≡ w.wait)
-    × ((v.hold ≡ w.hold)
-    × ((v.max_pending ≡ w.max_pending)
-    × ((v.max_sessions ≡ w.max_sessions)
-    × ((v.rest ≡ w.rest)
-    × ((v.rest_after ≡ w.rest_after)
-    × ((v.servers ≡ w.servers)))))))))))))))))))))))} _
+    Decides-like {P = (v.name ≡ w.name) × ((v.also ≡ w.also) × ((v.peers ≡ w.peers)
+    × ((v.loop_prevention ≡ w.loop_prevention) × ((v.accounting ≡ w.accounting)
+    × ((v.request_without ≡ w.request_without) × ((v.reply_without ≡ w.reply_without) × ((v.share ≡ w.share)
+    × ((v.peer_share ≡ w.peer_share) × ((v.own_names ≡ w.own_names) × ((v.conversations ≡ w.conversations)
+    × ((v.own_sessions ≡ w.own_sessions) × ((v.coa_clients ≡ w.coa_clients) × ((v.out ≡ w.out)
+    × ((v.reverse ≡ w.reverse) × ((v.tries ≡ w.tries) × ((v.wait ≡ w.wait) × ((v.hold ≡ w.hold)
+    × ((v.max_pending ≡ w.max_pending) × ((v.max_sessions ≡ w.max_sessions) × ((v.rest ≡ w.rest)
+    × ((v.rest_after ≡ w.rest_after) × ((v.servers ≡ w.servers)))))))))))))))))))))))} _
     (λ p. λ i. record {
       name = p.0 i;
       also = p.1.0 i;
@@ -115,7 +100,73 @@ realm_decides a b =
       rest_after = p.1.1.1.1.1.1.1.1.1.1.1.1.1.1.1.1.1.1.1.1.1.0 i;
       servers = p.1.1.1.1.1.1.1.1.1.1.1.1.1.1.1.1.1.1.1.1.1.1 i;
     })
-    (λ e. (ap (λ (x : RealmView). x.name) e, (ap (λ (x : RealmView). x.also) e, (ap (λ (x : RealmView). x.peers) e, (ap (λ (x : RealmView). x.loop_prevention) e, (ap (λ (x : RealmView). x.accounting) e, (ap (λ (x : RealmView). x.request_without) e, (ap (λ (x : RealmView). x.reply_without) e, (ap (λ (x : RealmView). x.share) e, (ap (λ (x : RealmView). x.peer_share) e, (ap (λ (x : RealmView). x.own_names) e, (ap (λ (x : RealmView). x.conversations) e, (ap (λ (x : RealmView). x.own_sessions) e, (ap (λ (x : RealmView). x.coa_clients) e, (ap (λ (x : RealmView). x.out) e, (ap (λ (x : RealmView). x.reverse) e, (ap (λ (x : RealmView). x.tries) e, (ap (λ (x : RealmView). x.wait) e, (ap (λ (x : RealmView). x.hold) e, (ap (λ (x : RealmView). x.max_pending) e, (ap (λ (x : RealmView). x.max_sessions) e, (ap (λ (x : RealmView). x.rest) e, (ap (λ (x : RealmView). x.rest_after) e, ap (λ (x : RealmView). x.servers) e)))))))))))))))))))))))
+    (λ e. (
+      ap (λ (x : RealmView). x.name) e,
+      (
+        ap (λ (x : RealmView). x.also) e,
+        (
+          ap (λ (x : RealmView). x.peers) e,
+          (
+            ap (λ (x : RealmView). x.loop_prevention) e,
+            (
+              ap (λ (x : RealmView). x.accounting) e,
+              (
+                ap (λ (x : RealmView). x.request_without) e,
+                (
+                  ap (λ (x : RealmView). x.reply_without) e,
+                  (
+                    ap (λ (x : RealmView). x.share) e,
+                    (
+                      ap (λ (x : RealmView). x.peer_share) e,
+                      (
+                        ap (λ (x : RealmView). x.own_names) e,
+                        (
+                          ap (λ (x : RealmView). x.conversations) e,
+                          (
+                            ap (λ (x : RealmView). x.own_sessions) e,
+                            (
+                              ap (λ (x : RealmView). x.coa_clients) e,
+                              (
+                                ap (λ (x : RealmView). x.out) e,
+                                (
+                                  ap (λ (x : RealmView). x.reverse) e,
+                                  (
+                                    ap (λ (x : RealmView). x.tries) e,
+                                    (
+                                      ap (λ (x : RealmView). x.wait) e,
+                                      (
+                                        ap (λ (x : RealmView). x.hold) e,
+                                        (
+                                          ap (λ (x : RealmView). x.max_pending) e,
+                                          (
+                                            ap (λ (x : RealmView). x.max_sessions) e,
+                                            (
+                                              ap (λ (x : RealmView). x.rest) e,
+                                              (
+                                                ap (λ (x : RealmView). x.rest_after) e,
+                                                ap (λ (x : RealmView). x.servers) e,
+                                              ),
+                                            ),
+                                          ),
+                                        ),
+                                      ),
+                                    ),
+                                  ),
+                                ),
+                              ),
+                            ),
+                          ),
+                        ),
+                      ),
+                    ),
+                  ),
+                ),
+              ),
+            ),
+          ),
+        ),
+      ),
+    ))
     (Decides-and _ _ (text_decides a.name b.name)
     (Decides-and _ _ (list_decides pattern_eq shown_pattern pattern_decides a.also.items b.also.items)
     (Decides-and _ _ (option_decides names_eq shown_names names_decides a.peers b.peers)
@@ -150,22 +201,11 @@ pub config_decides : (a b : Config) → Decides (config_eq a b) (shown a ≡ sho
 config_decides a b =
     let v = shown a in
     let w = shown b in
-    Decides-like {P = (v.shards ≡ w.shards)
-    × ((v.seed ≡ w.seed)
-    × ((v.auth ≡ w.auth)
-    × ((v.acct ≡ w.acct)
-    × ((v.trace_limit ≡ w.trace_limit)
-    × ((v.trace_octets ≡ w.trace_octets)
-    × ((v.max_hops ≡ w.max_hops)
-    × ((v.max_attributes ≡ w.max_attributes)
-    × ((v.status_server ≡ w.status_server)
-    × ((v.spread ≡ w.spread)
-    × ((v.reject ≡ w.reject)
-    × ((v.well_formed ≡ w.well_formed)
-    × ((v.answer_unnamed ≡ w.answer_unnamed)
-    × ((v.fresh ≡ w.fresh)
-    × ((v.peers ≡ w.peers)
-    × ((v.realms ≡ w.realms))))))))))))))))} _
+    Decides-like {P = (v.shards ≡ w.shards) × ((v.seed ≡ w.seed) × ((v.auth ≡ w.auth) × ((v.acct ≡ w.acct)
+    × ((v.trace_limit ≡ w.trace_limit) × ((v.trace_octets ≡ w.trace_octets) × ((v.max_hops ≡ w.max_hops)
+    × ((v.max_attributes ≡ w.max_attributes) × ((v.status_server ≡ w.status_server) × ((v.spread ≡ w.spread)
+    × ((v.reject ≡ w.reject) × ((v.well_formed ≡ w.well_formed) × ((v.answer_unnamed ≡ w.answer_unnamed)
+    × ((v.fresh ≡ w.fresh) × ((v.peers ≡ w.peers) × ((v.realms ≡ w.realms))))))))))))))))} _
     (λ p. λ i. record {
       shards = p.0 i;
       seed = p.1.0 i;
@@ -184,7 +224,52 @@ config_decides a b =
       peers = p.1.1.1.1.1.1.1.1.1.1.1.1.1.1.0 i;
       realms = p.1.1.1.1.1.1.1.1.1.1.1.1.1.1.1 i;
     })
-    (λ e. (ap (λ (x : ConfigView). x.shards) e, (ap (λ (x : ConfigView). x.seed) e, (ap (λ (x : ConfigView). x.auth) e, (ap (λ (x : ConfigView). x.acct) e, (ap (λ (x : ConfigView). x.trace_limit) e, (ap (λ (x : ConfigView). x.trace_octets) e, (ap (λ (x : ConfigView). x.max_hops) e, (ap (λ (x : ConfigView). x.max_attributes) e, (ap (λ (x : ConfigView). x.status_server) e, (ap (λ (x : ConfigView). x.spread) e, (ap (λ (x : ConfigView). x.reject) e, (ap (λ (x : ConfigView). x.well_formed) e, (ap (λ (x : ConfigView). x.answer_unnamed) e, (ap (λ (x : ConfigView). x.fresh) e, (ap (λ (x : ConfigView). x.peers) e, ap (λ (x : ConfigView). x.realms) e))))))))))))))))
+    (λ e. (
+      ap (λ (x : ConfigView). x.shards) e,
+      (
+        ap (λ (x : ConfigView). x.seed) e,
+        (
+          ap (λ (x : ConfigView). x.auth) e,
+          (
+            ap (λ (x : ConfigView). x.acct) e,
+            (
+              ap (λ (x : ConfigView). x.trace_limit) e,
+              (
+                ap (λ (x : ConfigView). x.trace_octets) e,
+                (
+                  ap (λ (x : ConfigView). x.max_hops) e,
+                  (
+                    ap (λ (x : ConfigView). x.max_attributes) e,
+                    (
+                      ap (λ (x : ConfigView). x.status_server) e,
+                      (
+                        ap (λ (x : ConfigView). x.spread) e,
+                        (
+                          ap (λ (x : ConfigView). x.reject) e,
+                          (
+                            ap (λ (x : ConfigView). x.well_formed) e,
+                            (
+                              ap (λ (x : ConfigView). x.answer_unnamed) e,
+                              (
+                                ap (λ (x : ConfigView). x.fresh) e,
+                                (
+                                  ap (λ (x : ConfigView). x.peers) e,
+                                  ap (λ (x : ConfigView). x.realms) e,
+                                ),
+                              ),
+                            ),
+                          ),
+                        ),
+                      ),
+                    ),
+                  ),
+                ),
+              ),
+            ),
+          ),
+        ),
+      ),
+    ))
     (Decides-and _ _ (Decides-eqb a.shards b.shards)
     (Decides-and _ _ (bytes_eq-Decides a.seed b.seed)
     (Decides-and _ _ (endpoint_decides a.auth b.auth)

@@ -10,5 +10,6 @@ pub mod OneServerLemmas
 pub mod PeerLemmas
 pub mod ShortNameLemmas
 pub mod SuffixLemmas
+pub mod TargetLaws
 pub mod TargetLemmas
 pub mod TextLemmas

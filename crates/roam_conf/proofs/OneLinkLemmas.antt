@@ -11,7 +11,7 @@ use Rattle.roam_conf.specs.declared.realm.Realm.{Realm}
 use Rattle.roam_conf.specs.Parts.{shown_realm}
 use Rattle.roam_conf.specs.Config.{ServerView, CoaClientView, PeerView, RealmView, ConfigView}
 use Rattle.roam_conf.specs.Duplicates.{has_pair, same_endpoint, is_among, server_endpoints, coa_endpoints, some_server_at, same_client, has_pair_of_servers, has_duplicate_server, has_duplicate_link}
-use Rattle.roam_conf.specs.Lookup.{endpoint_of, link_at, is_there, is_coa, first_place, link_in, endpoint_in_realm, servers_in, IsLinkIn, server_with_ip, client_with_ip, home_with_ip, reverse_home, home_in, homes, homes_in}
+use Rattle.roam_conf.specs.Lookup.{endpoint_of, link_at, is_there, is_coa, first_place, link_in, endpoint_in_realm, IsLinkIn, server_with_ip, client_with_ip, home_with_ip, reverse_home, home_in, homes, homes_in}
 use Rattle.roam_conf.proofs.LinkLemmas.{link_found, link_in_found}
 use Rattle.roam_conf.proofs.OneServerLemmas.{same_itself, among_more, among_first, once_more, once_first, option_source, then_source, part_of, part_apart, auth_part, one_server}
 

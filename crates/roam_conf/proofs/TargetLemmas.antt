@@ -1,23 +1,22 @@
 -- What the index of what reverse requests name finds is what the look-ups in the list of peers say.
-use Rattle.std.proofs.Common.{◌≡◌, ℕ, ◌+◌, ◌<◌, ◌≤◌, suc, zero, Bool, true, false, cond, ◌||◌, not, List, [], ◌∷◌, ◌++◌, length, map, get_or, drop, drop-cons, take, Option, Some, None, option_map, String, Global, string_bytes, refl, sym, ap, ◌∙◌, inl, inr, arith}
+use Rattle.std.proofs.Common.{◌≡◌, ℕ, ◌+◌, ◌<◌, ◌≤◌, suc, Bool, true, false, cond, ◌||◌, not, List, [], ◌∷◌, ◌++◌, length, map, get_or, drop, drop-cons, take, Option, Some, None, option_map, String, Global, string_bytes, refl, sym, ap, ◌∙◌, inl, inr, arith}
 use Rattle.std.proofs.lemmas.Bool.{cases_Bool, false≢true}
 use Rattle.std.proofs.lemmas.List.{length-map, map-append}
-use Rattle.std.proofs.lemmas.Option.{same_Some}
 use Rattle.std.proofs.lemmas.Slice.Eq.{bytes_eq-Decides}
 use Rattle.std.specs.Char.{to_ascii_lowercase}
-use Rattle.std.specs.List.{list_any, position_from, flat_map}
-use Rattle.std.specs.Option.{option_or, option_to_list, IfSome}
+use Rattle.std.specs.List.{list_any, position_from}
+use Rattle.std.specs.Option.{option_or, IfSome}
 use Rattle.std.specs.Str.{bytes_eq, str_to_ascii_lowercase}
 use Rattle.std.specs.declared.vec.Vec.{Vec}
 use Rattle.roam_conf.specs.declared.peer.Peer.{Peer}
 use Rattle.roam_conf.specs.Config.{PeerView}
-use Rattle.roam_conf.specs.Duplicates.{has_pair, nas_texts, nas_texts_of, same_if_there, same_name_if_there}
-use Rattle.roam_conf.specs.Index.{owner_of, all_new, is_marked, of_nobody, AreLengths}
+use Rattle.roam_conf.specs.Duplicates.{has_pair, nas_texts, nas_texts_of, same_name_if_there}
+use Rattle.roam_conf.specs.Index.{all_new, is_marked, of_nobody}
 use Rattle.roam_conf.specs.Lookup.{first_place, first_answer}
 use Rattle.roam_conf.specs.Parts.{shown_peer}
-use Rattle.roam_conf.specs.Targets.{NasPattern, exactly, begins, nas_said, nas_patterns, has_nas, same_nas, fronts_to, fronts, peer_with_nas, peer_meant, peer_with_operator}
-use Rattle.roam_conf.proofs.IndexLemmas.{or_none, or_more}
-use Rattle.roam_conf.proofs.NameLemmas.{within, any_append, same_entry, new_or_pair, not_not}
+use Rattle.roam_conf.specs.Targets.{NasPattern, begins, nas_said, has_nas, same_nas, fronts_to, peer_with_nas, peer_with_operator}
+use Rattle.roam_conf.proofs.IndexLemmas.{or_more}
+use Rattle.roam_conf.proofs.NameLemmas.{within, same_entry, new_or_pair, not_not}
 use Rattle.roam_conf.proofs.SuffixLemmas.{is_among}
 
 -- a peer that was noted where it passes a test, in front of what is left
@@ -57,12 +56,6 @@ text_at p texts i text within is =
     ∙ ap (λ n. get_or texts i text ∷ drop n texts) next ∙ ap (λ t. t ∷ drop (i + 1) texts) (sym is) in
     ap (λ ts. list_any (same_nas p) (map nas_said (map string_bytes ts))) here
 
--- a peer is one of whom a pattern is, by its `nas_id` or its `nas_ids`
-pub has_either : (p : NasPattern) (peer : PeerView) →
-    list_any (same_nas p) (map exactly (option_to_list peer.nas_id))
-    || list_any (same_nas p) (map nas_said peer.nas_ids) ≡ has_nas p peer
-has_either p peer = sym (any_append (same_nas p) (map exactly (option_to_list peer.nas_id)) (map nas_said peer.nas_ids))
-
 -- The lengths of fronts.
 
 -- a front whose length isn't marked isn't the key at a place
@@ -93,30 +86,29 @@ front_first f n k name is =
     ∙ ap (λ m. first_answer f (map begins (fronts_to m name))) (sym is)
 
 -- an answer is one of the answers, so it is within the bound of all
-pub answer_bound : {X : Type 0} (f : X → Option ℕ) (n : ℕ) → ((x : X) (i : ℕ) → f x ≡ Some i → i < n) →
+answer_bound : {X : Type 0} (f : X → Option ℕ) (n : ℕ) → ((x : X) (i : ℕ) → f x ≡ Some i → i < n) →
     (xs : List X) (i : ℕ) → first_answer f xs ≡ Some i → i < n
 answer_bound f n bound [] i is = cc
-answer_bound f n bound (x ∷ xs) i is = by_answer (f x) refl is
+answer_bound f n bound (x ∷ xs) i is = by_answer (f x) refl is (answer_bound f n bound xs i)
   where
-    by_answer : (o : Option ℕ) → f x ≡ o → option_or o (first_answer f xs) ≡ Some i → i < n
-    by_answer (Some j) here is = bound x i (here ∙ is)
-    by_answer None here is = answer_bound f n bound xs i is
+    by_answer : (o : Option ℕ) → f x ≡ o → option_or o (first_answer f xs) ≡ Some i →
+        (first_answer f xs ≡ Some i → i < n) → i < n
+    by_answer (Some j) here is rest = bound x i (here ∙ is)
+    by_answer None here is rest = rest is
 
 peer_with_nas_within : (peers : List PeerView) (p : NasPattern) (i : ℕ) → peer_with_nas peers p ≡ Some i →
     i < length peers
 unfolding peer_with_nas
 peer_with_nas_within peers p i is = omega (arith, within (has_nas p) 0 peers i is)
 
-pub peer_meant_bound : (peers : List Peer) (name : List ℕ) (n : ℕ) (found : Option ℕ) → length peers ≡ n →
-    found ≡ peer_meant (map shown_peer peers) name → IfSome found (λ i. i < n)
-unfolding peer_meant
-peer_meant_bound peers name n None size is = tt
-peer_meant_bound peers name n (Some i) size is =
+pub nearest_bound : (peers : List Peer) (patterns : List NasPattern) (n : ℕ) (found : Option ℕ) → length peers ≡ n →
+    found ≡ first_answer (peer_with_nas (map shown_peer peers)) patterns → IfSome found (λ i. i < n)
+nearest_bound peers patterns n None size is = tt
+nearest_bound peers patterns n (Some i) size is =
     let views = map shown_peer peers in
-    let within_views : i < length views =
-    answer_bound (peer_with_nas views) (length views) (peer_with_nas_within views)
-    (exactly name ∷ map begins (fronts name)) i (sym is) in
-    omega (arith, size, length-map peers shown_peer, within_views)
+    let here : i < length views =
+    answer_bound (peer_with_nas views) (length views) (peer_with_nas_within views) patterns i (sym is) in
+    omega (arith, size, length-map peers shown_peer, here)
 
 -- No peer has an `operator_name` of more than 252 octets.
 

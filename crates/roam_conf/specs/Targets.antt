@@ -58,6 +58,10 @@ fronts name = fronts_to (length name) name
 unfoldable pub peer_meant : List PeerView → List ℕ → Option ℕ
 peer_meant peers name = first_answer (peer_with_nas peers) (exactly name ∷ map begins (fronts name))
 
+-- the name begins with the front, which has at least one octet
+abbrev pub BeginsWith : List ℕ → List ℕ → Type 0
+BeginsWith name front = (rest : List ℕ) × (front ≢ []) × (name ≡ front ++ rest)
+
 -- the peer with this NAS-IP-Address
 unfoldable pub peer_with_nas_ip : List PeerView → List ℕ → Option ℕ
 peer_with_nas_ip peers ip = first_place (λ peer. same_if_there peer.nas_ip (Some ip)) peers

@@ -93,6 +93,7 @@ impl Config {
         requires { IsConsistent (shown_parts parts) }
         ensures { IfOk result (λ config. shown config ≡ shown_parts parts) }
     {
+        let found_by = parts.indexes(alloc)?;
         let ConfigParts {
             shards,
             seed,
@@ -111,12 +112,6 @@ impl Config {
             peers,
             realms,
         } = parts;
-        let found_by = Indexes::new(
-            alloc,
-            peers.as_slice(),
-            realms.as_slice(),
-            reject.as_slice(),
-        )?;
         Ok(Config {
             shards,
             seed,

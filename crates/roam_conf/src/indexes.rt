@@ -11,7 +11,7 @@ ghost use Rattle.roam_conf.specs.TargetIndex.{FindsTargets};
 use crate::index::{Index, note, row_of};
 use crate::names::{note_all, suffix_lengths};
 use crate::target_index::TargetIndex;
-use crate::{Peer, Realm, RealmPattern};
+use crate::{ConfigParts, Peer, Realm, RealmPattern};
 use indexmap::IndexMap;
 use std::alloc::{AllocError, Global};
 
@@ -71,6 +71,35 @@ impl Indexes {
             ips,
             targets,
         })
+    }
+}
+
+impl ConfigParts {
+    ghost use Rattle.std.specs.Prelude.{◌≡◌, ℕ, List, IfOk, false, map};
+    ghost use Rattle.roam_conf.specs.Duplicates.{has_duplicate_realm};
+    ghost use Rattle.roam_conf.specs.Index.{owners, owner_of, all_patterns};
+    ghost use Rattle.roam_conf.specs.Lookup.{peer_with_ip, pattern_lists};
+    ghost use Rattle.roam_conf.specs.Parts.{shown_peer, shown_realm};
+    ghost use Rattle.roam_conf.specs.Patterns.{shown_pattern};
+    ghost use Rattle.roam_conf.specs.TargetIndex.{FindsTargets};
+
+    /// The indexes of these parts.
+    pub(crate) fn indexes(&self, alloc: Global) -> Result<Indexes, AllocError>
+        requires { has_duplicate_realm (map shown_realm self.now.realms.items)
+            (map shown_pattern self.now.reject.items) ≡ false }
+        ensures names { IfOk result
+            (λ indexes. owners indexes.names ≡ all_patterns 0 (pattern_lists
+            (map shown_realm self.now.realms.items) (map shown_pattern self.now.reject.items))) }
+        ensures ips { IfOk result (λ indexes. (ip : List ℕ)
+            → owner_of (owners indexes.ips) ip ≡ peer_with_ip (map shown_peer self.now.peers.items) ip) }
+        ensures targets { IfOk result (λ indexes. FindsTargets indexes.targets (map shown_peer self.now.peers.items)) }
+    {
+        Indexes::new(
+            alloc,
+            self.peers.as_slice(),
+            self.realms.as_slice(),
+            self.reject.as_slice(),
+        )
     }
 }
 

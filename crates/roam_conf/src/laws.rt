@@ -1,6 +1,6 @@
 //! Laws of the look-ups.
 
-ghost use Rattle.std.specs.Prelude.{◌≡◌, ◌≢◌, ◌<◌, [], false, length, None, Some, true, ⊤};
+ghost use Rattle.std.specs.Prelude.{◌≡◌, ◌≢◌, ℕ, List, ◌<◌, [], false, length, None, Some, true, ⊤};
 ghost use Rattle.std.specs.List.{AllByRecursion};
 ghost use Rattle.std.specs.Str.{str_eq_ignore_ascii_case};
 ghost use Rattle.roam_conf.specs.Config.{whole, suffix, any};
@@ -8,6 +8,7 @@ ghost use Rattle.roam_conf.specs.Lookup.{EndsIn, NoSuffix, first_place, realm_na
 ghost use Rattle.roam_conf.specs.Lookup.{owner_with, may_fit, link_in};
 ghost use Rattle.roam_conf.specs.Lookup.{endpoint_in_realm};
 ghost use Rattle.roam_conf.specs.Shown.{shown};
+ghost use Rattle.roam_conf.specs.Targets.{exactly, begins, BeginsWith, peer_with_nas, peer_meant};
 
 use crate::{Config, Endpoint, Link};
 
@@ -61,4 +62,20 @@ pub fn names_alone_are_matched_whole(config: &Config, name: &[u8])
     requires reject { (shown config.now).reject ≡ [] }
     ensures { realm_named (shown config.now) name.now
         ≡ first_place (λ realm. str_eq_ignore_ascii_case name.now realm.name) (shown config.now).realms }
+{}
+
+/// Whose a NAS-Identifier is as a whole decides, whatever patterns there are.
+pub fn whole_identifier_comes_first(config: &Config, name: &[u8], peer: u16)
+    requires { peer_with_nas (shown config.now).peers (exactly name.now) ≡ Some peer }
+    ensures { peer_meant (shown config.now).peers name.now ≡ Some peer }
+{}
+
+/// Of the patterns that a NAS-Identifier fits, the longest that is anybody's decides, where the whole is nobody's.
+pub fn longest_front_comes_next(config: &Config, name: &[u8], front: &[u8], peer: u16)
+    requires unnamed { peer_with_nas (shown config.now).peers (exactly name.now) ≡ None }
+    requires begins { BeginsWith name.now front.now }
+    requires named { peer_with_nas (shown config.now).peers (begins front.now) ≡ Some peer }
+    requires longest { (longer : List ℕ) → BeginsWith name.now longer → length front.now < length longer
+        → peer_with_nas (shown config.now).peers (begins longer) ≡ None }
+    ensures { peer_meant (shown config.now).peers name.now ≡ Some peer }
 {}

@@ -11,6 +11,10 @@
 //!   `whole_name_comes_first`, `longest_suffix_comes_next`, `any_name_comes_last`,
 //!   `ill_formed_names_are_matched_whole`, `names_alone_are_matched_whole`
 //! - which peers' requests a realm takes | `takes`, `is_peer_of`
+//! - which peer the names in a reverse request mean: of a NAS-Identifier the one that has it as a whole, else the one
+//!   with the longest pattern; and whose reverse requests come from an address, with the secret shared with them |
+//!   `peer_meant`, `peer_by_nas_ip`, `peer_by_operator`, `home_of`, `secret_of_home`; laws
+//!   `whole_identifier_comes_first`, `longest_front_comes_next`
 #![tactic(auto)]
 
 mod accounting;
@@ -54,8 +58,8 @@ pub use exchange_lines::ExchangeLines;
 pub use indexes::has_duplicate_realm;
 pub use laws::{
     any_name_comes_last, ill_formed_names_are_matched_whole, link_of_finds_each_link,
-    link_of_finds_its_endpoint, longest_suffix_comes_next, names_alone_are_matched_whole,
-    whole_name_comes_first,
+    link_of_finds_its_endpoint, longest_front_comes_next, longest_suffix_comes_next,
+    names_alone_are_matched_whole, whole_identifier_comes_first, whole_name_comes_first,
 };
 pub use nas_texts::has_duplicate_nas_text;
 pub use parts::ConfigParts;

@@ -23,7 +23,10 @@ fn note_nas_ip(index: &mut Index, alloc: Global, peer: &Peer, place: u16) -> Res
         (if same_if_there peer.now.nas_ip (Some ip) then Some place else None)) }
 {
     match peer.nas_ip {
-        Some(ip) => note_key(index, row_of(alloc, &ip)?, place),
+        Some(ip) => {
+            let key = row_of(alloc, ip.as_slice())?;
+            note_key(index, key, place)
+        }
         None => Ok(()),
     }
 }

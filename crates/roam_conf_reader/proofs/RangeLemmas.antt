@@ -104,7 +104,7 @@ optional_text_at most letters key members o copy is copied s there =
     is (string_bytes s) copy_is).size
 
 -- as many values as items
-each_count : {V : Type 0} (States : Members → V → Type 0) (items : Items) (values : List V) →
+pub each_count : {V : Type 0} (States : Members → V → Type 0) (items : Items) (values : List V) →
     StatesEach States items values → length values ≡ item_count items
 each_count States no_items [] stated = refl
 each_count States no_items (value ∷ values) stated = absurd stated

@@ -182,7 +182,8 @@ fn has_pair_of_servers(alloc: Global, realm: &Realm) -> Result<bool, ConfFault>
     ensures causes { IsMemoryFault result }
 {
     let endpoints = server_endpoints(alloc, realm.servers.as_slice())?;
-    Ok(has_equal_endpoints(endpoints.as_slice()) || has_equal_clients(realm.coa_clients.as_slice()))
+    let clients = realm.coa_clients.as_slice();
+    Ok(has_equal_endpoints(endpoints.as_slice()) || has_equal_clients(clients))
 }
 
 /// Whether that is so of one of the realms.

@@ -67,5 +67,8 @@ pub(crate) fn has_duplicate_peer(alloc: Global, peers: &[Peer]) -> Result<bool, 
     ensures ok { IfOk result (λ b. b ≡ has_duplicate_peer (map shown_peer peers.now)) }
     ensures causes { IsMemoryFault result }
 {
-    Ok(has_equal_peers(peers) || has_duplicate_nas_text(alloc, peers)?)
+    if has_equal_peers(peers) {
+        return Ok(true);
+    }
+    Ok(has_duplicate_nas_text(alloc, peers)?)
 }

@@ -139,7 +139,8 @@ nak_or_new-few c now s q None =
     either Few (eqb s.ticket (2 ^ 63)) _ _ (omega arith)
     (either Few (share_taken c others q) _ _ (omega arith)
     (at_target-few c now
-    (with_rests s (rests_for c now s.rests (bound_target c s others q) (new_target c now s others q (targets c q))))
+    (with_rests s (rests_for c now s.rests (bound_target c s others q (targets c q))
+    (new_target c now s others q (targets c q))))
     others q (new_target c now s others q (targets c q))))
 nak_or_new-few c now s q (Some why) = omega arith
 

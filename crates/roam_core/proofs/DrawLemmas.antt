@@ -11,6 +11,7 @@ use Rattle.roam_wire.specs.Packet.{Packet}
 use Rattle.roam_wire.specs.Reading.{packet_of}
 use Rattle.roam_wire.specs.declared.refusal.Refusal.{Refusal}
 use Rattle.roam_back.specs.Returned.{returned_length}
+use Rattle.roam_back.specs.ReplyCheck.{reply_fault}
 use Rattle.roam_conf.specs.declared.place.Link.{Link}
 use Rattle.roam_pending.specs.ListLaws.{IsIn}
 use Rattle.roam_pending.specs.declared.due.Due.{Due}
@@ -18,7 +19,7 @@ use Rattle.roam_pending.specs.DueOrder.{due_list}
 use Rattle.roam_pending.specs.PlainEntry.{PlainRequest, PlainStanding, PlainEntry, waiting, done}
 use Rattle.roam_pending.proofs.TestLemmas.{compared}
 use Rattle.roam_pending.specs.EntryList.{find_client, find_link, find_ticket, first_done, without_client}
-use Rattle.roam_book.specs.RealmConfig.{RealmConfig}
+use Rattle.roam_book.specs.RealmConfig.{RealmConfig, link_secret, seal_required}
 use Rattle.roam_book.specs.RealmState.{RealmState, Target, opening, with_rests}
 use Rattle.roam_book.specs.Turn.{Turn, state_after}
 use Rattle.roam_book.specs.Shares.{share_taken}
@@ -100,7 +101,8 @@ judge-rests c now s e l forwarded reply None =
 to_standing-rests : (c : RealmConfig) (now : ℕ) (s : RealmState) (e : PlainEntry) (reply : Packet)
     (standing : PlainStanding) → Rests s (to_standing c now s e reply standing)
 to_standing-rests c now s e reply (waiting l id forwarded sends_left deadline signs) =
-    judge-rests c now s e l (packet_of forwarded) reply _
+    judge-rests c now s e l (packet_of forwarded) reply
+    (reply_fault (link_secret c l) (seal_required c l) reply (packet_of forwarded))
 to_standing-rests c now s e reply (done old deadline from) = refl
 
 to_entry-rests : (c : RealmConfig) (now : ℕ) (s : RealmState) (reply : Packet) (found : Option PlainEntry) →

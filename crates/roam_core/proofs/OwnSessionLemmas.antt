@@ -171,8 +171,9 @@ module _ (c : RealmConfig) (start : Start) (events : List RealmEvent) (out : Pla
   of-returned : IsReturnedPacket c start events out → IsForOwnSession c start events out
   of-returned p =
       let r = p.returned in
+      let sent = packet_of (forwarded_octets c p.request r.position p.ticket r.target) in
       absurd-code out _ (ap (λ (o : PlainOut). o.bytes) r.is_returned) reverse
-      (returned-never c p.request r.target.link _ (packet_of r.reply) r.taken)
+      (returned-never c p.request r.target.link sent (packet_of r.reply) r.taken)
 
   of-nak : IsNakPacket c start events out → IsForOwnSession c start events out
   of-nak p = elim p.nak [

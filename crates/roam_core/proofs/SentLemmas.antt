@@ -83,7 +83,7 @@ new_request_for : (c : RealmConfig) (now : ℕ) (s : RealmState) (entries : List
     SendsFor c.index (new_request c now s entries q)
 new_request_for c now s entries q =
     let target = new_target c now s entries q (targets c q) in
-    let t = with_rests s (rests_for c now s.rests (bound_target c s entries q) target) in
+    let t = with_rests s (rests_for c now s.rests (bound_target c s entries q (targets c q)) target) in
     let chosen : Turn =
     if share_taken c entries q then refuses refusal.ShareTaken else at_target c now t entries q target in
     either (SendsFor c.index) (s.ticket == 2 ^ 63)

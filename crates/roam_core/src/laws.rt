@@ -80,8 +80,8 @@ pub fn provenance()
 
 /// In a realm whose reverse requests name sessions of its own, each Disconnect- or CoA-Request that is sent was of one
 /// session of that realm's ledger when it came: of its target, with its one Acct-Session-Id, and at the access server
-/// that it names. No other realm's event changes which (RFC 5176, section 3.5). That a request which is forwarded was so
-/// holds over all changes of the configuration, under that of the time when it came.
+/// that it names. No other realm's event changes which (RFC 5176, section 3.5). That a request which is forwarded was
+/// so holds over all changes of the configuration, under that of the time when it came.
 pub fn own_sessions()
     ensures admitted { AdmittedIsOfOwnSession }
     ensures life { AdmittedIsOfOwnSessionIn }

@@ -214,6 +214,9 @@ pub(crate) fn misfit(form: ValueForm, value: &Value) -> &Value {
     }
 }
 
+/// What an array of peers' names is.
+const OF_PEERS: &str = "is not in an array of 1..1024 texts of 1..64 octets, each a peer's name";
+
 /// What an array of attributes to take out is, up to those that stay.
 const OF_REMOVALS: &str =
     "is not in an array of 0..64 texts, each a type 1..255, 26. and a vendor, or these, a dot and a type, without";
@@ -248,11 +251,7 @@ impl fmt::Display for ValueForm {
             ValueForm::Rejects => {
                 f.write_str("is not in an array of 0..1024 texts, each a name, or *. and a name")
             }
-            ValueForm::PeerNames => {
-                f.write_str(
-                    "is not in an array of 1..1024 texts of 1..64 octets, each a peer's name",
-                )
-            }
+            ValueForm::PeerNames => f.write_str(OF_PEERS),
             ValueForm::NasIds => {
                 f.write_str("is not in an array of 0..1024 texts of 1..253 octets")
             }

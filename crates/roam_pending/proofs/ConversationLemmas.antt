@@ -37,4 +37,4 @@ pub round-end :
     → option_or (last_round peer state (shown_all (drop i es))) last ≡ last_round peer state (shown_all es)
     → last ≡ last_round peer state (shown_all es)
 round-end {A} peer state last es i past inv =
-    ap (λ (l : List (Entry A)). option_or (last_round peer state (shown_all l)) last) (sym (drop_all es i past)) ∙ inv
+    ap (λ (l : List (Entry A)). option_or (last_round peer state (shown_all l)) last) (sym (drop_all i es past)) ∙ inv

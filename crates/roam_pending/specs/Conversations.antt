@@ -1,6 +1,5 @@
 -- The conversations of which a Challenge is held: its State comes back in the next request of the conversation (RFC
--- 2865,
--- section 5.24), and the server that sent it goes on with it (ours).
+-- 2865, section 5.24), and the server that sent it goes on with it (ours).
 use Rattle.std.specs.Prelude.{ℕ, ◌==◌, ◌&&◌, nat_eq, Bool, false, List, [], ◌∷◌, Option, Some, None, Result, Ok, Err, option_map, if◌then◌else◌}
 use Rattle.std.specs.Cmp.Lexicographic.{pointwise}
 use Rattle.std.specs.Option.{option_map_or, option_or}

@@ -2,7 +2,7 @@
 use Rattle.std.specs.Prelude.{◌≡◌, ℕ, ◌+◌, ◌<◌, ◌≤◌, Bool, true, false, List, Option, Some, None, option_and_then, option_map}
 use Rattle.std.specs.declared.vec.Vec.{Vec}
 use Rattle.roam_wire.specs.Numbered.{PutsAt, tickets_end}
-use Rattle.roam_reverse.specs.Sessions.{Asked, Nas, Session}
+use Rattle.roam_reverse.specs.Sessions.{Asked, Session}
 use Rattle.roam_reverse.specs.Maps.{HasRoom, groups_of}
 use Rattle.roam_reverse.specs.Private.Groups.{IsGrouped}
 use Rattle.roam_reverse.specs.Private.Row.{row_under}

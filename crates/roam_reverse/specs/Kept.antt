@@ -1,5 +1,5 @@
 -- What sessions, and what is asked of a ledger, are seen as: where their octets lie, and as the ledger keeps them.
-use Rattle.std.specs.Prelude.{Option, option_map}
+use Rattle.std.specs.Prelude.{option_map}
 use Rattle.roam_reverse.specs.Sessions.{Asked, Nas, Session}
 use Rattle.roam_reverse.specs.Short.{kept_octets, shown_short}
 use Rattle.roam_reverse.specs.declared.asked.NasRef.{NasRef}

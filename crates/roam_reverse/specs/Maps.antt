@@ -1,5 +1,5 @@
 -- What the code's maps stand for (ours).
-use Rattle.std.specs.Prelude.{◌≡◌, ℕ, ◌≤◌, List, Option, option_map, nat_eq}
+use Rattle.std.specs.Prelude.{ℕ, ◌≤◌, List, Option, option_map, nat_eq}
 use Rattle.std.specs.Cmp.Lexicographic.{pointwise}
 use Rattle.std.specs.declared.vec.Vec.{Vec}
 use Rattle.indexmap.specs.IndexMap as map

@@ -1,6 +1,6 @@
 -- The ledger of a realm's sessions (RFC 2866, sections 5.1 and 5.5, for what a request says; that a
 -- ledger is kept, and how many sessions it holds, is ours).
-use Rattle.std.specs.Prelude.{◌≡◌, ℕ, ◌==◌, ◌≤◌, ◌&&◌, ◌||◌, nat_le, nat_lt, not, Bool, true, false, List, [], ◌∷◌, ◌++◌, count_by, filter, length, Option, Some, None, option_and_then, if◌then◌else◌}
+use Rattle.std.specs.Prelude.{◌≡◌, ℕ, ◌==◌, ◌≤◌, ◌&&◌, ◌||◌, nat_le, nat_lt, not, Bool, true, false, List, [], ◌∷◌, ◌++◌, filter, length, Option, Some, None, option_and_then, if◌then◌else◌}
 use Rattle.std.specs.Int.{w32, from_be_bytes}
 use Rattle.std.specs.List.{list_all, list_any}
 use Rattle.std.specs.Option.{option_map_or}
@@ -58,6 +58,8 @@ agrees_in (Some name) (Some own) = bytes_eq name own
 -- Source: RFC 5176 section 3 for the names; ours
 -- Rules out: a session of another peer or of another access server
 -- Stands in: `roam_reverse` `Sessions.antt`: `agrees`, `agreeing`; `route_of`, the law `forwarded_is_of_one_session`
+--
+-- a session agrees with what is asked
 abbrev pub agrees : Asked → Session → Bool
 agrees q s =
     q.peer == s.peer && agrees_in q.nas.address s.nas.address && agrees_in q.nas.identifier s.nas.identifier
@@ -76,7 +78,7 @@ without_agreeing q sessions = filter (λ s. not (agrees q s)) sessions
 
 -- how many sessions of a peer are in a list
 abbrev pub count_of_peer : ℕ → List Session → ℕ
-count_of_peer peer sessions = count_by (λ s. s.peer == peer) sessions
+count_of_peer peer sessions = length (filter (λ s. s.peer == peer) sessions)
 
 -- no other peer has more sessions in a list than this session's
 abbrev pub has_most : List Session → Session → Bool

@@ -1,5 +1,5 @@
 -- What the code's names of an access server, its ledger and the ledger's changes are seen as.
-use Rattle.std.specs.Prelude.{ℕ, ◌<◌, Bool, false, List, Option, Some, None, option_map}
+use Rattle.std.specs.Prelude.{ℕ, ◌<◌, List, Option, None, option_map}
 use Rattle.std.specs.Borrow.{Bor}
 use Rattle.roam_route.specs.declared.nas.NasName.{NasName}
 use Rattle.roam_reverse.specs.Kept.{kept_session, shown_asked, shown_session}

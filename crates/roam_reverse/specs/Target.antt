@@ -1,6 +1,6 @@
 -- The access server that a reverse request is for (RFC 5176, section 3: NAS-IP-Address and NAS-Identifier name it; RFC
 -- 8559: Operator-Name names the network that it is in).
-use Rattle.std.specs.Prelude.{ℕ, ◌==◌, Bool, true, false, List, [], ◌∷◌, Option, Some, None, slice_get, if◌then◌else◌}
+use Rattle.std.specs.Prelude.{ℕ, ◌==◌, Bool, false, List, [], ◌∷◌, Option, Some, None, slice_get, if◌then◌else◌}
 use Rattle.std.specs.Option.{is_some, option_map_or}
 use Rattle.roam_wire.specs.Packet.{Attribute}
 use Rattle.roam_wire.specs.Attributes.{first_value}

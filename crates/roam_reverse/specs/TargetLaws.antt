@@ -1,6 +1,6 @@
 -- Laws of the access server that a reverse request is for (ours). Each is what a function of `laws`
 -- ensures.
-use Rattle.std.specs.Prelude.{◌≡◌, ℕ, ◌∷◌, true, List, Option, Some, None, slice_get, is_some}
+use Rattle.std.specs.Prelude.{◌≡◌, ℕ, ◌∷◌, true, List, Some, None, slice_get, is_some}
 use Rattle.roam_wire.specs.Packet.{Attribute}
 use Rattle.roam_wire.specs.Attributes.{first_value}
 use Rattle.roam_wire.specs.declared.attribute_type.TheConstants.{NAS_IDENTIFIER, NAS_IP_ADDRESS, OPERATOR_NAME}

@@ -8,7 +8,8 @@ ghost use Rattle.roam_reverse.specs.Kept.{shown_nas};
 ghost use Rattle.roam_reverse.specs.Shown.{said_of};
 
 use crate::asked::{AskedRef, NasRef, SessionRef, counted_nas};
-use crate::short::{Short, first_short};
+use crate::short::Short;
+use crate::short_copies::first_short;
 use roam_wire::View;
 use roam_wire::attribute_type::{ACCT_SESSION_ID, ACCT_STATUS_TYPE};
 

@@ -5,7 +5,8 @@ ghost use Rattle.roam_reverse.specs.Sessions.{counted_nas, nas_in, no_nas};
 ghost use Rattle.roam_reverse.specs.Private.Masks.{asked_for, narrow};
 ghost use Rattle.roam_reverse.specs.Kept.{shown_asked, shown_nas, shown_session};
 
-use crate::short::{Short, first_short};
+use crate::short::Short;
+use crate::short_copies::first_short;
 use roam_wire::View;
 use roam_wire::attribute_type::{NAS_IDENTIFIER, NAS_IP_ADDRESS};
 

@@ -3,7 +3,7 @@
 ghost use Rattle.std.specs.Prelude.{◌≡◌, ℕ, ◌+◌, ◌-◌, ◌<◌, ◌≤◌, [], ◌∷◌, ◌++◌};
 ghost use Rattle.std.specs.Prelude.{None, Some, IsOk, IsSome, OnOk, OnErr, filter, is_some, length};
 ghost use Rattle.roam_reverse.specs.Private.Tickets.{IsTicketOf};
-ghost use Rattle.roam_reverse.specs.Sessions.{Session, agrees, has_most, without_agreeing, without_first};
+ghost use Rattle.roam_reverse.specs.Sessions.{agrees, has_most, without_agreeing, without_first};
 ghost use Rattle.roam_reverse.specs.Kept.{kept_session, shown_asked, shown_session};
 ghost use Rattle.roam_reverse.specs.Stands.{IsSound, session_at, session_count, sessions_of};
 ghost use Rattle.roam_reverse.specs.Maps.{session_of};

@@ -1,8 +1,8 @@
 //! The ends of groups.
 
-ghost use Rattle.std.specs.Prelude.{◌≡◌, ℕ, ◌<◌, ◌≤◌, ◌+◌, ◌^◌, List, None, Some, IsSome, IfSome, option_map};
+ghost use Rattle.std.specs.Prelude.{◌≡◌, ◌<◌, ◌≤◌, ◌+◌, None, Some, IsSome};
 ghost use Rattle.indexmap.specs.IndexMap.{spare};
-ghost use Rattle.roam_reverse.specs.Private.Groups.{PutsRow, ends_behind, ends_left, larger};
+ghost use Rattle.roam_reverse.specs.Private.Groups.{PutsRow, ends_behind, ends_left, larger, newest_of};
 ghost use Rattle.roam_reverse.specs.Maps.{ends_at};
 
 use crate::neighbours::Beside;
@@ -20,6 +20,16 @@ pub(crate) struct Ends {
 
 /// The ends of each group, by its row. Peers pick what stands in a row, so the hash is keyed.
 pub(crate) type GroupEnds<A> = IndexMap<Vec<u8, A>, Ends, HashKey, A>;
+
+/// The newest number of a group, which may have none yet.
+pub(crate) fn newest_of(ends: Option<Ends>) -> Option<u64>
+    ensures { result ≡ newest_of ends }
+{
+    match ends {
+        None => None,
+        Some(ends) => Some(ends.newest),
+    }
+}
 
 /// The ends of a group, which may have none yet, with a number behind all that it has.
 pub(crate) fn ends_behind(ends: Option<Ends>, number: u64) -> Ends

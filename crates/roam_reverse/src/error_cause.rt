@@ -11,7 +11,7 @@ ghost use Rattle.roam_reverse.specs.Target.{target};
 use crate::asked::{AskedRef, SessionRef, nas_in, no_nas};
 use crate::ledger::Sessions;
 use crate::nas_target::target;
-use crate::short::first_short;
+use crate::short_copies::first_short;
 use roam_conf::Config;
 use roam_hide::salted;
 use roam_wire::View;

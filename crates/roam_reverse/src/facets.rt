@@ -1,6 +1,6 @@
 //! The sessions of a peer by the names of their access servers: by none of them, by one, by both.
 
-ghost use Rattle.std.specs.Prelude.{◌≡◌, ℕ, ◌+◌, Option, None, IfOk, IsOk, OnOk, filter, is_some, length};
+ghost use Rattle.std.specs.Prelude.{◌≡◌, ℕ, ◌+◌, Option, None, IfOk, OnOk, filter, is_some, length};
 ghost use Rattle.roam_reverse.specs.Facets.{AreFaceted, ComesIn, FacetsHaveRoom, HasFacetRows, HasRow, facet_of};
 ghost use Rattle.roam_reverse.specs.Private.Groups.{IsLargest};
 ghost use Rattle.roam_reverse.specs.Private.Tickets.{IsOneOf, all_listed};

@@ -1,11 +1,11 @@
 //! Numbers in groups. Each group is a chain of its numbers in rising order, so that none of them costs more to take out
 //! than another, and whatever is asked of a group costs the same however many there are.
 
-ghost use Rattle.std.specs.Prelude.{◌≡◌, ℕ, ◌<◌, ◌≤◌, ◌+◌, List, Option, None, Some, IsOk, OnOk, option_map};
+ghost use Rattle.std.specs.Prelude.{◌≡◌, ℕ, ◌<◌, ◌+◌, List, Option, None, Some, IsOk, OnOk, option_map};
 ghost use Rattle.roam_reverse.specs.Private.Groups.{Comes, Goes, IsGrouped, IsLargest, count_of, oldest_of};
 ghost use Rattle.roam_reverse.specs.Maps.{HasRoom, groups_of};
 
-use crate::ends::{Ends, GroupEnds, ends_behind, ends_left, ends_of, larger, note, set};
+use crate::ends::{Ends, GroupEnds, ends_behind, ends_left, ends_of, larger, newest_of, note, set};
 use crate::neighbours::{Beside, Neighbours, put, set_newer, set_older, take};
 use crate::row::Row;
 use indexmap::IndexMap;
@@ -58,8 +58,10 @@ impl<A: Allocator + Copy> Groups<A> {
         ensures { IsLargest (groups_of self.now) result }
     {
         let mut best: Option<Ends> = None;
-        for (_row, ends) in self.ends.iter() {
-            best = Some(larger(best, *ends));
+        for i in 0..self.ends.len() {
+            if let Some((_row, ends)) = self.ends.get_index(i) {
+                best = Some(larger(best, *ends));
+            }
         }
         match best {
             None => None,
@@ -90,10 +92,7 @@ impl<A: Allocator + Copy> Groups<A> {
             return;
         };
         let ends = ends_of(&self.ends, row.as_slice());
-        let older = match ends {
-            None => None,
-            Some(ends) => Some(ends.newest),
-        };
+        let older = newest_of(ends);
         note(&mut self.ends, row, ends_behind(ends, number));
         let beside = Beside { older, newer: None };
         put(&mut self.beside, number, beside);

@@ -11,7 +11,7 @@ use crate::asked::{AskedRef, SessionRef, counted_nas};
 use crate::chain::Chain;
 use crate::open_session::NewSession;
 use crate::session::{Change, NasArray, PreparedChange, SessionArray};
-use crate::short::first_short;
+use crate::short_copies::first_short;
 use roam_hash::HashKey;
 use roam_wire::attribute_type::ACCT_SESSION_ID;
 use roam_wire::{NoMemory, View};

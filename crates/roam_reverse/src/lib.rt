@@ -35,6 +35,7 @@ mod open_session;
 mod row;
 mod session;
 mod short;
+mod short_copies;
 
 pub use error_cause::{route_of, verdict};
 pub use laws::{

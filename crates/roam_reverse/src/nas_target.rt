@@ -1,6 +1,6 @@
 //! The access server that a reverse request is for (RFC 5176, section 3; RFC 8559).
 
-ghost use Rattle.std.specs.Prelude.{◌≡◌, ◌<◌, IfSome, length, option_map, vec_len};
+ghost use Rattle.std.specs.Prelude.{◌≡◌, ◌<◌, IfSome, option_map, vec_len};
 ghost use Rattle.roam_conf.specs.Shown.{shown};
 ghost use Rattle.roam_reverse.specs.Shown.{shown_names};
 ghost use Rattle.roam_reverse.specs.Target.{peer_named, peer_of_nas, peer_of_operator, same_peer, target, with_coa};

@@ -1,7 +1,6 @@
 //! What is asked as one row of octets, by which sessions are found.
 
 ghost use Rattle.std.specs.Prelude.{◌≡◌, ◌<◌, ◌≤◌, ◌+◌, ◌++◌, IfOk, length, option_map, take};
-ghost use Rattle.roam_reverse.specs.Private.Masks.{narrow};
 ghost use Rattle.roam_reverse.specs.Private.Row.{part_text, row_text, row_under};
 ghost use Rattle.roam_reverse.specs.Short.{shown_short};
 ghost use Rattle.roam_reverse.specs.Kept.{shown_asked, shown_session};
@@ -55,9 +54,9 @@ impl Row {
         let mut octets = [0; 768];
         octets[0] = (asked.peer / 256) as u8;
         octets[1] = (asked.peer % 256) as u8;
-        let named = put_part(&mut octets, 2, asked.nas.address);
-        let named = put_part(&mut octets, named, asked.nas.identifier);
-        let len = put_part(&mut octets, named, asked.id);
+        let addressed = put_part(&mut octets, 2, asked.nas.address);
+        let identified = put_part(&mut octets, addressed, asked.nas.identifier);
+        let len = put_part(&mut octets, identified, asked.id);
         Row { octets, len }
     }
 

@@ -15,7 +15,7 @@ use Rattle.roam_book.specs.OnTick.{on_tick}
 use Rattle.roam_book.specs.RealmConfig.{realm_config}
 use Rattle.roam_book.specs.RealmState.{RealmState}
 use Rattle.roam_book.specs.Rooms.{only_done_due}
-use Rattle.roam_book.specs.Turn.{Turn, refuses, sends, packets_of, refusal_of, state_after}
+use Rattle.roam_book.specs.Turn.{Turn, hears, refuses, sends, packets_of, refusal_of, state_after}
 use Rattle.roam_book.specs.declared.packets.answer.Answer.{Answer}
 use Rattle.roam_book.specs.declared.packets.answer.Twin.{Twin}
 use Rattle.roam_book.specs.declared.state.start.Start.{Start}
@@ -103,6 +103,7 @@ own-elsewhere config shards r k s ne =
 refusal_one : (ss : List RealmState) (k : ℕ) (turn : Turn)
     → refusal_given (turn_of_one ss k turn) ≡ refusal_of turn
 refusal_one ss k (refuses why) = refl
+refusal_one ss k (hears why state) = refl
 refusal_one ss k (sends packets state) = refl
 
 -- there are as many states after a turn

@@ -15,7 +15,7 @@ use Rattle.roam_book.specs.RealmConfig.{RealmConfig, realm_config}
 use Rattle.roam_book.specs.RealmState.{RealmState}
 use Rattle.roam_book.specs.RealmTurn.{GivesTwice}
 use Rattle.roam_book.specs.Sound.{IsSound, OthersStay, state_of}
-use Rattle.roam_book.specs.Turn.{Turn, refuses, sends, packets_of, shown_outs, state_after, Answers}
+use Rattle.roam_book.specs.Turn.{Turn, hears, refuses, sends, packets_of, shown_outs, state_after, Answers}
 use Rattle.roam_book.specs.declared.packets.answer.Answer.{Answer}
 use Rattle.roam_book.specs.declared.packets.answer.Twin.{Twin}
 use Rattle.roam_book.specs.declared.state.realm_numbers.RealmNumbers.{RealmNumbers}
@@ -44,11 +44,13 @@ as_many v w same =
 pub packets_one : (ss : List RealmState) (k : ℕ) (turn : Turn)
     → packets_in_turn (turn_of_one ss k turn) ≡ packets_of turn
 packets_one ss k (refuses why) = refl
+packets_one ss k (hears why state) = refl
 packets_one ss k (sends packets state) = refl
 
 pub states_one : (ss : List RealmState) (k : ℕ) (turn : Turn)
     → states_after ss (turn_of_one ss k turn) ≡ set ss k (state_after (state_at ss k) turn)
 states_one ss k (refuses why) = sym (set-get_or ss k no_state)
+states_one ss k (hears why state) = refl
 states_one ss k (sends packets state) = refl
 
 -- the turn of one realm, among all states
@@ -60,6 +62,11 @@ answer_one answer states k new (refuses why) gives = record {
   packets = gives.packets;
   refusal = gives.refusal;
   states = ap (λ (s : RealmState). set states k s) gives.state ∙ set-get_or states k no_state;
+}
+answer_one answer states k new (hears why state) gives = record {
+  packets = gives.packets;
+  refusal = gives.refusal;
+  states = ap (λ (s : RealmState). set states k s) gives.state;
 }
 answer_one answer states k new (sends packets state) gives = record {
   packets = gives.packets;

@@ -65,7 +65,7 @@ module _ (peer : ℕ) (state : List ℕ) where
             sym (front_at e es) ∙ ap (round_at (e ∷ es)) is ∙ found in
             let rest : last_round peer state es ≡ None = last_absent es order.1 (λ u.
             elim (cases_lt e.ticket u) as (λ _. round_at es u ≡ None) [
-              | inl lt ↦ sym (behind_at e es u (λ same. omega arith)) ∙ none u (omega arith)
+              | inl lt ↦ sym (behind_at e es u (λ is2. omega arith)) ∙ none u (omega arith)
               | inr le ↦ below_at e es u order (omega arith)
             ]) in
             rw (rest, here) refl)

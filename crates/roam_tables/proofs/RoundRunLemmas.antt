@@ -1,5 +1,5 @@
 -- A ticket that comes into the run of a hash, or goes.
-use Rattle.std.proofs.Common.{◌≡◌, ◌≢◌, ◌⊎◌, ℕ, List, [], Option, Some, None, refl, ap, sym, ◌∙◌, subst, inl, inr}
+use Rattle.std.proofs.Common.{◌≡◌, ◌≢◌, ◌⊎◌, ℕ, Bool, true, false, List, Option, Some, None, refl, ap, sym, ◌∙◌, subst, inl, inr}
 use Rattle.std.specs.Prelude.{if◌then◌else◌}
 use Rattle.std.specs.Ordering.{nat_cmp}
 use Rattle.roam_pending.specs.ListLaws.{IsIn}
@@ -159,6 +159,6 @@ joins_put R S k t ys puts rises adds =
     apart_else : (k q : RoundKey) (xs ys : List ℕ) → k ≢ q → (if round_eq k q then xs else ys) ≡ ys
     apart_else k q xs ys ne = by (round_eq k q) refl
       where
-        by : (b : _) → round_eq k q ≡ b → (if b then xs else ys) ≡ ys
+        by : (b : Bool) → round_eq k q ≡ b → (if b then xs else ys) ≡ ys
         by true h = absurd (ne (round_equality.same k q h))
         by false h = refl

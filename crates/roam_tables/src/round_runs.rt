@@ -34,7 +34,7 @@ pub(crate) fn run_of<A: Allocator + Copy>(
     index: &RoundIndex<A>,
     key: RoundKey,
 ) -> Option<&RoundRun<A>>
-    ensures { option_copied result ≡ run_found index.entry.now key }
+    ensures { option_copied result ≡ run_found index.now key }
 {
     index.get(&key)
 }

@@ -20,7 +20,7 @@ use std::alloc::Allocator;
 /// The hash of the round of a request's sender and a State, where it is a peer and there is one.
 fn hash_with(key: HashKey, requester: Requester, state: Option<&[u8]>) -> Option<u64>
     ensures { result ≡ option_map (round_hash key)
-        (round_with requester (option_map (λ s. s.now) state)) }
+        (round_with requester (option_map (λ s. s.now) state.entry)) }
 {
     let Requester::Peer(peer) = requester else {
         return None;

@@ -9,7 +9,7 @@ ghost use Rattle.roam_back.specs.ReplyCheck.{IsTaken};
 ghost use Rattle.roam_random.specs.RandomWords.{next_position, request_authenticator_at};
 ghost use Rattle.roam_route.specs.Admission.{admission};
 ghost use Rattle.roam_route.specs.Shown.{shown_arrival};
-ghost use Rattle.roam_reverse.specs.Sessions.{applied, has_session};
+ghost use Rattle.roam_reverse.specs.Sessions.{applied, is_open};
 ghost use Rattle.roam_pending.specs.EntryList.{IsNew, put};
 ghost use Rattle.roam_pending.specs.Shown.{shown as shown_entry};
 ghost use Rattle.test_callers.specs.Admitted.{IsAdmittedFor};
@@ -72,18 +72,18 @@ pub fn two_authenticators(seed: [u8; 32], realm: u16, position: u128) -> ([u8; 1
     (first, second)
 }
 
-/// Counts an Accounting-Request of a peer that was answered. Whether a session of it is open then.
+/// Counts an Accounting-Request of a peer that was answered. Whether the session that it names is open then.
 pub fn is_open_after<A: Allocator + Copy>(
     sessions: &mut Sessions<A>,
+    own: bool,
     peer: u16,
     request: &View<'_>,
-    id: &[u8],
 ) -> Result<bool, NoMemory>
-    ensures { IfOk result (λ found. found ≡ has_session (record { peer = peer; id = id.now })
-        (applied sessions.old.limit peer request.now.attributes sessions.old.sessions)) }
+    ensures { IfOk result (λ found. found ≡ is_open own peer request.now.attributes
+        (applied sessions.old.limit own peer request.now.attributes sessions.old.sessions)) }
 {
-    sessions.apply(peer, request)?;
-    Ok(sessions.has(peer, id))
+    sessions.apply(own, peer, request)?;
+    Ok(sessions.is_open(own, peer, request))
 }
 
 /// The octets that go to a home server for a peer's request.

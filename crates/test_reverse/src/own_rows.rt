@@ -772,6 +772,7 @@ tries = 2
 wait = 1000
 hold = 5000
 max_pending = 300
+max_sessions = 0
 
 [[realm.server]]
 auth = \"198.51.100.1:1812\"

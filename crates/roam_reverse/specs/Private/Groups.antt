@@ -1,5 +1,5 @@
 -- Numbers in groups, each group a chain of its numbers in rising order (ours).
-use Rattle.std.specs.Prelude.{◌≡◌, ◌⊎◌, ℕ, ◌+◌, ◌-◌, ◌^◌, ◌<◌, ◌≤◌, ◌==◌, ◌&&◌, min, nat_le, nat_lt, Bool, false, List, length, Option, Some, None, IsSome, option_map, if◌then◌else◌}
+use Rattle.std.specs.Prelude.{◌≡◌, ◌⊎◌, ℕ, ◌+◌, ◌-◌, ◌^◌, ◌<◌, ◌≤◌, ◌==◌, ◌&&◌, min, nat_le, nat_lt, Bool, false, List, length, Option, Some, None, option_map, if◌then◌else◌}
 use Rattle.std.specs.Option.{option_map_or}
 use Rattle.std.specs.Str.{bytes_eq}
 use Rattle.roam_wire.specs.Numbered.{PutsAt, tickets_end}
@@ -77,6 +77,11 @@ abbrev pub ends_behind : ℕ → Option Ends → Ends
 ends_behind number None = record { oldest = number; newest = number; count = 1 }
 ends_behind number (Some ends) =
     record { oldest = ends.oldest; newest = number; count = min (ends.count + 1) (2 ^ 64 - 1) }
+
+-- the newest number of a group, by its ends
+abbrev pub newest_of : Option Ends → Option ℕ
+newest_of None = None
+newest_of (Some ends) = Some ends.newest
 
 -- the ends of a group once a number between these went
 abbrev pub ends_between : Option ℕ → Option ℕ → Ends → Option Ends

@@ -1,5 +1,5 @@
 -- A session by some of its parts (ours).
-use Rattle.std.specs.Prelude.{ℕ, ◌&&◌, ◌||◌, not, Bool, true, false, List, Option, Some, None, is_some, is_none, if◌then◌else◌}
+use Rattle.std.specs.Prelude.{◌&&◌, ◌||◌, Bool, Option, Some, None, is_some, is_none, if◌then◌else◌}
 use Rattle.roam_reverse.specs.Sessions.{Asked, Session}
 use Rattle.roam_reverse.specs.declared.asked.Mask.{Mask}
 

@@ -7,7 +7,7 @@ use Rattle.roam_reverse.specs.declared.asked.Mask.{Mask}
 -- a part: an octet 0 where it isn't there, else its size and 1, and its octets
 abbrev pub part_text : Option (List ℕ) → List ℕ
 part_text None = 0 ∷ []
-part_text (Some octets) = 1 + length octets ∷ octets
+part_text (Some octets) = (1 + length octets) ∷ octets
 
 -- the number of the peer, the high octet first, and each part
 abbrev pub row_text : Asked → List ℕ

@@ -1,5 +1,5 @@
 -- Sessions by their tickets, which rise in the order in which the sessions were opened (ours).
-use Rattle.std.specs.Prelude.{◌≡◌, ◌≢◌, ℕ, ◌+◌, ◌<◌, ◌≤◌, Bool, true, false, List, Option, Some, None, IsSome}
+use Rattle.std.specs.Prelude.{◌≡◌, ◌≢◌, ℕ, ◌<◌, ◌≤◌, Bool, true, false, List, Option, Some, None, IsSome}
 use Rattle.roam_wire.specs.Numbered.{listed, tickets_end}
 
 module _ {X : Type 0} where

@@ -1,4 +1,4 @@
-use Rattle.std.proofs.Common.{◌∙◌, cond, ap, map, drop, Some, None, sym, string_bytes, arith}
+use Rattle.std.proofs.Common.{◌+◌, ◌∙◌, cond, ap, map, drop, Some, None, sym, string_bytes, arith}
 use Rattle.std.specs.List.{list_any}
 use Rattle.std.specs.Option.{option_or}
 use Rattle.roam_conf.specs.TargetIndex.{nas_owner}

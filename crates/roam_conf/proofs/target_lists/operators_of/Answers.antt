@@ -17,11 +17,14 @@ loop-place-preserved c = λ key.
     let peers = c.args.peers.now in
     let i = c.loop-place.place in
     let peer = c.index-peers-place.result in
-    noted_peer (owner_of (owners c.loop-place.index) (str_to_ascii_lowercase key)) (owner_of (owners c.note_operator.new.index) (str_to_ascii_lowercase key))
+    noted_peer (owner_of (owners c.loop-place.index) (str_to_ascii_lowercase key))
+    (owner_of (owners c.note_operator.new.index) (str_to_ascii_lowercase key))
     (same_name_if_there (shown_peer peer).operator_name (Some key)) i
-    (position_from (λ (x : PeerView). same_name_if_there x.operator_name (Some key)) (i + 1) (map shown_peer (drop (i + 1) peers))) (c.in_ok-note_operator.ensures key)
+    (position_from (λ (x : PeerView). same_name_if_there x.operator_name (Some key)) (i + 1)
+    (map shown_peer (drop (i + 1) peers))) (c.in_ok-note_operator.ensures key)
     ∙ ap (λ o. option_or (owner_of (owners c.loop-place.index) (str_to_ascii_lowercase key)) o)
-    (position_at (λ (x : PeerView). same_name_if_there x.operator_name (Some key)) peers i peer (omega arith) c.index-peers-place.is)
+    (position_at (λ (x : PeerView). same_name_if_there x.operator_name (Some key)) peers i peer (omega arith)
+    c.index-peers-place.is)
     ∙ c.loop-place.invariant key
 
 -- all peers were noted

@@ -1,0 +1,338 @@
+-- Sessions by all that they are, and the one that makes way.
+use Rattle.std.proofs.Common.{◌≡◌, ◌≢◌, ℕ, zero, suc, ◌+◌, ◌<◌, ◌≤◌, ◌==◌, Bool, true, false, List, [], ◌∷◌, length, Option, Some, None, refl, sym, ap, ◌∙◌, subst, inl, inr, arith}
+use Rattle.std.specs.Prelude.{◌&&◌, IsSome, filter, nat_le, not, option_map, if◌then◌else◌}
+use Rattle.std.specs.List.{cons_option, list_all}
+use Rattle.std.proofs.lemmas.Bool.{and_from, and_parts, cases_Bool, cases_eq, cases_lt, not_from_false, not_from_true}
+use Rattle.std.proofs.lemmas.Bool.Decides.{nat_tests}
+use Rattle.roam_wire.specs.Numbered.{PutsAt, listed, tickets_end}
+use Rattle.roam_reverse.specs.Facets.{ComesIn, masked, rows_under}
+use Rattle.roam_reverse.specs.Private.Groups.{AreEnds, AreEndsOf, Comes, Goes, IsGrouped, IsLargest, IsNoLarger, IsOldestOfMost, PlainGroups, count_of, in_group, oldest_of}
+use Rattle.roam_reverse.specs.Private.Masks.{asked_by, mask_of}
+use Rattle.roam_reverse.specs.Private.Row.{row_text, row_under, whole_row}
+use Rattle.roam_reverse.specs.Private.Tickets.{IsOneOf, IsTicketOf, all_listed}
+use Rattle.roam_reverse.specs.Sessions.{Asked, Nas, Session, agrees, count_of_peer, has_most, no_nas, without_agreeing, without_first}
+use Rattle.roam_reverse.specs.Stands.{whole_rows}
+use Rattle.roam_reverse.specs.declared.ends.Ends.{Ends}
+use Rattle.roam_reverse.proofs.FacetLemmas.{agreeing-counted, agrees-held, count-is}
+use Rattle.roam_reverse.proofs.GroupLemmas.{ends-there, from-group, in-own}
+use Rattle.roam_reverse.proofs.ListedLemmas.{listed-none, listed-same}
+use Rattle.roam_reverse.proofs.NeighbourLemmas.{held-none, held-some}
+use Rattle.roam_reverse.proofs.RowLemmas.{whole-is}
+use Rattle.roam_reverse.proofs.SameLemmas.{number-is, same-number}
+
+-- a session comes into the group of its own row, and goes out of it
+pub comes-whole : (F G : ℕ → Option Session) (t : ℕ) (s : Session) (w : List ℕ) → w ≡ whole_row s → ComesIn F G t s
+    → Comes (whole_rows F) (whole_rows G) t (Some w)
+comes-whole F G t s w is comes = record {
+  puts = record {
+    changed = ap (option_map whole_row) comes.puts.changed ∙ ap (λ (l : List ℕ). Some l) (sym is);
+    others = λ u ne. ap (option_map whole_row) (comes.puts.others u ne);
+  };
+  free = λ u le. ap (option_map whole_row) (comes.free u le);
+  within = comes.within;
+}
+
+pub goes-whole : (F G : ℕ → Option Session) (t : ℕ) (s : Session) (w : List ℕ) → w ≡ whole_row s → F t ≡ Some s
+    → PutsAt F G t None → Goes (whole_rows F) (whole_rows G) t (Some w)
+goes-whole F G t s w is at goes = record {
+  was = ap (option_map whole_row) at ∙ ap (λ (l : List ℕ). Some l) (sym is);
+  puts = record {
+    changed = ap (option_map whole_row) goes.changed;
+    others = λ u ne. ap (option_map whole_row) (goes.others u ne);
+  };
+}
+
+-- a ticket whose row is a session's own is that session's
+row-of-session : (F : ℕ → Option Session) (t : ℕ) (s : Session) → whole_rows F t ≡ Some (whole_row s) → F t ≡ Some s
+row-of-session F t s is = by (F t) refl
+  where
+    by : (o : Option Session) → F t ≡ o → F t ≡ Some s
+    by None at = absurd (let k : whole_rows F t ≡ None = ap (option_map whole_row) at in cc (k, is))
+    by (Some x) at = (
+        let both : Some (whole_row x) ≡ Some (whole_row s) = sym (ap (option_map whole_row) at) ∙ is in
+        let rows : whole_row x ≡ whole_row s = cc both in
+        at ∙ ap (λ (z : Session). Some z) (whole-is x s rows))
+
+pub found-whole : (F : ℕ → Option Session) (p : PlainGroups) (s : Session) → IsGrouped (whole_rows F) p
+    → IsTicketOf s F (oldest_of p (whole_row s))
+found-whole F p s grouped = by (p.ends (whole_row s)) refl (grouped.ends (whole_row s))
+  where
+    by : (o : Option Ends) → p.ends (whole_row s) ≡ o → AreEndsOf (whole_rows F) (whole_row s) o
+        → IsTicketOf s F (oldest_of p (whole_row s))
+    by None is none = rw is (λ t at. absurd (
+        let k = in-own (whole_rows F) t (whole_row s) (ap (option_map whole_row) at) in
+        let l = none t in cc (k, l)))
+    by (Some e) is ends = rw is (row-of-session F e.oldest s
+        (from-group (whole_rows F) e.oldest (whole_row s) ends.oldest.held))
+
+-- the sessions of a peer
+abbrev pub of_peer : ℕ → Asked
+of_peer peer = record { peer = peer; nas = no_nas; id = None }
+
+and-true : (b : Bool) → (b && true) ≡ b
+and-true true = refl
+and-true false = refl
+
+peer-agrees : (peer : ℕ) (s : Session) → agrees (of_peer peer) s ≡ (peer == s.peer)
+peer-agrees peer s =
+    and-true (peer == s.peer && true && true) ∙ and-true (peer == s.peer && true) ∙ and-true (peer == s.peer)
+
+turned : (a b : ℕ) → (a == b) ≡ (b == a)
+turned a b = elim (cases_eq a b) [
+  | inl is ↦ (let l : (a == b) ≡ true = grind (arith, nat_tests) in let r : (b == a) ≡ true = grind (arith, nat_tests) in
+      l ∙ sym r)
+  | inr ne ↦ (let l : (a == b) ≡ false = grind (arith, nat_tests) in
+      let r : (b == a) ≡ false = grind (arith, nat_tests) in l ∙ sym r)
+]
+
+count-filter : (p r : Session → Bool) (xs : List Session) → ((s : Session) → p s ≡ r s)
+    → length (filter p xs) ≡ length (filter r xs)
+count-filter p r [] same = refl
+count-filter p r (x ∷ xs) same = elim (cases_Bool (r x)) [
+  | inl passes ↦ (
+      let first : p x ≡ true = same x ∙ passes in
+      let rest = count-filter p r xs same in
+      rw (first, passes) (omega (arith, rest)))
+  | inr fails ↦ (
+      let first : p x ≡ false = same x ∙ fails in
+      let rest = count-filter p r xs same in
+      rw (first, fails) (omega (arith, rest)))
+]
+
+module _ {X : Type 0} (test : X → Bool) where
+  -- all pass, where each does; each does, where all pass
+  pub all-pass : (f : ℕ → Option X) (t n : ℕ) → ((u : ℕ) (x : X) → f u ≡ Some x → test x ≡ true)
+      → list_all test (listed f t n) ≡ true
+  unfolding listed
+  all-pass f t zero each = refl
+  all-pass f t (suc n) each = more (f t) (listed f (t + 1) n) (λ x at. each t x at) (all-pass f (t + 1) n each)
+    where
+      more : (o : Option X) (xs : List X) → ((x : X) → o ≡ Some x → test x ≡ true) → list_all test xs ≡ true
+          → list_all test (cons_option o xs) ≡ true
+      more None xs is rest = rest
+      more (Some x) xs is rest = and_from (test x) (list_all test xs) (is x refl) rest
+
+  pub each-passes : (f : ℕ → Option X) (t n u : ℕ) (x : X) → list_all test (listed f t n) ≡ true → f u ≡ Some x
+      → t ≤ u → u < t + n → test x ≡ true
+  unfolding listed
+  each-passes f t zero u x all at le lt = absurd (omega (arith, le, lt))
+  each-passes f t (suc n) u x all at le lt = elim (cases_eq t u) [
+    | inl is ↦ (
+        let here : f t ≡ Some x = ap f is ∙ at in
+        let now : list_all test (cons_option (Some x) (listed f (t + 1) n)) ≡ true =
+        subst (λ (o : Option X). list_all test (cons_option o (listed f (t + 1) n)) ≡ true) here all in
+        (and_parts (test x) (list_all test (listed f (t + 1) n)) now).0)
+    | inr ne ↦ each-passes f (t + 1) n u x (rest (f t) (listed f (t + 1) n) all) at (omega (arith, le, ne))
+        (omega (arith, lt))
+  ]
+    where
+      rest : (o : Option X) (xs : List X) → list_all test (cons_option o xs) ≡ true → list_all test xs ≡ true
+      rest None xs all = all
+      rest (Some y) xs all = (and_parts (test y) (list_all test xs) all).1
+
+  -- the first that passes goes
+  pub first-gone : (f g : ℕ → Option X) (t n u : ℕ) (x : X) → f u ≡ Some x → test x ≡ true → g u ≡ None
+      → ((v : ℕ) → v ≢ u → g v ≡ f v) → ((v : ℕ) (y : X) → v < u → f v ≡ Some y → test y ≡ false)
+      → t ≤ u → u < t + n → listed g t n ≡ without_first test (listed f t n)
+  unfolding listed
+  first-gone f g t zero u x at passes gone others before le lt = absurd (omega (arith, le, lt))
+  first-gone f g t (suc n) u x at passes gone others before le lt = elim (cases_eq t u) [
+    | inl is ↦ (
+        let here : f t ≡ Some x = ap f is ∙ at in
+        let now : g t ≡ None = ap g is ∙ gone in
+        let same : listed g (t + 1) n ≡ listed f (t + 1) n =
+        listed-same f g (t + 1) n (λ v ge. others v (λ e. absurd (omega (arith, is, ge, e)))) in
+        rw (now, here, same, passes) refl)
+    | inr ne ↦ (
+        let less : t < u = omega (arith, le, ne) in
+        let rest = first-gone f g (t + 1) n u x at passes gone others before (omega (arith, less))
+        (omega (arith, lt)) in
+        rw (others t (λ e. ne e), rest) (later (f t) (listed f (t + 1) n) (λ y is. before t y less is)))
+  ]
+    where
+      later : (o : Option X) (xs : List X) → ((y : X) → o ≡ Some y → test y ≡ false)
+          → cons_option o (without_first test xs) ≡ without_first test (cons_option o xs)
+      later None xs fails = refl
+      later (Some y) xs fails = rw (fails y refl) refl
+
+  -- where one that fails goes, those that pass stay
+  pub passing-stay : (f g : ℕ → Option X) (t n u : ℕ) (x : X) → f u ≡ Some x → test x ≡ false → g u ≡ None
+      → ((v : ℕ) → v ≢ u → g v ≡ f v) → filter test (listed g t n) ≡ filter test (listed f t n)
+  unfolding listed
+  passing-stay f g t zero u x at fails gone others = refl
+  passing-stay f g t (suc n) u x at fails gone others = elim (cases_eq t u) [
+    | inl is ↦ (
+        let here : f t ≡ Some x = ap f is ∙ at in
+        let now : g t ≡ None = ap g is ∙ gone in
+        rw (now, here, fails) (passing-stay f g (t + 1) n u x at fails gone others))
+    | inr ne ↦ rw (others t (λ e. ne e)) (more (f t) (listed g (t + 1) n) (listed f (t + 1) n)
+        (passing-stay f g (t + 1) n u x at fails gone others))
+  ]
+    where
+      more : (o : Option X) (xs ys : List X) → filter test xs ≡ filter test ys
+          → filter test (cons_option o xs) ≡ filter test (cons_option o ys)
+      more None xs ys same = same
+      more (Some y) xs ys same = elim (cases_Bool (test y)) [
+        | inl passes ↦ rw passes (ap (λ (l : List X). y ∷ l) same)
+        | inr not_this ↦ rw not_this same
+      ]
+
+  -- where all pass, all stay
+  pub all-stay : (f : ℕ → Option X) (t n : ℕ) → ((u : ℕ) (x : X) → f u ≡ Some x → test x ≡ true)
+      → filter test (listed f t n) ≡ listed f t n
+  unfolding listed
+  all-stay f t zero each = refl
+  all-stay f t (suc n) each = more (f t) (listed f (t + 1) n) (λ x at. each t x at) (all-stay f (t + 1) n each)
+    where
+      more : (o : Option X) (xs : List X) → ((x : X) → o ≡ Some x → test x ≡ true) → filter test xs ≡ xs
+          → filter test (cons_option o xs) ≡ cons_option o xs
+      more None xs is rest = rest
+      more (Some x) xs is rest = rw (is x refl) (ap (λ (l : List X). x ∷ l) rest)
+
+-- the groups of peers
+module _ (F : ℕ → Option Session) (p : PlainGroups)
+    (grouped : IsGrouped (rows_under (masked false false false) F) p) where
+  abbrev pub L : List Session
+  L = all_listed F
+
+  abbrev pub rows : ℕ → Option (List ℕ)
+  rows = rows_under (masked false false false) F
+
+  abbrev pub row : ℕ → List ℕ
+  row peer = row_text (of_peer peer)
+
+  counted : (peer : ℕ) → count_of_peer peer L ≡ length (all_listed (in_group rows (row peer)))
+  counted peer =
+      count-filter (λ (s : Session). s.peer == peer) (agrees (of_peer peer)) (all_listed F)
+      (λ s. turned s.peer peer ∙ sym (peer-agrees peer s))
+      ∙ sym (agreeing-counted (of_peer peer) F)
+
+  -- a session is in the group of its peer
+  in-its : (u : ℕ) (s : Session) → F u ≡ Some s → in_group rows (row s.peer) u ≡ Some (row s.peer)
+  in-its u s at = agrees-held (of_peer s.peer) F u s at (peer-agrees s.peer s ∙ same-number s.peer s.peer refl)
+
+  -- whose ends there are, with as many as the peer has sessions, and the oldest at most that old
+  record HasEnds (u : ℕ) (s : Session) : Type 0 where
+    ends : Ends
+    there : p.ends (row s.peer) ≡ Some ends
+    count : ends.count ≡ count_of_peer s.peer L
+    before : ends.oldest ≤ u
+
+  has-ends : (u : ℕ) (s : Session) → F u ≡ Some s → HasEnds u s
+  has-ends u s at = by (p.ends (row s.peer)) refl (grouped.ends (row s.peer))
+    where
+      by : (o : Option Ends) → p.ends (row s.peer) ≡ o → AreEndsOf rows (row s.peer) o → HasEnds u s
+      by None is none = absurd (let k = in-its u s at in let l = none u in cc (k, l))
+      by (Some e) is ends = record {
+        ends = e;
+        there = is;
+        count = sym ends.count ∙ sym (counted s.peer);
+        before = elim (cases_lt u e.oldest) [
+          | inl lt ↦ absurd (let k = in-its u s at in
+              let l = ends.oldest.none_before u (omega arith) lt in cc (k, l))
+          | inr le ↦ le
+        ];
+      }
+
+  within : (u : ℕ) (s : Session) → F u ≡ Some s → u < tickets_end
+  within u s at = grouped.within u (row s.peer) (from-group rows u (row s.peer)
+      (held-some (in_group rows (row s.peer) u) (row s.peer) (in-its u s at)))
+
+  module _ (t : ℕ) (most : IsOldestOfMost p t) where
+    ends-are : AreEnds rows most.row most.ends
+    ends-are = ends-there rows most.row (p.ends most.row) most.ends most.there (grouped.ends most.row)
+
+    -- the session that makes way
+    held : IsSome (in_group rows most.row t)
+    held = subst (λ (v : ℕ). IsSome (in_group rows most.row v)) most.oldest ends-are.oldest.held
+
+    row-there : rows t ≡ Some most.row
+    row-there = from-group rows t most.row held
+
+    pub victim : (v : Session) × (F t ≡ Some v) × (row v.peer ≡ most.row)
+    victim = by (F t) refl
+      where
+        by : (o : Option Session) → F t ≡ o → (v : Session) × (F t ≡ Some v) × (row v.peer ≡ most.row)
+        by None at = absurd (
+            let k : rows t ≡ None = ap (λ (o : Option Session). rows_none o) at in cc (k, row-there))
+          where
+            rows_none : Option Session → Option (List ℕ)
+            rows_none None = None
+            rows_none (Some s) = row_under (masked false false false) s
+        by (Some v) at = (v, at, (
+            let both : Some (row v.peer) ≡ Some most.row = sym (from v at) ∙ row-there in cc both))
+          where
+            from : (s : Session) → F t ≡ Some s → rows t ≡ Some (row s.peer)
+            from s is = from-group rows t (row s.peer)
+                (held-some (in_group rows (row s.peer) t) (row s.peer) (in-its t s is))
+
+    count-v : most.ends.count ≡ count_of_peer victim.0.peer L
+    count-v = sym ends-are.count
+        ∙ ap (λ (l : List ℕ). length (all_listed (in_group rows l))) (sym victim.2)
+        ∙ sym (counted victim.0.peer)
+
+    -- nobody has more, and of those that have as many nobody is older
+    no-more : (u : ℕ) (s : Session) → F u ≡ Some s → count_of_peer s.peer L ≤ count_of_peer victim.0.peer L
+    no-more u s at = (
+        let its = has-ends u s at in
+        elim (most.most (row s.peer) its.ends its.there) [
+          | inl less ↦ omega (arith, less, its.count, count-v)
+          | inr same ↦ omega (arith, same.0, its.count, count-v)
+        ])
+
+    pub victim-has-most : has_most L victim.0 ≡ true
+    victim-has-most = all-pass
+        (λ (other : Session). nat_le (count_of_peer other.peer L) (count_of_peer victim.0.peer L)) F 0 tickets_end
+        (λ u s at. (let le = no-more u s at in at-most (count_of_peer s.peer L) (count_of_peer victim.0.peer L) le))
+      where
+        at-most : (a b : ℕ) → a ≤ b → nat_le a b ≡ true
+        at-most a b le = grind (arith, nat_tests)
+
+    pub earlier-has-less : (u : ℕ) (s : Session) → u < t → F u ≡ Some s → has_most L s ≡ false
+    earlier-has-less u s lt at = elim (cases_Bool (has_most L s)) [
+      | inr fails ↦ fails
+      | inl has ↦ absurd (
+          let least = each-passes
+          (λ (other : Session). nat_le (count_of_peer other.peer L) (count_of_peer s.peer L)) F 0 tickets_end t
+          victim.0 has victim.1 (omega arith) (omega (arith, within t victim.0 victim.1)) in
+          let le = at-least (count_of_peer victim.0.peer L) (count_of_peer s.peer L) least in
+          let its = has-ends u s at in
+          elim (most.most (row s.peer) its.ends its.there) [
+            | inl less ↦ omega (arith, less, its.count, count-v, le)
+            | inr same ↦ omega (arith, same.1, its.before, most.oldest, lt)
+          ])
+    ]
+      where
+        at-least : (a b : ℕ) → nat_le a b ≡ true → a ≤ b
+        at-least a b h = grind (arith, nat_tests)
+
+    pub made-way : (G : ℕ → Option Session) → PutsAt F G t None → all_listed G ≡ without_first (has_most L) L
+    made-way G goes = first-gone (has_most L) F G 0 tickets_end t victim.0 victim.1 victim-has-most goes.changed
+        goes.others (λ u s lt at. earlier-has-less u s lt at) (omega arith)
+        (omega (arith, within t victim.0 victim.1))
+
+    pub victim-held : IsSome (F t)
+    victim-held = held-some (F t) victim.0 victim.1
+
+  -- where there is no group there is no session
+  pub nobody-there : ((l : List ℕ) → p.ends l ≡ None) → (u : ℕ) → F u ≡ None
+  nobody-there none u = by (F u) refl
+    where
+      by : (o : Option Session) → F u ≡ o → o ≡ None
+      by None at = refl
+      by (Some s) at = absurd (let its = has-ends u s at in let k = none (row s.peer) in
+          let l = its.there in cc (k, l))
+
+-- those that agree go one after the other
+pub kept-rest : (q : Asked) (F G : ℕ → Option Session) (t : ℕ) (x : Session) → F t ≡ Some x → agrees q x ≡ true
+    → PutsAt F G t None → without_agreeing q (all_listed G) ≡ without_agreeing q (all_listed F)
+kept-rest q F G t x at agree goes =
+    passing-stay (λ (s : Session). not (agrees q s)) F G 0 tickets_end t x at (not_from_true (agrees q x) agree)
+    goes.changed goes.others
+
+-- until there is none
+pub none-rest : (q : Asked) (F : ℕ → Option Session) → IsOneOf (agrees q) F None
+    → without_agreeing q (all_listed F) ≡ all_listed F
+none-rest q F none =
+    all-stay (λ (s : Session). not (agrees q s)) F 0 tickets_end
+    (λ u x at. not_from_false (agrees q x) (none u x at))

@@ -1,0 +1,68 @@
+use Rattle.std.proofs.Common.{◌≡◌, ◌≢◌, ℕ, ◌+◌, ◌-◌, ◌<◌, ◌≤◌, Bool, true, false, List, [], ◌∷◌, ◌++◌, length, Option, Some, None, refl, sym, ap, ◌∙◌, subst, arith, length-append}
+use Rattle.roam_wire.specs.Numbered.{PutsAt, tickets_end}
+use Rattle.roam_reverse.specs.Facets.{ComesIn, FacetsHaveRoom, HasFacetRows}
+use Rattle.roam_reverse.specs.Kept.{kept_session}
+use Rattle.roam_reverse.specs.Maps.{HasRoom, session_of}
+use Rattle.roam_reverse.specs.Private.Tickets.{all_listed}
+use Rattle.roam_reverse.specs.Sessions.{Session}
+use Rattle.roam_reverse.specs.Stands.{session_at, whole_rows}
+use Rattle.roam_reverse.proofs.ListedLemmas.{listed-last}
+use Rattle.roam_reverse.proofs.SoundLemmas.{tickets-come}
+use Rattle.roam_reverse.proofs.WholeLemmas.{comes-whole}
+use Rattle.roam_reverse.proofs.chain.Chain.append.Goals as goal
+
+pub overflow_add-ticket : goal.overflow_add-ticket
+unfolding tickets_end
+overflow_add-ticket g c = omega (arith, c.requires.sound.ticket_room, c.requires.room)
+
+-- one place fewer
+less : (n : ℕ) → 0 < n → n ≡ n - 1 + 1
+less n some = omega (arith, some)
+
+pub returns-clause-sound : goal.returns-clause-sound
+returns-clause-sound g c =
+    let F = session_at c.args.self.now in
+    let G = session_of c.put.new.map in
+    let s = kept_session c.args.new.session in
+    let next = c.args.self.now.next in
+    let sound = c.requires.sound in
+    let spare = less c.args.self.now.spare c.requires.room in
+    let comes : ComesIn F G next s = record {
+      puts = c.put.ensures.puts;
+      free = sound.tickets.given;
+      within = omega (arith, sound.ticket_room, c.requires.room);
+    } in
+    let listed = listed-last F G 0 tickets_end next s c.put.ensures.puts.changed c.put.ensures.puts.others
+    sound.tickets.given (omega arith) (omega (arith, sound.tickets.within)) in
+    record {
+      tickets = tickets-come F G next s sound.tickets c.requires.absent c.put.ensures.puts
+          (omega (arith, sound.ticket_room, c.requires.room));
+      whole = c.append.ensures.grouped (whole_rows F) (whole_rows G) sound.whole
+          (comes-whole F G next s _ c.args.new.whole_is comes);
+      of_peer = c.append-2.ensures.faceted F G s sound.of_peer
+          (subst (λ (b : Bool). HasFacetRows b s c.args.new.of_peer) (sym sound.no_ids) c.args.new.of_peer_are)
+          comes;
+      no_ids = c.append-2.ensures.with_id ∙ sound.no_ids;
+      of_id = c.append-3.ensures.faceted F G s sound.of_id
+          (subst (λ (b : Bool). HasFacetRows b s c.args.new.of_id) (sym sound.ids) c.args.new.of_id_are)
+          comes;
+      ids = c.append-3.ensures.with_id ∙ sound.ids;
+      count = ap (λ (l : List Session). length l) listed ∙ length-append (all_listed F) (s ∷ [])
+          ∙ omega (arith, sound.count, c.put.ensures.len);
+      room = record {
+        by_ticket = omega (arith, sound.room.by_ticket, c.put.ensures.room, c.requires.room);
+        whole = c.append.ensures.room (c.args.self.now.spare - 1)
+            (subst (λ (n : ℕ). HasRoom n c.args.self.now.whole) spare sound.room.whole);
+        of_peer = c.append-2.ensures.room (c.args.self.now.spare - 1)
+            (subst (λ (n : ℕ). FacetsHaveRoom n c.args.self.now.of_peer) spare sound.room.of_peer);
+        of_id = c.append-3.ensures.room (c.args.self.now.spare - 1)
+            (subst (λ (n : ℕ). FacetsHaveRoom n c.args.self.now.of_id) spare sound.room.of_id);
+      };
+      ticket_room = omega (arith, sound.ticket_room, c.requires.room);
+    }
+
+pub returns-clause-sessions : goal.returns-clause-sessions
+returns-clause-sessions g c =
+    listed-last (session_at c.args.self.now) (session_of c.put.new.map) 0 tickets_end c.args.self.now.next
+    (kept_session c.args.new.session) c.put.ensures.puts.changed c.put.ensures.puts.others
+    c.requires.sound.tickets.given (omega arith) (omega (arith, c.requires.sound.tickets.within))

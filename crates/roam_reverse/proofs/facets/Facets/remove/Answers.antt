@@ -1,0 +1,35 @@
+use Rattle.std.proofs.Common.{true, false, ap, ◌∙◌}
+use Rattle.roam_reverse.specs.Facets.{masked, rows_under}
+use Rattle.roam_reverse.specs.Kept.{shown_session}
+use Rattle.roam_reverse.specs.Private.Row.{row_under}
+use Rattle.roam_reverse.specs.declared.asked.Mask.{Mask}
+use Rattle.roam_reverse.proofs.FacetLemmas.{goes-under}
+use Rattle.roam_reverse.proofs.facets.Facets.remove.Goals as goal
+
+pub returns-clause-faceted : goal.returns-clause-faceted
+returns-clause-faceted g c = λ F G are at goes.
+    let id = c.args.self.now.with_id in
+    let t = c.args.ticket in
+    let s = shown_session c.args.session in
+    record {
+      by_peer = c.remove.ensures.grouped (rows_under (masked false false id) F) (rows_under (masked false false id) G)
+          are.by_peer (goes-under (masked false false id) F G t s _
+          (c.under.ensures ∙ ap (λ (m : Mask). row_under m s) c.mask.ensures) at goes);
+      by_address = c.remove-2.ensures.grouped (rows_under (masked true false id) F)
+          (rows_under (masked true false id) G) are.by_address (goes-under (masked true false id) F G t s _
+          (c.under-2.ensures ∙ ap (λ (m : Mask). row_under m s) c.mask-2.ensures) at goes);
+      by_identifier = c.remove-3.ensures.grouped (rows_under (masked false true id) F)
+          (rows_under (masked false true id) G) are.by_identifier (goes-under (masked false true id) F G t s _
+          (c.under-3.ensures ∙ ap (λ (m : Mask). row_under m s) c.mask-3.ensures) at goes);
+      by_both = c.remove-4.ensures.grouped (rows_under (masked true true id) F) (rows_under (masked true true id) G)
+          are.by_both (goes-under (masked true true id) F G t s _
+          (c.under-4.ensures ∙ ap (λ (m : Mask). row_under m s) c.mask-4.ensures) at goes);
+    }
+
+pub returns-clause-room : goal.returns-clause-room
+returns-clause-room g c = λ n room. record {
+  by_peer = c.remove.ensures.room n room.by_peer;
+  by_address = c.remove-2.ensures.room n room.by_address;
+  by_identifier = c.remove-3.ensures.room n room.by_identifier;
+  by_both = c.remove-4.ensures.room n room.by_both;
+}

@@ -1,0 +1,12 @@
+use Rattle.roam_reverse.proofs.SessionLemmas.{opened-is-there, opened-twice}
+use Rattle.roam_reverse.proofs.WholeLemmas.{found-whole}
+use Rattle.roam_reverse.proofs.SoundLemmas.{tickets-come}
+use Rattle.roam_reverse.proofs.GrownLemmas.{grown-sound}
+use Rattle.roam_reverse.proofs.LargestLemmas.{lookup-at}
+use Rattle.roam_reverse.proofs.laws.opened_sessions.Goals as goal
+
+pub returns-clause-is_there : goal.returns-clause-is_there
+returns-clause-is_there c = opened-is-there
+
+pub returns-clause-once : goal.returns-clause-once
+returns-clause-once c = opened-twice

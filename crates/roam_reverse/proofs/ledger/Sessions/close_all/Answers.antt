@@ -1,0 +1,8 @@
+use Rattle.std.proofs.Common.{arith}
+use Rattle.roam_reverse.proofs.ledger.Sessions.close_all.Goals as goal
+
+pub invariant_of-self : goal.invariant_of-self
+invariant_of-self g c = (
+  c.remove_agreeing.ensures.sound,
+  omega (arith, c.remove_agreeing.ensures.count, c.self.invariant.1),
+)
