@@ -1,12 +1,12 @@
 #!/usr/bin/env python3
-"""try-failover.py [--seconds N] [--no-seals] [PROGRAM]
+"""try-failover.py [--seconds N] [--rate N] [--no-seals] [PROGRAM]
 
 Puts two FreeRADIUS behind a broker, as the home servers of one realm, on loopback, and has six loops of eapol_test log in by PEAP side
 by side, for N seconds (120). The first home server is killed a sixth of the way in, and comes back after a third of the whole (40
 seconds at most). It fails where a login fails but those that ran at the kill; where the second server is said to keep silent; where
 the first isn't used for new logins within `rest` of its return. With --no-seals the servers' replies need no Message-Authenticator.
 
-Then, with fifty requests a second that are answered, bursts of 3, 10 and 100 that no server answers: the one that answers the others
+Then, with 50 requests a second (--rate) that are answered, bursts of 3, 10 and 100 that no server answers: the one that answers the others
 may not rest. (The second is asked for nothing else by then: it may.)
 Without PROGRAM the broker that is written apart (oracle/broker.py) stands in.
 
@@ -242,8 +242,8 @@ def socket_of_access():
     return opened
 
 
-def try_bursts(around):
-    """Fifty requests a second are answered, and bursts aren't."""
+def try_bursts(around, rate):
+    """So many requests a second are answered, and bursts aren't."""
     before = {ip: said_of(around, f"{ip}:{AUTH}") for ip in (FIRST, SECOND)}
     steady, burst, answered, sent, begun = socket_of_access(), socket_of_access(), 0, 0, time.monotonic()
     bursts = [(1, 3), (5, 10), (9, 100)]
@@ -251,7 +251,7 @@ def try_bursts(around):
         if bursts and time.monotonic() > begun + bursts[0][0]:
             for number in range(bursts.pop(0)[1]):
                 ask(burst, number, "nobody@a.example")
-        if sent < 50 * (time.monotonic() - begun):
+        if sent < rate * (time.monotonic() - begun):
             ask(steady, sent % 256, USER)
             sent += 1
         while select.select([steady], [], [], 0.005)[0]:
@@ -264,6 +264,7 @@ def try_bursts(around):
 def main():
     words = argparse.ArgumentParser(usage=__doc__)
     words.add_argument("--seconds", type=float, default=120)
+    words.add_argument("--rate", type=float, default=50)
     words.add_argument("--no-seals", action="store_true")
     words.add_argument("program", nargs="?")
     given = words.parse_args()
@@ -280,7 +281,7 @@ def main():
             start_home(around, "second", SECOND)
             time.sleep(3)
             faults = try_outage(around, given.seconds)
-            faults += try_bursts(around)
+            faults += try_bursts(around, given.rate)
         finally:
             ended = around.close()
         faults += len(ended)
