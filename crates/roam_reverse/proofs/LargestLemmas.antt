@@ -1,10 +1,10 @@
 -- The group that has most.
 use Rattle.std.proofs.Common.{◌≡◌, ◌≢◌, ◌⊎◌, ℕ, zero, suc, ◌+◌, ◌<◌, ◌≤◌, ◌==◌, Bool, true, false, List, [], ◌∷◌, length, Option, Some, None, refl, sym, ap, ◌∙◌, subst, inl, inr, arith}
-use Rattle.std.specs.Prelude.{◌&&◌, nat_eq, nat_le, nat_lt, slice_get, if◌then◌else◌}
+use Rattle.std.specs.Prelude.{◌&&◌, nat_le, nat_lt, option_map, slice_get, if◌then◌else◌}
 use Rattle.std.specs.Map.{lookup}
 use Rattle.std.proofs.lemmas.Bool.{and_parts, cases_Bool, cases_eq, cases_lt}
 use Rattle.std.proofs.lemmas.Bool.Decides.{nat_tests}
-use Rattle.roam_reverse.specs.Private.Groups.{IsNoLarger, larger}
+use Rattle.roam_reverse.specs.Private.Groups.{IsLargest, IsNoLarger, PlainGroups, larger}
 use Rattle.roam_reverse.specs.declared.ends.Ends.{Ends}
 
 -- a group isn't larger than the best one so far
@@ -91,3 +91,72 @@ lookup-at {K} {V} test (x ∷ xs) v is = elim (cases_Bool (test x.0)) [
       let found = lookup-at test xs v rest in
       (suc found.0, found.1, found.2, (let k = found.3 in omega (arith, k))))
 ]
+
+-- of those that were looked at none is larger than the best one, and that is a group's
+module _ {K : Type 0} (p : PlainGroups) (entries : List (K × Ends)) where
+  pub record IsBest (i : ℕ) (best : Option Ends) : Type 0 where
+    pub there : (b : Ends) → best ≡ Some b → (row : List ℕ) × (p.ends row ≡ Some b)
+    pub seen : (j : ℕ) (x : K × Ends) → j < i → slice_get entries j ≡ Some x → IsNoLargerThan best x.1
+
+  pub best-first : IsBest 0 None
+  best-first = record {
+    there = λ b is. absurd (cc is);
+    seen = λ j x lt at. absurd (omega (arith, lt));
+  }
+
+  pub best-next : (i : ℕ) (best : Option Ends) (k : K) (e : Ends) (row : List ℕ) → IsBest i best
+      → slice_get entries i ≡ Some (k, e) → p.ends row ≡ Some e → IsBest (i + 1) (Some (larger best e))
+  best-next i best k e row is at found = record { there = there_now; seen = seen_now }
+    where
+      there_now : (b : Ends) → Some (larger best e) ≡ Some b → (other : List ℕ) × (p.ends other ≡ Some b)
+      there_now b same = (
+          let one : larger best e ≡ b = cc same in
+          elim (larger-is best e) [
+            | inl new ↦ (row, found ∙ ap (λ (x : Ends). Some x) (sym new ∙ one))
+            | inr old ↦ is.there b (old ∙ same)
+          ])
+
+      seen_now : (j : ℕ) (x : K × Ends) → j < i + 1 → slice_get entries j ≡ Some x → IsNoLarger x.1 (larger best e)
+      seen_now j x lt there = elim (cases_eq j i) [
+        | inl same ↦ (
+            let both : Some x ≡ Some (k, e) = sym there ∙ ap (slice_get entries) same ∙ at in
+            let one : x ≡ (k, e) = cc both in
+            subst (λ (y : Ends). IsNoLarger y (larger best e)) (sym (ap (λ (z : K × Ends). z.1) one))
+            (new-no-larger best e))
+        | inr ne ↦ best-no-larger best e x.1 (is.seen j x (omega (arith, lt, ne)) there)
+      ]
+
+  pub best-skips : (i : ℕ) (best : Option Ends) → IsBest i best → slice_get entries i ≡ None → IsBest (i + 1) best
+  best-skips i best is none = record {
+    there = is.there;
+    seen = λ j x lt at. elim (cases_eq j i) [
+      | inl same ↦ absurd (
+          let both : Some x ≡ None = sym at ∙ ap (slice_get entries) same ∙ none in cc both)
+      | inr ne ↦ is.seen j x (omega (arith, lt, ne)) at
+    ];
+  }
+
+  module _ (finds : (row : List ℕ) (e : Ends) → p.ends row ≡ Some e
+      → (j : ℕ) × (k : K) × (slice_get entries j ≡ Some (k, e)) × (j < length entries)) where
+    pub best-is-largest : (n : ℕ) (best : Option Ends) → IsBest n best → length entries ≤ n
+        → IsLargest p (option_map (λ (e : Ends). e.oldest) best)
+    best-is-largest n None is all = λ row. by row (p.ends row) refl
+      where
+        by : (row : List ℕ) (o : Option Ends) → p.ends row ≡ o → o ≡ None
+        by row None at = refl
+        by row (Some e) at = absurd (
+            let found = finds row e at in
+            let lt = found.3 in
+            is.seen found.0 (found.1, e) (omega (arith, lt, all)) found.2)
+    best-is-largest n (Some b) is all = (
+        let its = is.there b refl in
+        record {
+          row = its.0;
+          ends = b;
+          there = its.1;
+          oldest = refl;
+          most = λ other e at. (
+              let found = finds other e at in
+              let lt = found.3 in
+              is.seen found.0 (found.1, e) (omega (arith, lt, all)) found.2);
+        })

@@ -18,3 +18,4 @@ pub mod GrownLemmas
 pub mod OneSessionLemmas
 pub mod MapLemmas
 pub mod ShortLemmas
+pub mod MeantLemmas

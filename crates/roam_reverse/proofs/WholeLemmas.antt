@@ -1,6 +1,6 @@
 -- Sessions by all that they are, and the one that makes way.
 use Rattle.std.proofs.Common.{◌≡◌, ◌≢◌, ℕ, zero, suc, ◌+◌, ◌<◌, ◌≤◌, ◌==◌, Bool, true, false, List, [], ◌∷◌, length, Option, Some, None, refl, sym, ap, ◌∙◌, subst, inl, inr, arith}
-use Rattle.std.specs.Prelude.{◌&&◌, IsSome, filter, nat_le, not, option_map, if◌then◌else◌}
+use Rattle.std.specs.Prelude.{◌&&◌, IsSome, filter, nat_le, not, option_and_then, option_map, if◌then◌else◌}
 use Rattle.std.specs.List.{cons_option, list_all}
 use Rattle.std.proofs.lemmas.Bool.{and_from, and_parts, cases_Bool, cases_eq, cases_lt, not_from_false, not_from_true}
 use Rattle.std.proofs.lemmas.Bool.Decides.{nat_tests}
@@ -254,11 +254,9 @@ module _ (F : ℕ → Option Session) (p : PlainGroups)
       where
         by : (o : Option Session) → F t ≡ o → (v : Session) × (F t ≡ Some v) × (row v.peer ≡ most.row)
         by None at = absurd (
-            let k : rows t ≡ None = ap (λ (o : Option Session). rows_none o) at in cc (k, row-there))
-          where
-            rows_none : Option Session → Option (List ℕ)
-            rows_none None = None
-            rows_none (Some s) = row_under (masked false false false) s
+            let k : rows t ≡ None =
+            ap (λ (o : Option Session). option_and_then (row_under (masked false false false)) o) at in
+            cc (k, row-there))
         by (Some v) at = (v, at, (
             let both : Some (row v.peer) ≡ Some most.row = sym (from v at) ∙ row-there in cc both))
           where

@@ -1,6 +1,6 @@
 //! The sessions of a ledger in the order in which they were opened.
 
-ghost use Rattle.std.specs.Prelude.{◌≡◌, ℕ, ◌+◌, ◌-◌, ◌<◌, ◌≤◌, [], ◌∷◌, ◌++◌};
+ghost use Rattle.std.specs.Prelude.{◌≡◌, ◌≢◌, ℕ, ◌+◌, ◌-◌, ◌<◌, ◌≤◌, [], ◌∷◌, ◌++◌, true};
 ghost use Rattle.std.specs.Prelude.{None, Some, IsOk, IsSome, OnOk, OnErr, filter, is_some, length};
 ghost use Rattle.roam_reverse.specs.Private.Tickets.{IsTicketOf};
 ghost use Rattle.roam_reverse.specs.Sessions.{agrees, has_most, without_agreeing, without_first};
@@ -175,7 +175,7 @@ impl<A: Allocator + Copy> Chain<A> {
     /// Takes all sessions out that agree with what is asked, which names no id. Looks at no other one.
     pub(crate) fn remove_agreeing(&mut self, asked: AskedRef<'_>)
         requires sound { IsSound self.old }
-        requires no_id { (shown_asked asked.entry).id ≡ None }
+        requires no_id { (shown_asked asked).id ≡ None }
         ensures sound { IsSound self.new }
         ensures sessions { sessions_of self.new
             ≡ without_agreeing (shown_asked asked.entry) (sessions_of self.old) }

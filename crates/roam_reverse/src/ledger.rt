@@ -1,6 +1,6 @@
 //! The ledger of a realm's open sessions.
 
-ghost use Rattle.std.specs.Prelude.{◌≡◌, ◌<◌, [], IfOk, IsOk, OnOk, OnErr, Some, filter, is_some, length};
+ghost use Rattle.std.specs.Prelude.{◌≡◌, ◌<◌, [], IfOk, IsOk, None, OnOk, OnErr, filter, is_some, length, true};
 ghost use Rattle.roam_reverse.specs.Sessions.{IsLedger, agrees, applied, change_by_request, changed, is_open};
 ghost use Rattle.roam_reverse.specs.Sessions.{has_session, with_session, without_agreeing, without_session};
 ghost use Rattle.roam_reverse.specs.Kept.{kept_session, shown_asked, shown_session};
@@ -74,7 +74,7 @@ impl<A: Allocator + Copy> Sessions<A> {
 
     /// How many sessions agree with what is asked, which names an id. Takes no memory.
     pub(crate) fn count(&self, asked: AskedRef<'_>) -> usize
-        requires { is_some (shown_asked asked.entry).id ≡ true }
+        requires { is_some (shown_asked asked).id ≡ true }
         ensures { result ≡ length (filter (agrees (shown_asked asked.entry)) self.now.sessions) }
     {
         self.chain.count(asked)
@@ -215,7 +215,7 @@ impl<A: Allocator + Copy> Sessions<A> {
 
     /// Takes all sessions out that agree with what is asked, which names no id.
     fn close_all(&mut self, asked: AskedRef<'_>)
-        requires { (shown_asked asked.entry).id ≡ None }
+        requires { (shown_asked asked).id ≡ None }
         ensures limit { self.new.limit ≡ self.old.limit }
         ensures sessions { self.new.sessions
             ≡ without_agreeing (shown_asked asked.entry) self.old.sessions }

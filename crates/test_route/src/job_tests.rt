@@ -149,20 +149,21 @@ fn is_right<'r>(
     }
 }
 
-/// An arrival of these octets; their growth isn't refused.
+/// An arrival of these octets, with the wall clock's seconds where they are known; their growth isn't refused.
 fn arrival<A: Allocator + Copy>(
     rt: &impl Abort,
     alloc: A,
     at: Place,
     from: Endpoint,
     octets: &[u8],
+    seconds: Option<u64>,
 ) -> Datagram<A> {
     let octets = Octets::from_vec(Vec::from_slice(alloc, octets).expect(rt, "memory"));
     Datagram {
         at,
         from,
         octets,
-        seconds: None,
+        seconds,
     }
 }
 
@@ -175,13 +176,15 @@ fn expect_row(
     row: &str,
 ) {
     let (digits, given) = row.split_once(' ').unwrap_or((row, ""));
+    let (digits, clock) = digits.split_once('@').unwrap_or((digits, ""));
+    let seconds = decimal(clock, 0, u64::MAX);
     let (word, value) = given.split_once(' ').unwrap_or((given, ""));
     let said = Said { side, word, value };
     let refusing = Refusing::new(alloc);
     let octets = spelled(rt, alloc, digits);
     let mut growths = 0;
     for n in refusing.each_growth() {
-        let datagram = arrival(rt, &refusing, at, from, &octets);
+        let datagram = arrival(rt, &refusing, at, from, &octets, seconds);
         refusing.refuse_nth(n);
         let right = is_right(rt, alloc, config, &refusing, &datagram, said);
         if refusing.was_refused() {

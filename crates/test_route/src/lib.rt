@@ -20,4 +20,6 @@ mod job_tests;
 #[cfg(test)]
 mod policies;
 #[cfg(test)]
+mod reversing;
+#[cfg(test)]
 mod sizes;

@@ -8,6 +8,7 @@ use crate::asking::{
     LOOP_NOT_PREVENTED, LOOP_PREVENTION, ORDER_OF_REFUSALS, PEERS_OF_A_REALM,
     WHICH_PEER_AND_ADDRESS,
 };
+use crate::reversing::{CLIENT, FRESH, SOURCES, TIMES};
 use crate::sizes::{ADDED, AS_IT_CAME, TAKEN_OUT};
 use roam_conf::Config;
 use roam_conf_reader::read_config;
@@ -70,7 +71,9 @@ const TAKING_OUT: &str = "request_without = [\"25\"]
 /// The parts of a configuration, and what arrives there.
 type Case = (&'static [&'static str], &'static [Rows]);
 
-pub const CASES: [Case; 15] = [
+pub const CASES: [Case; 17] = [
+    (&[FRESH, TOP, PEER, REALM, SERVER], &TIMES),
+    (&[TOP, PEER, REALM, CLIENT, SERVER], &SOURCES),
     (
         &[
             TOP,

@@ -1,4 +1,4 @@
-use Rattle.std.proofs.Common.{rules, ◌≡◌, map}
+use Rattle.std.proofs.Common.{rules, map}
 use Rattle.std.specs.Cmp.Lexicographic.{pointwise}
 use Rattle.roam_conf.specs.Parts.{shown_client}
 use Rattle.roam_conf.proofs.EqualLemmas.{client_decides, client_eq}

@@ -11,9 +11,9 @@ use Rattle.roam_reverse.proofs.SoundLemmas.{tickets-come}
 use Rattle.roam_reverse.proofs.WholeLemmas.{comes-whole}
 use Rattle.roam_reverse.proofs.chain.Chain.append.Goals as goal
 
-pub overflow_add-ticket : goal.overflow_add-ticket
+pub overflow_add-self : goal.overflow_add-self
 unfolding tickets_end
-overflow_add-ticket g c = omega (arith, c.requires.sound.ticket_room, c.requires.room)
+overflow_add-self g c = omega (arith, c.requires.sound.ticket_room, c.requires.room)
 
 -- one place fewer
 less : (n : ℕ) → 0 < n → n ≡ n - 1 + 1
@@ -66,3 +66,46 @@ returns-clause-sessions g c =
     listed-last (session_at c.args.self.now) (session_of c.put.new.map) 0 tickets_end c.args.self.now.next
     (kept_session c.args.new.session) c.put.ensures.puts.changed c.put.ensures.puts.others
     c.requires.sound.tickets.given (omega arith) (omega (arith, c.requires.sound.tickets.within))
+
+pub put-requires-clause-free : goal.put-requires-clause-free
+put-requires-clause-free g c = c.requires.sound.tickets.given c.args.self.now.next (omega arith)
+
+-- room for one is there where there is some
+pub append-requires : goal.append-requires
+append-requires g c =
+    let room = c.requires.sound.room.whole in
+    record { ends = omega (arith, room.ends, c.requires.room); beside = omega (arith, room.beside, c.requires.room) }
+
+pub append-requires-2 : goal.append-requires-2
+append-requires-2 g c =
+    let room = c.requires.sound.room.of_peer in
+    let some = c.requires.room in
+    record {
+      by_peer = record { ends = omega (arith, room.by_peer.ends, some); beside = omega (arith, room.by_peer.beside, some) };
+      by_address = record {
+        ends = omega (arith, room.by_address.ends, some);
+        beside = omega (arith, room.by_address.beside, some);
+      };
+      by_identifier = record {
+        ends = omega (arith, room.by_identifier.ends, some);
+        beside = omega (arith, room.by_identifier.beside, some);
+      };
+      by_both = record { ends = omega (arith, room.by_both.ends, some); beside = omega (arith, room.by_both.beside, some) };
+    }
+
+pub append-requires-3 : goal.append-requires-3
+append-requires-3 g c =
+    let room = c.requires.sound.room.of_id in
+    let some = c.requires.room in
+    record {
+      by_peer = record { ends = omega (arith, room.by_peer.ends, some); beside = omega (arith, room.by_peer.beside, some) };
+      by_address = record {
+        ends = omega (arith, room.by_address.ends, some);
+        beside = omega (arith, room.by_address.beside, some);
+      };
+      by_identifier = record {
+        ends = omega (arith, room.by_identifier.ends, some);
+        beside = omega (arith, room.by_identifier.beside, some);
+      };
+      by_both = record { ends = omega (arith, room.by_both.ends, some); beside = omega (arith, room.by_both.beside, some) };
+    }

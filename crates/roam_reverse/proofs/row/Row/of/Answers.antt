@@ -10,5 +10,5 @@ returns c =
     let q = shown_asked c.args.asked in
     three-parts (replicate 768 0) c.put_part-addressed.new.buffer c.put_part-identified.new.buffer
     c.put_part-len.new.buffer c.put_part-addressed.result c.put_part-identified.result c.put_part-len.result
-    (q.peer / 256) (q.peer % 256) q.nas.address q.nas.identifier q.id (omega (arith, length-replicate 768 0))
+    (q.peer / 256) (q.peer % 256) q.nas.address q.nas.identifier q.id (omega (arith, length-replicate {A = ℕ} 768 0))
     c.put_part-addressed.ensures.text c.put_part-identified.ensures.text c.put_part-len.ensures.text
