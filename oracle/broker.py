@@ -11,11 +11,12 @@ import sys
 import tomllib
 from packets import *
 from policy import *
+from sessions import START, Sessions
 
 LATEST = 2 ** 62
 LAST_TICKET = 2 ** 63
-START, STOP, INTERIM_UPDATE, ACCOUNTING_ON, ACCOUNTING_OFF = 1, 2, 3, 7, 8
-UNSUPPORTED, NOT_ROUTABLE, NO_SESSION, NO_ANSWER = 401, 502, 503, 505
+SIGNS = 2 ** 64
+UNSUPPORTED, INVALID, NOT_ROUTABLE, NO_SESSION, NO_ANSWER, SEVERAL_SESSIONS = 401, 404, 502, 503, 505, 508
 MOST_GIVEN_UP = 256
 
 # The codes that each place takes, and those that each kind of link may answer with.
@@ -50,10 +51,13 @@ class Config:
         self.shards = document.get("shards", 1)
         self.seed = bytes.fromhex(document.get("seed", "0" * 64))
         self.max_hops = document.get("max_hops")
+        self.max_attributes = document.get("max_attributes")
+        self.fresh = document.get("fresh")
         self.status_server = document.get("status_server", False)
         self.reject = [name.lower().encode() for name in document.get("reject", [])]
         self.well_formed = document.get("well_formed", False)
         self.answer_unnamed = document.get("answer_unnamed", False)
+        self.auth, self.acct = document["auth"], document["acct"]
         self.peers = document["peer"]
         self.realms = [with_unsaid(realm) for realm in document["realm"]]
         for realm in self.realms:
@@ -105,23 +109,44 @@ class Config:
         return None
 
     def home_of(self, realm, ip):
-        """The first home server of the realm with that address, where the realm takes Disconnect and CoA."""
-        if "reverse" not in self.realms[realm]:
+        """The table with the secret of who may send a Disconnect or CoA from that address, where the realm takes any: its first
+        home server there, or else its coa_client."""
+        table = self.realms[realm]
+        if "reverse" not in table:
             return None
-        for server in self.realms[realm]["server"]:
+        for server in table["server"]:
             if ip in [address for address, _ in server["links"].values()]:
                 return server
-        return None
+        return next((client for client in table.get("coa_client", []) if client["ip"] == ip), None)
 
     def access_server_of(self, request, realm):
-        """The access server of a realm that a Disconnect or CoA names, by its address, its name or both."""
-        ip, name = request.first(NAS_IP_ADDRESS), request.first(NAS_IDENTIFIER)
+        """The access server of a realm that a Disconnect or CoA names: by its Operator-Name where some access server has one, else
+        by its address, its name or both."""
+        operator = request.first(OPERATOR_NAME)
+        if operator is not None and any("operator_name" in peer for peer in self.peers):
+            fitting = [index for index, peer in enumerate(self.peers)
+                       if "operator_name" in peer and operator.lower() == b"1" + peer["operator_name"].encode().lower()]
+        else:
+            fitting = self.named_by_nas(request.first(NAS_IP_ADDRESS), request.first(NAS_IDENTIFIER))
+        return next((index for index in fitting if "coa" in self.peers[index] and self.is_peer_of(realm, index)), None)
+
+    def named_by_nas(self, ip, name):
+        """The access servers that a NAS-IP-Address and a NAS-Identifier name."""
+        if ip is None and name is None:
+            return []
+        meant = None if name is None else self.meant_by(name)
+        return [index for index, peer in enumerate(self.peers)
+                if (ip is None or "nas_ip" in peer and ip == address(peer["nas_ip"])) and (name is None or index == meant)]
+
+    def meant_by(self, name):
+        """The access server that a NAS-Identifier means: by a whole text, or by the longest beginning."""
+        found = []
         for index, peer in enumerate(self.peers):
-            fits_ip = ip is None or "nas_ip" in peer and ip == address(peer["nas_ip"])
-            fits_name = name is None or "nas_id" in peer and name == peer["nas_id"].encode()
-            if "coa" in peer and fits_ip and fits_name and (ip, name) != (None, None):
-                return index if self.is_peer_of(realm, index) else None
-        return None
+            texts = [(text.encode(), len(text.encode()) > 1 and text.endswith("*")) for text in peer.get("nas_ids", [])]
+            texts += [(peer["nas_id"].encode(), False)] if "nas_id" in peer else []
+            found += [(len(text) - 1, index) for text, is_pattern in texts if is_pattern and name.startswith(text[:-1])]
+            found += [(1000, index) for text, is_pattern in texts if not is_pattern and text == name]
+        return max(found)[1] if found else None
 
 
 def address(text):
@@ -142,36 +167,11 @@ class Entry:
     def __init__(self, ticket, request):
         self.ticket, self.request = ticket, request
         self.link = self.id = self.octets = self.sends_left = self.deadline = self.reply = None
+        # How many signs of life its link had given when its packet was built.
+        self.signs = 0
 
     def waits(self):
         return self.reply is None
-
-
-class Sessions:
-    """A realm's sessions: pairs of an access server and an Acct-Session-Id, the oldest first."""
-
-    def __init__(self, limit):
-        self.limit, self.pairs = limit, []
-
-    def apply(self, peer, request):
-        """An answered Accounting-Request."""
-        status, id = request.first(ACCT_STATUS_TYPE), request.first(ACCT_SESSION_ID)
-        if status is None or len(status) != 4:
-            return
-        status = int.from_bytes(status, "big")
-        if status in (ACCOUNTING_ON, ACCOUNTING_OFF):
-            self.pairs = [pair for pair in self.pairs if pair[0] != peer]
-        elif status in (START, INTERIM_UPDATE) and id is not None:
-            self.add((peer, id))
-        elif status == STOP and (peer, id) in self.pairs:
-            self.pairs.remove((peer, id))
-
-    def add(self, pair):
-        if pair in self.pairs or self.limit == 0:
-            return
-        if len(self.pairs) == self.limit:
-            self.pairs.pop(0)
-        self.pairs.append(pair)
 
 
 class Realm:
@@ -185,7 +185,9 @@ class Realm:
         self.cursors = {}
         # Of the links of home servers: until when they rest, and how many entries were given up there.
         self.rests, self.given_up = {}, {}
-        self.sessions = Sessions(self.table["max_sessions"])
+        # How often one of these gave a sign of life.
+        self.signs = {}
+        self.sessions = Sessions(self.table["max_sessions"], self.table.get("own_sessions", False))
 
     # Links
 
@@ -223,17 +225,37 @@ class Realm:
         forward = [target for target in free if not self.stands_back(target[0], now)]
         return next(iter(forward + free), None)
 
-    def give_up(self, now, link):
-        """Counts an entry that its link left without an answer."""
-        if link[0] == "coa" or self.rest == 0:
+    def target_in_login(self, now, request, links, entries):
+        """The target of a request in the middle of a login: where its State came from, or else where no link's rest is to be tried."""
+        source = self.source_of_state(request)
+        if source is not None and self.free_identifier(source, entries) is not None:
+            return source, self.free_identifier(source, entries)
+        never_silent = [(link, self.free_identifier(link, entries)) for link in links if link not in self.rests]
+        return next((target for target in never_silent if target[1] is not None), None)
+
+    def source_of_state(self, request):
+        """The link from which the last Challenge with a request's State came that is held for its access server."""
+        state = request.packet.first(STATE)
+        challenges = [(e.ticket, e.link) for e in self.entries if not e.waits() and e.link is not None
+                      and e.request.peer == request.peer and Packet(e.reply).code == ACCESS_CHALLENGE
+                      and Packet(e.reply).first(STATE) == state]
+        return max(challenges)[1] if challenges else None
+
+    def give_up(self, now, entry):
+        """Counts an entry that its link left without an answer, where that gave no sign of life meanwhile."""
+        link = entry.link
+        if link[0] == "coa" or self.rest == 0 or self.signs.get(link, 0) != entry.signs:
             return
         self.given_up[link] = min(self.given_up.get(link, 0) + 1, MOST_GIVEN_UP)
         if self.given_up[link] >= self.table["rest_after"]:
             self.rests[link] = now + self.rest
 
-    def is_answered(self, link):
-        self.rests.pop(link, None)
-        self.given_up.pop(link, None)
+    def gives_sign(self, link):
+        """A home server gives a sign of life."""
+        if link[0] != "coa":
+            self.rests.pop(link, None)
+            self.given_up.pop(link, None)
+            self.signs[link] = (self.signs.get(link, 0) + 1) % SIGNS
 
     # What is sent
 
@@ -249,10 +271,12 @@ class Realm:
         self.built += 1
         return chacha_words(self.config.seed, self.index, self.built - 1)
 
-    def send(self, now, entry, target):
+    def send(self, now, entry, target, is_chosen=True):
+        """Sends what is built for a target; of a link that was chosen and has rested the rest begins anew."""
         entry.link, entry.id = target
+        entry.signs = self.signs.get(entry.link, 0)
         self.cursors[entry.link] = (entry.id + 1) % 256
-        if entry.link in self.rests:
+        if is_chosen and entry.link in self.rests:
             self.rests[entry.link] = now + self.rest
         request, secret = entry.request, self.secret_of(entry.link)
         words = self.words(request.packet.code)
@@ -269,8 +293,9 @@ class Realm:
             return list_for_access_server(request.packet, self.table, self.config.peers[index])
         return list_to_forward(request.packet, self.table, self.config.peers[request.peer])
 
-    def hold(self, now, entry, reply):
-        entry.reply = reply
+    def hold(self, now, entry, reply, source):
+        """Holds an answer, and the link from which it came where that is one."""
+        entry.reply, entry.link = reply, source
         entry.deadline = now + self.table["hold"]
         return [self.answer(entry.request, reply)]
 
@@ -293,16 +318,33 @@ class Realm:
 
     def cause_against(self, request, peer):
         """The Error-Cause of a Disconnect or CoA that isn't forwarded."""
-        name, session = request.first(USER_NAME), request.first(ACCT_SESSION_ID)
         if peer is None:
             return NOT_ROUTABLE
-        if name is None and session is None:
+        cause = self.cause_by_sessions(request, peer) if self.sessions.is_own else self.cause_by_name(request, peer)
+        return cause or (UNSUPPORTED if request.is_salted() else None)
+
+    def is_of_another(self, request):
+        """Whether it has a User-Name that doesn't name this realm."""
+        name = request.first(USER_NAME)
+        return name is not None and self.config.realm_named(name) != self.index
+
+    def cause_by_name(self, request, peer):
+        """A User-Name counts, and a session where there is none."""
+        name, session = request.first(USER_NAME), request.first(ACCT_SESSION_ID)
+        if name is None and session is None or self.is_of_another(request):
             return NOT_ROUTABLE
-        if name is not None and self.config.realm_named(name) != self.index:
+        return NO_SESSION if name is None and not self.sessions.of_request(peer, request) else None
+
+    def cause_by_sessions(self, request, peer):
+        """One session of the realm's own is named, whatever User-Name stands there."""
+        if len(request.values(USER_NAME)) > 1 or len(request.values(ACCT_SESSION_ID)) > 1:
+            return INVALID
+        if self.is_of_another(request):
             return NOT_ROUTABLE
-        if name is None and (peer, session) not in self.sessions.pairs:
+        found = self.sessions.of_request(peer, request)
+        if not found:
             return NO_SESSION
-        return UNSUPPORTED if request.is_salted() else None
+        return SEVERAL_SESSIONS if len(found) > 1 else None
 
     def take(self, now, request, known, links):
         """A new request, which takes the place of the known one with its key."""
@@ -311,7 +353,10 @@ class Realm:
             raise Refused(11)
         if self.is_share_taken(request, others):
             raise Refused(27)
-        target = self.target(now, links, others)
+        is_in_login = (self.table.get("conversations", False) and request.packet.code == ACCESS_REQUEST
+                       and request.packet.values(STATE) != [])
+        kept = self.target_in_login(now, request, links, others) if is_in_login else None
+        target = kept or self.target(now, links, others)
         if target is None:
             raise Refused(12)
         if len(others) >= self.table["max_pending"]:
@@ -322,11 +367,16 @@ class Realm:
         entry = Entry(self.ticket, request)
         self.entries = others + [entry]
         self.ticket += 1
-        return self.send(now, entry, target)
+        return self.send(now, entry, target, kept is None)
 
     def is_share_taken(self, request, others):
-        """Whether as many of its code wait for its name as may."""
-        if "share" not in self.table or request.packet.code in REVERSE_REQUESTS:
+        """Whether as many of its code wait for its name as may, or as many of its access server."""
+        if request.packet.code in REVERSE_REQUESTS:
+            return False
+        of_peer = [e for e in others if e.waits() and e.request.peer == request.peer]
+        if "peer_share" in self.table and len(of_peer) >= self.table["peer_share"]:
+            return True
+        if "share" not in self.table:
             return False
         names = [name_part(e.request.packet.first(USER_NAME)) for e in others
                  if e.waits() and e.request.packet.code == request.packet.code]
@@ -342,30 +392,37 @@ class Realm:
             raise Refused(14)
         [entry] = waiting
         sent, secret, request = Packet(entry.octets), self.secret_of(link), entry.request
-        self.judge(reply, sent, secret, self.must_seal(link))
+        self.expect_answer(reply, sent, secret)
+        self.gives_sign(link)
+        self.expect_seals(reply, sent, secret, self.must_seal(link))
         packet = returned(reply, self.list_of(reply, request), request.packet, request.secret, sent, secret)
         if len(packet) > LARGEST:
             raise Refused(18)
         if reply.code == ACCOUNTING_RESPONSE:
             self.sessions.apply(request.peer, request.packet)
-        self.is_answered(link)
-        return self.hold(now, entry, packet)
+        return self.hold(now, entry, packet, link)
 
     def list_of(self, reply, request):
         """What of a reply goes back."""
+        attributes = reply.attributes
         if reply.code not in ACCESS_REPLIES:
-            return reply.attributes
-        return without(reply.attributes, texts_of("reply_without", self.config.peers[request.peer], self.table))
+            return attributes
+        if reply.code == ACCESS_ACCEPT and self.table.get("own_names", False):
+            own = name_part(request.packet.first(USER_NAME))
+            attributes = [(kind, value) for kind, value in attributes if kind != USER_NAME or name_part(value) == own]
+        return without(attributes, texts_of("reply_without", self.config.peers[request.peer], self.table))
 
     def must_seal(self, link):
         kind, index = link
         return kind == "auth" and self.table["server"][index].get("require_seal", False)
 
-    def judge(self, reply, sent, secret, must_seal):
+    def expect_answer(self, reply, sent, secret):
         if reply.code not in REPLIES_OF[sent.code]:
             raise Refused(15)
         if not reply.is_signed(sent.authenticator, secret):
             raise Refused(16)
+
+    def expect_seals(self, reply, sent, secret, must_seal):
         access = reply.code in ACCESS_REPLIES
         if not reply.is_well_sealed([sent.authenticator] + [ZEROS] * (not access), secret):
             raise Refused(17)
@@ -394,8 +451,8 @@ class Realm:
             return []
         request, (kind, index) = entry.request, entry.link
         if kind == "coa":
-            return self.hold(now, entry, nak(request.packet, request.secret, NO_ANSWER))
-        self.give_up(now, entry.link)
+            return self.hold(now, entry, nak(request.packet, request.secret, NO_ANSWER), None)
+        self.give_up(now, entry)
         target = self.target(now, self.server_links(request.packet.code, index + 1), others)
         if target is None:
             self.entries = others
@@ -418,7 +475,7 @@ class Broker:
         self.config = config
         self.realms = [Realm(config, index) for index in range(len(config.realms))]
 
-    def arrive(self, now, place, source, datagram):
+    def arrive(self, now, place, source, datagram, seconds=None):
         packet = Packet(datagram)
         kind, _, number = place.partition(":")
         if number and int(number) >= len(self.realms):
@@ -427,9 +484,11 @@ class Broker:
             return self.reply(now, int(number), source, packet)
         peer, secret = self.requester(kind, number, source[0])
         if packet.code == STATUS_SERVER and self.config.status_server and kind in STATUS_AT:
+            self.expect_few_attributes(packet)
             return self.status(place, source, packet, secret)
         if packet.code not in REQUESTS_AT[kind]:
             raise Refused(5)
+        self.expect_few_attributes(packet)
         self.check(packet, secret, self.needs_seal(packet, peer))
         realm = int(number) if number else self.config.realm_named(packet.first(USER_NAME))
         too_many_hops = self.has_too_many_hops(packet)
@@ -438,6 +497,8 @@ class Broker:
             return self.answer(ACCESS_REJECT, place, source, packet, secret)
         if too_many_hops:
             raise Refused(24)
+        if packet.code in REVERSE_REQUESTS and self.is_stale(packet, seconds):
+            raise Refused(29)
         if packet.code == ACCOUNTING_REQUEST and self.is_answered_here(packet, realm, is_taken):
             return [("-", place, source, local_accounting_answer(packet, secret))]
         attributes = packet.attributes
@@ -460,6 +521,17 @@ class Broker:
         if accounting == "drop":
             raise Refused(26)
         return accounting == "answer"
+
+    def expect_few_attributes(self, packet):
+        if self.config.max_attributes is not None and len(packet.attributes) > self.config.max_attributes:
+            raise Refused(28)
+
+    def is_stale(self, packet, seconds):
+        """Whether its Event-Timestamp is too far from the wall clock's seconds that came with it."""
+        stamp = packet.first(EVENT_TIMESTAMP)
+        if self.config.fresh is None or seconds is None or stamp is None or len(stamp) != 4:
+            return False
+        return abs(int.from_bytes(stamp, "big") - seconds) > self.config.fresh
 
     def needs_seal(self, packet, peer):
         """Whether an Access-Request of an access server must be sealed."""
@@ -536,7 +608,9 @@ class Broker:
                 return self.tick(int(fields[1]), int(fields[2])), None
             _, now, place, source, digits = fields
             datagram = b"" if digits == "-" else bytes.fromhex(digits)
-            return self.arrive(int(now), place, endpoint(source), datagram), None
+            now, _, seconds = now.partition("/")
+            seconds = int(seconds) if seconds else None
+            return self.arrive(int(now), place, endpoint(source), datagram, seconds), None
         except Refused as refused:
             return [], refused.number
 

@@ -130,6 +130,15 @@ def stated(**keys):
     return "".join(f"{name} = {value}\n" for name, value in values.items())
 
 
+def client(ip, secret):
+    """One that may send Disconnect and CoA for a realm beside its servers."""
+    return f"""
+[[realm.coa_client]]
+ip = "{ip}"
+secret = "{secret}"
+"""
+
+
 def server(ip, secret, auth=":1812", acct=":1813", require_seal=None):
     """A home server; where they aren't said its endpoints have the usual ports."""
     endpoints = (end if end[0] != ":" else ip + end for end in (auth, acct))
@@ -283,7 +292,96 @@ secret = "xyzzy5461"
         seed="b4" * 32, shards=2, max_hops=1, reject=["a.t", "*.o.t"]),
 }
 
-CONFIGURATIONS = POLICIES | {
+# Access servers behind proxies, and who may disconnect whom.
+NAS1_OF = {name: NAS1 + stated(nas_ids=ids) for name, ids in (
+    ("wlc-1*", ["wlc-1*"]), ("nas1b", ["nas1b"]), ("wlc-*", ["wlc-*"]), ("two", ["wlc-1", "wlc-2"]),
+    ("odd", ["w*", "*", "ap*"]))}
+OPERATED = N2_COA + stated(operator_name="inst.example")
+REVERSES = {
+    "nas-identifiers": decided(peers=(NAS1_OF["wlc-1*"], N2_COA + stated(nas_ids=["wlc-*", "wlc-7"]))),
+    "operators-of-access-servers": decided(
+        peers=(NAS1_OF["wlc-1*"], OPERATED + stated(nas_ids=["wlc-*", "wlc-7"]))),
+    "own-sessions": decided(peers=(NAS1_OF["nas1b"],), own_sessions=True, max_sessions=4),
+    "own-sessions-of-many-access-servers": decided(peers=(NAS1_OF["wlc-*"],), own_sessions=True, max_sessions=4),
+    "own-sessions-of-two-access-servers": decided(peers=(NAS1_OF["two"],), own_sessions=True, max_sessions=4),
+    "sessions-of-two-access-servers": decided(peers=(NAS1_OF["two"],), own_sessions=False, max_sessions=4),
+    "own-sessions-behind-an-operator": decided(
+        peers=(NAS1, N2 + stated(coa="192.0.2.2:3799", operator_name="inst.example", nas_ids=["ap-*"])),
+        own_sessions=True, max_sessions=4),
+    "own-sessions-beside-another-realm": decided(
+        second={}, peers=(NAS1, N2 + stated(coa="192.0.2.2:3799", operator_name="Inst.example")), own_sessions=True),
+    "own-sessions-without-a-ledger": decided(own_sessions=True, max_sessions=0),
+    "coa-client": decided(servers_of_first=[*servers(1), client("198.51.100.9", "pc")]),
+    "coa-clients-and-servers": configuration(
+        realm("a.example", servers(1)),
+        realm("b.example", [*servers(1), client("198.51.100.1", "pc"), client("192.0.2.1", "p2")])),
+    "names-of-access-servers-without-coa": decided(peers=(NAS1_OF["odd"], N2 + stated(nas_ids=["wlc*", "wap", "**"]))),
+    "full-ledger": configuration(realm("a.example", servers(1), max_sessions=4), peers=(NAS1, NAS3, NAS4)),
+    "fresh": decided(top={"fresh": 300, "max_hops": 1}),
+}
+# Servers that answer, logins that stay, and shares.
+LOGINS = {
+    "few-attributes": decided(top={"max_attributes": 3, "status_server": True}),
+    "twenty-attributes-and-one-try": decided(
+        top={"max_attributes": 20}, servers_of_first=servers(2), tries=1, rest=10000),
+    "share-of-a-peer": decided(peers=(NAS1, N2), peer_share=2),
+    "shares-of-names-and-peers": decided(peers=(NAS1, N2), peer_share=2, share=3, also=["*"]),
+    "share-of-a-peer-of-256": decided(peers=(NAS1, N2), peer_share=256),
+    "own-names": decided(second={}, own_names=True, also=["*"]),
+    "own-names-and-lists": decided({"reply_without": ["25"]}, own_names=True),
+    "rest-and-seals": decided(servers_of_first=[server(f"198.51.100.{n}", f"h{n}", require_seal=True) for n in (1, 2)], rest=10000),
+    "logins": decided(servers_of_first=servers(2), rest=10000, conversations=True),
+    "logins-held-long": decided(servers_of_first=servers(2), rest=10000, conversations=True, tries=1, hold=20000),
+    "logins-held-longest": decided(servers_of_first=servers(2), rest=10000, conversations=True, tries=1, hold=60000),
+    "logins-of-two-peers": decided(
+        servers_of_first=servers(2), rest=10000, conversations=True, tries=1, hold=60000,
+        peers=(NAS1 + stated(reply_without=["25"]), N2)),
+    "logins-of-four-places": decided(servers_of_first=servers(2), rest=10000, conversations=True, tries=1, max_pending=4),
+    "logins-and-one-try": decided(servers_of_first=servers(2), rest=10000, conversations=True, tries=1),
+    "logins-that-wait-long": decided(
+        servers_of_first=servers(2), rest=10000, conversations=True, tries=1, wait=20000, hold=60000),
+    "logins-of-many-places": decided(
+        servers_of_first=servers(2), rest=10000, conversations=True, tries=1, wait=20000, hold=60000, max_pending=4096),
+    "logins-at-three-servers": decided(servers_of_first=servers(3), rest=10000, conversations=True, tries=1, hold=60000),
+    "logins-that-move": decided(servers_of_first=servers(2), rest=10000, tries=1, hold=60000),
+    "logins-and-a-share": decided(
+        servers_of_first=servers(2), rest=10000, conversations=True, peer_share=2, tries=1, hold=60000),
+    "logins-and-rest-after-two": decided(
+        servers_of_first=servers(2), rest=10000, rest_after=2, conversations=True, tries=1),
+}
+
+RANDOM = {
+    "own": configuration(
+        realm("a", [*servers(1), client("198.51.100.9", "pc"), client("198.51.100.2", "p2")], wait=10, hold=20, tries=1, rest=30,
+              max_pending=6, max_sessions=4, also=["*.a.b"], own_sessions=True, reply_without=["6", "26.9"]),
+        realm("b", [*servers(2), client("198.51.100.1", "zz"), client("192.0.2.1", "p3")], wait=8, hold=10, max_pending=5,
+              max_sessions=3, also=["*.b"]),
+        peers=(NAS1 + stated(nas_ids=["wlc-*", "wlc-7*"]),
+               N2_COA + stated(operator_name="Inst.example", nas_ids=["wlc-7", "ap*", "*"], reply_without=["25"]), NAS4),
+        seed="a7" * 32, fresh=10),
+    "own-in-two-shards": configuration(
+        realm("a", servers(2), wait=10, hold=0, tries=1, max_pending=5, max_sessions=5, own_sessions=True, peers_of="nas1 n2 nas3"),
+        realm("b", [*servers(1), client("198.51.100.7", "pb")], wait=5, hold=20, tries=1, max_pending=4, max_sessions=4,
+              own_sessions=True, also=["*.t"]),
+        realm("c", [NO_ACCT], wait=7, hold=10, max_pending=4, max_sessions=3, accounting="answer", own_sessions=True),
+        peers=(N2_COA + stated(nas_ids=["w*"]), NAS1 + stated(nas_ids=["wlc-1", "wlc-2", "wlc-1*"]), NAS5, NAS3),
+        seed="5d" * 32, shards=2, max_hops=4),
+    "logins-and-shares": configuration(
+        realm("a", [*servers(1), server("198.51.100.2", "h2", require_seal=True), *servers(3)[2:]], wait=10, hold=60, tries=1,
+              max_pending=9, max_sessions=2, rest=60, rest_after=1, also=["*.a", "*"], conversations=True, peer_share=4,
+              own_names=True),
+        realm("b", servers(2), wait=8, hold=30, max_pending=5, max_sessions=1, rest=25, rest_after=2, conversations=True, share=2),
+        peers=(NAS1, N2, HOME1), seed="e9" * 32, max_attributes=8, status_server=True),
+    "logins-in-two-shards": configuration(
+        realm("a", servers(2), wait=10, hold=100, tries=2, max_pending=8, rest=40, rest_after=2, conversations=True, own_names=True,
+              share=3, also=["*.x"]),
+        realm("b", [server("198.51.100.1", "h1", require_seal=True), *servers(3)[1:]], wait=6, hold=40, tries=1, max_pending=6,
+              rest=30, rest_after=3, peer_share=3, own_names=True),
+        realm("c", servers(2), wait=7, hold=50, tries=1, max_pending=6, rest=0, conversations=True, peer_share=2, share=1),
+        peers=(NAS2, NAS1, NAS3), seed="1c" * 32, shards=2, max_attributes=12),
+}
+
+CONFIGURATIONS = POLICIES | REVERSES | LOGINS | RANDOM | {
     "one-server": one(),
     "seal-required": configuration(realm("a.example", servers(1)), peers=(NAS1 + "require_seal = true\n",)),
     "no-session": one(max_sessions=0),

@@ -1,7 +1,9 @@
 """The files of random scripts."""
 from random_access import AccessScript, VendorScript
 from random_federation import FederationScript, SilenceScript
+from random_logins import LoginScript
 from random_mutated import MutatedScript
+from random_own import OwnScript
 from random_policy import PolicyScript
 from random_reverse import ReverseScript
 from random_scripts import Script
@@ -23,6 +25,10 @@ FILES = {
     "federation-in-two-shards": (FederationScript, "federation-in-two-shards", 11001, 110),
     "policy": (PolicyScript, "policy", 18001, 90),
     "policy-in-two-shards": (PolicyScript, "policy-in-two-shards", 19001, 90),
+    "own": (OwnScript, "own", 21001, 90),
+    "own-in-two-shards": (OwnScript, "own-in-two-shards", 22001, 90),
+    "logins-and-shares": (LoginScript, "logins-and-shares", 23001, 80),
+    "logins-in-two-shards": (LoginScript, "logins-in-two-shards", 24001, 80),
     "mutated": (MutatedScript, "all", 12001, 50),
     "mutated-and-shared": (MutatedScript, "all-and-shared", 13001, 50),
     "mutated-in-two-shards": (MutatedScript, "all-in-two-shards", 14001, 50),

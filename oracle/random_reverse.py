@@ -70,16 +70,16 @@ class ReverseScript(AccessScript):
         return named
 
     def reverse_list(self, realm):
-        pairs = self.broker.realms[realm].sessions.pairs
+        records = self.broker.realms[realm].sessions.records
         reachable = [peer for peer in self.config.peers if "coa" in peer]
         peer, session = self.random.choice(reachable), self.session()
-        if pairs and self.chance(0.8):
-            index, session = self.random.choice(pairs)
+        if records and self.chance(0.8):
+            index, _, session = self.random.choice(records)
             peer = self.config.peers[index]
         if "coa" not in peer and self.chance(0.7):
             peer = self.random.choice(reachable)
         attributes = self.access_server(peer)
-        kind = self.random.choice(["session"] * (5 if pairs else 1) + ["name"] * 4 + ["both"])
+        kind = self.random.choice(["session"] * (5 if records else 1) + ["name"] * 4 + ["both"])
         kind = "neither" if self.chance(0.03) else kind
         if kind in ("session", "both"):
             self.put(attributes, (ACCT_SESSION_ID, session))

@@ -53,7 +53,11 @@ class Script:
 
     def arrive(self, what, place, source, octets, now=None):
         now = self.moment() if now is None else now
-        self.give(what, f"A {now} {place} {source} {octets.hex() or '-'}")
+        self.give(what, f"A {now}{self.wall_clock()} {place} {source} {octets.hex() or '-'}")
+
+    def wall_clock(self):
+        """What says the wall clock's seconds behind a moment, or nothing."""
+        return ""
 
     def entries(self):
         return [e for realm in self.broker.realms for e in realm.entries]

@@ -399,3 +399,79 @@ row.answer(*asked[7], "one is answered")
 row.reverse(0, other, [sent(reverse(43, 7, body + T(258), P), COA)], "its Identifier", source=port)
 row.reverse(0, reverse(43, 9, body), [sent(reverse(43, 9, body + T(259), P), COA)],
             "another request in an entry's place: that one's Identifier counts as free, and is")
+
+# A ledger of four sessions, and three access servers.
+row = Story("who-makes-way-in-a-full-ledger", "full-ledger")
+for session in (b"1", b"2", b"3"):
+    row.account("a Start", START, session)
+row.account("one at another", START, b"4", THIRD)
+row.account("one at a third: the first one has most, and its oldest goes", START, b"5", FOURTH)
+row.gone("the first one's first", b"1")
+row.kept("its second", b"2")
+row.kept("the third's", b"5", FOURTH)
+row.account("one more at the second: it has two then, as the first has, whose oldest is older", START, b"6", THIRD)
+row.gone("the first one's second", b"2")
+row.kept("its third", b"3")
+row.kept("the second's older one", b"4", THIRD)
+row.account("one more at the third: it has two then, as the second has, whose oldest is older", START, b"7", FOURTH)
+row.gone("the second's older one", b"4", THIRD)
+row.kept("the second's other", b"6", THIRD)
+row.kept("the first one's last", b"3")
+row.account("one more at the third, which has most itself", START, b"8", FOURTH)
+row.gone("its oldest", b"5", FOURTH)
+row.kept("the first one's last", b"3")
+row.account("a Start of one that is there", START, b"3")
+row.kept("the third's", b"7", FOURTH)
+row.account("a Stop at the third", STOP, b"7", FOURTH)
+row.account("one more at the first, for which there is room", START, b"9")
+row.kept("the second's", b"6", THIRD)
+row.kept("the third's", b"8", FOURTH)
+row.account("one more at the third: it and the first have two, and the first's oldest is older", START, b"0", FOURTH)
+row.gone("the first one's third", b"3")
+row.kept("its last", b"9")
+
+row = Story("who-has-most-with-the-one-that-comes", "full-ledger")
+for session, server in ((b"1", FIRST), (b"2", FIRST), (b"3", THIRD), (b"4", THIRD)):
+    row.account("a Start, two at either access server", START, session, server)
+row.account("one more at the second: it has three then, and loses its own oldest", START, b"5", THIRD)
+row.gone("its oldest", b"3", THIRD)
+row.kept("the first one's oldest", b"1")
+row.account("one more at the first", START, b"6")
+row.gone("its oldest", b"1")
+row.kept("the second's older one", b"4", THIRD)
+row.account("one at a third: both have two, and the first's oldest is older", START, b"7", FOURTH)
+row.gone("the first one's oldest", b"2")
+row.kept("the second's older one", b"4", THIRD)
+
+
+def stamp(seconds):
+    return attribute(55, seconds.to_bytes(4, "big"))
+
+
+# The seconds of the wall clock stand behind a moment.
+row = Story("old-and-new-timestamps", "fresh")
+for what, seconds, stamps in (
+        ("the same second", "/1000", stamp(1000)), ("300 seconds old", "/1000", stamp(700)), ("300 seconds ahead", "/1000", stamp(1300)),
+        ("an older one, where no wall clock is known", "", stamp(0)), ("none", "/1000", b""),
+        ("one of three octets", "/1000", attribute(55, b"\0\0\0")), ("one of five octets", "/1000", attribute(55, bytes(5))),
+        ("an old one behind one that counts", "/1000", stamp(1000) + stamp(0)),
+        ("the last second that there is", f"/{2 ** 32 + 299}", stamp(2 ** 32 - 1))):
+    row.now = f"{0}{seconds}"
+    row.ask(what, NAS1 + NAME + stamps, 40 + 3 * (len(stamps) % 2), answered=False)
+for what, seconds, stamps in (
+        ("301 seconds old", "/1000", stamp(699)), ("301 seconds ahead", "/1000", stamp(1301)),
+        ("an old one before one that is new", "/1000", stamp(0) + stamp(1000)), ("the last second, and one later", f"/{2 ** 32 + 300}", stamp(2 ** 32 - 1)),
+        ("the latest wall clock", f"/{2 ** 64 - 1}", stamp(2 ** 32 - 1)), ("the first second", "/301", stamp(0))):
+    for code in (40, 43):
+        row.reverse(f"0{seconds}", reverse(code, 99, NAS1 + NAME + stamps), 29, what)
+old = NAS1 + NAME + stamp(0)
+row.reverse("0/1000", reverse(40, 99, old, b"no"), 6, "an old one with a wrong secret: that is looked at first")
+row.reverse("0/1000", reverse(40, 99, old + mac), 7, "and so is a wrong seal")
+row.reverse("0/1000", reverse(40, 99, old + ps + ps), 24, "and how many Proxy-States there are")
+row.reverse("0/1000", reverse(40, 99, filled(4090, old)), 29, "one that would grow too long: that comes behind")
+row.reverse("0/1000", reverse(40, 99, stamp(0)), 29, "one for nobody: NAKs come behind")
+row.reverse(f"{TOP + 1}/1000", reverse(40, 99, old), 29, "one past the greatest moment: that comes behind")
+row.now = "1/1000"
+row.account("an Accounting-Request with an old one: it isn't looked at", START + stamp(0), b"1")
+row.reverse("2/5000", reverse(40, 0, NAS1 + NAME + stamp(1000)), 29, "the first one again, later: 29 before what is known")
+row.reverse("2/1300", reverse(40, 0, NAS1 + NAME + stamp(1000)), [], "the first one again, soon: it waits")

@@ -12,7 +12,7 @@ def most_growths(line, packets, refusal):
     """How many growths an event may ask for at most, where that is few: none where it is refused before a realm
     looks at it, and the copy of its octets where an arrival gives nothing. None where it isn't few.
     """
-    if refusal is not None and (refusal <= 10 or refusal in (20, 24, 25, 26) or line[0] == "T"):
+    if refusal is not None and (refusal <= 10 or refusal in (20, 24, 25, 26, 28, 29) or line[0] == "T"):
         return 0
     if line[0] == "A" and not packets:
         return 1

@@ -93,6 +93,9 @@ class Conversion:
         out.put(f"auth = {written(places[0])}", f"acct = {written(places[1])}")
         if self.security is None or self.security.says("status_server") is not False:
             out.put("status_server = true")
+        most = self.security and self.security.get("max_attributes") or ""
+        if most.isdigit() and 1 <= int(most) <= 2000:
+            out.put(f"max_attributes = {most}")
         out.put("# Accounting-On is answered, as FreeRADIUS does.", "answer_unnamed = true",
                 "# How many proxies a request may have passed.", f"max_hops = {HOPS}",
                 "# `roam ctl` asks, reloads and stops it through this; `systemctl reload` and `stop` do.", 'control = "/run/roam/control"')
@@ -163,7 +166,7 @@ class Conversion:
         if section.get("coa_server") and not place:
             out.lose(f"client {section.name}: coa_server {section.get('coa_server')}: no home_server of an IPv4 address")
         if place:
-            out.change(f"client {section.name}: a Disconnect names it by NAS-IP-Address {address}; by `nas_id` too, if you write one")
+            out.change(f"client {section.name}: a Disconnect names it by NAS-IP-Address {address}; what stands behind it by `nas_ids`, if you write them")
         out.put("[[peer]]", f"name = {toml(peer_name(section.get('shortname') or section.name, self.names))}", f'ip = "{address}"',
                 f"secret = {toml(secret)}", *(["require_seal = true"] if seal else []), *(["limit_proxy_state = true"] if limit and not seal else []),
                 *([f"coa = {written(place)}", f'nas_ip = "{address}"'] if place else []), "")
@@ -254,7 +257,8 @@ class Conversion:
         name = whole[0] if whole else "default.invalid" if "*" in items else f"under.{items[0][2:]}.invalid"
         also, pool = [it for it in items if it != name], self.pools[section.get("auth_pool") or section.get("pool")]
         if (pool.get("type") or "fail-over").lower() != "fail-over":
-            out.change(f"realm {section.name}: its pool is of type {pool.get('type')}; roam asks its servers in order, and the next one where one is silent")
+            out.change(f"realm {section.name}: its pool is of type {pool.get('type')}; roam asks its servers in order, and the next one where one is silent"
+                       + ("; a login stays at the server that it began at (conversations)" if len(homes) > 1 else ""))
         if not any(key == "nostrip" for key, _ in section.settings):
             out.change(f"realm {section.name}: FreeRADIUS strips the realm of its names; roam never does")
         partners = [it for it in self.members(section, "acct_pool") if self.fault_of_home(it) is None and (it.get("type") or "auth") != "auth"]
@@ -264,6 +268,8 @@ class Conversion:
         source = source[0] if source else self.address
         out.put(f"out = {written(self.free_port(source, self.options.out + index))}")
         coa = self.listening(("coa",))
+        if coa and coa.get("clients"):
+            out.change(f"realm {section.name}: clients {coa.get('clients')} may send Disconnects; those that are no home servers are [[realm.coa_client]], if you write them")
         if coa or self.options.reverse:
             port = self.options.reverse or int(coa.get("port") or 3799)
             out.put(f"reverse = {written(self.free_port(self.endpoint_at(coa, port)[0], port + index))}")
@@ -271,6 +277,8 @@ class Conversion:
             out.change(f"realm {section.name}: FreeRADIUS handles its accounting itself; here it is answered, and kept nowhere")
             out.put('accounting = "answer"')
         self.write_numbers(homes[0], "*" in items)
+        # EAP needs all rounds at one server, and nobody's session may be ended but the realm's own.
+        out.put(*(["conversations = true"] if len(homes) > 1 else []), *(["own_sessions = true"] if partners and (coa or self.options.reverse) else []))
         taken = set()
         for home in homes:
             self.write_server(section, home, partners, taken)

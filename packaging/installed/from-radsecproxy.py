@@ -389,6 +389,8 @@ class Conversion:
         self.write_loops(block, pairs)
         self.write_realm_lists(block, pairs)
         self.write_numbers(int(retries) + 1, int(interval), "*" in items)
+        # EAP needs all rounds at one server, and nobody's session may be ended but the realm's own.
+        out.put(*(["conversations = true"] if len(pairs) > 1 else []), *(["own_sessions = true"] if self.options.reverse and is_forwarded else []))
         taken = set()
         for server, partner in pairs:
             self.write_server(server, partner, is_forwarded, taken)

@@ -446,7 +446,7 @@ def keeps_lists(table):
 
 
 def keeps_the_rules(conf):
-    assert set(conf) <= {"auth", "acct", "max_hops", "status_server", "answer_unnamed", "reject", "control", "log_exchanges",
+    assert set(conf) <= {"auth", "acct", "max_attributes", "max_hops", "status_server", "answer_unnamed", "reject", "control", "log_exchanges",
                          "log_station", "peer", "realm"}
     assert 1 <= len(conf["peer"]) <= 1024 and 1 <= len(conf["realm"]) <= 1024
     for peer in conf["peer"]:
@@ -457,7 +457,9 @@ def keeps_the_rules(conf):
     names, endpoints = [], [conf["auth"], conf["acct"]]
     for realm in conf["realm"]:
         assert set(realm) <= {"name", "also", "out", "reverse", "tries", "wait", "rest", "rest_after", "hold", "max_pending", "accounting",
-                              "loop_prevention", "request_without", "reply_without", "server"}
+                              "loop_prevention", "request_without", "reply_without", "conversations", "own_sessions", "server"}
+        assert realm.get("conversations", False) == (len(realm["server"]) > 1)
+        assert realm.get("own_sessions", False) == ("reverse" in realm and "accounting" not in realm)
         keeps_lists(realm)
         names += [realm["name"]] + realm.get("also", [])
         endpoints += [realm[key] for key in ("out", "reverse") if key in realm]
@@ -591,7 +593,7 @@ def network():
         for key, value in there.items():
             assert key in ("peer", "realm", "control") or here.get(key, usual.get(key)) == value, (key, value)
         new = {key for key in here if key not in there and usual.get(key) != here[key]}
-        assert new <= {"require_seal", "coa", "nas_id", "reverse"}, new
+        assert new <= {"require_seal", "coa", "nas_id", "reverse", "own_sessions"}, new
     print(f"examples/migrating: {counted.strip()}; as docs/MIGRATING.md has it")
 
 

@@ -1,7 +1,7 @@
 #!/usr/bin/env python3
 """try-diagnoses.py PROGRAM [--table]
 
-Makes 118 mistakes in samples/visited-network.conf, one at a time, and runs `PROGRAM check` on each. The diagnosis
+Makes 132 mistakes in samples/visited-network.conf, one at a time, and runs `PROGRAM check` on each. The diagnosis
 must name the fault, and the line, the table and the key where the mistake was made, and what is wrong with it. No
 output may hold a secret of the file. --table prints a row for each.
 """
@@ -241,6 +241,22 @@ def server_beside(sample):
     return "BadValue", [(f"PATH:{number}: server: is no key of the top table", "write [[realm.server]]")]
 
 
+CLIENT_TEXT = '[[realm.coa_client]]\nip = "198.51.100.9"\nsecret = "a secret for tests"\n'
+
+
+def client_twice(sample):
+    """Two coa_clients of one address in a realm."""
+    first = sample.add(CLIENT_TEXT) + 1
+    number = sample.add(CLIENT_TEXT) + 1
+    return "DuplicateServer", [f'PATH:{number}: {COLLEGE}, coa_client 2: ip: "198.51.100.9" stands also in line {first}: {COLLEGE}, coa_client 1: ip']
+
+
+def client_without_secret(sample):
+    """One that has no secret."""
+    number = sample.add('[[realm.coa_client]]\nip = "198.51.100.9"')
+    return "Missing", [f"PATH:{number}: {COLLEGE}, coa_client 1: secret: is missing"]
+
+
 def no_name(sample):
     """A realm without a name."""
     del sample.lines[sample.key(REALM, "name", 1)]
@@ -465,6 +481,8 @@ MISTAKES = [
     two_peers("ip", '"192.0.2.1"'),
     twice("DuplicateEndpoint", REALM, "out", 1, (REALM, "out", 0)),
     twice("DuplicateEndpoint", REALM, "out", 1, (TOP, "auth", 0)),
+    ("DuplicateServer: coa_client", client_twice),
+    ("coa_client without a secret", client_without_secret),
     twice("DuplicateServer", SERVER, "acct", 0, (SERVER, "auth", 0)),
     ("DuplicateLink: coa is a server's", coa_is_server),
     ("[realm.server] twice", single_server_twice),
@@ -498,6 +516,8 @@ MISTAKES = [
     value(TOP, "shards", "65", "65 is not in 1..64"),
     value(TOP, "trace_octets", "0", "0 is not in 1..1073741824"),
     value(TOP, "max_hops", "101", "101 is not in 1..100"),
+    value(TOP, "max_attributes", "2001", "2001 is not in 1..2000"),
+    value(TOP, "fresh", "9", "9 is not in 10..3600"),
     value(TOP, "status_server", '"yes"', '"yes" is neither true nor false'),
     value(TOP, "spread", "1", "1 is neither true nor false"),
     value(TOP, "log_station", '"md5"', '"md5" is neither "clear" nor "hmac"'),
@@ -506,6 +526,8 @@ MISTAKES = [
     value(ONE_PEER, "coa", '"192.0.2.1:03799"', '"192.0.2.1:03799" ' + ENDPOINT),
     value(ONE_PEER, "nas_ip", '""', '"" ' + ADDRESS),
     value(ONE_PEER, "nas_id", '""', '"" is not a text of 1..253 octets'),
+    value(ONE_PEER, "nas_ids", '["wlc-*", ""]', '"" is not in an array of 0..1024 texts of 1..253 octets'),
+    value(ONE_PEER, "nas_ids", '"wlc-*"', '"wlc-*" is not in an array of 0..1024 texts of 1..253 octets'),
     value(ONE_PEER, "require_seal", '"true"', '"true" is neither true nor false'),
     value(ONE_PEER, "secret", "1234567890", SECRET),
     value(ONE_PEER, "secret", '["an array of secrets"]', SECRET),
@@ -516,6 +538,12 @@ MISTAKES = [
     value(REALM, "also", "[1]", "1 " + PATTERN, 1),
     value(REALM, "rest", "3600001", "3600001 is not in 0..3600000", 0),
     value(REALM, "rest_after", "0", "0 is not in 1..256", 1),
+    value(REALM, "peer_share", "4097", "4097 is not in 1..4096", 0),
+    value(REALM, "own_names", '"yes"', '"yes" is neither true nor false', 0),
+    value(REALM, "conversations", "1", "1 is neither true nor false", 1),
+    value(REALM, "own_sessions", "[]", "an array of 0 is neither true nor false", 1),
+    unknown(REALM, "fresh", "a realm: it is one of the top table, so put it before the first table", 1),
+    unknown(ONE_PEER, "own_sessions", "a peer"),
     value(REALM, "hold", "60001", "60001 is not in 0..60000", 1),
     value(REALM, "max_pending", "4097", "4097 is not in 1..4096", 0),
     value(REALM, "max_sessions", "65537", "65537 is not in 0..65536", 0),
@@ -529,6 +557,8 @@ MISTAKES = [
     twice("DuplicateEndpoint", TOP, "acct", 0, (TOP, "auth", 0)),
     twice("DuplicateEndpoint", REALM, "reverse", 1, (REALM, "reverse", 0)),
     twice("DuplicateEndpoint", REALM, "reverse", 0, (REALM, "out", 0)),
+    ("DuplicateServer: coa_client", client_twice),
+    ("coa_client without a secret", client_without_secret),
     twice("DuplicateServer", SERVER, "auth", 1, (SERVER, "auth", 0)),
     ("DuplicateRealm: also", name_and_also),
     ("DuplicateRealm: *", patterns),

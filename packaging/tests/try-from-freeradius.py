@@ -34,6 +34,7 @@ log {{
   auth = {auth}
 }}
 security {{
+  max_attributes = 150
   status_server = no
   allow_vulnerable_openssl = yes
 }}
@@ -162,9 +163,16 @@ home_server_pool home-acct {
   type = fail-over
   home_server = home-1-acct
 }
+home_server home-3 {
+  type = auth+acct
+  ipaddr = 198.51.100.3
+  port = 1812
+  secret = of-home-3
+}
 home_server_pool second {
-  type = load-balance
+  type = keyed-balance
   home_server = home-2
+  home_server = home-3
 }
 home_server_pool upper {
   type = fail-over
@@ -210,7 +218,7 @@ TOLD = [("Not carried over", what) for what in (
     "client dormitories: the prefix 10.20.0.0/16", "client six: it is of IPv6", "realm ~.*\\.c\\.b\\.example$: *.c.b.example is never reached",
     "realm here.example: it has no pool", "realm six.example: home_server of-six", "realm ~^[a-k]+\\.half\\.example$: neither")]
 TOLD += [("Changed", what) for what in (
-    "client undecided: limit_proxy_state auto", "client one: a Disconnect names it by NAS-IP-Address 192.0.2.1", "its pool is of type load-balance",
+    "client undecided: limit_proxy_state auto", "client one: a Disconnect names it by NAS-IP-Address 192.0.2.1", "its pool is of type keyed-balance",
     "FreeRADIUS strips the realm", "no Status-Server and no test user", "FreeRADIUS handles its accounting itself")]
 LOST = ["client dormitories", "client six", "realm here.example", "realm six.example"]
 
@@ -299,6 +307,7 @@ def main():
     assert b["also"] == ["*.b.example"] and b["server"][0]["acct"] == "198.51.100.2:11813" and "rest" not in b and b["reverse"] != a["reverse"]
     assert x["accounting"] == every["accounting"] == "answer" and every["also"] == ["*"] and every["rest_after"] == 50
     assert conf["reject"] == ["here.example"] and conf["log_exchanges"] == "none" and "status_server" not in conf
+    assert b["conversations"] and "conversations" not in a and a["own_sessions"] and "own_sessions" not in x and conf["max_attributes"] == 150
     print(f"{agree(conf, module.realm_in_roam)} names mean the same realm")
     with tempfile.NamedTemporaryFile("w", suffix=".conf") as file:
         file.write('client one {\n  secret = "never shown\n}\n')

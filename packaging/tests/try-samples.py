@@ -99,6 +99,15 @@ CASES = [
 ]
 
 
+# Of which sample and peer a user's session begins, at which access server, and who ends it then: the Disconnect goes to that endpoint.
+SESSIONS = [
+    ("federation", "institute", "u@college.example", b"institute-library", "192.0.2.17", "192.0.2.33:3799"),
+    ("hub", "airport", "0001@mnc001.mcc001.3gppnetwork.org", b"airport-7", "198.51.100.9", "192.0.2.1:3799"),
+    ("hub", "trains", "u@operator.example", b"train-2", "198.51.100.17", "192.0.2.17:3799"),
+    ("visited-network", "visited-network", "u@university.example", b"ap-1", "198.51.100.2", "192.0.2.1:3799"),
+]
+
+
 def request(code, number, user, secret, how):
     """The octets of a request."""
     attributes = ([(1, user.encode())] if user else []) + ASKED + (how if isinstance(how, list) else [])
@@ -181,6 +190,25 @@ class Played:
         return None if returned == accept[1] else f"returned {returned}"
 
 
+def session(played, name, user, nas, sender, endpoint):
+    """What is wrong of a session's end: its own realm may end it, and no other one by a User-Name of its own."""
+    peer = next(it for it in played.config.peers if it["name"] == name)
+    played.now += 100000
+    octets = request(ACCOUNTING, 1, user, peer["secret"].encode(), [(32, nas)])
+    [(realm, place, goes_to, sent)], _ = played.event(f"A {played.now} acct {peer['ip']}:40002 {octets.hex()}")
+    secret = played.secret_at(realm, goes_to)
+    answer = packets.signed(packets.ACCOUNTING_RESPONSE, sent[1], sent[4:20], [], secret)
+    played.event(f"A {played.now} {place} {goes_to[0]}:{goes_to[1]} {answer.hex()}")
+    secret, wrong = played.config.home_of(realm, sender)["secret"].encode(), []
+    for number, (id, wanted) in enumerate(((b"0001", endpoint), (b"0002", None))):
+        ends = [(1, user.encode()), (32, nas), (44, id), (55, int(played.now / 1000).to_bytes(4, "big"))]
+        octets = packets.signed(packets.DISCONNECT_REQUEST, number, packets.ZEROS, ends, secret)
+        [(_, _, goes_to, sent)], _ = played.event(f"A {played.now} reverse:{realm} {sender}:40003 {octets.hex()}")
+        got = f"{goes_to[0]}:{goes_to[1]}" if sent[0] == packets.DISCONNECT_REQUEST else None
+        wrong += [] if got == wanted else [f"a Disconnect of {user} with {id} goes to {got}, not {wanted}"]
+    return wrong
+
+
 def share(played):
     """What is wrong of a realm's share: of one name, dead at home, no more wait than the sample has; another name goes on."""
     peer = next(it for it in played.config.peers if it["name"] == "university")
@@ -225,10 +253,12 @@ def main():
         if wrong:
             faults.append(f"{sample}: {case[:3]}: {wrong}")
     faults += share(played["federation"])
+    for sample, *case in SESSIONS:
+        faults += [f"{sample}: {it}" for it in session(played[sample], *case)]
     faults += [f"{name}: no case is of it" for name in names if name not in {it[0] for it in CASES}]
     for name in names if len(sys.argv) == 2 else []:
         faults += by_program(os.path.abspath(sys.argv[1]), name, played[name])
-    print("\n".join(faults) or f"{len(CASES)} requests are answered and forwarded as {len(names)} samples say")
+    print("\n".join(faults) or f"{len(CASES)} requests and the ends of {len(SESSIONS)} sessions are answered and forwarded as {len(names)} samples say")
     return int(bool(faults))
 
 

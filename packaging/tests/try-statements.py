@@ -19,7 +19,8 @@ sys.dont_write_bytecode = True
 ROOT = os.path.dirname(os.path.dirname(os.path.dirname(os.path.abspath(__file__))))
 FOLDERS = ("packaging/samples", "examples")
 # What counts where one of these is absent can't be written.
-WITHOUT_DEFAULT = {"max_hops", "metrics", "control", "coa", "nas_ip", "nas_id", "reverse", "operator_name", "peers", "share", "acct"}
+WITHOUT_DEFAULT = {"max_hops", "metrics", "control", "coa", "nas_ip", "nas_id", "reverse", "operator_name", "peers", "share", "acct", "max_attributes", "fresh",
+                   "peer_share", "coa_client"}
 USAGE = "usage: roam check CONF\n"
 
 
@@ -35,10 +36,10 @@ def want(holds, what):
 
 def keys_of_page():
     """The keys of each table, in the order of the page."""
-    keys = {"top": [], "peer": [], "realm": [], "server": []}
+    keys = {"top": [], "peer": [], "realm": [], "server": [], "coa_client": []}
     with open(os.path.join(ROOT, "docs", "FILES.md"), encoding="utf-8") as page:
         for line in page:
-            row = re.match(r"\| (top|peer|realm|server) \| ([^|]*) \|", line)
+            row = re.match(r"\| (top|peer|realm|server|coa_client) \| ([^|]*) \|", line)
             if row:
                 keys[row[1]] += re.findall(r"`(\w+)`", row[2])
     return keys

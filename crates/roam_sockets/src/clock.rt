@@ -17,6 +17,12 @@ fn since<R: Clock>(rt: &R, start: Instant) -> Option<u64> {
     u64::try_from(elapsed.as_millis()).ok()
 }
 
+/// The wall clock's seconds since the beginning of 1970, where it can be read.
+pub fn wall_seconds<R: Clock>(rt: &R) -> Option<u64> {
+    let since = rt.since_1970().ok()?;
+    Some(since.as_secs())
+}
+
 /// The moment now, or the last one where the clock can't be read.
 pub fn now<R: Clock>(rt: &R, start: Instant, last: u64) -> u64 {
     moment(last, since(rt, start))

@@ -30,7 +30,7 @@ mod seed;
 mod socket;
 
 pub use bind::{BoundSocket, bind_all, bind_following};
-pub use clock::now;
+pub use clock::{now, wall_seconds};
 pub use control_socket::ControlSocket;
 pub use dealing::{ports, receivers};
 pub use descriptors::descriptors_wanted;

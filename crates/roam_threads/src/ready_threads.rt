@@ -130,6 +130,7 @@ impl<'s, 'c, G, N: Opened> Builder<'s, 'c, G, N> {
             counting,
             datagrams: Datagrams::none(),
             now: 0,
+            seconds: None,
         };
         Ok(Equipped {
             context,

@@ -9,7 +9,7 @@ use crate::shared::Shared;
 use roam_counters::Datagrams;
 use roam_hub::{Answered, Call, Gate, HubFault, Opened, Seat, Ticked};
 use roam_notices::Origin;
-use roam_sockets::now;
+use roam_sockets::{now, wall_seconds};
 use roam_telling::{Counting, Exchanges, Notices};
 use roam_wire::Refusal;
 use std::alloc::Global;
@@ -29,6 +29,8 @@ pub struct WorkerContext<'s, 'c, G, N: Opened> {
     pub datagrams: Datagrams,
     /// The last moment, in milliseconds since the server's start.
     pub now: u64,
+    /// The wall clock's seconds since the beginning of 1970 at that moment, where the configuration has use for them.
+    pub seconds: Option<u64>,
 }
 
 /// What is done about a call that isn't recorded.
@@ -55,9 +57,13 @@ pub fn remedy_for(fault: HubFault, is_second: bool) -> Remedy
 }
 
 impl<G: Gate, N: Opened> WorkerContext<'_, '_, G, N> {
-    /// Looks at the clock.
+    /// Looks at the clock, and at the wall clock where Event-Timestamps are looked at.
     pub fn look_at_clock<R: Clock>(&mut self, rt: &R) {
         self.now = now(rt, self.shared.start, self.now);
+        self.seconds = match self.shared.config.fresh {
+            Some(_) => wall_seconds(rt),
+            None => None,
+        };
     }
 
     /// Ticks a shard where something is due there, and hands its packets to the sockets. Answers whether more is due:

@@ -121,7 +121,11 @@ fn receive_portion<R: Wait + Clock, G: Gate, N: Opened>(
             break;
         }
         match receiver.receive(alloc, buffer) {
-            Heard::Datagram(datagram) => context.arrive(rt, alloc, &datagram),
+            Heard::Datagram(datagram) => {
+                let mut datagram = datagram;
+                datagram.seconds = context.seconds;
+                context.arrive(rt, alloc, &datagram);
+            }
             Heard::NoMemory => {
                 context.counting.refused_here(Refusal::NoMemory);
                 context.refuse(Refusal::NoMemory, Origin::Place(place));

@@ -1,0 +1,153 @@
+"""What the trials with other servers around a broker share: the broker that is written apart, in a program's place; FreeRADIUS'
+and radclient's files; starting and ending.
+
+    around.py CONF    serves a configuration by the broker that is written apart, and says on standard error what it refuses, and
+                      of which home server it takes a silence for more than a silence
+"""
+
+import os
+import re
+import select
+import shutil
+import socket
+import subprocess
+import sys
+import time
+
+sys.dont_write_bytecode = True
+HERE = os.path.dirname(os.path.abspath(__file__))
+sys.path.insert(0, os.path.join(HERE, "..", "..", "oracle"))
+import broker as apart  # noqa: E402
+import packets  # noqa: E402
+
+FREERADIUS = """
+prefix = {root}/usr
+libdir = {root}/usr/lib/freeradius
+logdir = {directory}
+run_dir = {directory}/{name}
+db_dir = {directory}
+radacctdir = {directory}
+cleanup_delay = 0
+proxy_requests = {proxies}
+log {{
+  destination = stdout
+  auth = yes
+}}
+security {{
+  reject_delay = 0
+  allow_vulnerable_openssl = yes
+}}
+thread pool {{
+  start_servers = 1
+}}
+"""
+
+
+def say(words):
+    print(words, file=sys.stderr, flush=True)
+
+
+def opened_at(config):
+    """A socket for each place of a configuration."""
+    places = {"auth": config.auth, "acct": config.acct}
+    for n, realm in enumerate(config.realms):
+        places |= {f"{key}:{n}": realm[key] for key in ("out", "reverse") if key in realm}
+    sockets = {}
+    for place, text in places.items():
+        sockets[place] = socket.socket(socket.AF_INET, socket.SOCK_DGRAM)
+        sockets[place].bind(apart.endpoint(text))
+    return sockets
+
+
+def stand_in(path):
+    """Serves a configuration by the broker that is written apart."""
+    with open(path, encoding="utf-8") as file:
+        config = apart.Config(file.read())
+    core, sockets, start, last, resting = apart.Broker(config), opened_at(config), time.monotonic(), 0, set()
+    while True:
+        ready, now, sent = select.select(list(sockets.values()), [], [], 0.01)[0], int((time.monotonic() - start) * 1000), []
+        for place, opened in sockets.items():
+            if opened in ready:
+                datagram, source = opened.recvfrom(65535)
+                try:
+                    sent += core.arrive(now, place, source, datagram, int(time.time()))
+                except packets.Refused as refused:
+                    say(f"refused {refused.number} at {place} from {source[0]}")
+        if now >= last + 10:
+            for shard in range(config.shards):
+                sent += core.tick(now, shard)
+            last = now
+        for _, place, to, octets in sent:
+            sockets[place].sendto(octets, to)
+        rests = {f"{realm.endpoint_of(link)[0]}:{realm.endpoint_of(link)[1]}" for realm in core.realms for link in realm.rests}
+        for endpoint in rests - resting:
+            say(f"home server {endpoint} keeps silent: it rests")
+        for endpoint in resting - rests:
+            say(f"home server {endpoint} answers again")
+        resting = rests
+
+
+def command(name):
+    found = shutil.which(name) or shutil.which(name, path="/usr/sbin")
+    return found or sys.exit(f"{os.path.basename(sys.argv[0])}: {name} isn't here")
+
+
+class Around:
+    """The servers of a trial; their files and logs lie in one directory."""
+
+    def __init__(self, directory):
+        self.directory, self.running = directory, {}
+
+    def path(self, name):
+        return os.path.join(self.directory, name)
+
+    def write(self, name, text):
+        with open(self.path(name), "w", encoding="utf-8") as file:
+            file.write(text)
+        return self.path(name)
+
+    def start(self, name, words):
+        with open(self.path(f"{name}.log"), "ab") as log:
+            self.running[name] = subprocess.Popen(words, stdout=log, stderr=log, stdin=subprocess.DEVNULL)
+
+    def broker(self, program, conf, milliseconds):
+        """A program, or the broker that is written apart."""
+        path = self.write("broker.conf", conf)
+        self.start("broker", [program, "serve", path, str(milliseconds)] if program else [sys.executable, os.path.abspath(__file__), path])
+
+    def freeradius(self, name, text, proxies="no", verbose=True):
+        """One of its own, with this text behind what each has."""
+        home = command("freeradius")
+        root = re.sub("/usr/sbin/freeradius$", "", home)
+        os.makedirs(self.path(name), exist_ok=True)
+        self.write(f"{name}.conf", FREERADIUS.format(root=root, directory=self.directory, name=name, proxies=proxies) + text)
+        self.start(name, [home, "-fxx" if verbose else "-f", "-l", "stdout", "-d", self.directory, "-n", name,
+                          "-D", f"{root}/usr/share/freeradius"])
+
+    def kill(self, name):
+        self.running.pop(name).kill()
+
+    def log(self, name):
+        with open(self.path(f"{name}.log"), encoding="utf-8", errors="replace") as log:
+            return log.read()
+
+    def close(self):
+        """Ends all, and answers which had ended by themselves."""
+        ended = [name for name, process in self.running.items() if process.poll() is not None]
+        for process in self.running.values():
+            process.terminate()
+        for process in self.running.values():
+            try:
+                process.wait(5)
+            except subprocess.TimeoutExpired:
+                process.kill()
+        return ended
+
+    def tell(self, lines=15):
+        for name in sorted(os.listdir(self.directory)):
+            if name.endswith(".log"):
+                print(f"--- {name}:\n" + "\n".join(self.log(name[:-4]).splitlines()[-lines:]))
+
+
+if __name__ == "__main__":
+    stand_in(sys.argv[1])
