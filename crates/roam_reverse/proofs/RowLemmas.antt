@@ -154,22 +154,22 @@ module _ (q : Asked) (s : Session) where
   lacks-disagrees : lacks (mask_of q) s ≡ true → agrees q s ≡ false
   lacks-disagrees h = elim (or_cases (is_some q.nas.address && is_none s.nas.address)
       (is_some q.nas.identifier && is_none s.nas.identifier) h) [
-    | inl address ↦
-        and_left
-        (q.peer == s.peer && agrees_in q.nas.address s.nas.address && agrees_in q.nas.identifier s.nas.identifier)
-        (agrees_in q.id (Some s.id))
-        (and_left (q.peer == s.peer && agrees_in q.nas.address s.nas.address)
-        (agrees_in q.nas.identifier s.nas.identifier)
-        (and_right (q.peer == s.peer) (agrees_in q.nas.address s.nas.address)
-        (lacks-part q.nas.address s.nas.address address)))
-    | inr identifier ↦
-        and_left
-        (q.peer == s.peer && agrees_in q.nas.address s.nas.address && agrees_in q.nas.identifier s.nas.identifier)
-        (agrees_in q.id (Some s.id))
-        (and_right (q.peer == s.peer && agrees_in q.nas.address s.nas.address)
-        (agrees_in q.nas.identifier s.nas.identifier)
-        (lacks-part q.nas.identifier s.nas.identifier identifier))
-  ]
+        | inl address ↦
+            and_left
+            (q.peer == s.peer && agrees_in q.nas.address s.nas.address && agrees_in q.nas.identifier s.nas.identifier)
+            (agrees_in q.id (Some s.id))
+            (and_left (q.peer == s.peer && agrees_in q.nas.address s.nas.address)
+            (agrees_in q.nas.identifier s.nas.identifier)
+            (and_right (q.peer == s.peer) (agrees_in q.nas.address s.nas.address)
+            (lacks-part q.nas.address s.nas.address address)))
+        | inr identifier ↦
+            and_left
+            (q.peer == s.peer && agrees_in q.nas.address s.nas.address && agrees_in q.nas.identifier s.nas.identifier)
+            (agrees_in q.id (Some s.id))
+            (and_right (q.peer == s.peer && agrees_in q.nas.address s.nas.address)
+            (agrees_in q.nas.identifier s.nas.identifier)
+            (lacks-part q.nas.identifier s.nas.identifier identifier))
+      ]
 
   -- a session is in the group of what is asked just where it agrees
   pub in-its-group : if_row (row_text q) (row_under (mask_of q) s)

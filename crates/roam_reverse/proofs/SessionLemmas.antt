@@ -30,15 +30,15 @@ ledger-within limit s xs h absent =
     let size : length (xs ++ s ∷ []) ≡ length xs + 1 = length-append xs (s ∷ []) in
     elim (cases_Bool (nat_lt limit (length (xs ++ s ∷ [])))) [
       | inl full ↦ rw full (record {
-          distinct = distinct-first (has_most (xs ++ s ∷ [])) (xs ++ s ∷ []) distinct;
-          at_most = (
-              let less = length-first (has_most (xs ++ s ∷ [])) (xs ++ s ∷ []) (last-has-most s xs) in
-              omega (arith, less, size, h.at_most));
-        })
+        distinct = distinct-first (has_most (xs ++ s ∷ [])) (xs ++ s ∷ []) distinct;
+        at_most = (
+            let less = length-first (has_most (xs ++ s ∷ [])) (xs ++ s ∷ []) (last-has-most s xs) in
+            omega (arith, less, size, h.at_most));
+      })
       | inr room ↦ rw room (record {
-          distinct = distinct;
-          at_most = (let few : length (xs ++ s ∷ []) ≤ limit = grind (arith, nat_tests, room) in few);
-        })
+        distinct = distinct;
+        at_most = (let few : length (xs ++ s ∷ []) ≤ limit = grind (arith, nat_tests, room) in few);
+      })
     ]
 
 pub ledger-opens : (limit : ℕ) (s : Session) (xs : List Session) → IsLedger limit xs

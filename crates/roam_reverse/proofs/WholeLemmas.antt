@@ -257,8 +257,12 @@ module _ (F : ℕ → Option Session) (p : PlainGroups)
             let k : rows t ≡ None =
             ap (λ (o : Option Session). option_and_then (row_under (masked false false false)) o) at in
             cc (k, row-there))
-        by (Some v) at = (v, at, (
-            let both : Some (row v.peer) ≡ Some most.row = sym (from v at) ∙ row-there in cc both))
+        by (Some v) at = (
+          v,
+          at,
+          (
+              let both : Some (row v.peer) ≡ Some most.row = sym (from v at) ∙ row-there in cc both),
+        )
           where
             from : (s : Session) → F t ≡ Some s → rows t ≡ Some (row s.peer)
             from s is = from-group rows t (row s.peer)

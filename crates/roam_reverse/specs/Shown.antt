@@ -2,7 +2,7 @@
 use Rattle.std.specs.Prelude.{ℕ, ◌<◌, List, Option, None, option_map}
 use Rattle.std.specs.Borrow.{Bor}
 use Rattle.roam_route.specs.declared.nas.NasName.{NasName}
-use Rattle.roam_reverse.specs.Kept.{kept_session, shown_asked, shown_session}
+use Rattle.roam_reverse.specs.Kept.{kept_session, shown_nas, shown_session}
 use Rattle.roam_reverse.specs.Sessions.{Nas, Session, LedgerChange, opens, closes, closes_all, nothing}
 use Rattle.roam_reverse.specs.Short.{short_octets}
 use Rattle.roam_reverse.specs.declared.accounting.Said.{Said}
@@ -41,7 +41,7 @@ shown_change change.Nothing = nothing
 abbrev pub said_of : Said → LedgerChange
 said_of (said.Opens s) = opens (shown_session s)
 said_of (said.Closes s) = closes (shown_session s)
-said_of (said.ClosesAll q) = closes_all (shown_asked q)
+said_of (said.ClosesAll peer nas) = closes_all (record { peer = peer; nas = shown_nas nas; id = None })
 said_of said.Nothing = nothing
 
 -- what a contract sees of a ledger: how many sessions it holds at most, the open ones with the

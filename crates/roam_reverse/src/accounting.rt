@@ -7,7 +7,7 @@ ghost use Rattle.roam_reverse.specs.Short.{shown_short};
 ghost use Rattle.roam_reverse.specs.Kept.{shown_nas};
 ghost use Rattle.roam_reverse.specs.Shown.{said_of};
 
-use crate::asked::{AskedRef, NasRef, SessionRef, counted_nas};
+use crate::asked::{NasRef, SessionRef, counted_nas};
 use crate::short::Short;
 use crate::short_copies::first_short;
 use roam_wire::View;
@@ -31,8 +31,8 @@ pub(crate) enum Said<'a> {
     Opens(SessionRef<'a>),
     /// This session is open no more.
     Closes(SessionRef<'a>),
-    /// No session is open that agrees with this.
-    ClosesAll(AskedRef<'a>),
+    /// No session of a peer is open that agrees with these names.
+    ClosesAll(u16, NasRef<'a>),
     Nothing,
 }
 
@@ -81,11 +81,7 @@ pub(crate) fn said_by<'a>(own: bool, peer: u16, request: &View<'a>) -> Said<'a>
     };
     let nas = counted_nas(own, request);
     match status {
-        ACCOUNTING_ON | ACCOUNTING_OFF => Said::ClosesAll(AskedRef {
-            peer,
-            nas,
-            id: None,
-        }),
+        ACCOUNTING_ON | ACCOUNTING_OFF => Said::ClosesAll(peer, nas),
         _ => said_of_session(peer, nas, status, first_short(request, ACCT_SESSION_ID)),
     }
 }

@@ -3,7 +3,7 @@
 ghost use Rattle.std.specs.Prelude.{◌≡◌, ◌≢◌, ℕ, ◌+◌, ◌-◌, ◌<◌, ◌≤◌, [], ◌∷◌, ◌++◌, true};
 ghost use Rattle.std.specs.Prelude.{None, Some, IsOk, IsSome, OnOk, OnErr, filter, is_some, length};
 ghost use Rattle.roam_reverse.specs.Private.Tickets.{IsTicketOf};
-ghost use Rattle.roam_reverse.specs.Sessions.{agrees, has_most, without_agreeing, without_first};
+ghost use Rattle.roam_reverse.specs.Sessions.{agrees, has_most, within, without_agreeing, without_first};
 ghost use Rattle.roam_reverse.specs.Kept.{kept_session, shown_asked, shown_session};
 ghost use Rattle.roam_reverse.specs.Stands.{IsSound, session_at, session_count, sessions_of};
 ghost use Rattle.roam_reverse.specs.Maps.{session_of};
@@ -169,6 +169,20 @@ impl<A: Allocator + Copy> Chain<A> {
     {
         if let Some(ticket) = self.of_peer.oldest_of_most() {
             self.remove(ticket);
+        }
+    }
+
+    /// Where there is one session more than may be, the oldest of the peer that has most goes.
+    pub(crate) fn keep_within(&mut self, limit: usize)
+        requires sound { IsSound self.old }
+        requires few { session_count self.old ≤ limit + 1 }
+        ensures sound { IsSound self.new }
+        ensures sessions { sessions_of self.new ≡ within limit (sessions_of self.old) }
+        ensures count { session_count self.new ≤ limit }
+        ensures room { self.new.spare ≡ self.old.spare }
+    {
+        if self.len() > limit {
+            self.remove_of_most();
         }
     }
 

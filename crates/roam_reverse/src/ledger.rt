@@ -103,7 +103,7 @@ impl<A: Allocator + Copy> Sessions<A> {
         let change = match said_by(own, peer, request) {
             Said::Opens(session) => return self.prepare_opening(session),
             Said::Closes(session) => Change::Closes(SessionArray::copy_of(session)),
-            Said::ClosesAll(asked) => Change::ClosesAll(asked.peer, NasArray::copy_of(asked.nas)),
+            Said::ClosesAll(peer, nas) => Change::ClosesAll(peer, NasArray::copy_of(nas)),
             Said::Nothing => Change::Nothing,
         };
         Ok(PreparedChange { change })
@@ -197,9 +197,7 @@ impl<A: Allocator + Copy> Sessions<A> {
             return;
         }
         self.chain.append(new);
-        if self.chain.len() > self.limit as usize {
-            self.chain.remove_of_most();
-        }
+        self.chain.keep_within(self.limit as usize);
     }
 
     /// Takes a session out.

@@ -12,12 +12,12 @@ use std::alloc::Allocator;
 pub(crate) fn first_short<'a>(request: &View<'a>, kind: u8) -> Option<Short<'a>>
     ensures { option_map shown_short result ≡ first_value kind request.now.attributes }
 {
-    let attribute = request
-        .attributes()
-        .find(|attribute| attribute.kind == kind)?;
-    Some(Short {
-        octets: attribute.value,
-    })
+    // They are all short, since each is an attribute's of a packet.
+    let _attributes = request.attributes();
+    let Some(octets) = request.first(kind) else {
+        return None;
+    };
+    Some(Short { octets })
 }
 
 impl<A: Allocator + Copy> KeptShort<A> {

@@ -1,12 +1,12 @@
-use Rattle.std.proofs.Common.{◌≡◌, ◌<◌, ◌≤◌, ◌+◌, false, List, [], ◌∷◌, ◌++◌, length, refl, ap, sym, ◌∙◌, inl, inr, arith}
+use Rattle.std.proofs.Common.{◌≡◌, ◌+◌, false, List, [], ◌∷◌, ◌++◌, refl, ap, sym, ◌∙◌, inl, inr, arith}
 use Rattle.roam_reverse.specs.Kept.{kept_session}
-use Rattle.roam_reverse.specs.Sessions.{Session, has_most, has_session, with_session, without_first}
+use Rattle.roam_reverse.specs.Sessions.{Session, has_session, with_session, within}
 use Rattle.roam_reverse.specs.Shown.{Ledger}
 use Rattle.roam_reverse.specs.Stands.{session_at, sessions_of}
-use Rattle.roam_reverse.proofs.SessionLemmas.{full-within, not-opened, opened, room-within}
+use Rattle.roam_reverse.proofs.SessionLemmas.{not-opened, opened}
 use Rattle.roam_reverse.proofs.SoundLemmas.{no-ticket}
 use Rattle.roam_reverse.proofs.ledger.Sessions.open.Goals as goal
-use Rattle.roam_reverse.proofs.ledger.Sessions.open.Goals.{then-len-self, else-len-self, then-has-via-then-has, then-has-via-else-has+then-self-eq0}
+use Rattle.roam_reverse.proofs.ledger.Sessions.open.Goals.{then-has-via-then-has, then-has-via-else-has+then-self-eq0}
 
 pub returns-then-has-clause-sessions : goal.returns-then-has-clause-sessions
 returns-then-has-clause-sessions g c =
@@ -14,7 +14,7 @@ returns-then-has-clause-sessions g c =
     elim c.then-has.branch [
       | then-has-via-then-has w ↦ inl
           (ap (λ (s : Session). has_session s c.args.self.now.sessions) (sym c.lend.ensures)
-          ∙ sym c.if-has.ensures.found)
+          ∙ sym w.if-has.ensures.found)
       | then-has-via-else-has+then-self-eq0 w ↦ inr
           (sym (ap (λ (l : Ledger). l.limit) c.self.view_is) ∙ w.if-self-eq0.true)
     ]))
@@ -28,17 +28,7 @@ append-requires-clause-absent g c =
     ∙ ap (λ (x : Session). has_session x c.args.self.now.sessions) (sym c.lend.ensures) ∙ sym c.if-has.ensures.found)
 
 pub invariant_of-self : goal.invariant_of-self
-invariant_of-self g c =
-    elim c.if-len-self.branch [
-      | then-len-self w ↦ rw w.self-inside-is (
-        w.remove_of_most.ensures.sound,
-        omega (arith, w.remove_of_most.ensures.count, c.append.ensures.count, c.self.invariant.1),
-      )
-      | else-len-self w ↦ rw w.self-inside-is (
-        c.append.ensures.sound,
-        omega (arith, w.if-len-self.false, c.len.ensures),
-      )
-    ]
+invariant_of-self g c = (c.keep_within.ensures.sound, c.keep_within.ensures.count)
 
 pub returns-clause-sessions : goal.returns-clause-sessions
 returns-clause-sessions g c =
@@ -48,16 +38,6 @@ returns-clause-sessions g c =
     let absent : has_session s xs ≡ false =
     ap (λ (l : Ledger). has_session s l.sessions) c.self.view_is
     ∙ ap (λ (x : Session). has_session x c.args.self.now.sessions) (sym c.lend.ensures) ∙ sym c.if-has.ensures.found in
-    let size : length (xs ++ s ∷ []) ≡ length (sessions_of c.append.new.self) =
-    ap (λ (l : List Session). length l) (sym c.append.ensures.sessions) in
-    let after = opened limit s xs absent c.if-self-eq0.false
-    ∙ ap (λ (l : Ledger). with_session l.limit s l.sessions) c.self.view_is in
-    elim c.if-len-self.branch [
-      | then-len-self w ↦ rw w.self-inside-is (w.remove_of_most.ensures.sessions
-          ∙ ap (λ (l : List Session). without_first (has_most l) l) c.append.ensures.sessions
-          ∙ full-within limit (xs ++ s ∷ [])
-          (omega (arith, w.if-len-self.true, c.len.ensures, c.append.ensures.sound.count, size)) ∙ after)
-      | else-len-self w ↦ rw w.self-inside-is (c.append.ensures.sessions
-          ∙ room-within limit (xs ++ s ∷ [])
-          (omega (arith, w.if-len-self.false, c.len.ensures, c.append.ensures.sound.count, size)) ∙ after)
-    ]
+    c.keep_within.ensures.sessions ∙ ap (λ (l : List Session). within limit l) c.append.ensures.sessions
+    ∙ opened limit s xs absent c.if-self-eq0.false
+    ∙ ap (λ (l : Ledger). with_session l.limit s l.sessions) c.self.view_is
