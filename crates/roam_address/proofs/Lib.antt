@@ -5,6 +5,7 @@ pub mod DecimalLemmas
 pub mod EndpointLemmas
 pub mod HostLemmas
 pub mod LongestLemmas
+pub mod NotedLemmas
 pub mod PrefixLemmas
 pub mod PrefixTextLemmas
 pub mod SplitLemmas

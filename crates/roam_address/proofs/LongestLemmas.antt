@@ -88,13 +88,14 @@ in_by_key p a same =
 -- ## The longest
 
 -- the key at a place is that of the prefix there
-key_at : (prefixes : List Prefix) (place : ℕ) (key : Leading) → slice_get (map leading_of prefixes) place ≡ Some key →
+pub key_at : (prefixes : List Prefix) (place : ℕ) (key : Leading) →
+    slice_get (map leading_of prefixes) place ≡ Some key →
     (p : Prefix) × (slice_get prefixes place ≡ Some p) × (leading_of p ≡ key)
 key_at [] place key at = absurd (none-some key at)
 key_at (p ∷ rest) zero key at = (p, refl, same_Some (leading_of p) key at)
 key_at (p ∷ rest) (suc place) key at = key_at rest place key at
 
-at_key : (prefixes : List Prefix) (place : ℕ) (p : Prefix) → slice_get prefixes place ≡ Some p →
+pub at_key : (prefixes : List Prefix) (place : ℕ) (p : Prefix) → slice_get prefixes place ≡ Some p →
     slice_get (map leading_of prefixes) place ≡ Some (leading_of p)
 at_key prefixes place p at = slice_get-map leading_of prefixes place ∙ ap (option_map leading_of) at
 

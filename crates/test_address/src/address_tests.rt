@@ -54,7 +54,7 @@ const PRINTED: [(&str, &str); 37] = [
         "2001:db8:aaaa:bbbb:cccc:dddd:eeee:AaAa",
         "2001:db8:aaaa:bbbb:cccc:dddd:eeee:aaaa",
     ),
-    // Section 4.2.1: as short as may be. 4.2.2: no single group. 4.2.3: the longest, and the first of equally long ones.
+    // Section 4.2.1: as short as may be. 4.2.2: no single group. 4.2.3: the longest, the first of equally long ones.
     ("2001:db8:0:0:0:0:2:1", "2001:db8::2:1"),
     ("2001:db8:0:1:1:1:1:1", "2001:db8:0:1:1:1:1:1"),
     ("2001:db8::1:1:1:1:1", "2001:db8:0:1:1:1:1:1"),
