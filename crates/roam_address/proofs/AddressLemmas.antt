@@ -1,5 +1,5 @@
 -- A text states one address at most, and what is printed of an address states it.
-use Rattle.std.proofs.Common.{◌≡◌, ℕ, List, [], ◌∷◌, ◌++◌, append-nil, Option, Some, None, MatchOption, sym, ap, ◌∙◌, subst, arith, lit≤}
+use Rattle.std.proofs.Common.{◌≡◌, ℕ, List, [], ◌∷◌, append-nil, Option, Some, None, MatchOption, sym, ap, ◌∙◌, subst, arith, lit≤}
 use Rattle.std.proofs.lemmas.Option.{none-some}
 use Rattle.std.specs.declared.net.ip_addr.IpAddr.{IpAddr}
 use Rattle.std.specs.declared.net.ip_addr.IpAddr.TheVariants.{V4, V6}

@@ -1,5 +1,5 @@
 -- The run of zero groups that is found is the one that `::` stands for.
-use Rattle.std.proofs.Common.{◌≡◌, ℕ, zero, suc, ◌+◌, ◌-◌, ◌<◌, ◌≤◌, eqb, List, [], ◌∷◌, length, get_or, take, drop, refl, sym, ap, ◌∙◌, arith, inl, inr, length-drop, le-ltb, lt-ltb, eqb-true, true≢false}
+use Rattle.std.proofs.Common.{◌≡◌, ℕ, zero, suc, ◌+◌, ◌-◌, ◌<◌, ◌≤◌, eqb, List, [], ◌∷◌, length, get_or, drop, refl, sym, ap, ◌∙◌, arith, inl, inr, length-drop, le-ltb, lt-ltb, eqb-true, true≢false}
 use Rattle.std.proofs.lemmas.Bool.{cases_lt, eq-eqb, le-leb, lt-leb}
 use Rattle.std.proofs.lemmas.List.{get_or-drop}
 use Rattle.std.proofs.lemmas.List.Sums.{prefix_len-le-length, prefix_len-drop_all, prefix_len_passes, prefix_len_stops}
@@ -78,7 +78,8 @@ is_run groups start some = record {
   within = omega (arith, some, prefix_len-le-length (λ (g : ℕ). eqb g 0) (drop start groups), length-drop start groups);
   zero = λ k from below. (
       let back : start + (k - start) ≡ k = omega (arith, from) in
-      let passes = prefix_len_passes (λ (g : ℕ). eqb g 0) (drop start groups) (k - start) 0 (omega (arith, from, below)) in
+      let passes = prefix_len_passes (λ (g : ℕ). eqb g 0) (drop start groups) (k - start) 0
+      (omega (arith, from, below)) in
       sym (ap (λ n. get_or groups n 0) back) ∙ sym (get_or-drop start groups (k - start) 0)
       ∙ eqb-true (get_or (drop start groups) (k - start) 0) 0 passes);
 }

@@ -1,5 +1,5 @@
 -- A decimal number in a range: what `parse` reads of it, and that it has no separator in it.
-use Rattle.std.proofs.Common.{◌≡◌, ℕ, ◌<◌, ◌≤◌, ◌^◌, Bool, true, false, cond, eqb, ltb, leb, ◌&&◌, List, length, get_or, Option, Some, None, Ok, Err, decimal, refl, sym, ap, ◌∙◌, arith, rules, inl, inr, le-leb, lt-ltb, ne_eqb, true≢false, lit<}
+use Rattle.std.proofs.Common.{◌≡◌, ℕ, ◌<◌, ◌≤◌, ◌^◌, true, false, cond, eqb, ltb, leb, ◌&&◌, List, length, get_or, Some, None, Ok, Err, decimal, refl, sym, ap, ◌∙◌, arith, rules, inl, inr, le-leb, lt-ltb, ne_eqb, true≢false, lit<}
 use Rattle.std.proofs.lemmas.Bool.{cases_eq}
 use Rattle.std.proofs.lemmas.Bool.Decides.{nat_tests}
 use Rattle.std.proofs.lemmas.Fmt.{decimal_is_IsNumeral, decimal_digit, first_decimal}

@@ -1,5 +1,5 @@
 -- The host of an endpoint's text.
-use Rattle.std.proofs.Common.{◌≡◌, ◌≢◌, ◌⊎◌, ℕ, Bool, true, false, cond, List, [], ◌∷◌, ◌++◌, drop, get_or, Option, Some, None, refl, sym, ap, ◌∙◌, subst, arith, inl, inr, true≢false}
+use Rattle.std.proofs.Common.{◌≡◌, ◌≢◌, ◌⊎◌, ℕ, Bool, true, false, cond, List, [], ◌∷◌, ◌++◌, drop, get_or, Option, Some, None, refl, sym, ap, ◌∙◌, subst, inl, inr, true≢false}
 use Rattle.std.proofs.Math.Bool.{beq}
 use Rattle.std.proofs.lemmas.Bool.{cases_Bool}
 use Rattle.std.specs.declared.net.ip_addr.IpAddr.{IpAddr}
@@ -20,14 +20,16 @@ differs false false is = absurd (true≢false is)
 -- an address of another kind is none of this one
 pub other_kind : (kind : Bool) (text : List ℕ) (a : Address) → IsAddressText text a → is_ipv6 (ip_of a) ≢ kind →
     Reads (IsTextOfKind kind) text None
-other_kind kind text a is other = λ b h. other (ap (λ (x : Address). is_ipv6 (ip_of x)) (one_address text a b is h.states) ∙ h.kind)
+other_kind kind text a is other = λ b h.
+    other (ap (λ (x : Address). is_ipv6 (ip_of x)) (one_address text a b is h.states) ∙ h.kind)
 
 pub no_kind : (kind : Bool) (text : List ℕ) → Reads IsAddressText text None → Reads (IsTextOfKind kind) text None
 no_kind kind text none = λ a h. none a h.states
 
 -- a host is an IPv6 address in brackets, or an IPv4 address
 abbrev IsBracketed : List ℕ → Address → Type 0
-IsBracketed text a = (inner : List ℕ) × (is_ipv6 (ip_of a) ≡ true) × (text ≡ 91 ∷ (inner ++ 93 ∷ [])) × IsAddressText inner a
+IsBracketed text a =
+    (inner : List ℕ) × (is_ipv6 (ip_of a) ≡ true) × (text ≡ 91 ∷ (inner ++ 93 ∷ [])) × IsAddressText inner a
 
 abbrev IsPlain : List ℕ → Address → Type 0
 IsPlain text a = (is_ipv6 (ip_of a) ≡ false) × IsAddressText text a
@@ -117,7 +119,8 @@ reads_bracketed text rest inner None is inside none = λ a h. elim (kinds text a
   | inr p ↦ plain_bracket rest a (subst (λ (t : List ℕ). IsPlain t a) is p)
 ]
 reads_bracketed text rest inner (Some a) is inside states =
-    subst (λ (t : List ℕ). IsHostText t a) (sym (is ∙ ap (λ l. 91 ∷ l) inside)) (bracketed inner a states.kind states.states)
+    subst (λ (t : List ℕ). IsHostText t a) (sym (is ∙ ap (λ l. 91 ∷ l) inside))
+    (bracketed inner a states.kind states.states)
 
 -- a host is that of one address
 pub one_host : (text : List ℕ) (a b : Address) → IsHostText text a → IsHostText text b → a ≡ b

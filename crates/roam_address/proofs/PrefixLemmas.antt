@@ -1,5 +1,5 @@
 -- The text of a prefix.
-use Rattle.std.proofs.Common.{◌≡◌, ◌≢◌, ◌⊎◌, ℕ, zero, suc, ◌-◌, ◌%◌, ◌<◌, ◌≤◌, ◌^◌, Bool, true, false, cond, List, [], ◌∷◌, ◌++◌, length, get_or, append_assoc, Option, Some, None, MatchOption, IsSomeAnd, codes, decimal, refl, sym, ap, ◌∙◌, subst, arith, inl, inr, eq-eqb, ne_eqb}
+use Rattle.std.proofs.Common.{◌≡◌, ◌≢◌, ◌⊎◌, ℕ, zero, suc, ◌-◌, ◌%◌, ◌<◌, ◌≤◌, ◌^◌, Bool, true, false, List, [], ◌∷◌, ◌++◌, length, append_assoc, Option, Some, None, MatchOption, IsSomeAnd, decimal, refl, sym, ap, ◌∙◌, subst, arith, inl, inr, eq-eqb, ne_eqb}
 use Rattle.std.proofs.lemmas.Bool.{cases_eq}
 use Rattle.std.proofs.lemmas.Fmt.{decimal_is_IsNumeral}
 use Rattle.std.proofs.lemmas.Option.{same_Some, none-some}
@@ -26,7 +26,8 @@ digits_lack radix [] small all i within here = absurd (omega (arith, within))
 digits_lack radix (d ∷ ds) small all zero within here =
     let big : digit_value 47 < radix = rw here at all.0 in
     omega arith
-digits_lack radix (d ∷ ds) small all (suc i) within here = digits_lack radix ds small all.1 i (omega (arith, within)) here
+digits_lack radix (d ∷ ds) small all (suc i) within here =
+    digits_lack radix ds small all.1 i (omega (arith, within)) here
 
 lacks_append : (xs ys : List ℕ) → Lacks 47 xs → Lacks 47 ys → Lacks 47 (xs ++ ys)
 lacks_append [] ys one other i within here = other i within here
@@ -70,7 +71,8 @@ lacks_hex text segments (inr h) =
     let head = lacks_groups false [] h.head_text h.head lacks_nothing h.head_groups in
     let tail = lacks_groups true [] h.tail_text h.tail lacks_nothing h.tail_groups in
     subst (Lacks 47) (sym h.spelled)
-    (lacks_append _ _ (lacks_append h.head_text (58 ∷ 58 ∷ []) head (lacks_append (58 ∷ []) (58 ∷ []) colon colon)) tail)
+    (lacks_append _ _
+    (lacks_append h.head_text (58 ∷ 58 ∷ []) head (lacks_append (58 ∷ []) (58 ∷ []) colon colon)) tail)
 
 lacks_ip : (text : List ℕ) (ip : IpAddr) → IsIpText text ip → Lacks 47 text
 lacks_ip text (V4 a) h = lacks_dotted text _ h
@@ -104,12 +106,14 @@ module _ (text : List ℕ) (none : Reads IsAddressText text None) where
 
   -- without a slash
   pub reads_no_slash : Lacks 47 text → Reads IsPrefixText text None
-  reads_no_slash lacks = part_alone (λ p h. not_lacking 47 h.address h.digits (subst (Lacks 47) (spelled_at text p h) lacks))
+  reads_no_slash lacks =
+      part_alone (λ p h. not_lacking 47 h.address h.digits (subst (Lacks 47) (spelled_at text p h) lacks))
 
   -- cut at its last slash
   module _ (host digits : List ℕ) (cut : text ≡ host ++ 47 ∷ digits) (lacks : Lacks 47 digits) where
     same_cut : (p : Prefix) (h : IsPartText text p) → (h.address ≡ host) × (h.digits ≡ digits)
-    same_cut p h = one_cut 47 h.address h.digits host digits (lacks_digits text p h) lacks (sym (spelled_at text p h) ∙ cut)
+    same_cut p h =
+        one_cut 47 h.address h.digits host digits (lacks_digits text p h) lacks (sym (spelled_at text p h) ∙ cut)
 
     pub reads_no_network : Reads IsAddressText host None → Reads IsPrefixText text None
     reads_no_network no_network =
@@ -146,7 +150,8 @@ module _ (text : List ℕ) (none : Reads IsAddressText text None) where
         digits = digits;
         spelled = cut ∙ sym (append_assoc host (47 ∷ []) digits);
         states = subst (IsAddressText host) (sym made.0) states;
-        count = ap (λ (x : Address). decimal_in 0 (width (ip_of x)) digits) made.0 ∙ count ∙ ap (λ k. Some k) (sym made.1);
+        count =
+            ap (λ (x : Address). decimal_in 0 (width (ip_of x)) digits) made.0 ∙ count ∙ ap (λ k. Some k) (sym made.1);
       })
 
 -- ## Laws

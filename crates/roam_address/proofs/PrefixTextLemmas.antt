@@ -1,15 +1,14 @@
 -- The function of prefixes' texts answers what is stated, and nothing else.
-use Rattle.std.proofs.Common.{◌≡◌, ℕ, ◌-◌, ◌%◌, ◌<◌, ◌≤◌, ◌^◌, Bool, true, false, cond, eqb, List, [], ◌∷◌, ◌++◌, Option, Some, None, MatchOption, option_map, option_and_then, refl, sym, ap, ◌∙◌, subst, arith, inl, inr, eq-eqb, eqb-true, append_assoc}
+use Rattle.std.proofs.Common.{◌≡◌, ℕ, ◌-◌, ◌%◌, ◌≤◌, ◌^◌, eqb, List, [], ◌∷◌, ◌++◌, Option, Some, None, MatchOption, option_map, option_and_then, refl, sym, ap, ◌∙◌, subst, arith, inl, inr, eq-eqb, eqb-true, append_assoc}
 use Rattle.std.proofs.lemmas.Bool.{cases_Bool}
-use Rattle.std.proofs.lemmas.Option.{none-some, same_Some}
 use Rattle.roam_address.specs.declared.address.Address.{Address}
 use Rattle.roam_address.specs.declared.prefix.Prefix.{Prefix}
 use Rattle.roam_address.specs.Addresses.{ip_of, IsAddressText}
 use Rattle.roam_address.specs.Bits.{width, number}
 use Rattle.roam_address.specs.Decimals.{decimal_in}
-use Rattle.roam_address.specs.Prefixes.{network_of, length_of, IsWholeText, IsPartText, IsPrefixText, PrefixView, shown}
+use Rattle.roam_address.specs.Prefixes.{network_of, length_of, IsWholeText, IsPartText, IsPrefixText, shown}
 use Rattle.roam_address.specs.Reading.{Reads}
-use Rattle.roam_address.specs.Texts.{address_in, cut_last, whole, network_with, part, whole_or_part, prefix_in}
+use Rattle.roam_address.specs.Texts.{address_in, cut_last, network_with, part, whole_or_part, prefix_in}
 use Rattle.roam_address.proofs.AddressLemmas.{one_address}
 use Rattle.roam_address.proofs.DecimalLemmas.{decimal_in-most}
 use Rattle.roam_address.proofs.PrefixLemmas.{lacks_address, lacks_digits, spelled_at}

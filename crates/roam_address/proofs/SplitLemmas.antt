@@ -39,7 +39,8 @@ last_cut c text (Some x) cut ascii =
 
 parts_from : (c x : ℕ) (rest : List ℕ) (r : Option (List ℕ × List ℕ)) →
     MatchOption r (Lacks c rest) (λ cut. (rest ≡ cut.0 ++ c ∷ cut.1) × Lacks c cut.1) →
-    MatchOption {T = List ℕ × List ℕ} (map_or r (cond (eqb x c) (Some ([], rest)) None) (λ cut. Some (x ∷ cut.0, cut.1)))
+    MatchOption {T = List ℕ × List ℕ}
+    (map_or r (cond (eqb x c) (Some ([], rest)) None) (λ cut. Some (x ∷ cut.0, cut.1)))
     (Lacks c (x ∷ rest)) (λ cut. (x ∷ rest ≡ cut.0 ++ c ∷ cut.1) × Lacks c cut.1)
 parts_from c x rest None lacks =
     elim (cases_eq x c) [

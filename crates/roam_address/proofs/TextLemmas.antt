@@ -18,7 +18,7 @@ use Rattle.roam_address.specs.Addresses.{ip_of, IsMapped, IsAddressText, IsTextO
 use Rattle.roam_address.specs.Decimals.{decimal_in}
 use Rattle.roam_address.specs.Endpoints.{IsEndpointText}
 use Rattle.roam_address.specs.Reading.{Reads}
-use Rattle.roam_address.specs.Texts.{ipv4_in, ip_in, is_mapped, address_of, address_in, closed, host_in, cut_last, endpoint_from, endpoint_in}
+use Rattle.roam_address.specs.Texts.{ipv4_in, ip_in, address_of, address_in, closed, host_in, cut_last, endpoint_from, endpoint_in}
 use Rattle.roam_address.proofs.AddressLemmas.{one_address, reads_new, reads_none}
 use Rattle.roam_address.proofs.DecimalLemmas.{decimal_in-least}
 use Rattle.roam_address.proofs.EndpointLemmas.{one_endpoint, reads_no_colon, reads_no_host, reads_no_port, reads_both}
@@ -66,7 +66,8 @@ dotted_reads text None is = no_dotted
     no_dotted (V6 a) h = true≢false h.1
 dotted_reads text (Some octets) is = (whole_sound IsDotted text octets (read_ipv4 text) (read_ipv4_sound text) is, refl)
 
-ip_reads : (text : List ℕ) (r q : Option (List ℕ)) → whole_value (read_ipv4 text) ≡ r → whole_value (read_ipv6 text) ≡ q →
+ip_reads : (text : List ℕ) (r q : Option (List ℕ)) → whole_value (read_ipv4 text) ≡ r →
+    whole_value (read_ipv6 text) ≡ q →
     Reads IsIpText text (option_or (option_map (λ octets. V4 (record { octets = octets })) r)
     (option_map (λ groups. V6 (record { segments = groups })) q))
 ip_reads text None None is also = none
@@ -74,7 +75,8 @@ ip_reads text None None is also = none
     none : (ip : IpAddr) → ¬ (IsIpText text ip)
     none (V4 a) h = none-some _ (sym is ∙ dotted_whole text _ h)
     none (V6 a) h = none-some _ (sym also ∙ hex_whole text _ h)
-ip_reads text None (Some groups) is also = whole_sound IsColonHex text groups (read_ipv6 text) (read_ipv6_sound text) also
+ip_reads text None (Some groups) is also =
+    whole_sound IsColonHex text groups (read_ipv6 text) (read_ipv6_sound text) also
 ip_reads text (Some octets) q is also = whole_sound IsDotted text octets (read_ipv4 text) (read_ipv4_sound text) is
 
 ip_in-reads : (text : List ℕ) → Reads IsIpText text (ip_in text)
@@ -155,7 +157,8 @@ closed_reads text inner is (Some p) read =
     ]
 
 host_at : (text : List ℕ) (r : Option (List ℕ)) → read_byte 91 text ≡ r →
-    Reads IsHostText text (map_or r (option_and_then address_of (ipv4_in text)) (λ inner. option_and_then closed (read_ipv6 inner)))
+    Reads IsHostText text
+    (map_or r (option_and_then address_of (ipv4_in text)) (λ inner. option_and_then closed (read_ipv6 inner)))
 host_at text None none =
     reads_plain text _ (λ rest. no_byte 91 text rest none)
     (dotted_address text (ipv4_in text) (dotted_reads text (whole_value (read_ipv4 text)) refl))
@@ -177,10 +180,12 @@ both_read text host port cut lacks (Some a) states (Some n) is =
 
 cut_reads : (text : List ℕ) (cut : Option (List ℕ × List ℕ)) →
     MatchOption cut (Lacks 58 text) (λ parts. (text ≡ parts.0 ++ 58 ∷ parts.1) × Lacks 58 parts.1) →
-    Reads IsEndpointText text (option_and_then (λ parts. endpoint_from (host_in parts.0) (decimal_in 1 65535 parts.1)) cut)
+    Reads IsEndpointText text
+    (option_and_then (λ parts. endpoint_from (host_in parts.0) (decimal_in 1 65535 parts.1)) cut)
 cut_reads text None lacks = reads_no_colon text lacks
 cut_reads text (Some parts) cut =
-    both_read text parts.0 parts.1 cut.0 cut.1 (host_in parts.0) (host_in-reads parts.0) (decimal_in 1 65535 parts.1) refl
+    both_read text parts.0 parts.1 cut.0 cut.1 (host_in parts.0) (host_in-reads parts.0)
+    (decimal_in 1 65535 parts.1) refl
 
 pub endpoint_in-reads : (text : List ℕ) → Reads IsEndpointText text (endpoint_in text)
 unfolding endpoint_in

@@ -1,5 +1,5 @@
 -- Addresses of both kinds, and their texts (RFC 4291, section 2.2; RFC 5952, section 4).
-use Rattle.std.specs.Prelude.{◌≡◌, ℕ, Bool, List, ◌++◌, codes, if◌then◌else◌, true, false}
+use Rattle.std.specs.Prelude.{◌≡◌, ℕ, Bool, List, ◌++◌, codes, if◌then◌else◌}
 use Rattle.std.specs.declared.net.ip_addr.IpAddr.{IpAddr}
 use Rattle.std.specs.declared.net.ip_addr.IpAddr.TheVariants.{V4, V6}
 use Rattle.std.specs.Net.Addr.{ipv4_octets, ipv6_segments, IsIpv4Mapped, IsIpv4Addr, IsIpv6Addr, MatchIp, is_ipv6}

@@ -21,4 +21,8 @@ bit ip k = number ip / 2 ^ (width ip - 1 - k) % 2
 
 -- the leftmost bits of an address, so many of them: its kind, their number, and the number that they are
 abbrev pub leading : ℕ → IpAddr → Leading
-leading length ip = record { is_ipv6 = is_ipv6 ip; length = length; bits = number ip / 2 ^ (width ip - length) % 2 ^ length }
+leading length ip = record {
+  is_ipv6 = is_ipv6 ip;
+  length = length;
+  bits = number ip / 2 ^ (width ip - length) % 2 ^ length;
+}

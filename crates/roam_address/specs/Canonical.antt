@@ -16,8 +16,8 @@ pub record IsShortened (groups : List ℕ) (start count : ℕ) : Type 0 where
   pub first : (other : ℕ) → IsZeroRun groups other count → start ≤ other
 
 -- ## The text of an IPv6 address
--- The groups in lower-case hexadecimal without leading zeros, joined by colons, with `::` in place of the longest run of
--- two zero groups or more, of equally long ones the first.
+-- The groups in lower-case hexadecimal without leading zeros, joined by colons, with `::` in place of the longest run
+-- of two zero groups or more, of equally long ones the first.
 -- Source: RFC 5952 sections 4.1 to 4.3
 -- Rules out: the second of two equally long runs shortened; a single group shortened; upper case
 -- Stands in: `roam_address` `Canonical.antt`: `IsCanonicalText`, `IsShortened`; the law `ipv6_text_is_canonical`

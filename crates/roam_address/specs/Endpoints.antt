@@ -6,8 +6,8 @@ use Rattle.roam_address.specs.Addresses.{as_host, address_text, IsHostText}
 use Rattle.roam_address.specs.Decimals.{decimal_in}
 
 -- ## Endpoints
--- An address and a UDP port: the address, that of IPv6 in brackets, a colon, and the port from 1 to 65535 without leading
--- zeros.
+-- An address and a UDP port: the address, that of IPv6 in brackets, a colon, and the port from 1 to 65535 without
+-- leading zeros.
 -- Source: RFC 3986 section 3.2.2, RFC 5952 section 6, ours
 -- Rules out: an IPv6 address without brackets; port 0; a port with a leading zero
 -- Stands in: `roam_address` `Endpoints.antt`: `IsEndpointText`, `endpoint_text`; `Endpoint::from_text`, the law

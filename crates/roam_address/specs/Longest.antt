@@ -23,7 +23,8 @@ pub record IsLongest (prefixes : List Prefix) (address : Address) (place : ℕ) 
 
 -- no prefix of these has the address
 abbrev pub NoneHas : List Prefix → Address → Type 0
-NoneHas prefixes address = (place : ℕ) (prefix : Prefix) → slice_get prefixes place ≡ Some prefix → ¬ (IsIn prefix address)
+NoneHas prefixes address =
+    (place : ℕ) (prefix : Prefix) → slice_get prefixes place ≡ Some prefix → ¬ (IsIn prefix address)
 
 -- the place of the longest prefix that has the address, where one has it
 abbrev pub IsLongestMatch : List Prefix → Address → Option ℕ → Type 0

@@ -1,4 +1,4 @@
-use Rattle.std.proofs.Common.{Some, None, arith, sym, ap, ◌∙◌, subst}
+use Rattle.std.proofs.Common.{Some, None, arith, sym, subst}
 use Rattle.roam_address.specs.Endpoints.{IsEndpointText}
 use Rattle.roam_address.specs.Reading.{Reads}
 use Rattle.roam_address.proofs.EndpointLemmas.{reads_no_colon}
@@ -18,4 +18,5 @@ returns-in-Some c =
 
 -- without one
 pub returns-in-None : goal.returns-in-None
-returns-in-None c = reads_no_colon c.args.text.now (last_cut 58 c.args.text.now None c.in-None.ensures.cases (omega arith))
+returns-in-None c =
+    reads_no_colon c.args.text.now (last_cut 58 c.args.text.now None c.in-None.ensures.cases (omega arith))

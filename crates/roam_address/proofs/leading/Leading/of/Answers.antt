@@ -1,4 +1,4 @@
-use Rattle.std.proofs.Common.{◌≡◌, ◌-◌, ◌/◌, ◌<◌, ◌^◌, ap, sym, ◌∙◌}
+use Rattle.std.proofs.Common.{◌≡◌, ◌-◌, ◌/◌, ◌<◌, ◌^◌, ap, ◌∙◌}
 use Rattle.roam_address.specs.Addresses.{ip_of}
 use Rattle.roam_address.specs.Bits.{width, number}
 use Rattle.roam_address.proofs.BitLemmas.{first_bits, all_above}

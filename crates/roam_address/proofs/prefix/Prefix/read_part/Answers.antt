@@ -1,5 +1,4 @@
 use Rattle.std.proofs.Common.{Some, None, arith, sym, ap, ◌∙◌}
-use Rattle.roam_address.specs.Addresses.{ip_of}
 use Rattle.roam_address.specs.Decimals.{decimal_in}
 use Rattle.roam_address.proofs.PrefixLemmas.{reads_no_slash, reads_no_network, reads_no_length, reads_made}
 use Rattle.roam_address.proofs.SplitLemmas.{last_cut}

@@ -1,4 +1,4 @@
-use Rattle.std.proofs.Common.{◌≡◌, ◌-◌, ◌<◌, None, Some, position, ap, sym, ◌∙◌, arith}
+use Rattle.std.proofs.Common.{◌≡◌, ◌-◌, ◌<◌, position, ap, sym, ◌∙◌, arith}
 use Rattle.roam_address.specs.Addresses.{ip_of}
 use Rattle.roam_address.specs.Bits.{width, leading}
 use Rattle.roam_address.proofs.LongestLemmas.{NoneLonger, key_eq, is_longest, none_at_all}

@@ -1,5 +1,5 @@
 use Rattle.std.proofs.Common.{refl, arith}
-use Rattle.roam_address.proofs.LongestLemmas.{noted_none, noted_next, noted_twice, noted_all}
+use Rattle.roam_address.proofs.NotedLemmas.{noted_none, noted_next, noted_twice, noted_all}
 use Rattle.roam_address.proofs.prefix_index.PrefixIndex.new.Goals as goal
 
 pub loop-prefix-init : goal.loop-prefix-init
@@ -8,8 +8,9 @@ loop-prefix-init g c = noted_none c.args.prefixes.now c.new-keys.result.keys _ c
 -- a prefix that is there already
 pub returns-then-not-branch : goal.returns-then-not-branch
 returns-then-not-branch g c =
-    noted_twice c.args.prefixes.now c.loop-prefix.prefix-index c.prefix-item.result c.loop-prefix.keys.keys c.loop-prefix.lengths
-    c.loop-prefix.invariant (omega arith) c.prefix-item.is c.leading-key.result c.in_ok-insert.field-0 c.leading-key.ensures
+    noted_twice c.args.prefixes.now c.loop-prefix.prefix-index c.prefix-item.result c.loop-prefix.keys.keys
+    c.loop-prefix.lengths c.loop-prefix.invariant (omega arith) c.prefix-item.is c.leading-key.result
+    c.in_ok-insert.field-0 c.leading-key.ensures
     c.in_ok-insert.ensures.added c.if-not-branch.true
 
 -- one that isn't

@@ -1,4 +1,4 @@
-use Rattle.roam_address.proofs.LongestLemmas.{IsNoted}
+use Rattle.roam_address.proofs.NotedLemmas.{IsNoted}
 use Rattle.roam_address.proofs.prefix_index.PrefixIndex.new.Given as goal
 
 -- the prefixes so far

@@ -3,7 +3,7 @@ use Rattle.std.specs.Net.Addr.{is_ipv6}
 use Rattle.roam_address.specs.Addresses.{ip_of}
 use Rattle.roam_address.specs.Bits.{leading}
 use Rattle.roam_address.specs.Keys.{slot, is_marked}
-use Rattle.roam_address.proofs.LongestLemmas.{not_marked}
+use Rattle.roam_address.proofs.NotedLemmas.{not_marked}
 use Rattle.roam_address.proofs.prefix_index.PrefixIndex.place_of.Goals as goal
 
 -- of a length that isn't marked there is no key
