@@ -1,0 +1,12 @@
+pub mod AddressLemmas
+pub mod BitLemmas
+pub mod CanonicalLemmas
+pub mod DecimalLemmas
+pub mod EndpointLemmas
+pub mod HostLemmas
+pub mod LongestLemmas
+pub mod NotedLemmas
+pub mod PrefixLemmas
+pub mod PrefixTextLemmas
+pub mod SplitLemmas
+pub mod TextLemmas

@@ -1,0 +1,11 @@
+pub mod Addresses
+pub mod Bits
+pub mod Canonical
+pub mod Decimals
+pub mod Endpoints
+pub mod Keys
+pub mod Longest
+pub mod Prefixes
+pub mod Reading
+pub mod Stands
+pub mod Texts
