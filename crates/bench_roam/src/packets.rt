@@ -3,7 +3,7 @@
 use crate::fault::Fault;
 use crate::table::{ACCESS_SERVER_SECRET, HOME_SERVER_SECRET};
 use roam_auth::{request_auth, response_auth};
-use roam_conf::{Endpoint, Place};
+use roam_conf::{Address, Endpoint, Place};
 use roam_route::{Datagram, Out};
 use roam_wire::attribute_type::{ACCT_SESSION_ID, ACCT_STATUS_TYPE, PROXY_STATE, USER_NAME};
 use roam_wire::code::{ACCOUNTING_REQUEST, ACCOUNTING_RESPONSE};
@@ -71,7 +71,7 @@ pub(crate) fn request(alloc: Global, realm: u16, number: u64) -> Result<Datagram
     Ok(Datagram {
         at: Place::Acct,
         from: Endpoint {
-            ip: [192, 0, 2, 1],
+            ip: Address::from_ipv4_octets([192, 0, 2, 1]),
             port,
         },
         octets: Octets::from_vec(octets),

@@ -8,5 +8,6 @@ pub mod LongestLemmas
 pub mod NotedLemmas
 pub mod PrefixLemmas
 pub mod PrefixTextLemmas
+pub mod SameLemmas
 pub mod SplitLemmas
 pub mod TextLemmas

@@ -6,7 +6,7 @@ use Rattle.roam_address.specs.declared.prefix.Prefix.{Prefix}
 use Rattle.roam_address.specs.Addresses.{ip_of, IsAddressText}
 use Rattle.roam_address.specs.Bits.{width, number}
 use Rattle.roam_address.specs.Decimals.{decimal_in}
-use Rattle.roam_address.specs.Prefixes.{network_of, length_of, IsWholeText, IsPartText, IsPrefixText, shown}
+use Rattle.roam_address.specs.Prefixes.{network_of, length_of, IsWholeText, IsPartText, IsPrefixText, shown_prefix}
 use Rattle.roam_address.specs.Reading.{Reads}
 use Rattle.roam_address.specs.Texts.{address_in, cut_last, network_with, part, whole_or_part, prefix_in}
 use Rattle.roam_address.proofs.AddressLemmas.{one_address}
@@ -45,7 +45,7 @@ cut_at text host digits cut lacks r is = of r is
         is ∙ (λ i. Some (same.0 i, same.1 i))
 
 -- what a prefix's text is read as
-of_whole : (text : List ℕ) (p : Prefix) → IsWholeText text p → prefix_in text ≡ Some (shown p)
+of_whole : (text : List ℕ) (p : Prefix) → IsWholeText text p → prefix_in text ≡ Some (shown_prefix p)
 unfolding prefix_in
 of_whole text p h =
     ap (λ (r : Option Address). whole_or_part r (cut_last 47 text)) (states_in text (network_of p) h.states)
@@ -55,7 +55,7 @@ zero_test : (a : Address) (n : ℕ) → number (ip_of a) % 2 ^ (width (ip_of a) 
     network_with a n ≡ Some (record { network = a; length = n })
 zero_test a n zero = rw (eq-eqb (number (ip_of a) % 2 ^ (width (ip_of a) - n)) 0 zero) refl
 
-of_part : (text : List ℕ) (p : Prefix) → IsPartText text p → prefix_in text ≡ Some (shown p)
+of_part : (text : List ℕ) (p : Prefix) → IsPartText text p → prefix_in text ≡ Some (shown_prefix p)
 unfolding prefix_in
 of_part text p h =
     let a = network_of p in
@@ -118,7 +118,7 @@ module _ (text : List ℕ) (none : (p : Prefix) → ¬ (IsPrefixText text p)) wh
       ap (λ (r : Option Address). whole_or_part r (cut_last 47 text)) (none_in text (address_in text) refl no_whole)
       ∙ of_cut (cut_last 47 text) (cut_last-parts 47 text)
 
-pub is_prefix_in : (text : List ℕ) (r : Option Prefix) → Reads IsPrefixText text r → option_map shown r ≡ prefix_in text
+pub is_prefix_in : (text : List ℕ) (r : Option Prefix) → Reads IsPrefixText text r → option_map shown_prefix r ≡ prefix_in text
 is_prefix_in text None none = sym (of_none text none)
 is_prefix_in text (Some p) (inl h) = sym (of_whole text p h)
 is_prefix_in text (Some p) (inr h) = sym (of_part text p h)

@@ -195,6 +195,10 @@ pub port_in : (text : List ℕ) (r : Option Endpoint) → Reads IsEndpointText t
 port_in text None none = tt
 port_in text (Some e) states = decimal_in-least 1 65535 states.port e.port states.number
 
+-- the port of an endpoint that a text states isn't 0
+pub endpoint_in-port : (text : List ℕ) (e : Endpoint) → endpoint_in text ≡ Some e → 1 ≤ e.port
+endpoint_in-port text e is = rw is at (port_in text (endpoint_in text) (endpoint_in-reads text))
+
 pub is_endpoint_in : (text : List ℕ) (r : Option Endpoint) → Reads IsEndpointText text r → r ≡ endpoint_in text
 is_endpoint_in text r reads =
     same_answer IsEndpointText text r (endpoint_in text) (one_endpoint text) reads (endpoint_in-reads text)

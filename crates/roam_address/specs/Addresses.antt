@@ -1,8 +1,8 @@
 -- Addresses of both kinds, and their texts (RFC 4291, section 2.2; RFC 5952, section 4).
-use Rattle.std.specs.Prelude.{◌≡◌, ℕ, Bool, List, ◌++◌, codes, if◌then◌else◌}
+use Rattle.std.specs.Prelude.{◌≡◌, ℕ, Bool, List, ◌++◌, Option, Some, None, codes, if◌then◌else◌}
 use Rattle.std.specs.declared.net.ip_addr.IpAddr.{IpAddr}
 use Rattle.std.specs.declared.net.ip_addr.IpAddr.TheVariants.{V4, V6}
-use Rattle.std.specs.Net.Addr.{ipv4_octets, ipv6_segments, IsIpv4Mapped, IsIpv4Addr, IsIpv6Addr, MatchIp, is_ipv6}
+use Rattle.std.specs.Net.Addr.{ipv4_octets, ipv6_octets, ipv6_segments, IsIpv4Mapped, IsIpv4Addr, IsIpv6Addr, MatchIp, is_ipv6}
 use Rattle.std.specs.Net.Grammar.{IsIpText}
 use Rattle.std.specs.Net.Text.{ipv4_text, hex_groups_text}
 use Rattle.roam_address.specs.declared.address.Address.{Address}
@@ -10,6 +10,15 @@ use Rattle.roam_address.specs.declared.address.Address.{Address}
 -- which address it is
 abbrev pub ip_of : Address → IpAddr
 ip_of address = address.ip
+
+-- its octets, the most significant first, where it is an address of IPv4; where it is one of IPv6
+abbrev pub ipv4_octets_in : IpAddr → Option (List ℕ)
+ipv4_octets_in (V4 a) = Some (ipv4_octets a)
+ipv4_octets_in (V6 a) = None
+
+abbrev pub ipv6_octets_in : IpAddr → Option (List ℕ)
+ipv6_octets_in (V4 a) = None
+ipv6_octets_in (V6 a) = Some (ipv6_octets a)
 
 -- an IPv6 address that stands for one of IPv4, of ::ffff:0:0/96 (RFC 4291, section 2.5.5.2)
 abbrev pub IsMapped : IpAddr → Type 0
@@ -21,11 +30,11 @@ abbrev pub IsRanged : IpAddr → Type 0
 IsRanged ip = MatchIp ip IsIpv4Addr IsIpv6Addr
 
 -- ## Addresses
--- An address is one of IPv4 or of IPv6; no other crate takes those of IPv6 yet. Of IPv4 its text is four decimal
--- numbers below 256 without leading zeros, joined by dots. Of IPv6 it is eight groups of one to four hexadecimal
--- digits of either case, joined by colons, or fewer with `::` once, for at least one group of zeros; the last two
--- groups may be written as four decimal numbers. There is no zone. An address that stands for one of IPv4
--- (`::ffff:0:0/96`) has no text. Printed, it has hexadecimal groups alone.
+-- An address is one of IPv4 or of IPv6. Of IPv4 its text is four decimal numbers below 256 without leading zeros,
+-- joined by dots. Of IPv6 it is eight groups of one to four hexadecimal digits of either case, joined by colons, or
+-- fewer with `::` once, for at least one group of zeros; the last two groups may be written as four decimal numbers.
+-- There is no zone. An address that stands for one of IPv4 (`::ffff:0:0/96`) has no text. Printed, it has hexadecimal
+-- groups alone. Two addresses are equal just where their kinds and bits are, whatever texts they were read from.
 -- Source: RFC 4291 sections 2.2 and 2.5.5.2, RFC 5952 section 4, ours
 -- Rules out: `::ffff:192.0.2.1` taken for 192.0.2.1; `::` twice, or for no group; a zone; a leading zero
 -- Stands in: `roam_address` `Addresses.antt`: `IsAddressText`, `address_text`; `Address::from_text`, the laws

@@ -7,5 +7,6 @@ pub mod Keys
 pub mod Longest
 pub mod Prefixes
 pub mod Reading
+pub mod Same
 pub mod Stands
 pub mod Texts

@@ -56,5 +56,5 @@ pub record PrefixView : Type 0 where
   pub network : Address
   pub length : ℕ
 
-abbrev pub shown : Prefix → PrefixView
-shown prefix = record { network = network_of prefix; length = length_of prefix }
+abbrev pub shown_prefix : Prefix → PrefixView
+shown_prefix prefix = record { network = network_of prefix; length = length_of prefix }

@@ -18,7 +18,7 @@ pub struct Address {
 impl Address {
     ghost use Rattle.std.specs.Prelude.{◌≡◌, ◌<◌, ◌≤◌, ◌^◌, MatchOption};
     ghost use Rattle.std.specs.Net.Addr.{ipv4_octets, IsV4And, is_ipv6};
-    ghost use Rattle.roam_address.specs.Addresses.{ip_of, IsMapped, IsRanged, IsAddressText};
+    ghost use Rattle.roam_address.specs.Addresses.{ip_of, ipv4_octets_in, ipv6_octets_in, IsMapped, IsRanged, IsAddressText};
     ghost use Rattle.roam_address.specs.Bits.{width, number};
     ghost use Rattle.roam_address.specs.Reading.{Reads};
     ghost use Rattle.roam_address.specs.Texts.{address_in};
@@ -37,7 +37,7 @@ impl Address {
     }
 
     /// The IPv4 address of these octets.
-    pub fn from_ipv4_octets(octets: [u8; 4]) -> Address
+    pub const fn from_ipv4_octets(octets: [u8; 4]) -> Address
         ensures { IsV4And (ip_of result) (λ a. ipv4_octets a ≡ octets) }
     {
         Address {
@@ -68,6 +68,26 @@ impl Address {
         ensures { result ≡ is_ipv6 (ip_of self) }
     {
         self.ip.is_ipv6()
+    }
+
+    /// Its octets, where it is an IPv4 address.
+    pub fn ipv4_octets(self) -> Option<[u8; 4]>
+        ensures { result ≡ ipv4_octets_in (ip_of self) }
+    {
+        match self.ip {
+            IpAddr::V4(ip) => Some(ip.octets()),
+            IpAddr::V6(_) => None,
+        }
+    }
+
+    /// Its octets, where it is an IPv6 address.
+    pub fn ipv6_octets(self) -> Option<[u8; 16]>
+        ensures { result ≡ ipv6_octets_in (ip_of self) }
+    {
+        match self.ip {
+            IpAddr::V4(_) => None,
+            IpAddr::V6(ip) => Some(ip.octets()),
+        }
     }
 
     /// How many bits it has.

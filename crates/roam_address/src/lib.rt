@@ -1,4 +1,4 @@
-//! Addresses of both kinds, IPv4 and IPv6, with endpoints and prefixes, and their texts. No other crate stands on this yet.
+//! Addresses of both kinds, IPv4 and IPv6, with endpoints and prefixes, and their texts.
 //!
 //! Nothing here opens a socket. Addresses are std's.
 //!

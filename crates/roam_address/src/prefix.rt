@@ -23,8 +23,9 @@ impl Prefix {
     ghost use Rattle.std.specs.Prelude.{◌⊎◌, ◌<◌, ◌↔◌, IsTrue, MatchOption, None, option_map};
     ghost use Rattle.roam_address.specs.Addresses.{IsAddressText};
     ghost use Rattle.roam_address.specs.Bits.{leading};
-    ghost use Rattle.roam_address.specs.Prefixes.{network_of, length_of, leading_of, IsIn, IsPrefixText, HasBitBelow, shown};
+    ghost use Rattle.roam_address.specs.Prefixes.{network_of, length_of, leading_of, IsIn, IsPrefixText, HasBitBelow, shown_prefix};
     ghost use Rattle.roam_address.specs.Reading.{Reads};
+    ghost use Rattle.roam_address.specs.Same.{is_in};
     ghost use Rattle.roam_address.specs.Texts.{prefix_in};
 
     /// The prefix of this network and length, where the address has so many bits and no other one isn't zero.
@@ -81,7 +82,7 @@ impl Prefix {
     /// the bits behind them are zero.
     pub fn from_text(text: &str) -> Option<Prefix>
         ensures states { Reads IsPrefixText text.now result }
-        ensures value { option_map shown result ≡ prefix_in text.now }
+        ensures value { option_map shown_prefix result ≡ prefix_in text.now }
     {
         Prefix::read(text)
     }
@@ -108,8 +109,10 @@ impl Prefix {
     }
 
     /// Whether an address is in it.
+    #[tactic(auto, using(crate::proofs::SameLemmas::kinds_apart))]
     pub fn has(self, address: Address) -> bool
-        ensures { IsTrue result ↔ IsIn self address }
+        ensures states { IsTrue result ↔ IsIn self address }
+        ensures value { result ≡ is_in address (shown_prefix self) }
     {
         address.is_ipv6() == self.network.is_ipv6()
             && Leading::of(address, self.length) == self.leading()

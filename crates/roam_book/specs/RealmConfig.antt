@@ -6,7 +6,7 @@ use Rattle.roam_conf.specs.Config.{ConfigView, PeerView, RealmView, ServerView}
 use Rattle.roam_conf.specs.Lookup.{endpoint_of, homes}
 use Rattle.roam_conf.specs.Secrets as secrets
 use Rattle.roam_conf.specs.declared.accounting.Accounting.TheVariants.{Forwarded}
-use Rattle.roam_conf.specs.declared.endpoint.Endpoint.{Endpoint}
+use Rattle.roam_address.specs.declared.endpoint.Endpoint.{Endpoint}
 use Rattle.roam_conf.specs.declared.place.Link.{Link}
 use Rattle.roam_conf.specs.declared.place.Link.TheVariants as link
 use Rattle.roam_pending.specs.declared.key.Requester.{Requester}

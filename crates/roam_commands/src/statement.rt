@@ -2,24 +2,13 @@
 
 use crate::basic_string::BasicString;
 use roam_conf::{
-    Accounting, CoaClient, Config, Endpoint, ExchangeLines, Peer, Realm, RealmPattern, Server,
+    Accounting, Address, CoaClient, Config, Endpoint, ExchangeLines, Peer, Realm, RealmPattern,
+    Server,
 };
 use roam_conf_reader::{Settings, StationWord};
 use roam_wire::RemovedAttribute;
 use std::alloc::{AllocError, Global};
-use std::fmt;
-use std::fmt::{Display, Formatter, Write};
-
-/// An address, as a document states it.
-#[derive(Clone, Copy)]
-struct Address([u8; 4]);
-
-impl Display for Address {
-    fn fmt<W: Write>(&self, f: &mut Formatter<W>) -> fmt::Result {
-        let [a, b, c, d] = self.0;
-        write!(f, "{a}.{b}.{c}.{d}")
-    }
-}
+use std::fmt::Write;
 
 /// States an endpoint where there is one.
 fn state_endpoint(
@@ -158,11 +147,12 @@ fn state_settings(text: &mut String, settings: &Settings) -> Result<(), AllocErr
 /// States a peer.
 fn state_peer(text: &mut String, peer: &Peer) -> Result<(), AllocError> {
     writeln!(text, "\n[[peer]]\nname = \"{}\"", peer.name.as_str())?;
-    writeln!(text, "ip = \"{}\"", Address(peer.ip))?;
+    writeln!(text, "ip = \"{}\"", peer.ip)?;
     writeln!(text, "secret = {}", BasicString(peer.secret.as_str()))?;
     state_endpoint(text, "coa", &peer.coa)?;
-    if let Some(address) = peer.nas_ip {
-        writeln!(text, "nas_ip = \"{}\"", Address(address))?;
+    if let Some(octets) = peer.nas_ip {
+        let address = Address::from_ipv4_octets(octets);
+        writeln!(text, "nas_ip = \"{address}\"")?;
     }
     state_text(text, "nas_id", &peer.nas_id)?;
     state_texts(text, "nas_ids", peer.nas_ids.as_slice())?;
@@ -220,11 +210,7 @@ fn state_server(text: &mut String, server: &Server) -> Result<(), AllocError> {
 
 /// States a further source of reverse requests.
 fn state_client(text: &mut String, client: &CoaClient) -> Result<(), AllocError> {
-    writeln!(
-        text,
-        "\n[[realm.coa_client]]\nip = \"{}\"",
-        Address(client.ip)
-    )?;
+    writeln!(text, "\n[[realm.coa_client]]\nip = \"{}\"", client.ip)?;
     writeln!(text, "secret = {}", BasicString(client.secret.as_str()))
 }
 

@@ -7,12 +7,14 @@ use Rattle.std.specs.Cmp.{booleans_Decides}
 use Rattle.std.specs.Cmp.Lexicographic.{pointwise}
 use Rattle.std.specs.Option.{option_eq}
 use Rattle.std.specs.String.{string_eq}
+use Rattle.roam_address.specs.Same.{same_address}
+use Rattle.roam_address.proofs.SameLemmas.{address_decides}
 use Rattle.roam_conf.specs.declared.coa_client.CoaClient.{CoaClient}
 use Rattle.roam_conf.specs.declared.peer.Peer.{Peer}
 use Rattle.roam_conf.specs.declared.server.Server.{Server}
 use Rattle.roam_conf.specs.Config.{ServerView, CoaClientView, PeerView}
 use Rattle.roam_conf.specs.Parts.{shown_server, shown_client, shown_peer}
-use Rattle.roam_conf.proofs.EqualPartsLemmas.{list_decides, whole_list_decides, option_decides, whole_option_decides, text_decides, endpoint_eq, endpoint_decides, removed_eq, removed_decides}
+use Rattle.roam_conf.proofs.EqualPartsLemmas.{list_decides, whole_list_decides, option_decides, whole_option_decides, text_decides, endpoint_eq, endpoint_decides, prefix_eq, prefix_decides, removed_eq, removed_decides}
 
 -- the tests as the derives write them
 abbrev pub server_eq : Server → Server → Bool
@@ -24,13 +26,13 @@ server_eq a b =
 
 abbrev pub client_eq : CoaClient → CoaClient → Bool
 client_eq a b =
-    pointwise eqb a.ip b.ip &&
+    same_address a.ip b.ip &&
     (string_eq a.secret b.secret)
 
 abbrev pub peer_eq : Peer → Peer → Bool
 peer_eq a b =
     string_eq a.name b.name &&
-    (pointwise eqb a.ip b.ip &&
+    (prefix_eq a.ip b.ip &&
     (string_eq a.secret b.secret &&
     (option_eq endpoint_eq a.coa b.coa &&
     (option_eq (pointwise eqb) a.nas_ip b.nas_ip &&
@@ -80,7 +82,7 @@ client_decides a b =
       secret = p.1 i;
     })
     (λ e. (ap (λ (x : CoaClientView). x.ip) e, ap (λ (x : CoaClientView). x.secret) e))
-    (Decides-and _ _ (bytes_eq-Decides a.ip b.ip)
+    (Decides-and _ _ (address_decides a.ip b.ip)
     (text_decides a.secret b.secret))
 
 pub peer_decides : (a b : Peer) → Decides (peer_eq a b) (shown_peer a ≡ shown_peer b)
@@ -145,7 +147,7 @@ peer_decides a b =
       ),
     ))
     (Decides-and _ _ (text_decides a.name b.name)
-    (Decides-and _ _ (bytes_eq-Decides a.ip b.ip)
+    (Decides-and _ _ (prefix_decides a.ip b.ip)
     (Decides-and _ _ (text_decides a.secret b.secret)
     (Decides-and _ _ (whole_option_decides endpoint_eq endpoint_decides a.coa b.coa)
     (Decides-and _ _ (whole_option_decides (pointwise eqb) bytes_eq-Decides a.nas_ip b.nas_ip)

@@ -14,7 +14,11 @@ use Rattle.roam_conf.specs.contracts.accounting.AccountingPartialEq.TheImpl as a
 use Rattle.roam_conf.specs.contracts.pattern.RealmPatternPartialEq.TheImpl as derived
 use Rattle.roam_conf.specs.declared.accounting.Accounting.{Accounting}
 use Rattle.roam_conf.specs.declared.accounting.Accounting.TheVariants.{Forwarded, Answered, Dropped}
-use Rattle.roam_conf.specs.declared.endpoint.Endpoint.{Endpoint}
+use Rattle.roam_address.specs.declared.endpoint.Endpoint.{Endpoint}
+use Rattle.roam_address.specs.declared.prefix.Prefix.{Prefix}
+use Rattle.roam_address.specs.Prefixes.{PrefixView, network_of, length_of, shown_prefix}
+use Rattle.roam_address.specs.Same.{same_address}
+use Rattle.roam_address.proofs.SameLemmas.{address_decides}
 use Rattle.roam_conf.specs.declared.pattern.RealmPattern.{RealmPattern}
 use Rattle.roam_conf.specs.declared.pattern.RealmPattern.TheVariants.{Name, Suffix, Any}
 use Rattle.roam_conf.specs.Config.{PatternView, whole, suffix, any}
@@ -81,7 +85,10 @@ text_decides a b = bytes_eq-Decides (string_bytes a) (string_bytes b)
 
 -- the tests as the derives write them
 abbrev pub endpoint_eq : Endpoint → Endpoint → Bool
-endpoint_eq a b = pointwise eqb a.ip b.ip && eqb a.port b.port
+endpoint_eq a b = same_address a.ip b.ip && eqb a.port b.port
+
+abbrev pub prefix_eq : Prefix → Prefix → Bool
+prefix_eq a b = same_address (network_of a) (network_of b) && eqb (length_of a) (length_of b)
 
 abbrev pub removed_eq : RemovedAttribute → RemovedAttribute → Bool
 removed_eq a b = removed_derived.ghosts.eq a b
@@ -99,7 +106,13 @@ pub endpoint_decides : (a b : Endpoint) → Decides (endpoint_eq a b) (a ≡ b)
 endpoint_decides a b = Decides-like {P = (a.ip ≡ b.ip) × (a.port ≡ b.port)} _
     (λ p. λ i. record { ip = p.0 i; port = p.1 i })
     (λ e. (ap (λ (x : Endpoint). x.ip) e, ap (λ (x : Endpoint). x.port) e))
-    (Decides-and _ _ (bytes_eq-Decides a.ip b.ip) (Decides-eqb a.port b.port))
+    (Decides-and _ _ (address_decides a.ip b.ip) (Decides-eqb a.port b.port))
+
+pub prefix_decides : (a b : Prefix) → Decides (prefix_eq a b) (shown_prefix a ≡ shown_prefix b)
+prefix_decides a b = Decides-like {P = (network_of a ≡ network_of b) × (length_of a ≡ length_of b)} _
+    (λ p. λ i. record { network = p.0 i; length = p.1 i })
+    (λ e. (ap (λ (x : PrefixView). x.network) e, ap (λ (x : PrefixView). x.length) e))
+    (Decides-and _ _ (address_decides (network_of a) (network_of b)) (Decides-eqb (length_of a) (length_of b)))
 
 -- the numbers that an attribute to remove has, with the other kinds apart
 abbrev kind_of : RemovedAttribute → ℕ

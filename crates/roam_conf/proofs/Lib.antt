@@ -8,6 +8,7 @@ pub mod NameLemmas
 pub mod OneLinkLemmas
 pub mod OneServerLemmas
 pub mod PeerLemmas
+pub mod PrefixLemmas
 pub mod ShortNameLemmas
 pub mod SuffixLemmas
 pub mod TargetLaws

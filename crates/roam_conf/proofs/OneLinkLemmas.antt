@@ -4,7 +4,8 @@ use Rattle.std.proofs.lemmas.Bool.{cases_Bool, false≢true, or_parts}
 use Rattle.std.proofs.lemmas.Option.{same_Some, slice_get_within, slice_get-map, slice_get_read, slice_get_past}
 use Rattle.std.specs.List.{position_from, slice_get, list_any}
 use Rattle.std.specs.Option.{option_or, option_and_then, option_map_or, IfSome}
-use Rattle.roam_conf.specs.declared.endpoint.Endpoint.{Endpoint}
+use Rattle.roam_address.specs.declared.address.Address.{Address}
+use Rattle.roam_address.specs.declared.endpoint.Endpoint.{Endpoint}
 use Rattle.roam_conf.specs.declared.place.Link.{Link}
 use Rattle.roam_conf.specs.declared.place.Link.TheVariants.{Auth, Acct, Coa}
 use Rattle.roam_conf.specs.declared.realm.Realm.{Realm}
@@ -16,7 +17,7 @@ use Rattle.roam_conf.proofs.LinkLemmas.{link_found, link_in_found}
 use Rattle.roam_conf.proofs.OneServerLemmas.{same_itself, among_more, among_first, once_more, once_first, option_source, then_source, part_of, part_apart, auth_part, one_server}
 
 -- an element of a list of which none passes a test doesn't pass it
-none_passes : {X : Type 0} (test : X → Bool) (xs : List X) (i : ℕ) (x : X) → list_any test xs ≡ false →
+pub none_passes : {X : Type 0} (test : X → Bool) (xs : List X) (i : ℕ) (x : X) → list_any test xs ≡ false →
     slice_get xs i ≡ Some x → test x ≡ false
 none_passes test [] i x none at = cc
 none_passes test (y ∷ ys) zero x none at = rw (← same_Some y x at) (or_parts (test y) (list_any test ys) none).0
@@ -199,17 +200,17 @@ place_within test n (x ∷ xs) i is =
     ]
 
 -- a source that is found is one of the realm's servers, or of its further sources behind them
-server_bound : (servers : List ServerView) (ip : List ℕ) (i : ℕ) → server_with_ip servers ip ≡ Some i →
+server_bound : (servers : List ServerView) (ip : Address) (i : ℕ) → server_with_ip servers ip ≡ Some i →
     i < length servers
 unfolding server_with_ip
 server_bound servers ip i is = let within = place_within _ 0 servers i is in omega arith
 
-client_bound : (clients : List CoaClientView) (ip : List ℕ) (k : ℕ) → client_with_ip clients ip ≡ Some k →
+client_bound : (clients : List CoaClientView) (ip : Address) (k : ℕ) → client_with_ip clients ip ≡ Some k →
     k < length clients
 unfolding client_with_ip
 client_bound clients ip k is = let within = place_within _ 0 clients k is in omega arith
 
-home_bound : (r : RealmView) (ip : List ℕ) (i : ℕ) (server client : Option ℕ) → server_with_ip r.servers ip ≡ server →
+home_bound : (r : RealmView) (ip : Address) (i : ℕ) (server client : Option ℕ) → server_with_ip r.servers ip ≡ server →
     client_with_ip r.coa_clients ip ≡ client →
     option_or server (option_map (λ k. length r.servers + k) client) ≡ Some i → i < homes r
 home_bound r ip i (Some j) client at behind is =
@@ -218,7 +219,7 @@ home_bound r ip i None (Some k) at behind is =
     omega (arith, client_bound r.coa_clients ip k behind, same_Some (length r.servers + k) i is)
 home_bound r ip i None None at behind is = cc
 
-pub home_in_bound : (config : ConfigView) (realm : ℕ) (ip : List ℕ) (i : ℕ) → home_in config realm ip ≡ Some i →
+pub home_in_bound : (config : ConfigView) (realm : ℕ) (ip : Address) (i : ℕ) → home_in config realm ip ≡ Some i →
     i < homes_in config realm
 home_in_bound config realm ip i is = by_realm (slice_get config.realms realm) refl is
   where
@@ -238,7 +239,7 @@ pub link_in_bounds : (config : ConfigView) (realm : ℕ) (e : Endpoint) (found :
 link_in_bounds config realm e None is = tt
 link_in_bounds config realm e (Some link) is = link_in_bound config realm e link (sym is)
 
-pub home_in_bounds : (config : ConfigView) (realm : ℕ) (ip : List ℕ) (found : Option ℕ) →
+pub home_in_bounds : (config : ConfigView) (realm : ℕ) (ip : Address) (found : Option ℕ) →
     found ≡ home_in config realm ip → IfSome found (λ home. home < homes_in config realm)
 home_in_bounds config realm ip None is = tt
 home_in_bounds config realm ip (Some i) is = home_in_bound config realm ip i (sym is)

@@ -4,7 +4,7 @@ use Rattle.std.proofs.lemmas.Bool.{false≢true, or_parts, or_left, or_right}
 use Rattle.std.proofs.lemmas.Option.{same_Some}
 use Rattle.std.specs.List.{slice_get, list_any, cons_option}
 use Rattle.std.specs.Option.{option_and_then, option_map_or}
-use Rattle.roam_conf.specs.declared.endpoint.Endpoint.{Endpoint}
+use Rattle.roam_address.specs.declared.endpoint.Endpoint.{Endpoint}
 use Rattle.roam_conf.specs.Config.{ServerView}
 use Rattle.roam_conf.specs.Duplicates.{has_pair, same_endpoint, is_among, server_endpoints}
 use Rattle.roam_conf.proofs.EqualPartsLemmas.{endpoint_decides}

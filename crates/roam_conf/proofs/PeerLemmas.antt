@@ -1,21 +1,19 @@
 -- What the index of peers finds is what the look-up of a peer says.
 use Rattle.std.proofs.Common.{◌≡◌, ℕ, ◌+◌, ◌<◌, ◌≤◌, Bool, false, not, inl, inr, cond, List, [], ◌∷◌, length, map, get_or, drop, drop-cons, suc, Option, Some, None, option_map, refl, sym, ap, ◌∙◌, arith}
 use Rattle.std.proofs.Math.ListN.{drop_of_length-le}
-use Rattle.std.proofs.lemmas.List.{length-map}
 use Rattle.std.proofs.lemmas.Bool.{cases_Bool}
 use Rattle.std.proofs.lemmas.Option.{slice_get-map, slice_get_read, slice_get_past}
 use Rattle.std.specs.List.{list_any, position_from, slice_get}
-use Rattle.std.specs.Option.{option_or, option_map_or, IfSome}
+use Rattle.std.specs.Option.{option_or, option_map_or}
 use Rattle.std.specs.Prelude.{is_none}
 use Rattle.std.specs.Str.{bytes_eq}
 use Rattle.roam_conf.specs.declared.peer.Peer.{Peer}
 use Rattle.roam_conf.specs.Asking.{is_no_peer, has_unknown_peer}
 use Rattle.roam_conf.specs.Config.{PeerView, RealmView}
 use Rattle.roam_conf.specs.Index.{owner_of, is_unowned}
-use Rattle.roam_conf.specs.Lookup.{first_place, peer_with_ip}
+use Rattle.roam_conf.specs.Lookup.{first_place}
 use Rattle.roam_conf.specs.Parts.{shown_peer}
 use Rattle.roam_conf.proofs.IndexLemmas.{or_none, same_both_ways}
-use Rattle.roam_conf.proofs.NameLemmas.{within}
 
 -- the first place from a peer on
 pub position_at : (test : PeerView → Bool) (peers : List Peer) (i : ℕ) (peer : Peer) → i < length peers →
@@ -34,17 +32,6 @@ pub position_past : (test : PeerView → Bool) (peers : List Peer) (i : ℕ) (fo
 position_past test peers i found past =
     let none : drop i peers ≡ [] = drop_of_length-le peers past in
     sym (or_none found) ∙ ap (λ ps. option_or found (position_from test i (map shown_peer ps))) (sym none)
-
-pub peer_with_ip_within : (peers : List PeerView) (ip : List ℕ) (i : ℕ) → peer_with_ip peers ip ≡ Some i →
-    i < length peers
-unfolding peer_with_ip
-peer_with_ip_within peers ip i is = omega (arith, within _ 0 peers i is)
-
-pub peer_with_ip_bound : (peers : List Peer) (ip : List ℕ) (n : ℕ) (found : Option ℕ) → length peers ≡ n →
-    found ≡ peer_with_ip (map shown_peer peers) ip → IfSome found (λ i. i < n)
-peer_with_ip_bound peers ip n None size is = tt
-peer_with_ip_bound peers ip n (Some i) size is =
-    omega (arith, size, length-map peers shown_peer, peer_with_ip_within (map shown_peer peers) ip i (sym is))
 
 -- A name that isn't in the index is no peer's.
 

@@ -1,10 +1,11 @@
 -- Who may ask whom: which peers' requests a realm takes. Ours.
-use Rattle.std.specs.Prelude.{ℕ, ◌&&◌, not, Bool, true, false, List, Option, Some, None, is_some, slice_get}
+use Rattle.std.specs.Prelude.{ℕ, ◌&&◌, ◌||◌, not, Bool, true, false, List, Option, Some, None, slice_get}
 use Rattle.std.specs.List.{list_any}
 use Rattle.std.specs.Option.{option_map_or}
 use Rattle.std.specs.Str.{bytes_eq}
-use Rattle.roam_conf.specs.Config.{PeerView, RealmView, ConfigView}
-use Rattle.roam_conf.specs.Lookup.{server_with_ip}
+use Rattle.roam_address.specs.Prefixes.{PrefixView}
+use Rattle.roam_address.specs.Same.{is_in}
+use Rattle.roam_conf.specs.Config.{ServerView, PeerView, RealmView, ConfigView}
 
 -- the name is one of these, where there are any
 abbrev pub is_listed : Option (List (List ℕ)) → List ℕ → Bool
@@ -15,13 +16,17 @@ is_listed (Some names) name = list_any (bytes_eq name) names
 abbrev pub is_peer_of : RealmView → PeerView → Bool
 is_peer_of realm peer = is_listed realm.peers peer.name
 
--- the peer is at the address of one of the realm's servers, `auth` or `acct`
+-- the prefix has the address of one of the server's endpoints, `auth` or `acct`
+abbrev pub is_server_in : PrefixView → ServerView → Bool
+is_server_in prefix server = is_in server.auth.ip prefix || option_map_or (λ e. is_in e.ip prefix) server.acct false
+
+-- one of the realm's servers is at an address of the peer
 abbrev pub is_at_server : RealmView → PeerView → Bool
-is_at_server realm peer = is_some (server_with_ip realm.servers peer.ip)
+is_at_server realm peer = list_any (is_server_in peer.ip) realm.servers
 
 -- ## Who may ask whom
 -- A realm takes Access-Requests and Accounting-Requests of a peer unless it has `peers` and the peer's name isn't
--- among them, or it has `loop_prevention` and one of its servers has the peer's address. A reverse request goes to
+-- among them, or it has `loop_prevention` and one of its servers is at an address of the peer. A reverse request goes to
 -- no peer that isn't among `peers`.
 -- Source: ours
 -- Rules out: a realm without `peers` that takes none; a request that is sent back to where it came from

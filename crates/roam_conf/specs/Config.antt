@@ -2,7 +2,9 @@
 use Rattle.std.specs.Prelude.{ℕ, Bool, List, Option}
 use Rattle.roam_wire.specs.declared.removed_attribute.RemovedAttribute.{RemovedAttribute}
 use Rattle.roam_conf.specs.declared.accounting.Accounting.{Accounting}
-use Rattle.roam_conf.specs.declared.endpoint.Endpoint.{Endpoint}
+use Rattle.roam_address.specs.declared.address.Address.{Address}
+use Rattle.roam_address.specs.declared.endpoint.Endpoint.{Endpoint}
+use Rattle.roam_address.specs.Prefixes.{PrefixView}
 
 -- a home server: where it takes Access-Requests, and Accounting-Requests if it does, its shared secret, and whether
 -- its answers to Access-Requests need a Message-Authenticator
@@ -14,14 +16,14 @@ pub record ServerView : Type 0 where
 
 -- a further source of a realm's reverse requests: its address, and the secret shared with it
 pub record CoaClientView : Type 0 where
-  pub ip : List ℕ
+  pub ip : Address
   pub secret : List ℕ
 
--- an access server, or the proxy of a visited network: how it is known and named, what its Access-Requests need, what
--- is added to its requests, and what is taken out of them and of what is sent to it
+-- an access server, or the proxy of a visited network, or all at the addresses of a prefix: how it is known and named,
+-- what its Access-Requests need, what is added to its requests, and what is taken out of them and of what is sent to it
 pub record PeerView : Type 0 where
   pub name : List ℕ
-  pub ip : List ℕ
+  pub ip : PrefixView
   pub secret : List ℕ
   pub coa : Option Endpoint
   pub nas_ip : Option (List ℕ)

@@ -3,7 +3,8 @@ use Rattle.std.specs.Prelude.{ℕ, ◌==◌, ◌&&◌, ◌||◌, Bool, false, Li
 use Rattle.std.specs.List.{list_any, filter_map, flat_map, cons_option}
 use Rattle.std.specs.Option.{option_to_list, option_map_or}
 use Rattle.std.specs.Str.{bytes_eq, str_eq_ignore_ascii_case}
-use Rattle.roam_conf.specs.declared.endpoint.Endpoint.{Endpoint}
+use Rattle.roam_address.specs.declared.endpoint.Endpoint.{Endpoint}
+use Rattle.roam_address.specs.Same.{same_address, same_prefix}
 use Rattle.roam_conf.specs.Config.{ServerView, CoaClientView, PeerView, PatternView, RealmView}
 use Rattle.roam_conf.specs.Patterns.{same_pattern, patterns_of}
 
@@ -14,7 +15,7 @@ has_pair same (x ∷ xs) = list_any (same x) xs || has_pair same xs
 
 -- equal addresses and equal ports
 abbrev pub same_endpoint : Endpoint → Endpoint → Bool
-same_endpoint a b = bytes_eq a.ip b.ip && (a.port == b.port)
+same_endpoint a b = same_address a.ip b.ip && (a.port == b.port)
 
 -- the endpoint is one of these
 abbrev pub is_among : List Endpoint → Endpoint → Bool
@@ -30,10 +31,10 @@ abbrev pub same_name_if_there : Option (List ℕ) → Option (List ℕ) → Bool
 same_name_if_there (Some a) (Some b) = str_eq_ignore_ascii_case a b
 same_name_if_there _ _ = false
 
--- equal names, addresses, NAS-IP-Addresses or, without ASCII case, Operator-Names
+-- equal names, prefixes, NAS-IP-Addresses or, without ASCII case, Operator-Names
 abbrev pub same_peer : PeerView → PeerView → Bool
 same_peer a b =
-    bytes_eq a.name b.name || bytes_eq a.ip b.ip || same_if_there a.nas_ip b.nas_ip
+    bytes_eq a.name b.name || same_prefix a.ip b.ip || same_if_there a.nas_ip b.nas_ip
     || same_name_if_there a.operator_name b.operator_name
 
 -- the texts of a peer's `nas_id` and `nas_ids`; those of all peers
@@ -45,7 +46,7 @@ nas_texts peers = flat_map nas_texts_of peers
 
 -- equal addresses
 abbrev pub same_client : CoaClientView → CoaClientView → Bool
-same_client a b = bytes_eq a.ip b.ip
+same_client a b = same_address a.ip b.ip
 
 -- where the broker's own sockets of a realm are: its `out`, and its `reverse` where it has one
 abbrev pub realm_endpoints : RealmView → List Endpoint

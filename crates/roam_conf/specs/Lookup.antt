@@ -2,8 +2,10 @@
 use Rattle.std.specs.Prelude.{◌≡◌, ◌≢◌, ℕ, ◌+◌, ◌<◌, ◌==◌, ◌||◌, not, nat_lt, if◌then◌else◌, Bool, false, List, [], ◌∷◌, ◌++◌, length, map, Option, Some, None, option_map, option_and_then, slice_get}
 use Rattle.std.specs.List.{list_any, position_from}
 use Rattle.std.specs.Option.{option_or, option_map_or}
-use Rattle.std.specs.Str.{bytes_eq}
-use Rattle.roam_conf.specs.declared.endpoint.Endpoint.{Endpoint}
+use Rattle.roam_address.specs.declared.address.Address.{Address}
+use Rattle.roam_address.specs.declared.endpoint.Endpoint.{Endpoint}
+use Rattle.roam_address.specs.Prefixes.{PrefixView}
+use Rattle.roam_address.specs.Same.{same_address, longest_place}
 use Rattle.roam_conf.specs.declared.place.Link.{Link}
 use Rattle.roam_conf.specs.declared.place.Link.TheVariants.{Auth, Acct, Coa}
 use Rattle.roam_conf.specs.Config.{ServerView, CoaClientView, PeerView, PatternView, whole, suffix, any, RealmView, ConfigView}
@@ -85,28 +87,32 @@ abbrev pub NoSuffix : (List ℕ → Type 0) → ConfigView → List ℕ → Type
 NoSuffix Test config name =
     (ending : List ℕ) → EndsIn name ending → Test ending → owner_with config (suffix ending) ≡ None
 
--- the peer with this address
-unfoldable pub peer_with_ip : List PeerView → List ℕ → Option ℕ
-peer_with_ip peers ip = first_place (λ peer. bytes_eq peer.ip ip) peers
+-- the addresses of a peer
+abbrev pub prefix_of : PeerView → PrefixView
+prefix_of peer = peer.ip
+
+-- the peer whose prefix is the longest of those that have the address
+unfoldable pub peer_with_ip : List PeerView → Address → Option ℕ
+peer_with_ip peers ip = longest_place (map prefix_of peers) ip
 
 -- the first server, in the order of use, that has the address in its `auth` or its `acct` endpoint
-unfoldable pub server_with_ip : List ServerView → List ℕ → Option ℕ
+unfoldable pub server_with_ip : List ServerView → Address → Option ℕ
 server_with_ip servers ip =
-    first_place (λ server. bytes_eq server.auth.ip ip || option_map_or (λ e. bytes_eq e.ip ip) server.acct false)
-    servers
+    first_place
+    (λ server. same_address server.auth.ip ip || option_map_or (λ e. same_address e.ip ip) server.acct false) servers
 
 -- the first `coa_client` that has the address
-unfoldable pub client_with_ip : List CoaClientView → List ℕ → Option ℕ
-client_with_ip clients ip = first_place (λ client. bytes_eq client.ip ip) clients
+unfoldable pub client_with_ip : List CoaClientView → Address → Option ℕ
+client_with_ip clients ip = first_place (λ client. same_address client.ip ip) clients
 
 -- the source that has the address, by its number: a server's place, or else behind the servers a `coa_client`'s
-abbrev pub home_with_ip : RealmView → List ℕ → Option ℕ
+abbrev pub home_with_ip : RealmView → Address → Option ℕ
 home_with_ip realm ip =
     option_or (server_with_ip realm.servers ip)
     (option_map (λ k. length realm.servers + k) (client_with_ip realm.coa_clients ip))
 
 -- whose reverse requests come to a realm from the address; nobody's where the realm takes none
-abbrev pub reverse_home : RealmView → List ℕ → Option ℕ
+abbrev pub reverse_home : RealmView → Address → Option ℕ
 reverse_home realm ip = option_and_then (λ own. home_with_ip realm ip) realm.reverse
 
 -- the endpoint of a link of a realm, where there is such a link
@@ -143,7 +149,7 @@ abbrev pub link_in : ConfigView → ℕ → Endpoint → Option Link
 link_in config realm endpoint =
     option_and_then (λ r. link_at config.peers r endpoint) (slice_get config.realms realm)
 
-abbrev pub home_in : ConfigView → ℕ → List ℕ → Option ℕ
+abbrev pub home_in : ConfigView → ℕ → Address → Option ℕ
 home_in config realm ip = option_and_then (λ r. reverse_home r ip) (slice_get config.realms realm)
 
 abbrev pub endpoint_in_realm : ConfigView → ℕ → Link → Option Endpoint
@@ -167,12 +173,12 @@ abbrev pub homes_in : ConfigView → ℕ → ℕ
 homes_in config realm = option_map_or homes (slice_get config.realms realm) 0
 
 -- ## Look-ups
--- The realm that a name means; the first peer of an address; the link of a realm that an endpoint is; the first
--- home server of an address, or else the `coa_client`; the shard of a realm, its index modulo their number. What is
--- found is configured, and each link of a realm is the one that its endpoint finds.
+-- The realm that a name means; the peer whose prefix is the longest of those that have an address; the link of a realm
+-- that an endpoint is; the first home server of an address, or else the `coa_client`; the shard of a realm, its index
+-- modulo their number. What is found is configured, and each link of a realm is the one that its endpoint finds.
 -- Source: ours
--- Rules out: the last server taken for the first; a `coa_client` that takes a server's place; a link past the last
--- server; a link that no packet reaches
+-- Rules out: a shorter prefix that beats a longer; the last server taken for the first; a `coa_client` that takes a
+-- server's place; a link past the last server; a link that no packet reaches
 -- Stands in: `roam_conf` `Lookup.antt`: `IsLinkIn` and others; `realm_index`, `peer_by_ip`, `link_of`,
 -- `home_of`, `shard_of`, the laws `link_of_finds_its_endpoint`, `link_of_finds_each_link`
 --

@@ -2,6 +2,8 @@
 use Rattle.std.specs.Prelude.{ℕ, List, map, option_map, string_bytes, String}
 use Rattle.std.specs.declared.alloc.Global.{Global}
 use Rattle.std.specs.declared.vec.Vec.{Vec}
+use Rattle.roam_address.specs.declared.prefix.Prefix.{Prefix}
+use Rattle.roam_address.specs.Prefixes.{shown_prefix}
 use Rattle.roam_conf.specs.declared.coa_client.CoaClient.{CoaClient}
 use Rattle.roam_conf.specs.declared.peer.Peer.{Peer}
 use Rattle.roam_conf.specs.declared.realm.Realm.{Realm}
@@ -23,10 +25,14 @@ shown_client client = record { ip = client.ip; secret = string_bytes client.secr
 abbrev pub shown_names : Vec (String Global) Global → List (List ℕ)
 shown_names names = map string_bytes names.items
 
+-- the addresses of a peer
+abbrev pub peer_prefix : Peer → Prefix
+peer_prefix peer = peer.ip
+
 abbrev pub shown_peer : Peer → PeerView
 shown_peer peer = record {
   name = string_bytes peer.name;
-  ip = peer.ip;
+  ip = shown_prefix peer.ip;
   secret = string_bytes peer.secret;
   coa = peer.coa;
   nas_ip = peer.nas_ip;

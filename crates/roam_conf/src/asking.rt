@@ -1,10 +1,14 @@
 //! Which peers' requests a realm takes. None of this takes memory.
 
-ghost use Rattle.std.specs.Prelude.{◌≡◌, Some, is_some, map, option_map, string_bytes};
-ghost use Rattle.roam_conf.specs.Asking.{is_listed, is_peer_of, is_at_server, takes, both_pass};
-ghost use Rattle.roam_conf.specs.Parts.{shown_peer, shown_realm};
+ghost use Rattle.std.specs.Prelude.{◌≡◌, Some, false, map, option_map, string_bytes};
+ghost use Rattle.std.specs.List.{list_any};
+ghost use Rattle.std.specs.Option.{option_map_or};
+ghost use Rattle.roam_address.specs.Prefixes.{shown_prefix};
+ghost use Rattle.roam_address.specs.Same.{is_in};
+ghost use Rattle.roam_conf.specs.Asking.{is_listed, is_peer_of, is_server_in, is_at_server, takes, both_pass};
+ghost use Rattle.roam_conf.specs.Parts.{shown_peer, shown_realm, shown_server};
 
-use crate::{Config, Peer, Realm, list_search};
+use crate::{Config, Endpoint, Peer, Prefix, Realm, Server};
 
 /// Whether the name is one of these.
 fn is_one_of(names: &[String], name: &str) -> bool
@@ -12,6 +16,28 @@ fn is_one_of(names: &[String], name: &str) -> bool
 {
     for other in names {
         if name == other.as_str() {
+            return true;
+        }
+    }
+    false
+}
+
+/// Whether the endpoint is there, at an address of the prefix.
+fn is_there_in(prefix: Prefix, endpoint: Option<Endpoint>) -> bool
+    ensures { result ≡ option_map_or (λ e. is_in e.ip (shown_prefix prefix)) endpoint false }
+{
+    match endpoint {
+        Some(endpoint) => prefix.has(endpoint.ip),
+        None => false,
+    }
+}
+
+/// Whether one of the servers is at an address of the prefix.
+fn is_some_server_in(prefix: Prefix, servers: &[Server]) -> bool
+    ensures { result ≡ list_any (is_server_in (shown_prefix prefix)) (map shown_server servers.now) }
+{
+    for server in servers {
+        if prefix.has(server.auth.ip) || is_there_in(prefix, server.acct) {
             return true;
         }
     }
@@ -29,11 +55,11 @@ impl Realm {
         }
     }
 
-    /// Whether the peer is at the address of one of the realm's servers.
+    /// Whether one of the realm's servers is at an address of the peer.
     fn is_at_server(&self, peer: &Peer) -> bool
         ensures { result ≡ is_at_server (shown_realm self.now) (shown_peer peer.now) }
     {
-        list_search::server_with_ip(self.servers.as_slice(), peer.ip).is_some()
+        is_some_server_in(peer.ip, self.servers.as_slice())
     }
 
     /// Whether the realm takes requests of the peer.
@@ -94,7 +120,7 @@ impl Config {
     }
 
     /// Whether a realm takes requests of a peer: it has no list of peers or the peer is in it, and unless it guards
-    /// against loops the peer may be at the address of one of its servers. False where one of the two isn't configured.
+    /// against loops one of its servers may be at an address of the peer. False where one of the two isn't configured.
     pub fn takes(&self, realm: u16, peer: u16) -> bool
         ensures { result ≡ takes_in (shown self.now) realm peer }
     {

@@ -2,10 +2,12 @@
 
 ghost use Rattle.std.specs.Prelude.{◌≡◌, ◌≤◌, length, string_bytes};
 
-/// A source of a realm's reverse requests (RFC 5176) beside its home servers, known by its IPv4 address.
+use crate::Address;
+
+/// A source of a realm's reverse requests (RFC 5176) beside its home servers, known by its address.
 #[derive(Drop, PartialEq, Eq)]
 pub struct CoaClient {
-    pub ip: [u8; 4],
+    pub ip: Address,
     /// The shared secret: 1 to 64 octets.
     pub secret: String,
     ghost secret_length: { (1 ≤ length (string_bytes secret)) × (length (string_bytes secret) ≤ 64) },

@@ -1,14 +1,15 @@
 //! The configuration of the broker.
 
-ghost use Rattle.std.specs.Prelude.{◌≡◌, ℕ, List, ◌≤◌, false, true, map, vec_len};
+ghost use Rattle.std.specs.Prelude.{◌≡◌, ◌≤◌, false, true, map, vec_len};
 ghost use Rattle.std.specs.List.{list_all};
 ghost use Rattle.std.specs.Option.{ForSome};
 ghost use Rattle.roam_conf.specs.Duplicates.{has_duplicate_realm, has_duplicate_peer, has_duplicate_endpoint};
 ghost use Rattle.roam_conf.specs.Duplicates.{has_duplicate_server, has_duplicate_link};
 ghost use Rattle.roam_conf.specs.Asking.{has_unknown_peer};
-ghost use Rattle.roam_conf.specs.Index.{owners, owner_of, all_patterns};
-ghost use Rattle.roam_conf.specs.Lookup.{peer_with_ip, pattern_lists};
-ghost use Rattle.roam_conf.specs.Parts.{shown_peer, shown_realm};
+ghost use Rattle.roam_address.specs.Stands.{StandsFor};
+ghost use Rattle.roam_conf.specs.Index.{owners, all_patterns};
+ghost use Rattle.roam_conf.specs.Lookup.{pattern_lists};
+ghost use Rattle.roam_conf.specs.Parts.{peer_prefix, shown_peer, shown_realm};
 ghost use Rattle.roam_conf.specs.Patterns.{is_reject, shown_pattern};
 ghost use Rattle.roam_conf.specs.TargetIndex.{FindsTargets};
 
@@ -70,8 +71,7 @@ pub struct Config {
     ghost realm_count: { (1 ≤ vec_len realms) × (vec_len realms ≤ 1024) },
     ghost names_noted: { owners found_by.names
         ≡ all_patterns 0 (pattern_lists (map shown_realm realms.items) (map shown_pattern reject.items)) },
-    ghost ips_noted: { (ip : List ℕ)
-        → owner_of (owners found_by.ips) ip ≡ peer_with_ip (map shown_peer peers.items) ip },
+    ghost ips_noted: { StandsFor found_by.ips (map peer_prefix peers.items) },
     ghost targets_noted: { FindsTargets found_by.targets (map shown_peer peers.items) },
     ghost distinct_realms: { has_duplicate_realm (map shown_realm realms.items)
         (map shown_pattern reject.items) ≡ false },

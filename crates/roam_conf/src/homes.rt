@@ -1,6 +1,6 @@
 //! The sources of a realm's reverse requests. None of this takes memory.
 
-use crate::{Config, Realm, list_search};
+use crate::{Address, Config, Realm, list_search};
 
 impl Realm {
     ghost use Rattle.std.specs.Prelude.{◌≡◌, ◌≤◌, ◌<◌, ◌+◌, length, option_map};
@@ -9,7 +9,7 @@ impl Realm {
     ghost use Rattle.roam_conf.specs.Secrets.{home_secret};
 
     /// The number of the `coa_client` with the address, behind the servers.
-    fn client_of(&self, ip: [u8; 4]) -> Option<u8>
+    fn client_of(&self, ip: Address) -> Option<u8>
         ensures { result ≡ option_map (λ k. length (shown_realm self.now).servers + k)
             (client_with_ip (shown_realm self.now).coa_clients ip) }
     {
@@ -20,7 +20,7 @@ impl Realm {
     }
 
     /// The number of the source with the address.
-    fn home_with_ip(&self, ip: [u8; 4]) -> Option<u8>
+    fn home_with_ip(&self, ip: Address) -> Option<u8>
         ensures { result ≡ home_with_ip (shown_realm self.now) ip }
     {
         match list_search::server_with_ip(self.servers.as_slice(), ip) {
@@ -30,7 +30,7 @@ impl Realm {
     }
 
     /// The same, where the realm takes reverse requests.
-    fn home_of(&self, ip: [u8; 4]) -> Option<u8>
+    fn home_of(&self, ip: Address) -> Option<u8>
         ensures { result ≡ reverse_home (shown_realm self.now) ip }
     {
         if self.reverse.is_none() {
@@ -64,7 +64,7 @@ impl Config {
     /// Whose reverse requests come to a realm from the address: the first server, in the order of use, that
     /// has it in its `auth` or its `acct` endpoint; else the `coa_client` that has it, whose number is its place behind
     /// the servers. `None` also where the realm takes no reverse requests, or isn't configured.
-    pub fn home_of(&self, realm: u16, ip: [u8; 4]) -> Option<u8>
+    pub fn home_of(&self, realm: u16, ip: Address) -> Option<u8>
         ensures value { result ≡ home_in (shown self.now) realm ip }
         ensures bound { IfSome result (λ home. home < homes_in (shown self.now) realm) }
     {

@@ -1,18 +1,20 @@
 //! The indexes of a configuration, which are made once, from its lists.
 
-ghost use Rattle.std.specs.Prelude.{◌≡◌, ℕ, List, ◌≤◌, ◌^◌, IfOk, length, map, false, true, refl};
-ghost use Rattle.roam_conf.specs.Duplicates.{has_duplicate_realm};
-ghost use Rattle.roam_conf.specs.Index.{owners, owner_of, all_patterns, AreMarked};
-ghost use Rattle.roam_conf.specs.Lookup.{peer_with_ip, pattern_lists};
-ghost use Rattle.roam_conf.specs.Parts.{shown_peer, shown_realm};
+ghost use Rattle.std.specs.Prelude.{◌≡◌, ◌≤◌, IfOk, length, map, false, true, refl};
+ghost use Rattle.roam_address.specs.Stands.{StandsFor};
+ghost use Rattle.roam_conf.specs.Duplicates.{has_duplicate_realm, has_duplicate_peer};
+ghost use Rattle.roam_conf.specs.Index.{owners, all_patterns, AreMarked};
+ghost use Rattle.roam_conf.specs.Lookup.{pattern_lists};
+ghost use Rattle.roam_conf.specs.Parts.{peer_prefix, shown_peer, shown_realm};
 ghost use Rattle.roam_conf.specs.Patterns.{shown_pattern};
 ghost use Rattle.roam_conf.specs.TargetIndex.{FindsTargets};
 
-use crate::index::{Index, note, row_of};
+use crate::index::Index;
 use crate::names::{note_all, suffix_lengths};
 use crate::target_index::TargetIndex;
-use crate::{ConfigParts, Peer, Realm, RealmPattern};
+use crate::{ConfigParts, Peer, Prefix, Realm, RealmPattern};
 use indexmap::IndexMap;
+use roam_address::PrefixIndex;
 use std::alloc::{AllocError, Global};
 
 /// The indexes of a configuration. They follow from its lists, so they tell no two configurations apart.
@@ -22,25 +24,35 @@ pub(crate) struct Indexes {
     pub(crate) names: Index,
     /// Which lengths the suffixes among them have, in octets: one of another length isn't looked for.
     pub(crate) suffix_lengths: [bool; 254],
-    /// The peer of each address.
-    pub(crate) ips: Index,
+    /// The addresses of the peers, in their order.
+    pub(crate) ips: PrefixIndex<Global>,
     /// The peers that reverse requests name.
     pub(crate) targets: TargetIndex,
     ghost marked: { AreMarked suffix_lengths (owners names) },
 }
 
-/// The first peer of each address.
-fn ips_of(alloc: Global, peers: &[Peer]) -> Result<Index, AllocError>
-    requires { length peers.now ≤ 2 ^ 16 }
-    ensures { IfOk result (λ index. (ip : List ℕ)
-        → owner_of (owners index) ip ≡ peer_with_ip (map shown_peer peers.now) ip) }
+/// The prefixes of these peers, in their order.
+fn prefixes_of(alloc: Global, peers: &[Peer]) -> Result<Vec<Prefix>, AllocError>
+    ensures { IfOk result (λ prefixes. prefixes.items ≡ map peer_prefix peers.now) }
 {
-    let mut index = IndexMap::new(alloc);
-    for (place, peer) in peers.iter().enumerate() {
-        let key = row_of(alloc, &peer.ip)?;
-        note(&mut index, key, place as u16)?;
+    let mut prefixes = Vec::new(alloc);
+    for peer in peers {
+        prefixes.push(peer.ip)?;
     }
-    Ok(index)
+    Ok(prefixes)
+}
+
+/// The index of these peers' prefixes, of which no two are the same.
+#[tactic(auto, using(crate::proofs::PrefixLemmas::none_twice))]
+fn ips_of(alloc: Global, peers: &[Peer]) -> Result<PrefixIndex<Global>, AllocError>
+    requires { has_duplicate_peer (map shown_peer peers.now) ≡ false }
+    ensures { IfOk result (λ index. StandsFor index (map peer_prefix peers.now)) }
+{
+    let prefixes = prefixes_of(alloc, peers)?;
+    match PrefixIndex::new(alloc, prefixes.as_slice())? {
+        Some(index) => Ok(index),
+        None => unreachable!(),
+    }
 }
 
 impl Indexes {
@@ -53,11 +65,11 @@ impl Indexes {
     ) -> Result<Indexes, AllocError>
         requires few { (length peers.now ≤ 1024) × (length realms.now ≤ 1024) }
         requires distinct { has_duplicate_realm (map shown_realm realms.now) (map shown_pattern reject.now) ≡ false }
+        requires distinct_peers { has_duplicate_peer (map shown_peer peers.now) ≡ false }
         ensures names { IfOk result
             (λ indexes. owners indexes.names
             ≡ all_patterns 0 (pattern_lists (map shown_realm realms.now) (map shown_pattern reject.now))) }
-        ensures ips { IfOk result (λ indexes. (ip : List ℕ)
-            → owner_of (owners indexes.ips) ip ≡ peer_with_ip (map shown_peer peers.now) ip) }
+        ensures ips { IfOk result (λ indexes. StandsFor indexes.ips (map peer_prefix peers.now)) }
         ensures targets { IfOk result (λ indexes. FindsTargets indexes.targets (map shown_peer peers.now)) }
     {
         let mut names = IndexMap::new(alloc);
@@ -75,23 +87,24 @@ impl Indexes {
 }
 
 impl ConfigParts {
-    ghost use Rattle.std.specs.Prelude.{◌≡◌, ℕ, List, IfOk, false, map};
-    ghost use Rattle.roam_conf.specs.Duplicates.{has_duplicate_realm};
-    ghost use Rattle.roam_conf.specs.Index.{owners, owner_of, all_patterns};
-    ghost use Rattle.roam_conf.specs.Lookup.{peer_with_ip, pattern_lists};
-    ghost use Rattle.roam_conf.specs.Parts.{shown_peer, shown_realm};
+    ghost use Rattle.std.specs.Prelude.{◌≡◌, IfOk, false, map};
+    ghost use Rattle.roam_address.specs.Stands.{StandsFor};
+    ghost use Rattle.roam_conf.specs.Duplicates.{has_duplicate_realm, has_duplicate_peer};
+    ghost use Rattle.roam_conf.specs.Index.{owners, all_patterns};
+    ghost use Rattle.roam_conf.specs.Lookup.{pattern_lists};
+    ghost use Rattle.roam_conf.specs.Parts.{peer_prefix, shown_peer, shown_realm};
     ghost use Rattle.roam_conf.specs.Patterns.{shown_pattern};
     ghost use Rattle.roam_conf.specs.TargetIndex.{FindsTargets};
 
     /// The indexes of these parts.
     pub(crate) fn indexes(&self, alloc: Global) -> Result<Indexes, AllocError>
-        requires { has_duplicate_realm (map shown_realm self.now.realms.items)
+        requires distinct { has_duplicate_realm (map shown_realm self.now.realms.items)
             (map shown_pattern self.now.reject.items) ≡ false }
+        requires distinct_peers { has_duplicate_peer (map shown_peer self.now.peers.items) ≡ false }
         ensures names { IfOk result
             (λ indexes. owners indexes.names ≡ all_patterns 0 (pattern_lists
             (map shown_realm self.now.realms.items) (map shown_pattern self.now.reject.items))) }
-        ensures ips { IfOk result (λ indexes. (ip : List ℕ)
-            → owner_of (owners indexes.ips) ip ≡ peer_with_ip (map shown_peer self.now.peers.items) ip) }
+        ensures ips { IfOk result (λ indexes. StandsFor indexes.ips (map peer_prefix self.now.peers.items)) }
         ensures targets { IfOk result (λ indexes. FindsTargets indexes.targets (map shown_peer self.now.peers.items)) }
     {
         Indexes::new(

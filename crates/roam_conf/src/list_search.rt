@@ -2,17 +2,17 @@
 
 ghost use Rattle.std.specs.Prelude.{◌≡◌, ◌<◌, ◌^◌, IfSome, false, length, map, option_map};
 ghost use Rattle.std.specs.Option.{option_map_or};
-ghost use Rattle.std.specs.Str.{bytes_eq};
+ghost use Rattle.roam_address.specs.Same.{same_address};
 ghost use Rattle.roam_conf.specs.Duplicates.{same_endpoint};
 ghost use Rattle.roam_conf.specs.Lookup.{client_with_ip, server_with_ip, first_place, is_there, is_coa};
 ghost use Rattle.roam_conf.specs.Parts.{shown_client, shown_server, shown_peer};
 
 use crate::comparison::is_same_endpoint;
-use crate::{CoaClient, Endpoint, Link, Peer, Server};
+use crate::{Address, CoaClient, Endpoint, Link, Peer, Server};
 
 /// Whether the endpoint is there, and at the address.
-fn is_at(ip: [u8; 4], endpoint: Option<Endpoint>) -> bool
-    ensures { result ≡ option_map_or (λ e. bytes_eq e.ip ip) endpoint false }
+fn is_at(ip: Address, endpoint: Option<Endpoint>) -> bool
+    ensures { result ≡ option_map_or (λ e. same_address e.ip ip) endpoint false }
 {
     match endpoint {
         Some(endpoint) => endpoint.ip == ip,
@@ -22,7 +22,7 @@ fn is_at(ip: [u8; 4], endpoint: Option<Endpoint>) -> bool
 
 /// The first server that has the address in one of its endpoints.
 #[tactic(auto, unfolding(crate::specs::Lookup::server_with_ip))]
-pub(crate) fn server_with_ip(servers: &[Server], ip: [u8; 4]) -> Option<usize>
+pub(crate) fn server_with_ip(servers: &[Server], ip: Address) -> Option<usize>
     ensures value { result ≡ server_with_ip (map shown_server servers.now) ip }
     ensures bound { IfSome result (λ i. i < length servers.now) }
 {
@@ -36,7 +36,7 @@ pub(crate) fn server_with_ip(servers: &[Server], ip: [u8; 4]) -> Option<usize>
 
 /// The first `coa_client` that has the address.
 #[tactic(auto, unfolding(crate::specs::Lookup::client_with_ip))]
-pub(crate) fn client_with_ip(clients: &[CoaClient], ip: [u8; 4]) -> Option<usize>
+pub(crate) fn client_with_ip(clients: &[CoaClient], ip: Address) -> Option<usize>
     ensures value { result ≡ client_with_ip (map shown_client clients.now) ip }
     ensures bound { IfSome result (λ i. i < length clients.now) }
 {

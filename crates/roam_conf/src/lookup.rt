@@ -5,7 +5,7 @@ ghost use Rattle.std.specs.Prelude.{◌≡◌, ◌≤◌, length, drop};
 use crate::index::owner_of;
 use crate::names::{PatternRef, kind_and_name, lower_in, owner_of_pattern};
 use crate::well_formed::is_well_formed;
-use crate::{Config, Endpoint, Link, Peer, Realm, list_search};
+use crate::{Address, Config, Endpoint, Link, Peer, Realm, list_search};
 
 impl Realm {
     ghost use Rattle.std.specs.Prelude.{◌≡◌, ◌≤◌, length, map};
@@ -216,12 +216,23 @@ impl Config {
         }
     }
 
-    /// The index of the peer of the address.
-    pub fn peer_by_ip(&self, ip: [u8; 4]) -> Option<u16>
+    /// The place of the peer whose prefix is the longest of those that have the address.
+    fn peer_of_longest(&self, ip: Address) -> Option<usize>
         ensures value { result ≡ peer_with_ip (shown self.now).peers ip }
         ensures bound { IfSome result (λ p. p < vec_len self.now.peers) }
     {
-        owner_of(&self.found_by.ips, &ip)
+        self.found_by.ips.longest(ip)
+    }
+
+    /// The index of the peer whose prefix is the longest of those that have the address.
+    pub fn peer_by_ip(&self, ip: Address) -> Option<u16>
+        ensures value { result ≡ peer_with_ip (shown self.now).peers ip }
+        ensures bound { IfSome result (λ p. p < vec_len self.now.peers) }
+    {
+        match self.peer_of_longest(ip) {
+            Some(peer) => Some(peer as u16),
+            None => None,
+        }
     }
 
     /// The link of a realm that the endpoint is; `None` also where the realm isn't configured.

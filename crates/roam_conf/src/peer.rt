@@ -6,15 +6,16 @@ ghost use Rattle.roam_conf.specs.Letters.{is_nas_text, is_peer_letter};
 ghost use Rattle.std.specs.Option.{ForSome};
 ghost use Rattle.roam_wire.specs.RemovedAttributes.{is_removal_in_requests, is_removal_in_replies};
 
-use crate::Endpoint;
+use crate::{Endpoint, Prefix};
 use roam_wire::RemovedAttribute;
 
-/// An access server (NAS), or the proxy of a visited network, known by its IPv4 address.
+/// An access server (NAS), or the proxy of a visited network, known by its address, or all that are at the addresses of
+/// a prefix.
 #[derive(Drop, PartialEq, Eq)]
 pub struct Peer {
     /// 1 to 64 ASCII letters, digits, `.`, `-` and `_`.
     pub name: String,
-    pub ip: [u8; 4],
+    pub ip: Prefix,
     /// The shared secret: 1 to 64 octets.
     pub secret: String,
     /// Takes Disconnect- and CoA-Requests (RFC 5176), where the peer takes them; its port isn't 0.

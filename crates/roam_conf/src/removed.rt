@@ -1,9 +1,11 @@
 //! What the texts of a list of attributes to remove say.
 
 ghost use Rattle.std.specs.Prelude.{◌≡◌};
-ghost use Rattle.roam_conf.specs.Texts.{decimal_in, parts, vendor_kind, vendor_from, removed_in};
+ghost use Rattle.roam_address.specs.Decimals.{decimal_in};
+ghost use Rattle.roam_conf.specs.Texts.{parts, vendor_kind, vendor_from, removed_in};
 
-use crate::decimals::{cut_at_dot, decimal};
+use crate::cuts::cut_at_dot;
+use crate::decimal;
 use roam_wire::RemovedAttribute;
 
 /// A vendor's number.

@@ -2,7 +2,7 @@
 use Rattle.std.proofs.Common.{◌≡◌, ℕ, codes, List, [], ◌∷◌, Option, Some, None, refl, subst, sym, ◌∙◌}
 use Rattle.std.proofs.lemmas.Option.{same_Some}
 use Rattle.toml.specs.Data.{Data, table, array, Items, no_items, item, Members, get_member}
-use Rattle.roam_conf.specs.declared.endpoint.Endpoint.{Endpoint}
+use Rattle.roam_address.specs.declared.endpoint.Endpoint.{Endpoint}
 use Rattle.roam_conf.specs.Config.{ServerView, CoaClientView, PeerView, RealmView, ConfigView}
 use Rattle.roam_conf_reader.specs.Document.{StatesEach, StatesFew, StatesTables, StatesClient, StatesServer, StatesPeer, StatesRealm, StatesConfig, sessions_unless_said}
 use Rattle.roam_conf_reader.specs.Values.{number_or}

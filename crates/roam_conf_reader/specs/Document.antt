@@ -7,9 +7,9 @@ use Rattle.roam_conf_reader.specs.declared.values.Letters.TheVariants.{Any, Peer
 use Rattle.roam_wire.specs.RemovedAttributes.{is_removal_in_requests, is_removal_in_replies}
 use Rattle.roam_conf.specs.declared.accounting.Accounting.{Accounting}
 use Rattle.roam_conf.specs.declared.accounting.Accounting.TheVariants as kinds
-use Rattle.roam_conf.specs.declared.endpoint.Endpoint.{Endpoint}
+use Rattle.roam_address.specs.declared.endpoint.Endpoint.{Endpoint}
 use Rattle.roam_conf.specs.Config.{ServerView, CoaClientView, PeerView, RealmView, ConfigView}
-use Rattle.roam_conf_reader.specs.Values.{number, letters_of, text, address, endpoint, seed_or_zeros, flag, exchange_lines, station_word, number_or, pattern, list_of, rejects, removed, nas_ids, peer_names, accounting, array_of, item_count, value_at, optional_at, socket_path}
+use Rattle.roam_conf_reader.specs.Values.{number, letters_of, text, address, ipv4, prefix, endpoint, seed_or_zeros, flag, exchange_lines, station_word, number_or, pattern, list_of, rejects, removed, nas_ids, peer_names, accounting, array_of, item_count, value_at, optional_at, socket_path}
 
 -- the required keys of the five tables
 abbrev pub server_required : List (List ℕ)
@@ -100,10 +100,10 @@ pub record StatesClient (members : Members) (client : CoaClientView) : Type 0 wh
 -- a table of the array `peer`
 pub record StatesPeer (members : Members) (peer : PeerView) : Type 0 where
   pub name : value_at (text 64 (letters_of PeerName)) (codes "name") members ≡ Some peer.name
-  pub ip : value_at address (codes "ip") members ≡ Some peer.ip
+  pub ip : value_at prefix (codes "ip") members ≡ Some peer.ip
   pub secret : value_at (text 64 (letters_of Any)) (codes "secret") members ≡ Some peer.secret
   pub coa : optional_at endpoint (codes "coa") members ≡ Some peer.coa
-  pub nas_ip : optional_at address (codes "nas_ip") members ≡ Some peer.nas_ip
+  pub nas_ip : optional_at ipv4 (codes "nas_ip") members ≡ Some peer.nas_ip
   pub nas_id : optional_at (text 253 (letters_of Any)) (codes "nas_id") members ≡ Some peer.nas_id
   pub nas_ids : nas_ids (get_member (codes "nas_ids") members) ≡ Some peer.nas_ids
   pub require_seal : flag (get_member (codes "require_seal") members) ≡ Some peer.require_seal

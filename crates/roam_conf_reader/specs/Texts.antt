@@ -5,6 +5,7 @@ use Rattle.toml.specs.Data.{Members, get_member}
 use Rattle.toml.specs.View.{array_view}
 use Rattle.roam_wire.specs.RemovedAttributes.{is_removal_in_requests, is_removal_in_replies}
 use Rattle.roam_wire.specs.declared.removed_attribute.RemovedAttribute.{RemovedAttribute}
+use Rattle.roam_address.specs.Prefixes.{shown_prefix}
 use Rattle.roam_conf.specs.Config.{ServerView, CoaClientView, PeerView, PatternView, whole, suffix, any, RealmView, ConfigView}
 use Rattle.roam_conf_reader.specs.declared.coa_client.ClientText.{ClientText}
 use Rattle.roam_conf_reader.specs.declared.server.ServerText.{ServerText}
@@ -37,7 +38,7 @@ client_in text = record { ip = text.ip; secret = text.secret.now }
 abbrev pub peer_in : PeerText → List (List ℕ) → List RemovedAttribute → List RemovedAttribute → PeerView
 peer_in text identifiers request reply = record {
   name = text.name.now;
-  ip = text.ip;
+  ip = shown_prefix text.ip;
   secret = text.secret.now;
   coa = text.coa;
   nas_ip = text.nas_ip;

@@ -8,7 +8,7 @@ use Rattle.toml.specs.Data.{Data, string, integer, boolean, array, Items, no_ite
 use Rattle.roam_wire.specs.declared.removed_attribute.RemovedAttribute.{RemovedAttribute}
 use Rattle.roam_conf.specs.declared.accounting.Accounting.{Accounting}
 use Rattle.roam_conf.specs.declared.accounting.Accounting.TheVariants as kinds
-use Rattle.roam_conf.specs.declared.endpoint.Endpoint.{Endpoint}
+use Rattle.roam_address.specs.declared.endpoint.Endpoint.{Endpoint}
 use Rattle.roam_conf.specs.declared.exchange_lines.ExchangeLines.{ExchangeLines}
 use Rattle.roam_conf.specs.declared.exchange_lines.ExchangeLines.TheVariants as lines
 use Rattle.roam_conf_reader.specs.declared.station_word.StationWord.{StationWord}
@@ -18,7 +18,12 @@ use Rattle.roam_conf_reader.specs.declared.values.Letters.TheVariants.{Any, NoZe
 use Rattle.roam_conf.specs.Config.{PatternView, whole, suffix, any}
 use Rattle.roam_conf.specs.Letters.{is_peer_letter, is_realm_letter}
 use Rattle.roam_conf.specs.Patterns.{is_realm_name, is_reject}
-use Rattle.roam_conf.specs.Texts.{address_in, endpoint_in, removed_in}
+use Rattle.std.specs.Net.Addr.{is_ipv6}
+use Rattle.roam_address.specs.declared.address.Address.{Address}
+use Rattle.roam_address.specs.Addresses.{ip_of, ipv4_octets_in}
+use Rattle.roam_address.specs.Prefixes.{PrefixView}
+use Rattle.roam_address.specs.Texts.{address_in, endpoint_in, whole as whole_prefix}
+use Rattle.roam_conf.specs.Texts.{removed_in}
 
 -- an integer from `least` to `most`
 unfoldable pub number : ℕ → ℕ → Data → Option ℕ
@@ -46,14 +51,30 @@ text most letters _ = None
 abbrev pub socket_path : Data → Option (List ℕ)
 socket_path = text 107 (letters_of NoZero)
 
--- a text that is an address
-unfoldable pub address : Data → Option (List ℕ)
-address (string octets) = address_in octets
+-- an address of IPv4; an endpoint at one
+abbrev pub of_ipv4 : Address → Option Address
+of_ipv4 a = if is_ipv6 (ip_of a) then None else Some a
+
+abbrev pub at_ipv4 : Endpoint → Option Endpoint
+at_ipv4 e = if is_ipv6 (ip_of e.ip) then None else Some e
+
+-- a text that is an address of IPv4
+unfoldable pub address : Data → Option Address
+address (string octets) = option_and_then of_ipv4 (address_in octets)
 address _ = None
 
--- a text that is an endpoint
+-- such a text, of which the octets are taken
+unfoldable pub ipv4 : Data → Option (List ℕ)
+ipv4 (string octets) = option_and_then (λ a. ipv4_octets_in (ip_of a)) (address_in octets)
+ipv4 _ = None
+
+-- a text that is an address of IPv4: the prefix that has it alone
+abbrev pub prefix : Data → Option PrefixView
+prefix value = option_map whole_prefix (address value)
+
+-- a text that is an endpoint at an address of IPv4
 unfoldable pub endpoint : Data → Option Endpoint
-endpoint (string octets) = endpoint_in octets
+endpoint (string octets) = option_and_then at_ipv4 (endpoint_in octets)
 endpoint _ = None
 
 -- a text of 64 hexadecimal digits, of either case: 32 octets

@@ -12,7 +12,7 @@ ghost use Rattle.roam_conf_reader.specs.Texts.{client_in};
 use crate::tables::{CLIENT_KEYS, has_only};
 use crate::values::{Letters, value};
 use crate::{ConfFault, keys};
-use roam_conf::CoaClient;
+use roam_conf::{Address, CoaClient};
 use std::alloc::Global;
 use toml::Table;
 use toml::value::Array;
@@ -20,7 +20,7 @@ use toml::value::Array;
 /// What a table states of a source of reverse requests. Its secret still stands in the document.
 #[derive(Clone, Copy)]
 struct ClientText<'a> {
-    ip: [u8; 4],
+    ip: Address,
     secret: &'a str,
 }
 

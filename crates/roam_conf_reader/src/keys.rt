@@ -4,19 +4,26 @@ ghost use Rattle.std.specs.Prelude.{◌≡◌, ◌≤◌, IfSome, option_map};
 ghost use Rattle.std.specs.Option.{option_copied};
 ghost use Rattle.toml.specs.Data.{get_member};
 ghost use Rattle.toml.specs.View.{table_view, array_view};
+ghost use Rattle.roam_address.specs.Prefixes.{shown_prefix};
 ghost use Rattle.roam_conf_reader.specs.Values as spec;
 ghost use Rattle.roam_conf_reader.specs.Values.{letters_of, value_at, optional_at};
 
 use crate::station_word::StationWord;
 use crate::values::{self, Letters, value};
-use roam_conf::{Accounting, Endpoint, ExchangeLines};
+use roam_conf::{Accounting, Address, Endpoint, ExchangeLines, Prefix};
 use toml::value::Array;
 use toml::{Table, Value};
 
-pub(crate) fn address(table: &Table, key: &str) -> Option<[u8; 4]>
+pub(crate) fn address(table: &Table, key: &str) -> Option<Address>
     ensures { result ≡ value_at spec.address key.now (table_view table.now) }
 {
     values::address_of(value(table, key)?)
+}
+
+pub(crate) fn prefix(table: &Table, key: &str) -> Option<Prefix>
+    ensures { option_map shown_prefix result ≡ value_at spec.prefix key.now (table_view table.now) }
+{
+    values::prefix_of(value(table, key)?)
 }
 
 pub(crate) fn endpoint(table: &Table, key: &str) -> Option<Endpoint>
@@ -99,12 +106,12 @@ pub(crate) fn optional_count(table: &Table, key: &str, least: u16, most: u16) ->
     }
 }
 
-/// An address, or `Some(None)` where the key is absent.
-pub(crate) fn optional_address(table: &Table, key: &str) -> Option<Option<[u8; 4]>>
-    ensures { result ≡ optional_at spec.address key.now (table_view table.now) }
+/// The octets of an address of IPv4, or `Some(None)` where the key is absent.
+pub(crate) fn optional_ipv4(table: &Table, key: &str) -> Option<Option<[u8; 4]>>
+    ensures { result ≡ optional_at spec.ipv4 key.now (table_view table.now) }
 {
     match value(table, key) {
-        Some(value) => Some(Some(values::address_of(value)?)),
+        Some(value) => Some(Some(values::ipv4_of(value)?)),
         None => Some(None),
     }
 }

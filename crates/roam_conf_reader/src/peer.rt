@@ -13,7 +13,7 @@ ghost use Rattle.roam_conf_reader.specs.Texts.{StatesPeerBesideLists};
 use crate::tables::{PEER_KEYS, PEER_OPTIONAL_KEYS, has_only};
 use crate::values::Letters;
 use crate::{ConfFault, keys, names, removed};
-use roam_conf::{Endpoint, Peer};
+use roam_conf::{Endpoint, Peer, Prefix};
 use std::alloc::Global;
 use toml::Table;
 use toml::value::Array;
@@ -22,7 +22,7 @@ use toml::value::Array;
 #[derive(Clone, Copy)]
 struct PeerText<'a> {
     name: &'a str,
-    ip: [u8; 4],
+    ip: Prefix,
     secret: &'a str,
     coa: Option<Endpoint>,
     nas_ip: Option<[u8; 4]>,
@@ -44,10 +44,10 @@ fn peer_text(table: &Table) -> Option<PeerText<'_>>
     }
     Some(PeerText {
         name: keys::text(table, "name", 64, Letters::PeerName)?,
-        ip: keys::address(table, "ip")?,
+        ip: keys::prefix(table, "ip")?,
         secret: keys::text(table, "secret", 64, Letters::Any)?,
         coa: keys::optional_endpoint(table, "coa")?,
-        nas_ip: keys::optional_address(table, "nas_ip")?,
+        nas_ip: keys::optional_ipv4(table, "nas_ip")?,
         nas_id: keys::optional_text(table, "nas_id", 253)?,
         require_seal: keys::flag(table, "require_seal")?,
         limit_proxy_state: keys::flag(table, "limit_proxy_state")?,

@@ -6,12 +6,13 @@ ghost use Rattle.std.specs.List.{list_all};
 ghost use Rattle.std.specs.Option.{option_copied};
 ghost use Rattle.toml.specs.Data.{get_member};
 ghost use Rattle.toml.specs.View.{view, table_view, array_view};
+ghost use Rattle.roam_address.specs.Prefixes.{shown_prefix};
 ghost use Rattle.roam_conf_reader.specs.Values as spec;
 ghost use Rattle.roam_conf_reader.specs.Values.{letters_of, text_fits};
 
 use crate::station_word::StationWord;
 use hex::FromHex;
-use roam_conf::{Accounting, Endpoint, ExchangeLines, address};
+use roam_conf::{Accounting, Address, Endpoint, ExchangeLines, Prefix};
 use toml::value::Array;
 use toml::{Table, Value};
 
@@ -93,18 +94,48 @@ pub(crate) fn number_of(value: &Value, least: u32, most: u32) -> Option<u32>
     }
 }
 
+/// An address of IPv4.
 #[tactic(auto, unfolding(crate::specs::Values::address))]
-pub(crate) fn address_of(value: &Value) -> Option<[u8; 4]>
+pub(crate) fn address_of(value: &Value) -> Option<Address>
     ensures { result ≡ spec.address (view value.now) }
 {
-    address(value.as_str()?)
+    let address = Address::from_text(value.as_str()?)?;
+    if address.is_ipv6() {
+        None
+    } else {
+        Some(address)
+    }
 }
 
+/// The octets of an address of IPv4.
+#[tactic(auto, unfolding(crate::specs::Values::ipv4))]
+pub(crate) fn ipv4_of(value: &Value) -> Option<[u8; 4]>
+    ensures { result ≡ spec.ipv4 (view value.now) }
+{
+    Address::from_text(value.as_str()?)?.ipv4_octets()
+}
+
+/// The addresses of a peer.
+pub(crate) fn prefix_of(value: &Value) -> Option<Prefix>
+    ensures { option_map shown_prefix result ≡ spec.prefix (view value.now) }
+{
+    match address_of(value) {
+        Some(address) => Some(Prefix::of(address)),
+        None => None,
+    }
+}
+
+/// An endpoint at an address of IPv4.
 #[tactic(auto, unfolding(crate::specs::Values::endpoint))]
 pub(crate) fn endpoint_of(value: &Value) -> Option<Endpoint>
     ensures { result ≡ spec.endpoint (view value.now) }
 {
-    Endpoint::from_text(value.as_str()?)
+    let endpoint = Endpoint::from_text(value.as_str()?)?;
+    if endpoint.ip.is_ipv6() {
+        None
+    } else {
+        Some(endpoint)
+    }
 }
 
 /// Of which exchanges lines tell, by a text.

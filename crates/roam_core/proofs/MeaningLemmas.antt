@@ -14,7 +14,8 @@ use Rattle.roam_wire.specs.declared.refusal.Refusal.TheVariants as refusal
 use Rattle.roam_conf.specs.Config.{ConfigView, PeerView, RealmView}
 use Rattle.roam_conf.specs.Lookup.{realm_named, peer_with_ip, link_in, home_in}
 use Rattle.roam_conf.specs.Secrets as secrets
-use Rattle.roam_conf.specs.declared.endpoint.Endpoint.{Endpoint}
+use Rattle.roam_address.specs.declared.address.Address.{Address}
+use Rattle.roam_address.specs.declared.endpoint.Endpoint.{Endpoint}
 use Rattle.roam_conf.specs.declared.place.Place.{Place}
 use Rattle.roam_conf.specs.declared.place.Place.TheVariants as place
 use Rattle.roam_route.specs.UserName.{realm_of, realm_part}
@@ -172,13 +173,13 @@ module _ (one other : ConfigView) (realm now : ℕ) (agree : AgreeFor one other 
       ∙ sym (sent-judged realm now other a p s)
 
   -- and who sent it is the same
-  peer-found : (ip : List ℕ) → peer_with_ip one.peers ip ≡ peer_with_ip other.peers ip
+  peer-found : (ip : Address) → peer_with_ip one.peers ip ≡ peer_with_ip other.peers ip
   peer-found ip = ap (λ (ps : List PeerView). peer_with_ip ps ip) agree.peers
 
   link-found : (from : Endpoint) → link_in one realm from ≡ link_in other realm from
   link-found from = rw (agree.peers, agree.entry) refl
 
-  home-found : (ip : List ℕ) → home_in one realm ip ≡ home_in other realm ip
+  home-found : (ip : Address) → home_in one realm ip ≡ home_in other realm ip
   home-found ip = rw agree.entry refl
 
   place-same : (at : Place) (from : Endpoint) (octets : List ℕ) (seconds : Option ℕ) (p : Packet) → let a : Arrival =

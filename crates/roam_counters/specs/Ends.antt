@@ -2,7 +2,7 @@
 use Rattle.std.specs.Prelude.{ℕ, min, Option, option_map}
 use Rattle.roam_conf.specs.Config.{ConfigView}
 use Rattle.roam_conf.specs.Lookup.{home_in, link_in, peer_with_ip}
-use Rattle.roam_conf.specs.declared.endpoint.Endpoint.{Endpoint}
+use Rattle.roam_address.specs.declared.endpoint.Endpoint.{Endpoint}
 use Rattle.roam_conf.specs.declared.place.Link.{Link}
 use Rattle.roam_conf.specs.declared.place.Link.TheVariants as link
 use Rattle.roam_conf.specs.declared.place.Place.{Place}

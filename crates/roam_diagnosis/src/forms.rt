@@ -1,6 +1,6 @@
 //! What may stand under a key, and the words for what doesn't fit.
 
-use roam_conf::{Endpoint, address, removed_attribute};
+use roam_conf::{Address, Endpoint, removed_attribute};
 use roam_wire::RemovedAttribute;
 use std::fmt;
 use toml::Value;
@@ -104,12 +104,28 @@ fn is_removal(text: &str, kept: &[u8]) -> bool {
     }
 }
 
+/// Whether the text is an address of IPv4.
+fn is_address(text: &str) -> bool {
+    match Address::from_text(text) {
+        Some(address) => !address.is_ipv6(),
+        None => false,
+    }
+}
+
+/// Whether the text is an endpoint at an address of IPv4.
+fn is_endpoint(text: &str) -> bool {
+    match Endpoint::from_text(text) {
+        Some(endpoint) => !endpoint.ip.is_ipv6(),
+        None => false,
+    }
+}
+
 /// Whether the text is of the form, where that is one of texts.
 fn text_fits(form: ValueForm, text: &str) -> bool {
     match form {
         ValueForm::Seed => is_seed(text),
-        ValueForm::Address => address(text).is_some(),
-        ValueForm::Endpoint => Endpoint::from_text(text).is_some(),
+        ValueForm::Address => is_address(text),
+        ValueForm::Endpoint => is_endpoint(text),
         ValueForm::Text(most) => !text.is_empty() && text.len() <= most,
         ValueForm::SocketPath => is_socket_path(text),
         ValueForm::Secret => !text.is_empty() && text.len() <= 64,

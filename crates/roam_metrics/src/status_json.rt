@@ -149,10 +149,10 @@ fn write_peers<C: Counts>(out: &mut String, counts: &C, config: &Config) -> Resu
         let totals = TotalsText(Totals::of(counts, Subject::Peer(number)));
         let comma = comma(at);
         let name = peer.name.as_str();
-        let [a, b, c, d] = peer.ip;
+        let ip = peer.ip;
         write!(
             out,
-            "{comma}{{\"name\":\"{name}\",\"ip\":\"{a}.{b}.{c}.{d}\",{totals}}}"
+            "{comma}{{\"name\":\"{name}\",\"ip\":\"{ip}\",{totals}}}"
         )?;
     }
     Ok(())

@@ -201,8 +201,7 @@ fn write_peers<C: Counts>(
         let number = u16::try_from(at).unwrap_or(u16::MAX);
         let totals = Totals::of(counts, Subject::Peer(number));
         table.push(peer.name.as_str())?;
-        let [a, b, c, d] = peer.ip;
-        table.push(format_args!("{a}.{b}.{c}.{d}"))?;
+        table.push(peer.ip)?;
         table.push_numbers(&[
             totals.requests,
             totals.forwarded,

@@ -1,8 +1,9 @@
 -- The line of an exchange that ended. Ours.
-use Rattle.std.specs.Prelude.{ℕ, ◌==◌, Bool, true, false, List, [], ◌++◌, Option, Some, None, option_map, if◌then◌else◌, codes, slice_get, slice_index}
+use Rattle.std.specs.Prelude.{ℕ, ◌==◌, Bool, true, false, List, [], ◌++◌, Option, Some, None, option_map, if◌then◌else◌, codes, slice_get}
 use Rattle.std.specs.Fmt.{decimal}
 use Rattle.roam_conf.specs.Config.{ConfigView, PeerView, RealmView}
-use Rattle.roam_conf.specs.declared.endpoint.Endpoint.{Endpoint}
+use Rattle.roam_address.specs.declared.endpoint.Endpoint.{Endpoint}
+use Rattle.roam_address.specs.Endpoints.{endpoint_text}
 use Rattle.roam_conf.specs.declared.exchange_lines.ExchangeLines.{ExchangeLines}
 use Rattle.roam_conf.specs.declared.exchange_lines.ExchangeLines.TheVariants as lines
 use Rattle.roam_notices.specs.declared.exchange.RequestWord.{RequestWord}
@@ -78,14 +79,9 @@ station_text (form.Hashed key) (Some station) = codes " station=hmac:" ++ digits
 station_text form.Hidden (Some station) = codes " station=hidden"
 station_text _ None = value_text (codes " station=") None
 
-abbrev pub address_text : List ℕ → List ℕ
-address_text ip =
-    decimal (slice_index ip 0) ++ codes "." ++ decimal (slice_index ip 1) ++ codes "." ++
-    decimal (slice_index ip 2) ++ codes "." ++ decimal (slice_index ip 3)
-
 abbrev pub server_text : Option Endpoint → List ℕ
 server_text None = codes " server=" ++ codes "-"
-server_text (Some e) = codes " server=" ++ address_text e.ip ++ codes ":" ++ decimal e.port
+server_text (Some e) = codes " server=" ++ endpoint_text e
 
 abbrev pub outcome_word : ExchangeEnd → List ℕ
 outcome_word outcome.Accept = codes "accept"

@@ -2,6 +2,7 @@
 
 ghost use Rattle.std.specs.Prelude.{◌≡◌, ◌++◌, ◌<◌, OnOk};
 ghost use Rattle.std.specs.Fmt.{decimal};
+ghost use Rattle.roam_address.specs.Endpoints.{endpoint_text};
 ghost use Rattle.roam_conf.specs.Shown.{shown};
 ghost use Rattle.roam_notices.specs.Exchanges as spec;
 ghost use Rattle.roam_notices.specs.Values.{digit, is_plain, octets_if, quoted_octet, quoted_octets, shown_value, value_text};
@@ -13,6 +14,7 @@ use itoa::Buffer;
 use roam_conf::{Config, Endpoint};
 use roam_stations::StationForm;
 use std::alloc::AllocError;
+use std::io::Write;
 
 /// Adds octets to a line.
 pub(crate) fn push(line: &mut Vec<u8>, octets: &[u8]) -> Result<(), AllocError>
@@ -88,15 +90,14 @@ pub(crate) fn push_number(line: &mut Vec<u8>, key: &str, number: u64) -> Result<
     push(line, buffer.format(number).as_bytes())
 }
 
-/// Adds an address, in four decimal numbers.
-fn push_address(line: &mut Vec<u8>, ip: [u8; 4]) -> Result<(), AllocError>
-    ensures { OnOk result (line.new.items ≡ line.old.items ++ spec.address_text ip) }
+/// Adds an endpoint.
+fn push_endpoint(line: &mut Vec<u8>, endpoint: Endpoint) -> Result<(), AllocError>
+    ensures { OnOk result (line.new.items ≡ line.old.items ++ endpoint_text endpoint) }
 {
-    let [a, b, c, d] = ip;
-    push_number(line, "", u64::from(a))?;
-    push_number(line, ".", u64::from(b))?;
-    push_number(line, ".", u64::from(c))?;
-    push_number(line, ".", u64::from(d))
+    match write!(line, "{endpoint}") {
+        Ok(()) => Ok(()),
+        Err(_) => Err(AllocError),
+    }
 }
 
 /// Adds the endpoint of a server, or a hyphen where there is none.
@@ -107,8 +108,7 @@ fn push_server(line: &mut Vec<u8>, server: Option<Endpoint>) -> Result<(), Alloc
     let Some(endpoint) = server else {
         return push(line, b"-");
     };
-    push_address(line, endpoint.ip)?;
-    push_number(line, ":", u64::from(endpoint.port))
+    push_endpoint(line, endpoint)
 }
 
 /// The word of an outcome.

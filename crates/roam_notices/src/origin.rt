@@ -3,7 +3,7 @@
 ghost use Rattle.std.specs.Prelude.{◌≡◌};
 ghost use Rattle.roam_notices.specs.Origins as spec;
 
-use roam_conf::{Endpoint, Place};
+use roam_conf::{Address, Endpoint, Place};
 
 /// Where something was refused.
 #[derive(Clone, Copy, PartialEq, Eq)]
@@ -21,8 +21,8 @@ pub enum Origin {
 /// What of an origin is compared: of a datagram its place and the address that it came from, and not the port.
 #[derive(Clone, Copy, PartialEq, Eq)]
 pub enum OriginKind {
-    Source(Place, [u8; 4]),
-    UnsealedSource(Place, [u8; 4]),
+    Source(Place, Address),
+    UnsealedSource(Place, Address),
     Place(Place),
     Tick(u16),
 }

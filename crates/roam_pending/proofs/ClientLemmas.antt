@@ -10,6 +10,7 @@ use Rattle.roam_conf.specs.declared.place.Place.{Place}
 use Rattle.roam_conf.specs.declared.place.Place.TheVariants as place
 use Rattle.roam_pending.specs.declared.key.Key.{Key}
 use Rattle.roam_pending.specs.PlainEntry.{PlainEntry, PlainStanding, waiting, done, has_key, same_key, same_link, same_place, stands_at, is_done}
+use Rattle.roam_conf.proofs.EqualPartsLemmas.{endpoint_decides}
 use Rattle.roam_conf.specs.Duplicates.{same_endpoint}
 use Rattle.roam_pending.specs.EntryList.{IsInOrder, HasDistinctKeys, find_client, find_link, find_ticket, first_done, identifier_on, identifiers_on, without, without_client}
 use Rattle.roam_pending.proofs.TestLemmas.{same, differs, key_is_same, all-find}
@@ -24,15 +25,6 @@ and_left false b h = h
 and_right : (a b : Bool) → (a && b) ≡ true → b ≡ true
 and_right true b h = h
 and_right false b h = absurd (let k : false ≡ true = h in cc)
-
-octets_equal : (xs ys : List ℕ) → pointwise nat_eq xs ys ≡ true → xs ≡ ys
-octets_equal [] [] h = refl
-octets_equal [] (y ∷ ys) h = absurd (let k : false ≡ true = h in cc)
-octets_equal (x ∷ xs) [] h = absurd (let k : false ≡ true = h in cc)
-octets_equal (x ∷ xs) (y ∷ ys) h =
-    let first : x ≡ y = let t = and_left (eqb x y) (pointwise nat_eq xs ys) h in grind (arith, nat_tests, t) in
-    let rest = octets_equal xs ys (and_right (eqb x y) (pointwise nat_eq xs ys) h) in
-    cc (first, rest)
 
 place_equal : (a b : Place) → same_place a b ≡ true → a ≡ b
 place_equal place.Auth place.Auth h = refl
@@ -52,26 +44,16 @@ place_equal (place.Reverse a) place.Acct h = absurd (let k : false ≡ true = h 
 place_equal (place.Reverse a) (place.Out b) h = absurd (let k : false ≡ true = h in cc)
 place_equal (place.Reverse a) (place.Reverse b) h = let is : a ≡ b = grind (arith, nat_tests, h) in ap place.Reverse is
 
-made : Place → List ℕ → ℕ → ℕ → Key
-made at ip port id = record { place = at; from = record { ip = ip; port = port }; id = id }
-
 pub key-equal : (a b : Key) → same_key a b ≡ true → a ≡ b
-unfolding made
 key-equal a b h =
     let front = and_left (same_place a.place b.place && same_endpoint a.from b.from) (eqb a.id b.id) h in
     let socket = place_equal a.place b.place
     (and_left (same_place a.place b.place) (same_endpoint a.from b.from) front) in
-    let from = and_right (same_place a.place b.place) (same_endpoint a.from b.from) front in
-    let ip = octets_equal a.from.ip b.from.ip
-    (and_left (pointwise nat_eq a.from.ip b.from.ip) (eqb a.from.port b.from.port) from) in
-    let port : a.from.port ≡ b.from.port = let t =
-    and_right (pointwise nat_eq a.from.ip b.from.ip) (eqb a.from.port b.from.port) from in
-    grind (arith, nat_tests, t) in
+    let from = (endpoint_decides a.from b.from).0
+    (and_right (same_place a.place b.place) (same_endpoint a.from b.from) front) in
     let id : a.id ≡ b.id = let t = and_right (same_place a.place b.place && same_endpoint a.from b.from)
     (eqb a.id b.id) h in grind (arith, nat_tests, t) in
-    let whole : made a.place a.from.ip a.from.port a.id ≡ made b.place b.from.ip b.from.port b.id =
-    cc (socket, ip, port, id) in
-    whole
+    λ i. record { place = socket i; from = from i; id = id i }
 
 pub key-same : (a b : Key) → a ≡ b → same_key a b ≡ true
 key-same a b is = subst (λ (k : Key). same_key a k ≡ true) is (key_is_same a)

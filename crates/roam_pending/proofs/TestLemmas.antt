@@ -5,6 +5,7 @@ use Rattle.std.specs.List.{AllByRecursion, filter, find}
 use Rattle.std.specs.Cmp.Lexicographic.{pointwise}
 use Rattle.std.proofs.lemmas.Bool.{cases_Bool}
 use Rattle.std.proofs.lemmas.Bool.Decides.{nat_tests}
+use Rattle.roam_conf.proofs.EqualPartsLemmas.{endpoint_decides}
 use Rattle.roam_conf.specs.declared.place.Place.{Place}
 use Rattle.roam_conf.specs.declared.place.Place.TheVariants as place
 use Rattle.roam_pending.specs.declared.key.Key.{Key}
@@ -32,17 +33,10 @@ place_is_same place.Acct = refl
 place_is_same (place.Out a) = same a a refl
 place_is_same (place.Reverse a) = same a a refl
 
-octets_are_same : (xs : List ℕ) → pointwise nat_eq xs xs ≡ true
-octets_are_same [] = refl
-octets_are_same (x ∷ xs) = rw (same x x refl) (octets_are_same xs)
-
 -- a key is the same as itself
 pub key_is_same : (k : Key) → same_key k k ≡ true
-key_is_same k = rw (
-  place_is_same k.place,
-  octets_are_same k.from.ip,
-  same k.from.port k.from.port refl,
-) (same k.id k.id refl)
+key_is_same k =
+    rw (place_is_same k.place, (endpoint_decides k.from k.from).1 refl) (same k.id k.id refl)
 
 -- what holds of each element holds of each that is kept
 pub all-filter :

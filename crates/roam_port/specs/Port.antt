@@ -1,6 +1,6 @@
 -- What is asked of a socket, and what it answers (ours).
 use Rattle.std.specs.Prelude.{◌≡◌, ℕ, List, [], ◌∷◌, ◌++◌, take, Option, Some, None, option_map, Result, Ok, Err}
-use Rattle.roam_conf.specs.declared.endpoint.Endpoint.{Endpoint}
+use Rattle.roam_address.specs.declared.endpoint.Endpoint.{Endpoint}
 use Rattle.roam_port.specs.declared.port.SendFault.{SendFault}
 
 -- ## Call of a port

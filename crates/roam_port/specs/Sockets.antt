@@ -1,7 +1,7 @@
 -- Which socket is which place's, by its number: `auth`, `acct`, then `out` and `reverse` of each
 -- realm; the number of a `reverse` that isn't there is nobody's (ours).
 use Rattle.std.specs.Prelude.{ℕ, ◌+◌, ◌*◌, ◌%◌, List, Bool, true, false, Option, Some, option_map, option_and_then, slice_get}
-use Rattle.roam_conf.specs.declared.endpoint.Endpoint.{Endpoint}
+use Rattle.roam_address.specs.declared.endpoint.Endpoint.{Endpoint}
 use Rattle.roam_conf.specs.declared.place.Place.{Place}
 use Rattle.roam_conf.specs.declared.place.Place.TheVariants as place
 use Rattle.roam_conf.specs.Config.{ConfigView}

@@ -1,6 +1,9 @@
 -- What a test of equality that fails or holds says of what it compares.
 use Rattle.std.proofs.Common.{◌≡◌, ◌∙◌, Bool, true, false, not, Decides, refl, sym, ap}
 use Rattle.std.proofs.lemmas.Bool.{true≢false}
+use Rattle.roam_address.specs.declared.endpoint.Endpoint.{Endpoint}
+use Rattle.roam_conf.proofs.EqualPartsLemmas.{endpoint_decides}
+use Rattle.roam_conf.specs.Duplicates.{same_endpoint}
 
 -- the test fails: they differ
 pub differs : {A : Type 0} (x y : A) (same test : Bool) → Decides same (x ≡ y) → test ≡ not same → test ≡ true →
@@ -14,3 +17,10 @@ unnot false e = absurd (true≢false e)
 -- the test holds: they are equal
 pub agrees : {A : Type 0} (x y : A) (same test : Bool) → Decides same (x ≡ y) → test ≡ not same → test ≡ false → y ≡ x
 agrees x y same test decides is no' = sym (decides.0 (unnot same (sym is ∙ no')))
+
+-- endpoints that are the same by the test are one, and others aren't
+pub same_endpoints : (a b : Endpoint) → same_endpoint a b ≡ true → a ≡ b
+same_endpoints a b is = (endpoint_decides a b).0 is
+
+pub other_endpoints : (a b : Endpoint) → same_endpoint a b ≡ false → a ≡ b → ⊥
+other_endpoints a b no' is = true≢false (sym ((endpoint_decides a b).1 is) ∙ no')

@@ -2,7 +2,7 @@
 use Rattle.std.specs.Prelude.{◌||◌, Bool}
 use Rattle.roam_conf.specs.Config.{ConfigView}
 use Rattle.roam_conf.specs.Duplicates.{is_among}
-use Rattle.roam_conf.specs.declared.endpoint.Endpoint.{Endpoint}
+use Rattle.roam_address.specs.declared.endpoint.Endpoint.{Endpoint}
 use Rattle.roam_reload.specs.Reload.{endpoints_of}
 use Rattle.roam_reload.specs.declared.kind.PlaceKind.{PlaceKind}
 use Rattle.roam_reload.specs.declared.kind.PlaceKind.TheVariants.{Auth, Acct, Out, Reverse}

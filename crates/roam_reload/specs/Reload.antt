@@ -3,7 +3,7 @@ use Rattle.std.specs.Prelude.{◌≡◌, ℕ, ◌<◌, ◌≤◌, true, false, L
 use Rattle.std.specs.List.{filter_map}
 use Rattle.roam_conf.specs.Config.{ConfigView, PeerView, RealmView}
 use Rattle.roam_conf.specs.Duplicates.{is_among}
-use Rattle.roam_conf.specs.declared.endpoint.Endpoint.{Endpoint}
+use Rattle.roam_address.specs.declared.endpoint.Endpoint.{Endpoint}
 use Rattle.roam_reload.specs.declared.kind.PlaceKind.{PlaceKind}
 use Rattle.roam_reload.specs.declared.kind.PlaceKind.TheVariants.{Auth, Acct, Out, Reverse}
 

@@ -93,6 +93,7 @@ fn other_difference(old: &Realm, new: &Realm) -> Option<RealmKey>
 }
 
 /// Whether two realms take reverse requests at one endpoint, or neither takes them.
+#[tactic(auto, using(crate::proofs::DifferenceLemmas::same_endpoints, crate::proofs::DifferenceLemmas::other_endpoints))]
 fn is_same_reverse(a: Option<Endpoint>, b: Option<Endpoint>) -> bool
     ensures same { IsTrue result → a ≡ b }
     ensures other { IsFalse result → a ≢ b }

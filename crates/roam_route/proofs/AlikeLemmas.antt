@@ -15,7 +15,8 @@ use Rattle.roam_conf.specs.Lookup.{realm_named, peer_with_ip}
 use Rattle.roam_conf.specs.Secrets as secrets
 use Rattle.roam_conf.specs.declared.accounting.Accounting.{Accounting}
 use Rattle.roam_conf.specs.declared.accounting.Accounting.TheVariants.{Forwarded, Answered, Dropped}
-use Rattle.roam_conf.specs.declared.endpoint.Endpoint.{Endpoint}
+use Rattle.roam_address.specs.declared.address.Address.{Address}
+use Rattle.roam_address.specs.declared.endpoint.Endpoint.{Endpoint}
 use Rattle.roam_conf.specs.declared.place.Place.{Place}
 use Rattle.roam_conf.specs.declared.place.Place.TheVariants as place
 use Rattle.roam_route.specs.UserName.{realm_of, realm_part}
@@ -212,5 +213,5 @@ module _ (one other : ConfigView) (same : LooksAlike one other) where
   secret-same i = ap (λ (ps : List PeerView). secrets.peer_secret ps i) same.peers
 
   -- and which peer it is
-  pub peer-found : (ip : List ℕ) → peer_with_ip one.peers ip ≡ peer_with_ip other.peers ip
+  pub peer-found : (ip : Address) → peer_with_ip one.peers ip ≡ peer_with_ip other.peers ip
   peer-found ip = ap (λ (ps : List PeerView). peer_with_ip ps ip) same.peers

@@ -14,7 +14,8 @@ use Rattle.roam_conf.specs.Lookup.{realm_named, link_in, home_in}
 use Rattle.roam_conf.specs.Secrets as secrets
 use Rattle.std.specs.Option.{option_map_or}
 use Rattle.roam_conf.specs.declared.accounting.Accounting.{Accounting}
-use Rattle.roam_conf.specs.declared.endpoint.Endpoint.{Endpoint}
+use Rattle.roam_address.specs.declared.address.Address.{Address}
+use Rattle.roam_address.specs.declared.endpoint.Endpoint.{Endpoint}
 use Rattle.roam_conf.specs.declared.place.Place.{Place}
 use Rattle.roam_conf.specs.declared.place.Place.TheVariants as place
 use Rattle.roam_fwd.specs.Forwarded.{forwarded_length}
@@ -240,7 +241,7 @@ module _ (one other : ConfigView) (realm : ℕ) (same : HaveSamePart one other r
   link-found : (from : Endpoint) → link_in one realm from ≡ link_in other realm from
   link-found from = rw (same.peers, same.entry) refl
 
-  home-found : (ip : List ℕ) → home_in one realm ip ≡ home_in other realm ip
+  home-found : (ip : Address) → home_in one realm ip ≡ home_in other realm ip
   home-found ip = rw same.entry refl
 
   place-same : (at : Place) (from : Endpoint) (octets : List ℕ) (seconds : Option ℕ) (p : Packet) → let a : Arrival =

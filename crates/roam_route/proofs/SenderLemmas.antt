@@ -12,30 +12,11 @@ use Rattle.roam_conf.specs.declared.place.Link.{Link}
 use Rattle.roam_conf.specs.declared.place.Place.TheVariants as place
 use Rattle.roam_conf.proofs.LookupLaws.{realm_named_within}
 use Rattle.roam_conf.proofs.OneLinkLemmas.{link_in_bound, home_in_bound}
+use Rattle.roam_conf.proofs.PrefixLemmas.{peer_with_ip_within}
 use Rattle.roam_route.specs.UserName.{realm_of, realm_part}
 use Rattle.roam_route.specs.Admission.{Arrival, sender}
 use Rattle.roam_route.specs.Events.{IsConfigured}
 use Rattle.roam_route.specs.declared.job.Side.TheVariants as side
-
-either_some : (b : Bool) (i x : ℕ) (rest : Option ℕ) → cond b (Some i) rest ≡ Some x
-    → (i ≡ x) ⊎ (rest ≡ Some x)
-either_some true i x rest h = inl (cc)
-either_some false i x rest h = inr h
-
--- a place that is found lies within the list
-position_within : {K : Type 0} → (test : K → Bool) (i : ℕ) (xs : List K) (x : ℕ)
-    → position_from test i xs ≡ Some x → x < i + length xs
-position_within test i [] x h = absurd (cc)
-position_within test i (y ∷ ys) x h =
-    elim (either_some (test y) i x (position_from test (i + 1) ys) h) [
-      | inl same ↦ omega arith
-      | inr later ↦ let within = position_within test (i + 1) ys x later in omega arith
-    ]
-
-peer_within : (peers : List PeerView) (ip : List ℕ) (i : ℕ) → peer_with_ip peers ip ≡ Some i
-    → i < length peers
-unfolding peer_with_ip
-peer_within peers ip i h = let within = position_within _ 0 peers i h in omega arith
 
 -- the realm that a request names is configured
 pub realm_of_within : (config : ConfigView) (attributes : List Attribute) (x : ℕ)
@@ -71,7 +52,7 @@ pub peer_known : (config : ConfigView) (a : Arrival) (i : ℕ)
     → option_map (λ n. side.Peer n) (peer_with_ip config.peers a.from.ip) ≡ Some (side.Peer i)
     → i < length config.peers
 peer_known config a i from =
-    peer_within config.peers a.from.ip i (peer_found (peer_with_ip config.peers a.from.ip) i from)
+    peer_with_ip_within config.peers a.from.ip i (peer_found (peer_with_ip config.peers a.from.ip) i from)
 
 -- a link, and the realm of its place
 pub link_known : (config : ConfigView) (a : Arrival) (realm : ℕ) (l : Link)

@@ -1,6 +1,6 @@
 -- What arrives, what a realm is given, and what leaves (RFC 2865, section 3; ours).
 use Rattle.std.specs.Prelude.{ℕ, List, Option}
-use Rattle.roam_conf.specs.declared.endpoint.Endpoint.{Endpoint}
+use Rattle.roam_address.specs.declared.endpoint.Endpoint.{Endpoint}
 use Rattle.roam_conf.specs.declared.place.Place.{Place}
 use Rattle.roam_route.specs.declared.job.Side.{Side}
 

@@ -10,9 +10,10 @@ use Rattle.std.specs.Prelude.{codes, IsOk, IsTrue, ◌↔◌, ◌%◌}
 use Rattle.hex.specs.Hex.{decode_of, is_hex_digit}
 use Rattle.hex.specs.declared.error.FromHexError.{FromHexError}
 use Rattle.hex.proofs.HexLemmas.{decode_of-digits, decode_of-ok}
-use Rattle.roam_conf.specs.Texts.{endpoint_in, parts}
+use Rattle.roam_address.specs.Texts.{endpoint_in}
+use Rattle.roam_conf.specs.Texts.{parts}
 use Rattle.roam_conf.specs.declared.place.Place.{Place}
-use Rattle.roam_conf.specs.declared.endpoint.Endpoint.{Endpoint}
+use Rattle.roam_address.specs.declared.endpoint.Endpoint.{Endpoint}
 use Rattle.roam_conf.proofs.TextLemmas.{decimal_part, one_part}
 use Rattle.roam_sim.specs.Script.{times_in, times_of, with_seconds, index_in, moment_in, place_in, datagram_in, realm_place, realm_place_of, arrival, arrival_of, tick, tick_of}
 

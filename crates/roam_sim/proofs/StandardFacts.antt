@@ -3,7 +3,11 @@ use Rattle.std.proofs.Common.{◌≡◌, [], ◌∷◌, Some, Err, refl}
 use Rattle.std.specs.Prelude.{codes}
 use Rattle.std.specs.Fmt.{digits}
 use Rattle.hex.specs.Hex.{decode_pairs, encode_with}
-use Rattle.roam_conf.specs.Texts.{is_decimal, decimal_in, parts, address_in, endpoint_in}
+use Rattle.roam_address.specs.Decimals.{is_decimal, decimal_in}
+use Rattle.std.specs.declared.net.ip_addr.IpAddr.TheVariants.{V4}
+use Rattle.std.specs.Net.Reader.{read_ipv4, read_number, read_octet}
+use Rattle.roam_address.specs.Texts.{host_in, endpoint_in}
+use Rattle.roam_conf.specs.Texts.{parts}
 use Rattle.roam_conf.specs.declared.place.Place.TheVariants as place
 use Rattle.roam_core.specs.Events.{arrives, ticks}
 use Rattle.roam_sim.specs.Script.{states, faulty, place_in, datagram_in, line_states, script_states}
@@ -18,10 +22,11 @@ tick_line = refl
 arrival_line : line_states (codes "A 0 out:1 192.0.2.1:5000 0aFF")
     ≡ states (arrives 0 (record {
       at = place.Out 1;
-      from = record { ip = 192 ∷ 0 ∷ 2 ∷ 1 ∷ []; port = 5000 };
+      from = record { ip = record { ip = V4 (record { octets = 192 ∷ 0 ∷ 2 ∷ 1 ∷ [] }) }; port = 5000 };
       octets = 10 ∷ 255 ∷ [];
     }))
-unfolding line_states parts decimal_in is_decimal place_in address_in endpoint_in datagram_in decode_pairs
+unfolding line_states parts decimal_in is_decimal place_in endpoint_in host_in read_ipv4 read_octet read_number
+    datagram_in decode_pairs
 arrival_line = refl
 
 -- a carriage return is part of the last field
@@ -35,7 +40,7 @@ unfolding script_states line_states parts decimal_in is_decimal
 third_line = refl
 
 -- a packet that leaves for realm 0
-printed_packet : packet_line (Some 0) (place.Out 0) (record { ip = 198 ∷ 51 ∷ 100 ∷ 1 ∷ []; port = 1812 })
-    (1 ∷ 0 ∷ 0 ∷ 61 ∷ []) ≡ codes "0 out:0 198.51.100.1:1812 0100003d\n"
+printed_packet : packet_line (Some 0) (place.Out 0)
+    (record { ip = record { ip = V4 (record { octets = 198 ∷ 51 ∷ 100 ∷ 1 ∷ [] }) }; port = 1812 }) (1 ∷ 0 ∷ 0 ∷ 61 ∷ []) ≡ codes "0 out:0 198.51.100.1:1812 0100003d\n"
 unfolding digits encode_with
 printed_packet = refl

@@ -6,7 +6,7 @@
 ghost use Rattle.std.specs.Prelude.{◌≤◌, length, OnOk};
 ghost use Rattle.std.specs.Io.KnownBytes.{Appends};
 ghost use Rattle.hex.specs.Hex.{encode_lower};
-ghost use Rattle.roam_conf.specs.Texts.{endpoint_text};
+ghost use Rattle.roam_address.specs.Endpoints.{endpoint_text};
 ghost use Rattle.roam_sim.specs.Lines.{realm_text, place_text, packet_line};
 
 use roam_conf::{Endpoint, Place};
@@ -33,7 +33,7 @@ fn print_place<W: Write>(writer: &mut W, place: Place) -> io::Result<()>
     }
 }
 
-/// Prints an endpoint: the four numbers of its address joined by dots, a colon and the port.
+/// Prints an endpoint: its address, that of IPv6 in brackets, a colon and the port.
 ///
 /// # Errors
 ///

@@ -1,7 +1,7 @@
 -- Which socket is whose: those that are bound for a configuration, and those that a thread has of them. Ours.
 use Rattle.std.specs.Prelude.{◌≡◌, ◌⊎◌, ℕ, ◌<◌, ◌==◌, List, [], ◌∷◌, ◌++◌, false, ⊤, Some, Contains, length, slice_get}
 use Rattle.std.specs.List.{filter}
-use Rattle.roam_conf.specs.declared.endpoint.Endpoint.{Endpoint}
+use Rattle.roam_address.specs.declared.endpoint.Endpoint.{Endpoint}
 use Rattle.roam_conf.specs.declared.place.Place.{Place}
 use Rattle.roam_conf.specs.Config.{ConfigView}
 use Rattle.roam_port.specs.Sockets.{socket_endpoint, socket_number}

@@ -8,8 +8,7 @@ ghost use Rattle.roam_sockets.specs.Faults.{IsFaultOf};
 
 use crate::descriptors::descriptors_wanted;
 use crate::fault::{ServeFault, reason_of};
-use crate::options::{address_octets, set_option};
-use crate::socket::socket_address;
+use crate::options::{bind_to, family_of, set_option};
 use os::FromRawFd;
 use roam_conf::{Config, Endpoint, Place, is_same_endpoint};
 use roam_port::{endpoint_of, place_of, socket_numbers, worker_of};
@@ -32,33 +31,44 @@ pub struct BoundSocket {
     pub socket: UdpSocket,
 }
 
-/// A socket that doesn't wait.
-fn bind<R: Net>(rt: &R, endpoint: Endpoint) -> io::Result<UdpSocket> {
-    let socket = UdpSocket::bind(rt, socket_address(endpoint))?;
-    socket.set_nonblocking(true)?;
-    Ok(socket)
-}
-
-/// A socket for datagrams that isn't bound yet, and doesn't wait.
-fn unbound() -> io::Result<UdpSocket> {
+/// A socket for datagrams of an endpoint's kind that isn't bound yet, and doesn't wait.
+fn unbound(endpoint: Endpoint) -> io::Result<UdpSocket> {
     let kind = libc::net::SOCK_DGRAM | libc::net::SOCK_CLOEXEC | libc::net::SOCK_NONBLOCK;
-    let fd = unsafe { libc::net::socket(libc::net::AF_INET, kind, 0) };
+    let fd = unsafe { libc::net::socket(family_of(endpoint), kind, 0) };
     if fd < 0 {
         return Err(io::Error::from_raw_os_error(os::errno()));
     }
     Ok(unsafe { UdpSocket::from_raw_fd(fd) })
 }
 
+/// A socket of IPv6 that doesn't wait.
+fn bind_ipv6(endpoint: Endpoint) -> io::Result<UdpSocket> {
+    let socket = unbound(endpoint)?;
+    if !bind_to(socket.as_raw_fd(), endpoint) {
+        return Err(io::Error::from_raw_os_error(os::errno()));
+    }
+    Ok(socket)
+}
+
+/// A socket that doesn't wait.
+fn bind<R: Net>(rt: &R, endpoint: Endpoint) -> io::Result<UdpSocket> {
+    if endpoint.ip.is_ipv6() {
+        return bind_ipv6(endpoint);
+    }
+    let socket = UdpSocket::bind(rt, endpoint.socket_address())?;
+    socket.set_nonblocking(true)?;
+    Ok(socket)
+}
+
 /// A socket that doesn't wait, beside which others may be bound to the same endpoint: the system picks the
 /// one to which a datagram goes by its source.
 fn bind_beside(endpoint: Endpoint) -> io::Result<UdpSocket> {
-    let socket = unbound()?;
+    let socket = unbound(endpoint)?;
     let fd = socket.as_raw_fd();
     if !set_option(fd, libc::net::SO_REUSEPORT, 1) {
         return Err(io::Error::from_raw_os_error(os::errno()));
     }
-    let address = address_octets(endpoint);
-    if unsafe { libc::net::bind(fd, &address, 16) } != 0 {
+    if !bind_to(fd, endpoint) {
         return Err(io::Error::from_raw_os_error(os::errno()));
     }
     Ok(socket)
@@ -66,7 +76,7 @@ fn bind_beside(endpoint: Endpoint) -> io::Result<UdpSocket> {
 
 /// Whether a socket can be bound to the endpoint of which several are to be bound: nobody else has one there.
 fn is_free<R: Net>(rt: &R, endpoint: Endpoint) -> io::Result<()> {
-    UdpSocket::bind(rt, socket_address(endpoint))?;
+    bind(rt, endpoint)?;
     Ok(())
 }
 

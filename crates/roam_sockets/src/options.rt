@@ -1,10 +1,10 @@
 //! What is asked of a socket by its number: options, room, and an address as the system takes it.
 
-ghost use Rattle.std.specs.Prelude.{pos};
-ghost use Rattle.libc.specs.Net.{SockOption};
+ghost use Rattle.std.specs.Prelude.{◌≤◌, pos};
+ghost use Rattle.libc.specs.Net.{Family, SockOption};
 
 use roam_conf::Endpoint;
-use std::net::UdpSocket;
+use std::net::{IpAddr, UdpSocket};
 use std::os::fd::{AsRawFd, RawFd};
 
 /// What a socket is to have room for, in octets that arrived.
@@ -22,14 +22,55 @@ pub fn set_option(fd: RawFd, name: i32, number: u32) -> bool
     unsafe { libc::net::setsockopt(fd, libc::net::SOL_SOCKET, name, &value, 4) == 0 }
 }
 
-/// The octets of an endpoint's address, as the system takes them.
-pub fn address_octets(endpoint: Endpoint) -> [u8; 128] {
+/// Makes a socket of IPv6 one for IPv6 alone, whatever the system would do.
+fn set_ipv6_only(fd: RawFd) -> bool {
+    let mut value = [0u8; 16];
+    value[..4].copy_from_slice(&1u32.to_ne_bytes());
+    unsafe {
+        let level = libc::net::IPPROTO_IPV6;
+        let name = libc::net::IPV6_V6ONLY;
+        libc::net::setsockopt(fd, level, name, &value, 4) == 0
+    }
+}
+
+/// The kind of an endpoint's address, as the system takes it.
+pub fn family_of(endpoint: Endpoint) -> i32
+    ensures { Family result }
+{
+    if endpoint.ip.is_ipv6() {
+        libc::net::AF_INET6
+    } else {
+        libc::net::AF_INET
+    }
+}
+
+/// The octets of an endpoint's address, as the system takes them, and how many of them those are.
+fn address_octets(endpoint: Endpoint) -> ([u8; 128], u32)
+    ensures { result.1 ≤ 128 }
+{
     let mut octets = [0u8; 128];
-    let family = (libc::net::AF_INET as u16).to_ne_bytes();
+    let family = (family_of(endpoint) as u16).to_ne_bytes();
     octets[..2].copy_from_slice(&family);
     octets[2..4].copy_from_slice(&endpoint.port.to_be_bytes());
-    octets[4..8].copy_from_slice(&endpoint.ip);
-    octets
+    match endpoint.ip.ip() {
+        IpAddr::V4(ip) => {
+            octets[4..8].copy_from_slice(&ip.octets());
+            (octets, 16)
+        }
+        IpAddr::V6(ip) => {
+            octets[8..24].copy_from_slice(&ip.octets());
+            (octets, 28)
+        }
+    }
+}
+
+/// Binds a socket of the endpoint's kind to the endpoint; one of IPv6 is then for IPv6 alone. Answers whether it was bound.
+pub fn bind_to(fd: RawFd, endpoint: Endpoint) -> bool {
+    if endpoint.ip.is_ipv6() && !set_ipv6_only(fd) {
+        return false;
+    }
+    let (address, size) = address_octets(endpoint);
+    unsafe { libc::net::bind(fd, &address, size) == 0 }
 }
 
 /// Asks for room for what arrives and what leaves, and answers how many octets that arrived the system gives

@@ -1,12 +1,12 @@
 //! A socket of the system as a port.
 
-ghost use Rattle.std.specs.Prelude.{◌≡◌};
+ghost use Rattle.std.specs.Prelude.{◌≡◌, IfSome};
 ghost use Rattle.roam_sockets.specs.SocketErrors as spec;
 
 use roam_conf::Endpoint;
 use roam_port::{Port, PortFault, SendFault};
 use std::io::ErrorKind;
-use std::net::{Ipv4Addr, SocketAddr, UdpSocket};
+use std::net::{SocketAddr, UdpSocket};
 use std::os::fd::{AsRawFd, RawFd};
 
 /// How often a receive that a signal interrupts is made again before it counts as failed.
@@ -88,9 +88,14 @@ impl<'s> Socket<'s> {
     }
 }
 
-/// The address of an endpoint, as the system takes it.
-pub fn socket_address(endpoint: Endpoint) -> SocketAddr {
-    SocketAddr::from((Ipv4Addr::from(endpoint.ip), endpoint.port))
+/// A datagram of so many octets, with its source, where that has an address here.
+fn received(size: usize, from: SocketAddr) -> Option<(usize, Endpoint)>
+    ensures { IfSome result (λ got. got.0 ≡ size) }
+{
+    match Endpoint::from_socket_address(from) {
+        Some(from) => Some((size, from)),
+        None => None,
+    }
 }
 
 impl Port for Socket<'_> {
@@ -99,17 +104,11 @@ impl Port for Socket<'_> {
     // The system keeps no account of its calls.
     ghost calls = { λ _. None };
 
+    // Sockets of IPv6 are for IPv6 alone, so no source stands for an address of IPv4.
     fn receive(&mut self, buffer: &mut [u8]) -> Result<Option<(usize, Endpoint)>, PortFault> {
         for _ in 0..TRIES {
             match self.socket.recv_from(buffer) {
-                Ok((size, SocketAddr::V4(from))) => {
-                    let from = Endpoint {
-                        ip: from.ip().octets(),
-                        port: from.port(),
-                    };
-                    return Ok(Some((size, from)));
-                }
-                Ok((_, SocketAddr::V6(_))) => return Ok(None),
+                Ok((size, from)) => return Ok(received(size, from)),
                 Err(error) => match said_by(error.kind()) {
                     Failed::NothingThere => return Ok(None),
                     Failed::Wrong => return Err(PortFault),
@@ -121,7 +120,7 @@ impl Port for Socket<'_> {
     }
 
     fn send(&mut self, to: Endpoint, octets: &[u8]) -> Result<(), SendFault> {
-        match self.socket.send_to(octets, socket_address(to)) {
+        match self.socket.send_to(octets, to.socket_address()) {
             Ok(_) => Ok(()),
             Err(error) => Err(send_fault_of(error.kind())),
         }

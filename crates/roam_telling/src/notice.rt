@@ -4,7 +4,7 @@ ghost use Rattle.std.specs.Prelude.{◌≡◌};
 ghost use Rattle.roam_telling.specs.Notices.{notices_in};
 
 use log::{Log, info, warn};
-use roam_conf::{Config, Endpoint, Link, Realm};
+use roam_conf::{Address, Config, Endpoint, Link, Realm};
 use roam_notices::{RefusalCount, RefusedText, TurnedAway, TurnedAwayText};
 use roam_port::LossCause;
 use roam_sockets::Reason;
@@ -59,7 +59,7 @@ struct LinkText<'c> {
 
 /// What isn't configured.
 const NOWHERE: Endpoint = Endpoint {
-    ip: [0; 4],
+    ip: Address::from_ipv4_octets([0; 4]),
     port: 0,
 };
 

@@ -1,6 +1,6 @@
 -- What the stored form of a step stands for (ours).
 use Rattle.std.specs.Prelude.{◌≡◌, ℕ, List, [], ◌∷◌, Option, None}
-use Rattle.roam_conf.specs.declared.endpoint.Endpoint.{Endpoint}
+use Rattle.roam_address.specs.declared.endpoint.Endpoint.{Endpoint}
 use Rattle.roam_conf.specs.declared.place.Place.{Place}
 use Rattle.roam_route.specs.Admission.{PlainOut}
 use Rattle.roam_core.specs.Events.{PlainEvent, arrives, ticks}

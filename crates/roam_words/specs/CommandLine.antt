@@ -1,6 +1,6 @@
 -- What a command line asks for, by the words after the program's name. Ours.
 use Rattle.std.specs.Prelude.{◌≡◌, ◌⊎◌, ℕ, List, [], ◌∷◌, codes, Option, Some, None, slice_get}
-use Rattle.roam_conf.specs.Texts.{decimal_in}
+use Rattle.roam_address.specs.Decimals.{decimal_in}
 use Rattle.roam_words.specs.declared.command_line.ControlOrder.{ControlOrder}
 use Rattle.roam_words.specs.declared.command_line.ControlOrder.TheVariants as order
 

@@ -4,8 +4,8 @@ use Rattle.std.specs.Prelude.{◌≡◌, ℕ, ◌==◌, if◌then◌else◌, Lis
 use Rattle.std.specs.Fmt.{decimal}
 use Rattle.std.specs.Io.KnownBytes.{Appends}
 use Rattle.roam_diagnosis.specs.Lines.{IsDiagnosis, printed}
-use Rattle.roam_conf.specs.declared.endpoint.Endpoint.{Endpoint}
-use Rattle.roam_conf.specs.Texts.{endpoint_text}
+use Rattle.roam_address.specs.declared.endpoint.Endpoint.{Endpoint}
+use Rattle.roam_address.specs.Endpoints.{endpoint_text}
 use Rattle.roam_conf_reader.specs.FaultNames.{name_of}
 use Rattle.roam_sockets.specs.declared.fault.SocketPath.{SocketPath}
 use Rattle.roam_sockets.specs.declared.fault.ServeFault.{ServeFault}

@@ -14,7 +14,7 @@ ghost use Rattle.roam_ids.specs.LaneState.{is_used};
 ghost use Rattle.roam_ids.specs.NextIdentifier.{next_identifier};
 
 use roam_auth::{message_ok, request_ok, response_ok};
-use roam_conf::{Config, Peer};
+use roam_conf::{Address, Config, Peer};
 use roam_hide::{HidingKey, password_fits, rehide_password};
 use roam_ids::Lane;
 use roam_wire::View;
@@ -67,7 +67,7 @@ pub fn admit(lane: &mut Lane, ticket: u64) -> Option<u8>
 
 /// Whether an accounting request is signed by the peer of this address. That the peer's secret has
 /// 1 to 64 octets is the configuration's invariant: nothing here tests it.
-pub fn is_signed_by_peer(config: &Config, ip: [u8; 4], request: &View<'_>) -> bool {
+pub fn is_signed_by_peer(config: &Config, ip: Address, request: &View<'_>) -> bool {
     match config.peer_by_ip(ip) {
         Some(peer) => is_signed_by(&config.peers[usize::from(peer)], request),
         None => false,

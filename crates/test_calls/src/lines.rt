@@ -1,18 +1,18 @@
 //! The lines of packets.
 
-use roam_conf::{Endpoint, Place};
+use roam_conf::{Address, Endpoint, Place};
 use roam_sim::print_packet;
 use std::alloc::Global;
 use std::io;
 use std::process::Abort;
 
 const NAS: Endpoint = Endpoint {
-    ip: [192, 0, 2, 1],
+    ip: Address::from_ipv4_octets([192, 0, 2, 1]),
     port: 5000,
 };
 
 const SERVER: Endpoint = Endpoint {
-    ip: [198, 51, 100, 1],
+    ip: Address::from_ipv4_octets([198, 51, 100, 1]),
     port: 1812,
 };
 

@@ -3,7 +3,7 @@
 use crate::statement_tests::STATED;
 use log::Log;
 use roam_commands::{Reason, ServeFault, command};
-use roam_conf::Endpoint;
+use roam_conf::{Address, Endpoint};
 use roam_words::Fault;
 use std::io::{ErrorKind, Write};
 use std::net::Net;
@@ -569,7 +569,7 @@ pub(crate) fn a_fault_that_cannot_be_told_keeps_its_status<
 }
 
 const AUTH: Endpoint = Endpoint {
-    ip: [127, 0, 0, 1],
+    ip: Address::from_ipv4_octets([127, 0, 0, 1]),
     port: 11812,
 };
 

@@ -1,6 +1,6 @@
 //! The sample documents, what a change makes of them, and the fault that each has.
 
-use roam_conf::{Config, Endpoint};
+use roam_conf::{Address, Config, Endpoint, Prefix};
 use roam_conf_reader::{ConfFault, read_config};
 use std::alloc::Global;
 use std::process::Abort;
@@ -43,10 +43,20 @@ pub type Document = (
     Option<ConfFault>,
 );
 
+/// The IPv4 address of these octets.
+pub const fn v4(octets: [u8; 4]) -> Address {
+    Address::from_ipv4_octets(octets)
+}
+
+/// The prefix that has this IPv4 address alone.
+pub fn alone(octets: [u8; 4]) -> Prefix {
+    Prefix::of(v4(octets))
+}
+
 /// An endpoint of a home server.
 pub fn home_server(last: u8, port: u16) -> Endpoint {
     Endpoint {
-        ip: [198, 51, 100, last],
+        ip: v4([198, 51, 100, last]),
         port,
     }
 }

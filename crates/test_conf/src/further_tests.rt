@@ -1,7 +1,7 @@
 //! The further keys of peers and realms, their ranges and their faults.
 
 use crate::documents::{
-    AS_IT_IS, Change, Document, SECOND_PEER, config_of, expect_changes, expect_documents,
+    AS_IT_IS, Change, Document, SECOND_PEER, config_of, expect_changes, expect_documents, v4,
 };
 use roam_conf::{Config, Realm};
 use roam_conf_reader::ConfFault;
@@ -213,7 +213,7 @@ pub(crate) fn the_further_keys_are_read<R: Abort + AllocGlobal>(rt: &R) -> Resul
     let config = config_of(rt.alloc(), &ALL)?;
     assert!(rt; limits(&config) == (Some(195), Some(300)));
     assert!(rt; said(&config.realms[0]) == (Some(7), [true, true, true], 2));
-    assert!(rt; config.realms[0].coa_clients[1].ip == [1, 2, 3, 4]);
+    assert!(rt; config.realms[0].coa_clients[1].ip == v4([1, 2, 3, 4]));
     assert!(rt; config.realms[0].coa_clients[0].secret() == b"pc".as_slice());
     assert!(rt; config.peers[0].nas_ids[1].as_str() == "ap-*");
     let config = config_of(rt.alloc(), &[TOP, PEER, REALM, SERVER])?;

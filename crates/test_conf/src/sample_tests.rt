@@ -1,7 +1,7 @@
 //! What is read from documents that are accepted, and what is found in it.
 
-use crate::documents::{SAMPLE, SECOND_PEER, changed, config_of, home_server};
-use roam_conf::{Config, Endpoint, Link, Peer, Realm};
+use crate::documents::{SAMPLE, SECOND_PEER, alone, changed, config_of, home_server, v4};
+use roam_conf::{Config, Endpoint, Link, Peer, Prefix, Realm};
 use roam_conf_reader::read_config;
 use std::alloc::Global;
 use std::process::Abort;
@@ -13,13 +13,13 @@ use test_fixtures::configuration::{
 /// An endpoint of the broker's own.
 fn own(port: u16) -> Endpoint {
     Endpoint {
-        ip: [127, 0, 0, 1],
+        ip: v4([127, 0, 0, 1]),
         port,
     }
 }
 
 const COA: Endpoint = Endpoint {
-    ip: [192, 0, 2, 1],
+    ip: v4([192, 0, 2, 1]),
     port: 3799,
 };
 
@@ -114,15 +114,15 @@ pub(crate) fn a_realm_may_take_no_reverse_requests<R: Abort + AllocGlobal>(
 ) -> Result<(), Fail> {
     let config = config_of(rt.alloc(), &LEAST)?;
     assert!(rt; config.realms[0].reverse.is_none());
-    assert!(rt; config.home_of(0, [198, 51, 100, 1]).is_none());
+    assert!(rt; config.home_of(0, v4([198, 51, 100, 1])).is_none());
     let config = config_of(rt.alloc(), &LEAST_WITH_REVERSE)?;
     assert!(rt; config.realms[0].max_sessions == 20000);
-    assert!(rt; config.home_of(0, [198, 51, 100, 1]) == Some(0));
+    assert!(rt; config.home_of(0, v4([198, 51, 100, 1])) == Some(0));
     Ok(())
 }
 
 /// What a peer has besides its name and secret.
-fn others(peer: &Peer) -> ([u8; 4], Option<Endpoint>, Option<[u8; 4]>, bool, bool) {
+fn others(peer: &Peer) -> (Prefix, Option<Endpoint>, Option<[u8; 4]>, bool, bool) {
     (
         peer.ip,
         peer.coa,
@@ -143,8 +143,14 @@ pub(crate) fn the_keys_of_peers_are_read<R: Abort + AllocGlobal>(rt: &R) -> Resu
         SERVER,
     ];
     let config = config_of(rt.alloc(), &parts)?;
-    let first = ([192, 0, 2, 1], Some(COA), Some([192, 0, 2, 1]), true, false);
-    let second = ([192, 0, 2, 2], None, None, false, true);
+    let first = (
+        alone([192, 0, 2, 1]),
+        Some(COA),
+        Some([192, 0, 2, 1]),
+        true,
+        false,
+    );
+    let second = (alone([192, 0, 2, 2]), None, None, false, true);
     let found = others(config.peers.get(1).expect(rt, "a second peer"));
     assert!(rt; (others(&config.peers[0]), found) == (first, second));
     Ok(())
@@ -179,9 +185,9 @@ fn found(config: &Config) -> [Option<u16>; 10] {
         config.realm_index(b"example"),
         config.realm_index(b"a.example."),
         config.realm_index(b""),
-        config.peer_by_ip([192, 0, 2, 1]),
-        config.peer_by_ip([192, 0, 2, 2]),
-        config.peer_by_ip([192, 0, 2, 3]),
+        config.peer_by_ip(v4([192, 0, 2, 1])),
+        config.peer_by_ip(v4([192, 0, 2, 2])),
+        config.peer_by_ip(v4([192, 0, 2, 3])),
         Some(config.shard_of(1)),
         Some(config.shard_of(2)),
     ]
@@ -201,10 +207,10 @@ fn links(config: &Config) -> [Option<Link>; 5] {
 /// What is found of home servers by their addresses.
 fn homes(config: &Config) -> [Option<u8>; 4] {
     [
-        config.home_of(0, [198, 51, 100, 1]),
-        config.home_of(0, [198, 51, 100, 2]),
-        config.home_of(1, [198, 51, 100, 2]),
-        config.home_of(0, [192, 0, 2, 1]),
+        config.home_of(0, v4([198, 51, 100, 1])),
+        config.home_of(0, v4([198, 51, 100, 2])),
+        config.home_of(1, v4([198, 51, 100, 2])),
+        config.home_of(0, v4([192, 0, 2, 1])),
     ]
 }
 

@@ -1,6 +1,6 @@
 //! Whom the names in a reverse request mean, and who may send one.
 
-use crate::documents::config_of;
+use crate::documents::{config_of, v4};
 use roam_conf::Config;
 use std::process::Abort;
 use std::test::Fail;
@@ -133,11 +133,11 @@ secret = \"p2\"
 /// Who is at an address, by realms.
 fn sources(config: &Config) -> [Option<u8>; 5] {
     [
-        config.home_of(0, [198, 51, 100, 1]),
-        config.home_of(0, [192, 0, 2, 1]),
-        config.home_of(1, [198, 51, 100, 1]),
-        config.home_of(1, [192, 0, 2, 1]),
-        config.home_of(1, [198, 51, 100, 2]),
+        config.home_of(0, v4([198, 51, 100, 1])),
+        config.home_of(0, v4([192, 0, 2, 1])),
+        config.home_of(1, v4([198, 51, 100, 1])),
+        config.home_of(1, v4([192, 0, 2, 1])),
+        config.home_of(1, v4([198, 51, 100, 2])),
     ]
 }
 

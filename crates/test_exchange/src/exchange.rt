@@ -5,7 +5,7 @@
 //! hashlib.
 
 use roam_back::{back, check_reply};
-use roam_conf::{Config, Endpoint, Link, Peer, Place, Server};
+use roam_conf::{Address, Config, Endpoint, Link, Peer, Place, Server};
 use roam_conf_reader::read_config;
 use roam_fwd::{can_be_forwarded, forward};
 use roam_ids::Lane;
@@ -32,12 +32,12 @@ const RESPONSE: &str = "0500001ea1e81fcd91eda44683d85e49b2655719210a000000000000
 const RETURNED: &str = "050500144511dc97de8dbcfd887f32eb5da70447";
 
 const ACCESS_SERVER: Endpoint = Endpoint {
-    ip: [192, 0, 2, 1],
+    ip: Address::from_ipv4_octets([192, 0, 2, 1]),
     port: 5000,
 };
 
 const HOME_SERVER: Endpoint = Endpoint {
-    ip: [198, 51, 100, 1],
+    ip: Address::from_ipv4_octets([198, 51, 100, 1]),
     port: 1813,
 };
 
@@ -146,8 +146,12 @@ fn names_its_user(rt: &impl Abort, alloc: Global, config: &Config) -> Option<boo
     let start = octets(rt, alloc, START);
     let view = View::read(&start).ok()?;
     let is_named = user_name(&start) == Some(b"u@a.example".as_slice());
-    let is_signed = is_signed_by_peer(config, [192, 0, 2, 1], &view);
-    let is_signed_by_another = is_signed_by_peer(config, [192, 0, 2, 2], &view);
+    let is_signed = is_signed_by_peer(config, Address::from_ipv4_octets([192, 0, 2, 1]), &view);
+    let is_signed_by_another = is_signed_by_peer(
+        config,
+        Address::from_ipv4_octets([192, 0, 2, 2]),
+        &view,
+    );
     Some(is_named && is_signed && !is_signed_by_another)
 }
 

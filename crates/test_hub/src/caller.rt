@@ -6,7 +6,7 @@ ghost use Rattle.roam_route.specs.Events.{IsEvent};
 ghost use Rattle.roam_route.specs.Shown.{shown_job};
 
 use roam_book::Answer;
-use roam_conf::{Config, Endpoint, Place};
+use roam_conf::{Address, Config, Endpoint, Place};
 use roam_hub::{Call, Gate, Hub, HubFault, Open, Opened, Receipt, Seat, Ticked};
 use roam_route::{Datagram, Job, Prepared, prepare};
 use roam_wire::Octets;
@@ -16,7 +16,7 @@ use std::sync::Wait;
 
 /// The access server of the tests.
 pub(crate) const NAS: Endpoint = Endpoint {
-    ip: [192, 0, 2, 1],
+    ip: Address::from_ipv4_octets([192, 0, 2, 1]),
     port: 5000,
 };
 

@@ -11,7 +11,7 @@ ghost use Rattle.roam_hub.specs.Pausing.{ArePaused, opening_over};
 use crate::caller::{NAS, OTHER_FIRST, OTHER_REQUEST_7, datagram, sends};
 use crate::configuration::config_of;
 use roam_book::Start;
-use roam_conf::{Config, Endpoint, Place};
+use roam_conf::{Address, Config, Endpoint, Place};
 use roam_hub::{Blanks, Call, Hub, Open, Opened, Paused, PausedHub, Seat, follow};
 use roam_reload::hindrance_of;
 use roam_route::{Prepared, prepare};
@@ -32,13 +32,13 @@ pub(crate) struct Exchange {
 
 /// The home server of `a.example`, for accounting.
 const HOME_SERVER: Endpoint = Endpoint {
-    ip: [198, 51, 100, 1],
+    ip: Address::from_ipv4_octets([198, 51, 100, 1]),
     port: 1813,
 };
 
 /// The same, for reverse requests.
 const SERVER_IN_REVERSE: Endpoint = Endpoint {
-    ip: [198, 51, 100, 1],
+    ip: Address::from_ipv4_octets([198, 51, 100, 1]),
     port: 40000,
 };
 

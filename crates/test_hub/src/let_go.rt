@@ -5,7 +5,7 @@ ghost use Rattle.roam_conf.specs.Shown.{shown};
 
 use crate::audits::{counting, found};
 use crate::caller::{NAS, REQUEST_7, REQUEST_8, datagram, sends};
-use roam_conf::{Config, Endpoint, Place};
+use roam_conf::{Address, Config, Endpoint, Place};
 use roam_hub::{Answered, AuditFault, Call, Hub, HubFault, Open, Opened, Report, Seat};
 use roam_route::{Datagram, Prepared, prepare};
 use std::alloc::Global;
@@ -14,13 +14,13 @@ use std::sync::Wait;
 
 /// The home server of the realm, for accounting.
 const SERVER: Endpoint = Endpoint {
-    ip: [198, 51, 100, 1],
+    ip: Address::from_ipv4_octets([198, 51, 100, 1]),
     port: 1813,
 };
 
 /// The same, for reverse requests.
 const SERVER_IN_REVERSE: Endpoint = Endpoint {
-    ip: [198, 51, 100, 1],
+    ip: Address::from_ipv4_octets([198, 51, 100, 1]),
     port: 40000,
 };
 

@@ -1,6 +1,6 @@
 //! The lines of exchanges.
 
-use roam_conf::{Config, Endpoint};
+use roam_conf::{Address, Config, Endpoint};
 use roam_conf_reader::read_config;
 use roam_notices::{Details, Exchange, ExchangeEnd, RequestWord, Value, push_exchange};
 use roam_stations::{StationForm, StationKey};
@@ -33,7 +33,7 @@ fn accepted(station: Option<Value>, details: Details) -> Exchange {
         realm: Some(0),
         peer: Some(0),
         server: Some(Endpoint {
-            ip: [198, 51, 100, 1],
+            ip: Address::from_ipv4_octets([198, 51, 100, 1]),
             port: 1812,
         }),
         user: Some(Value::new(b"u@b.example")),

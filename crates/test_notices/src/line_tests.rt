@@ -1,14 +1,14 @@
 //! The lines of refusals.
 
 use crate::exchange_tests::exchanges;
-use roam_conf::{Endpoint, Place};
+use roam_conf::{Address, Endpoint, Place};
 use roam_notices::{Origin, RefusalCount, RefusedText, Sender};
 use roam_wire::Refusal;
 use std::process::Abort;
 
 /// Where it came from in the tests.
 const SOURCE: Endpoint = Endpoint {
-    ip: [198, 51, 100, 1],
+    ip: Address::from_ipv4_octets([198, 51, 100, 1]),
     port: 1812,
 };
 

@@ -2,7 +2,7 @@
 //!
 //! Which entry is expected is read off the tickets, deadlines, keys and links written here.
 
-use roam_conf::{Endpoint, Link, Place};
+use roam_conf::{Address, Endpoint, Link, Place};
 use roam_pending::{
     Done, Due, Entries, Entry, Key, Pending, Request, Requester, Standing, Waiting, send_again,
     set_standing,
@@ -18,7 +18,7 @@ fn key(id: u8) -> Key {
     Key {
         place: Place::Auth,
         from: Endpoint {
-            ip: [192, 0, 2, 1],
+            ip: Address::from_ipv4_octets([192, 0, 2, 1]),
             port: 5000,
         },
         id,

@@ -3,7 +3,7 @@
 //!
 //! Which entry is expected is read off the tickets, peers and States written here.
 
-use roam_conf::{Endpoint, Link, Place};
+use roam_conf::{Address, Endpoint, Link, Place};
 use roam_hash::HashKey;
 use roam_pending::{Done, Entries, Entry, Key, Request, Requester, Standing, Waiting};
 use roam_tables::Tables;
@@ -37,7 +37,7 @@ fn key(ticket: u16) -> Key {
     Key {
         place: Place::Auth,
         from: Endpoint {
-            ip: [192, 0, 2, 1],
+            ip: Address::from_ipv4_octets([192, 0, 2, 1]),
             port: ticket,
         },
         id: 7,

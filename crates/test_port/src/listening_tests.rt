@@ -3,7 +3,7 @@
 //! The request is an Accounting-Request of a worked exchange, whose digest was computed apart.
 
 use crate::tape::{Answer, Tape};
-use roam_conf::{Endpoint, Place};
+use roam_conf::{Address, Endpoint, Place};
 use roam_port::{FAULTS_TO_GIVE_UP, Heard, listen};
 use std::alloc::{Allocator, Global};
 use std::process::Abort;
@@ -16,7 +16,7 @@ const REQUEST: [u8; 43] = [
 ];
 
 const ACCESS_SERVER: Endpoint = Endpoint {
-    ip: [192, 0, 2, 1],
+    ip: Address::from_ipv4_octets([192, 0, 2, 1]),
     port: 5000,
 };
 

@@ -1,7 +1,7 @@
 //! What becomes of packets that wait in an outbox: each goes once to the socket of its place.
 
 use crate::tape::Tape;
-use roam_conf::{Endpoint, Place};
+use roam_conf::{Address, Endpoint, Place};
 use roam_port::{Losses, Outbox, SendFault, Sent, Standing, share_of};
 use roam_route::Out;
 use roam_wire::{NoMemory, Octets};
@@ -11,7 +11,7 @@ use std::test::Fail;
 use test_allocator::Refusing;
 
 const ACCESS_SERVER: Endpoint = Endpoint {
-    ip: [192, 0, 2, 1],
+    ip: Address::from_ipv4_octets([192, 0, 2, 1]),
     port: 5000,
 };
 

@@ -1,6 +1,6 @@
 //! The configuration, and the packets that arrive.
 
-use roam_conf::{Config, Endpoint, Link, Place};
+use roam_conf::{Address, Config, Endpoint, Link, Place};
 use roam_conf_reader::read_config;
 use roam_route::Side;
 use std::alloc::Global;
@@ -22,37 +22,37 @@ pub const START: &str =
     "0405002b40d7b5a889c55fa9032ba5d6be378f2e010d7540612e6578616d706c652806000000012c043031";
 
 pub const NAS: Endpoint = Endpoint {
-    ip: [192, 0, 2, 1],
+    ip: Address::from_ipv4_octets([192, 0, 2, 1]),
     port: 5000,
 };
 
 pub const SEALER: Endpoint = Endpoint {
-    ip: [192, 0, 2, 2],
+    ip: Address::from_ipv4_octets([192, 0, 2, 2]),
     port: 5000,
 };
 
 pub const STRANGER: Endpoint = Endpoint {
-    ip: [192, 0, 2, 9],
+    ip: Address::from_ipv4_octets([192, 0, 2, 9]),
     port: 5000,
 };
 
 pub const COA: Endpoint = Endpoint {
-    ip: [192, 0, 2, 1],
+    ip: Address::from_ipv4_octets([192, 0, 2, 1]),
     port: 3799,
 };
 
 pub const AUTH: Endpoint = Endpoint {
-    ip: [198, 51, 100, 1],
+    ip: Address::from_ipv4_octets([198, 51, 100, 1]),
     port: 1812,
 };
 
 pub const HOME: Endpoint = Endpoint {
-    ip: [198, 51, 100, 1],
+    ip: Address::from_ipv4_octets([198, 51, 100, 1]),
     port: 40000,
 };
 
 pub const ACCT: Endpoint = Endpoint {
-    ip: [198, 51, 100, 1],
+    ip: Address::from_ipv4_octets([198, 51, 100, 1]),
     port: 1813,
 };
 

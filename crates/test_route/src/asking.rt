@@ -2,17 +2,17 @@
 //! Python's hashlib and hmac.
 
 use crate::arrivals::{NAS, Rows, SEALER};
-use roam_conf::{Endpoint, Place};
+use roam_conf::{Address, Endpoint, Place};
 use roam_route::Side;
 
 /// A peer at the address of a server's `auth`, and one at that of its `acct`.
 const AT_AUTH_SERVER: Endpoint = Endpoint {
-    ip: [198, 51, 100, 1],
+    ip: Address::from_ipv4_octets([198, 51, 100, 1]),
     port: 5000,
 };
 
 const AT_ACCT_SERVER: Endpoint = Endpoint {
-    ip: [198, 51, 100, 7],
+    ip: Address::from_ipv4_octets([198, 51, 100, 7]),
     port: 5000,
 };
 

@@ -2,7 +2,7 @@
 //! with Python's hashlib.
 
 use crate::arrivals::{HOME, Rows, STRANGER};
-use roam_conf::{Endpoint, Place};
+use roam_conf::{Address, Endpoint, Place};
 use roam_route::Side;
 
 /// The key that says how old one may be.
@@ -16,7 +16,7 @@ secret = \"pc\"
 ";
 
 const CLIENT_AT: Endpoint = Endpoint {
-    ip: [198, 51, 100, 9],
+    ip: Address::from_ipv4_octets([198, 51, 100, 9]),
     port: 40000,
 };
 

@@ -4,7 +4,7 @@ use crate::ends::{Ends, local};
 use crate::exchange::{Verdict, complete};
 use crate::packets::ACCESS;
 use crate::stage::Stage;
-use roam_conf::Endpoint;
+use roam_conf::{Address, Endpoint};
 use std::alloc::Global;
 use std::io::{Read, Write};
 use std::net::{Net, OpenStream};
@@ -12,7 +12,7 @@ use std::time::{Clock, Duration};
 
 /// Where the counts are asked for.
 pub(crate) const METRICS: Endpoint = Endpoint {
-    ip: [127, 0, 0, 1],
+    ip: Address::from_ipv4_octets([127, 0, 0, 1]),
     port: 19812,
 };
 

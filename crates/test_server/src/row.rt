@@ -6,7 +6,7 @@ use crate::exchange::Verdict;
 use crate::reload::CONTROL;
 use crate::stage::Stage;
 use crate::{acts, asked, burst, counted, crowd, hostile, reload};
-use roam_conf::{Config, Endpoint};
+use roam_conf::{Address, Config, Endpoint};
 use roam_conf_reader::read_config;
 use roam_serve::{ControlSocket, Counters, Reason, ServeFault, with_drawn_seed};
 use std::alloc::Global;
@@ -90,7 +90,7 @@ pub(crate) const ROWS: [Row; 20] = [
 /// What a server answers while another has its ports.
 pub(crate) const TAKEN: Result<(), ServeFault> = Err(ServeFault::Bind(
     Endpoint {
-        ip: [127, 0, 0, 1],
+        ip: Address::from_ipv4_octets([127, 0, 0, 1]),
         port: 11812,
     },
     IN_USE,
@@ -101,7 +101,7 @@ const IN_USE: Reason = Reason(98);
 
 /// Where the realm takes reverse requests.
 const REVERSE: Endpoint = Endpoint {
-    ip: [127, 0, 0, 1],
+    ip: Address::from_ipv4_octets([127, 0, 0, 1]),
     port: 13000,
 };
 

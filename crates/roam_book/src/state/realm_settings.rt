@@ -13,7 +13,7 @@ ghost use Rattle.roam_book.specs.RealmConfig.{seal_required, link_endpoint, link
 ghost use Rattle.roam_book.specs.RealmConfig.{IsRequester};
 
 use crate::state::hash_key::hash_key;
-use roam_conf::{Config, Endpoint, Link, Peer, Realm, Server};
+use roam_conf::{Address, Config, Endpoint, Link, Peer, Realm, Server};
 use roam_hash::HashKey;
 use roam_pending::Requester;
 use roam_reverse::{Sessions, route_of};
@@ -295,6 +295,6 @@ impl<'c> RealmSettings<'c> {
 
 /// The endpoint of a peer that takes no reverse requests.
 const NOWHERE: Endpoint = Endpoint {
-    ip: [0; 4],
+    ip: Address::from_ipv4_octets([0; 4]),
     port: 0,
 };

@@ -6,7 +6,7 @@ use Rattle.std.specs.List.{list_all}
 use Rattle.roam_wire.specs.RemovedAttributes.{is_removal_in_requests, is_removal_in_replies}
 use Rattle.roam_conf.specs.declared.accounting.Accounting.{Accounting}
 use Rattle.roam_conf.specs.declared.accounting.Accounting.TheVariants.{Forwarded, Answered, Dropped}
-use Rattle.roam_conf.specs.declared.endpoint.Endpoint.{Endpoint}
+use Rattle.roam_address.specs.declared.endpoint.Endpoint.{Endpoint}
 use Rattle.roam_conf.specs.declared.server.Server.{Server}
 use Rattle.roam_conf.specs.Parts.{shown_client, shown_names, shown_server}
 use Rattle.roam_conf.specs.Patterns.{is_pattern, shown_pattern}

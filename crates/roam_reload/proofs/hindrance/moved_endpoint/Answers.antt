@@ -2,7 +2,7 @@ use Rattle.std.proofs.Common.{◌≡◌, false, Option, Some, None, IfNone, IfSo
 use Rattle.std.specs.List.{find}
 use Rattle.roam_conf.specs.Config.{ConfigView}
 use Rattle.roam_conf.specs.Shown.{shown}
-use Rattle.roam_conf.specs.declared.endpoint.Endpoint.{Endpoint}
+use Rattle.roam_address.specs.declared.endpoint.Endpoint.{Endpoint}
 use Rattle.roam_reload.specs.Differences.{HasMoved}
 use Rattle.roam_reload.specs.Moves.{is_moved}
 use Rattle.roam_reload.specs.Reload.{KeepsKinds, endpoints_of}

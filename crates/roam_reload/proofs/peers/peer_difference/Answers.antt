@@ -1,9 +1,27 @@
 use Rattle.std.proofs.Common.{rules, ◌≡◌, map, string_bytes}
 use Rattle.std.specs.Cmp.Lexicographic.{pointwise}
+use Rattle.std.specs.Option.{option_eq}
 use Rattle.std.specs.String.{string_eq}
-use Rattle.roam_conf.proofs.EqualPartsLemmas.{list_decides, removed_eq, removed_decides, text_decides, whole_list_decides}
+use Rattle.roam_address.specs.Prefixes.{shown_prefix}
+use Rattle.roam_conf.proofs.EqualPartsLemmas.{endpoint_eq, endpoint_decides, list_decides, prefix_eq, prefix_decides, removed_eq, removed_decides, text_decides, whole_list_decides, whole_option_decides}
 use Rattle.roam_reload.proofs.DifferenceLemmas.{agrees, differs}
 use Rattle.roam_reload.proofs.peers.peer_difference.Goals as goal
+
+-- it is at other addresses
+pub returns-then-ne-2-clause-some : goal.returns-then-ne-2-clause-some
+returns-then-ne-2-clause-some c =
+    let old = c.args.old.now.ip in
+    let new = c.args.new.now.ip in
+    differs (shown_prefix old) (shown_prefix new) (prefix_eq old new) c.ne-else-ne.result (prefix_decides old new)
+    c.ne-else-ne.ensures c.if-ne-2.true
+
+-- it takes reverse requests elsewhere
+pub returns-then-ne-4-clause-some : goal.returns-then-ne-4-clause-some
+returns-then-ne-4-clause-some c =
+    let old = c.args.old.now.coa in
+    let new = c.args.new.now.coa in
+    differs old new (option_eq endpoint_eq old new) c.ne-else-ne-3.result
+    (whole_option_decides endpoint_eq endpoint_decides old new) c.ne-else-ne-3.ensures c.if-ne-4.true
 
 -- it stands for other access servers
 pub returns-then-ne-7-clause-some : goal.returns-then-ne-7-clause-some
@@ -34,6 +52,12 @@ pub returns-else-ne-10-clause-none : goal.returns-else-ne-10-clause-none
 returns-else-ne-10-clause-none c =
     let old = c.args.old.now in
     let new = c.args.new.now in
+    let addresses : shown_prefix new.ip ≡ shown_prefix old.ip =
+    agrees (shown_prefix old.ip) (shown_prefix new.ip) (prefix_eq old.ip new.ip) c.ne-else-ne.result
+    (prefix_decides old.ip new.ip) c.ne-else-ne.ensures c.if-ne-2.false in
+    let coa : new.coa ≡ old.coa =
+    agrees old.coa new.coa (option_eq endpoint_eq old.coa new.coa) c.ne-else-ne-3.result
+    (whole_option_decides endpoint_eq endpoint_decides old.coa new.coa) c.ne-else-ne-3.ensures c.if-ne-4.false in
     let identifiers : map string_bytes new.nas_ids.items ≡ map string_bytes old.nas_ids.items =
     agrees (map string_bytes old.nas_ids.items) (map string_bytes new.nas_ids.items)
     (pointwise string_eq old.nas_ids.items new.nas_ids.items) c.ne-else-ne-6.result

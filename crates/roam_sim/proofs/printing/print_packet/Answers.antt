@@ -1,4 +1,4 @@
-use Rattle.roam_conf.specs.Texts.{endpoint_text}
+use Rattle.roam_address.specs.Endpoints.{endpoint_text}
 use Rattle.roam_sim.specs.Lines.{realm_text, place_text}
 use Rattle.hex.specs.Hex.{encode_lower}
 use Rattle.roam_sim.proofs.PrintingLemmas.{printed_line}
