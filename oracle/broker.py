@@ -7,6 +7,7 @@ broker.py --events NAME.conf NAME.script   both, event by event
 
 Nothing here is taken from the project's code.
 """
+import ipaddress
 import sys
 import tomllib
 from packets import *
@@ -31,9 +32,24 @@ REPLIES_OF = {ACCESS_REQUEST: ACCESS_REPLIES, ACCOUNTING_REQUEST: (ACCOUNTING_RE
               DISCONNECT_REQUEST: (DISCONNECT_ACK, DISCONNECT_NAK), COA_REQUEST: (COA_ACK, COA_NAK)}
 
 
+def one_text(text):
+    """The one text of an address."""
+    return str(ipaddress.ip_address(text))
+
+
 def endpoint(text):
-    ip, port = text.split(":")
-    return (ip, int(port))
+    """An address, by its one text, and a port."""
+    ip, _, port = text.rpartition(":")
+    return (one_text(ip.strip("[]")), int(port))
+
+
+def at(ip, port):
+    """The text of an endpoint."""
+    return f"[{ip}]:{port}" if is_ipv6(ip) else f"{ip}:{port}"
+
+
+def is_ipv6(ip):
+    return ":" in ip
 
 
 # What a realm's keys have where they aren't written.
@@ -59,8 +75,11 @@ class Config:
         self.answer_unnamed = document.get("answer_unnamed", False)
         self.auth, self.acct = document["auth"], document["acct"]
         self.peers = document["peer"]
+        for table in self.peers + [client for realm in document["realm"] for client in realm.get("coa_client", [])]:
+            table["ip"] = one_text(table["ip"])
         self.realms = [with_unsaid(realm) for realm in document["realm"]]
         for realm in self.realms:
+            realm["out"] = endpoint(realm["out"])
             for server in realm["server"]:
                 server["links"] = {k: endpoint(server[k]) for k in ("auth", "acct") if k in server}
 
@@ -127,16 +146,26 @@ class Config:
             fitting = [index for index, peer in enumerate(self.peers)
                        if "operator_name" in peer and operator.lower() == b"1" + peer["operator_name"].encode().lower()]
         else:
-            fitting = self.named_by_nas(request.first(NAS_IP_ADDRESS), request.first(NAS_IDENTIFIER))
-        return next((index for index in fitting if "coa" in self.peers[index] and self.is_peer_of(realm, index)), None)
+            fitting = self.named_by_nas(*(request.first(kind) for kind in self.names_of_nas()))
+        return next((index for index in fitting if self.is_reached(realm, index) and self.is_peer_of(realm, index)), None)
 
-    def named_by_nas(self, ip, name):
-        """The access servers that a NAS-IP-Address and a NAS-Identifier name."""
-        if ip is None and name is None:
+    def names_of_nas(self):
+        """What names an access server: its IPv6 address only where some access server's is known."""
+        some_ipv6 = any("nas_ipv6" in peer for peer in self.peers)
+        return (NAS_IP_ADDRESS, NAS_IDENTIFIER) + (NAS_IPV6_ADDRESS,) * some_ipv6
+
+    def is_reached(self, realm, index):
+        """Whether an access server takes Disconnects and CoAs at an address of the kind of the realm's own socket."""
+        return "coa" in self.peers[index] and is_ipv6(endpoint(self.peers[index]["coa"])[0]) == is_ipv6(self.realms[realm]["out"][0])
+
+    def named_by_nas(self, ip, name, ipv6=None):
+        """The access servers that a NAS-IP-Address, a NAS-Identifier and a NAS-IPv6-Address name, each where it is there."""
+        if ip is None and name is None and ipv6 is None:
             return []
         meant = None if name is None else self.meant_by(name)
         return [index for index, peer in enumerate(self.peers)
-                if (ip is None or "nas_ip" in peer and ip == address(peer["nas_ip"])) and (name is None or index == meant)]
+                if (ip is None or "nas_ip" in peer and ip == address(peer["nas_ip"])) and (name is None or index == meant)
+                and (ipv6 is None or "nas_ipv6" in peer and ipv6 == address(peer["nas_ipv6"]))]
 
     def meant_by(self, name):
         """The access server that a NAS-Identifier means: by a whole text, or by the longest beginning."""
@@ -150,7 +179,7 @@ class Config:
 
 
 def address(text):
-    return bytes(int(number) for number in text.split("."))
+    return ipaddress.ip_address(text).packed
 
 
 class Request:
@@ -621,7 +650,7 @@ def events_of(script):
 
 def spelled(packet):
     realm, place, (ip, port), octets = packet
-    return f"{realm} {place} {ip}:{port} {octets.hex()}"
+    return f"{realm} {place} {at(ip, port)} {octets.hex()}"
 
 
 def play(conf, script, ticket=0):

@@ -1,5 +1,6 @@
 """The configurations of the rows, each under the name that the rows say."""
 import json
+import re
 
 TOP = '''shards = {shards}
 seed = "{seed}"
@@ -193,6 +194,17 @@ def small(names, count, shards=1, **keys):
     return configuration(*(realm(n, servers(count), **keys) for n in names), shards=shards)
 
 
+def in_ipv6(text):
+    """The same with addresses of IPv6 in place of all others. Places for requests are written in another form of RFC 4291."""
+    text = re.sub(r'nas_ip = "192\.0\.2\.(\d+)"', r'nas_ipv6 = "2001:db8::\1"', text)
+    text = re.sub(r'"127\.0\.0\.1:(1\d+)"', r'"[2001:DB8:0:0::10]:\1"', text)
+    text = re.sub(r'"127\.0\.0\.1:(\d+)"', r'"[2001:db8::10]:\1"', text)
+    for front, net in ((r"192\.0\.2\.", "2001:db8::"), (r"198\.51\.100\.", "2001:db8:1::")):
+        text = re.sub(rf'"{front}(\d+):(\d+)"', rf'"[{net}\1]:\2"', text)
+        text = re.sub(rf'"{front}(\d+)"', rf'"{net}\1"', text)
+    return text
+
+
 # A home server whose secret has the most octets.
 LONG_SECRET = server("198.51.100.2", "0123456789abcdef" * 4)
 
@@ -350,6 +362,24 @@ LOGINS = {
         servers_of_first=servers(2), rest=10000, rest_after=2, conversations=True, tries=1),
 }
 
+# An access server of IPv6, one that takes reverse requests at the other kind of address, and a home server of IPv6.
+NAS6 = in_ipv6(NAS1).replace("nas1", "nas6").replace("xyzzy5461", "k6")
+NAS7 = in_ipv6(N2).replace("n2", "nas7").replace("s2", "k7") + 'coa = "192.0.2.7:3799"\nnas_id = "nas7"\n'
+SERVER6 = server("2001:db8:1::1", "h6", "[2001:db8:1::1]:1812", "[2001:db8:1::1]:1813")
+
+
+def at_ipv6(table):
+    """A realm as a function of its index, whose own sockets are of IPv6."""
+    return lambda index: re.sub(r'"127\.0\.0\.1:(\d+)"', r'"[2001:db8::10]:\1"', table(index))
+
+
+ADDRESSES = {
+    "ipv6": in_ipv6(one()),
+    "both-kinds": configuration(
+        realm("a.example", servers(1)), at_ipv6(realm("b.example", [SERVER6, client("192.0.2.9", "pc")])),
+        peers=(NAS1, NAS6, NAS7)),
+}
+
 RANDOM = {
     "own": configuration(
         realm("a", [*servers(1), client("198.51.100.9", "pc"), client("198.51.100.2", "p2")], wait=10, hold=20, tries=1, rest=30,
@@ -372,6 +402,14 @@ RANDOM = {
               own_names=True),
         realm("b", servers(2), wait=8, hold=30, max_pending=5, max_sessions=1, rest=25, rest_after=2, conversations=True, share=2),
         peers=(NAS1, N2, HOME1), seed="e9" * 32, max_attributes=8, status_server=True),
+    "own-of-both-kinds": configuration(
+        realm("a", [*servers(1), client("2001:db8::9", "pc")], wait=10, hold=20, tries=1, max_pending=6, max_sessions=4,
+              also=["*.a.b"], own_sessions=True),
+        at_ipv6(realm("b", [SERVER6, server("2001:db8:1::2", "h2", "[2001:db8:1::2]:1812", "[2001:db8:1:0::3]:1813")], wait=8,
+                      hold=10, rest=30, tries=1, max_pending=5, max_sessions=3, also=["*.b"], loop_prevention=True)),
+        peers=(NAS1 + stated(nas_ids=["wlc-*"]), NAS6.replace('nas_id = "nas6"\n', "") + stated(nas_ids=["ap*"]), NAS7, HOME1,
+               in_ipv6(HOME1).replace("home1", "home6")),
+        seed="b6" * 32, fresh=10),
     "logins-in-two-shards": configuration(
         realm("a", servers(2), wait=10, hold=100, tries=2, max_pending=8, rest=40, rest_after=2, conversations=True, own_names=True,
               share=3, also=["*.x"]),
@@ -381,7 +419,7 @@ RANDOM = {
         peers=(NAS2, NAS1, NAS3), seed="1c" * 32, shards=2, max_attributes=12),
 }
 
-CONFIGURATIONS = POLICIES | REVERSES | LOGINS | RANDOM | {
+CONFIGURATIONS = POLICIES | REVERSES | LOGINS | ADDRESSES | RANDOM | {
     "one-server": one(),
     "seal-required": configuration(realm("a.example", servers(1)), peers=(NAS1 + "require_seal = true\n",)),
     "no-session": one(max_sessions=0),

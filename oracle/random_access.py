@@ -44,7 +44,7 @@ class AccessScript(Script):
         return self.random.choice(self.config.peers)
 
     def port_of(self, peer):
-        return f"{peer['ip']}:{self.random.choice((5000, 5000, 5001))}"
+        return at(peer["ip"], self.random.choice((5000, 5000, 5001)))
 
     def id(self):
         return self.random.randrange(3)

@@ -27,6 +27,7 @@ FILES = {
     "policy-in-two-shards": (PolicyScript, "policy-in-two-shards", 19001, 90),
     "own": (OwnScript, "own", 21001, 90),
     "own-in-two-shards": (OwnScript, "own-in-two-shards", 22001, 90),
+    "own-of-both-kinds": (OwnScript, "own-of-both-kinds", 25001, 90),
     "logins-and-shares": (LoginScript, "logins-and-shares", 23001, 80),
     "logins-in-two-shards": (LoginScript, "logins-in-two-shards", 24001, 80),
     "mutated": (MutatedScript, "all", 12001, 50),

@@ -213,14 +213,14 @@ class MutatedScript(FederationScript):
     # Places and sources, and signing anew
 
     def elsewhere(self, place, source):
-        ip, port = source.split(":")
+        ip, port = endpoint(source)
         known = [end[0] for end in self.server_ends()] + [peer["ip"] for peer in self.config.peers]
         realm = self.random.choice((*range(len(self.config.realms) + 1), 65535))
         places = ("auth", "acct", f"out:{realm}", f"reverse:{realm}")
         return self.random.choice((
             (self.random.choice(places), source), (self.random.choice(places), source),
-            (place, f"{self.random.choice(known)}:{port}"), (place, f"203.0.113.{self.random.randrange(256)}:{port}"),
-            (place, f"{ip}:{self.random.choice((1, 1812, 1813, 3799, 65535))}")))
+            (place, at(self.random.choice(known), port)), (place, f"203.0.113.{self.random.randrange(256)}:{port}"),
+            (place, at(ip, self.random.choice((1, 1812, 1813, 3799, 65535))))))
 
     def with_length_mended(self, octets):
         """Mostly the Length says where whole attributes end, or where all ends."""
@@ -231,7 +231,7 @@ class MutatedScript(FederationScript):
     def secret_of_source(self, place, source):
         """What is shared with a source at a place, or None."""
         kind, _, number = place.partition(":")
-        ip = source.split(":")[0]
+        ip, _ = endpoint(source)
         if not number:
             peer = self.config.peer_of(ip)
             return None if peer is None else self.config.peers[peer]["secret"].encode()

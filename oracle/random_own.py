@@ -43,6 +43,8 @@ class OwnScript(PolicyScript):
         named = [(NAS_IDENTIFIER, self.random.choice(self.names_of_nas(peer)))] if self.chance(0.85) else []
         if self.chance(0.6 if "nas_ip" in peer else 0.1):
             self.put(named, (NAS_IP_ADDRESS, address(peer["nas_ip"]) if "nas_ip" in peer else bytes([10, 0, 0, 1])))
+        if any("nas_ipv6" in it for it in self.config.peers) and self.chance(0.6 if "nas_ipv6" in peer else 0.1):
+            self.put(named, (NAS_IPV6_ADDRESS, address(peer.get("nas_ipv6", "2001:db8::99")) if self.chance(0.95) else bytes(15)))
         if self.chance(0.04):
             named.append(self.random.choice(((NAS_IDENTIFIER, b"wlc-9"), (NAS_IP_ADDRESS, bytes(3)), (NAS_IDENTIFIER, b""))))
         return named
@@ -136,6 +138,8 @@ class OwnScript(PolicyScript):
             self.put(attributes, (OPERATOR_NAME, b"1" + name.encode()))
         elif "nas_ip" in peer and self.chance(0.45):
             attributes = [(NAS_IP_ADDRESS, address(peer["nas_ip"]))]
+        elif "nas_ipv6" in peer and self.chance(0.45):
+            attributes = [(NAS_IPV6_ADDRESS, address(peer["nas_ipv6"]))]
         if self.chance(0.94):
             self.put(attributes, (ACCT_SESSION_ID, session if self.chance(0.92) else self.session()))
         if self.chance(0.4):
@@ -151,14 +155,14 @@ class OwnScript(PolicyScript):
         realm = self.a_realm()
         code, (ip, secret) = self.random.choice(REVERSE_REQUESTS), self.home(realm)
         octets = signed(code, self.id(), ZEROS, self.reverse_list(realm), secret)
-        self.ask("a Disconnect" if code == DISCONNECT_REQUEST else "a CoA", f"reverse:{realm}", f"{ip}:{PORT}", octets)
+        self.ask("a Disconnect" if code == DISCONNECT_REQUEST else "a CoA", f"reverse:{realm}", at(ip, PORT), octets)
 
     def other_sender(self):
         """A Disconnect of a sender of another realm, or with another sender's secret."""
         realm, other = (self.random.randrange(len(self.config.realms)) for _ in range(2))
         (ip, secret), (_, another) = self.home(other), self.home(realm)
         octets = signed(DISCONNECT_REQUEST, self.id(), ZEROS, self.reverse_list(realm), self.random.choice((secret, another)))
-        self.arrive("perhaps another realm's sender", f"reverse:{realm}", f"{ip}:{PORT}", octets)
+        self.arrive("perhaps another realm's sender", f"reverse:{realm}", at(ip, PORT), octets)
 
     KINDS = (PolicyScript.access, accounting, ReverseScript.answered, begin, some_end, ReverseScript.repeat, reverse, other_sender,
              ReverseScript.bad_reverse, PolicyScript.reply, Script.late_reply, ReverseScript.bad_reverse_reply, Script.tick,

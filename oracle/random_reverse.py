@@ -101,12 +101,12 @@ class ReverseScript(AccessScript):
         code, (ip, secret) = self.random.choice(REVERSE_REQUESTS), self.home(realm)
         octets = signed(code, self.id(), ZEROS, self.reverse_list(realm), secret)
         what = "a Disconnect-Request" if code == DISCONNECT_REQUEST else "a CoA-Request"
-        self.ask(what, f"reverse:{realm}", f"{ip}:{PORT}", octets)
+        self.ask(what, f"reverse:{realm}", at(ip, PORT), octets)
 
     def bad_reverse(self):
         realm = self.random.randrange(len(self.config.realms))
         ip, secret = self.home(realm)
-        source, place = f"{ip}:{PORT}", f"reverse:{realm}"
+        source, place = at(ip, PORT), f"reverse:{realm}"
         name = (USER_NAME, b"u@" + self.config.realms[realm]["name"].encode())
         some = [(NAS_IDENTIFIER, b"nas1"), name]
         good = signed(43, 1, ZEROS, some, secret)

@@ -144,7 +144,7 @@ class Script:
             self.from_server("a reply", realm.index, realm.endpoint_of(entry.link), octets)
 
     def from_server(self, what, realm, source, octets):
-        self.arrive(what, f"out:{realm}", f"{source[0]}:{source[1]}", octets)
+        self.arrive(what, f"out:{realm}", broker.at(*source), octets)
 
     def secret_at(self, realm, source):
         table = self.broker.realms[realm]
@@ -201,7 +201,7 @@ class Script:
             realm, entry = self.random.choice(self.waiting())
             source = realm.endpoint_of(entry.link)
             octets = self.reply_to(entry.octets, realm.secret_of(entry.link))
-            self.arrive("too late a reply", f"out:{realm.index}", f"{source[0]}:{source[1]}", octets, 2 ** 62 + 1)
+            self.arrive("too late a reply", f"out:{realm.index}", broker.at(*source), octets, 2 ** 62 + 1)
 
     KINDS = (request, repeat, bad_request, reply, late_reply, bad_reply, tick, late_tick, no_shard, too_late)
     WEIGHTS = (26, 12, 8, 18, 6, 9, 14, 4, 1, 2)

@@ -13,7 +13,7 @@ from configurations import CONFIGURATIONS
 from random_files import FILES, file_text
 from row import Differs, Row, check, parts_of
 from vectors import text as vectors
-import access, arrivals, held_replies, identifiers, logins, realms, replies, requests, rests, reverse, servers
+import access, addresses, arrivals, held_replies, identifiers, logins, realms, replies, requests, rests, reverse, servers
 
 ROWS = pathlib.Path(__file__).resolve().parent
 DATA = ROWS.parent / "crates" / "test_rows" / "data"

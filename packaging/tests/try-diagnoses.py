@@ -165,8 +165,10 @@ def syntax(name, header, key, text, column, nth=0, wanted=""):
     return f"Syntax: {name}", make
 
 
-ENDPOINT = 'is no IPv4 address with a port of 1..65535, as "192.0.2.1:1812"'
-ADDRESS = 'is no IPv4 address in decimal, as "192.0.2.1"'
+ENDPOINT = 'is no address with a port of 1..65535, as "192.0.2.1:1812" or "[2001:db8::1]:1812"'
+ADDRESS = 'is no address, as "192.0.2.1" or "2001:db8::1"'
+IPV4 = 'is no IPv4 address in decimal, as "192.0.2.1"'
+IPV6 = 'is no IPv6 address, as "2001:db8::1"'
 SECRET = "is not a text of 1..64 octets"
 REALM_NAME = "is not 1..253 of ASCII letters, digits, . and - (patterns go to also)"
 PEER_NAME = "is not 1..64 of ASCII letters, digits, . - and _"

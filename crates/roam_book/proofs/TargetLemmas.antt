@@ -10,12 +10,13 @@ use Rattle.roam_wire.specs.Attributes.{first_value}
 use Rattle.roam_wire.specs.declared.attribute_type.TheConstants.{OPERATOR_NAME}
 use Rattle.roam_conf.specs.Config.{PeerView, RealmView}
 use Rattle.roam_conf.specs.Lookup.{first_answer}
-use Rattle.roam_conf.specs.Targets.{NasPattern, begins, exactly, fronts, peer_meant, peer_with_nas, peer_with_nas_ip, peer_with_operator, some_operator}
+use Rattle.roam_conf.specs.Targets.{NasPattern, begins, exactly, fronts, peer_meant, peer_with_nas, peer_with_nas_ip, peer_with_nas_ipv6, peer_with_operator, some_nas_ipv6, some_operator}
 use Rattle.roam_route.specs.UserName.{nas_of}
 use Rattle.roam_reload.specs.Reload.{peer_part, realm_part}
 use Rattle.roam_reverse.specs.Causes.{cause, cause_at_target}
 use Rattle.roam_reverse.specs.Sessions.{Session}
 use Rattle.roam_reverse.specs.Target as reverse
+use Rattle.roam_reverse.specs.declared.nas_target.TheConstants.{NAS_IPV6_ADDRESS}
 
 -- ---- a configured one
 
@@ -52,6 +53,11 @@ nas_ip_same : (peers : List PeerView) (ip : List ℕ) →
 unfolding peer_with_nas_ip
 nas_ip_same peers ip = place_same _ 0 peers (λ x. refl)
 
+nas_ipv6_same : (peers : List PeerView) (ip : List ℕ) →
+    peer_with_nas_ipv6 (map peer_part peers) ip ≡ peer_with_nas_ipv6 peers ip
+unfolding peer_with_nas_ipv6
+nas_ipv6_same peers ip = place_same _ 0 peers (λ x. refl)
+
 nas_same : (peers : List PeerView) (pattern : NasPattern) →
     peer_with_nas (map peer_part peers) pattern ≡ peer_with_nas peers pattern
 unfolding peer_with_nas
@@ -75,6 +81,10 @@ some_same : (peers : List PeerView) → some_operator (map peer_part peers) ≡ 
 some_same [] = refl
 some_same (x ∷ xs) = ap (λ (b : Bool). is_some x.operator_name || b) (some_same xs)
 
+some_ipv6_same : (peers : List PeerView) → some_nas_ipv6 (map peer_part peers) ≡ some_nas_ipv6 peers
+some_ipv6_same [] = refl
+some_ipv6_same (x ∷ xs) = ap (λ (b : Bool). is_some x.nas_ipv6 || b) (some_ipv6_same xs)
+
 of_nas_same : (peers : List PeerView) (names : Option (List ℕ) × Option (List ℕ)) →
     reverse.peer_of_nas (map peer_part peers) names ≡ reverse.peer_of_nas peers names
 of_nas_same peers (None, None) = refl
@@ -82,16 +92,32 @@ of_nas_same peers (Some ip, None) = nas_ip_same peers ip
 of_nas_same peers (None, Some name) = meant_same peers name
 of_nas_same peers (Some ip, Some name) = λ i. reverse.same_peer (nas_ip_same peers ip i) (meant_same peers name i)
 
+of_names_same : (peers : List PeerView) (names : Option (List ℕ) × Option (List ℕ)) (ipv6 : Option (List ℕ)) →
+    reverse.peer_of_names (map peer_part peers) names ipv6 ≡ reverse.peer_of_names peers names ipv6
+of_names_same peers names None = of_nas_same peers names
+of_names_same peers (None, None) (Some ip) = nas_ipv6_same peers ip
+of_names_same peers (Some a, None) (Some ip) = λ i.
+    reverse.same_peer (of_nas_same peers (Some a, None) i) (nas_ipv6_same peers ip i)
+of_names_same peers (None, Some n) (Some ip) = λ i.
+    reverse.same_peer (of_nas_same peers (None, Some n) i) (nas_ipv6_same peers ip i)
+of_names_same peers (Some a, Some n) (Some ip) = λ i.
+    reverse.same_peer (of_nas_same peers (Some a, Some n) i) (nas_ipv6_same peers ip i)
+
+ipv6_of_same : (peers : List PeerView) (attributes : List Attribute) →
+    reverse.ipv6_of (map peer_part peers) attributes ≡ reverse.ipv6_of peers attributes
+ipv6_of_same peers attributes = λ i. if some_ipv6_same peers i then first_value NAS_IPV6_ADDRESS attributes else None
+
 of_operator_same : (peers : List PeerView) (operator : List ℕ) →
     reverse.peer_of_operator (map peer_part peers) operator ≡ reverse.peer_of_operator peers operator
 of_operator_same peers [] = refl
 of_operator_same peers (space ∷ name) = λ i. if space == 49 then operator_same peers name i else None
 
-named_same : (peers : List PeerView) (operator : Option (List ℕ)) (names : Option (List ℕ) × Option (List ℕ)) →
-    reverse.peer_named (map peer_part peers) operator names ≡ reverse.peer_named peers operator names
-named_same peers None names = of_nas_same peers names
-named_same peers (Some operator) names = λ i.
-    if some_same peers i then of_operator_same peers operator i else of_nas_same peers names i
+named_same : (peers : List PeerView) (operator : Option (List ℕ)) (names : Option (List ℕ) × Option (List ℕ))
+    (ipv6 : Option (List ℕ)) →
+    reverse.peer_named (map peer_part peers) operator names ipv6 ≡ reverse.peer_named peers operator names ipv6
+named_same peers None names ipv6 = of_names_same peers names ipv6
+named_same peers (Some operator) names ipv6 = λ i.
+    if some_same peers i then of_operator_same peers operator i else of_names_same peers names ipv6 i
 
 has_coa_same : (peers : List PeerView) (p : ℕ) → reverse.has_coa (map peer_part peers) p ≡ reverse.has_coa peers p
 has_coa_same [] p = refl
@@ -109,8 +135,11 @@ unfolding reverse.target
 target_same peers attributes =
     let operator = first_value OPERATOR_NAME attributes in
     let names = nas_of attributes in
-    ap (reverse.with_coa (map peer_part peers)) (named_same peers operator names)
-    ∙ with_coa_same peers (reverse.peer_named peers operator names)
+    let ipv6 = reverse.ipv6_of peers attributes in
+    ap (λ v. reverse.with_coa (map peer_part peers) (reverse.peer_named (map peer_part peers) operator names v))
+    (ipv6_of_same peers attributes)
+    ∙ ap (reverse.with_coa (map peer_part peers)) (named_same peers operator names ipv6)
+    ∙ with_coa_same peers (reverse.peer_named peers operator names ipv6)
 
 -- whether a peer is among the realm's
 is_among_same : (realm : RealmView) (peers : List PeerView) (p : ℕ) →

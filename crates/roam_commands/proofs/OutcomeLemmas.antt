@@ -81,6 +81,8 @@ unread P file text conf.DuplicateServer f found memory refused of-refused of-mem
     refused-first P file text conf.DuplicateServer f found refused of-refused (λ is. subst WantsMemory (sym is) tt)
 unread P file text conf.DuplicateLink f found memory refused of-refused of-memory =
     refused-first P file text conf.DuplicateLink f found refused of-refused (λ is. subst WantsMemory (sym is) tt)
+unread P file text conf.NoWayOut f found memory refused of-refused of-memory =
+    refused-first P file text conf.NoWayOut f found refused of-refused (λ is. subst WantsMemory (sym is) tt)
 unread P file text conf.UnknownPeer f found memory refused of-refused of-memory =
     refused-first P file text conf.UnknownPeer f found refused of-refused (λ is. subst WantsMemory (sym is) tt)
 unread P file text conf.Memory f found memory refused of-refused of-memory = rw (memory refl) of-memory

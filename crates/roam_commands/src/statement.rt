@@ -9,6 +9,7 @@ use roam_conf_reader::{Settings, StationWord};
 use roam_wire::RemovedAttribute;
 use std::alloc::{AllocError, Global};
 use std::fmt::Write;
+use std::net::Ipv6Addr;
 
 /// States an endpoint where there is one.
 fn state_endpoint(
@@ -144,6 +145,17 @@ fn state_settings(text: &mut String, settings: &Settings) -> Result<(), AllocErr
     })
 }
 
+/// States the NAS-IPv6-Address of a peer, where it has one.
+fn state_ipv6(text: &mut String, peer: &Peer) -> Result<(), AllocError> {
+    match peer.nas_ipv6 {
+        Some(octets) => {
+            let groups = Ipv6Addr::from_octets(octets).hex_groups();
+            writeln!(text, "nas_ipv6 = \"{groups}\"")
+        }
+        None => Ok(()),
+    }
+}
+
 /// States a peer.
 fn state_peer(text: &mut String, peer: &Peer) -> Result<(), AllocError> {
     writeln!(text, "\n[[peer]]\nname = \"{}\"", peer.name.as_str())?;
@@ -154,6 +166,7 @@ fn state_peer(text: &mut String, peer: &Peer) -> Result<(), AllocError> {
         let address = Address::from_ipv4_octets(octets);
         writeln!(text, "nas_ip = \"{address}\"")?;
     }
+    state_ipv6(text, peer)?;
     state_text(text, "nas_id", &peer.nas_id)?;
     state_texts(text, "nas_ids", peer.nas_ids.as_slice())?;
     writeln!(text, "require_seal = {}", peer.require_seal)?;

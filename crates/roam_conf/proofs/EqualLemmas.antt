@@ -36,6 +36,7 @@ peer_eq a b =
     (string_eq a.secret b.secret &&
     (option_eq endpoint_eq a.coa b.coa &&
     (option_eq (pointwise eqb) a.nas_ip b.nas_ip &&
+    (option_eq (pointwise eqb) a.nas_ipv6 b.nas_ipv6 &&
     (option_eq string_eq a.nas_id b.nas_id &&
     (pointwise string_eq a.nas_ids.items b.nas_ids.items &&
     (beq a.require_seal b.require_seal &&
@@ -43,7 +44,7 @@ peer_eq a b =
     (option_eq string_eq a.operator_name b.operator_name &&
     (beq a.ask_cui b.ask_cui &&
     (pointwise removed_eq a.request_without.items b.request_without.items &&
-    (pointwise removed_eq a.reply_without.items b.reply_without.items))))))))))))
+    (pointwise removed_eq a.reply_without.items b.reply_without.items)))))))))))))
 
 pub server_decides : (a b : Server) → Decides (server_eq a b) (shown_server a ≡ shown_server b)
 server_decides a b =
@@ -90,24 +91,25 @@ peer_decides a b =
     let v = shown_peer a in
     let w = shown_peer b in
     Decides-like {P = (v.name ≡ w.name) × ((v.ip ≡ w.ip) × ((v.secret ≡ w.secret) × ((v.coa ≡ w.coa)
-    × ((v.nas_ip ≡ w.nas_ip) × ((v.nas_id ≡ w.nas_id) × ((v.nas_ids ≡ w.nas_ids)
+    × ((v.nas_ip ≡ w.nas_ip) × ((v.nas_ipv6 ≡ w.nas_ipv6) × ((v.nas_id ≡ w.nas_id) × ((v.nas_ids ≡ w.nas_ids)
     × ((v.require_seal ≡ w.require_seal) × ((v.limit_proxy_state ≡ w.limit_proxy_state)
-    × ((v.operator_name ≡ w.operator_name) × ((v.ask_cui ≡ w.ask_cui)
-    × ((v.request_without ≡ w.request_without) × ((v.reply_without ≡ w.reply_without)))))))))))))} _
+    × ((v.operator_name ≡ w.operator_name) × ((v.ask_cui ≡ w.ask_cui) × ((v.request_without ≡ w.request_without)
+    × ((v.reply_without ≡ w.reply_without))))))))))))))} _
     (λ p. λ i. record {
       name = p.0 i;
       ip = p.1.0 i;
       secret = p.1.1.0 i;
       coa = p.1.1.1.0 i;
       nas_ip = p.1.1.1.1.0 i;
-      nas_id = p.1.1.1.1.1.0 i;
-      nas_ids = p.1.1.1.1.1.1.0 i;
-      require_seal = p.1.1.1.1.1.1.1.0 i;
-      limit_proxy_state = p.1.1.1.1.1.1.1.1.0 i;
-      operator_name = p.1.1.1.1.1.1.1.1.1.0 i;
-      ask_cui = p.1.1.1.1.1.1.1.1.1.1.0 i;
-      request_without = p.1.1.1.1.1.1.1.1.1.1.1.0 i;
-      reply_without = p.1.1.1.1.1.1.1.1.1.1.1.1 i;
+      nas_ipv6 = p.1.1.1.1.1.0 i;
+      nas_id = p.1.1.1.1.1.1.0 i;
+      nas_ids = p.1.1.1.1.1.1.1.0 i;
+      require_seal = p.1.1.1.1.1.1.1.1.0 i;
+      limit_proxy_state = p.1.1.1.1.1.1.1.1.1.0 i;
+      operator_name = p.1.1.1.1.1.1.1.1.1.1.0 i;
+      ask_cui = p.1.1.1.1.1.1.1.1.1.1.1.0 i;
+      request_without = p.1.1.1.1.1.1.1.1.1.1.1.1.0 i;
+      reply_without = p.1.1.1.1.1.1.1.1.1.1.1.1.1 i;
     })
     (λ e. (
       ap (λ (x : PeerView). x.name) e,
@@ -120,20 +122,23 @@ peer_decides a b =
             (
               ap (λ (x : PeerView). x.nas_ip) e,
               (
-                ap (λ (x : PeerView). x.nas_id) e,
+                ap (λ (x : PeerView). x.nas_ipv6) e,
                 (
-                  ap (λ (x : PeerView). x.nas_ids) e,
+                  ap (λ (x : PeerView). x.nas_id) e,
                   (
-                    ap (λ (x : PeerView). x.require_seal) e,
+                    ap (λ (x : PeerView). x.nas_ids) e,
                     (
-                      ap (λ (x : PeerView). x.limit_proxy_state) e,
+                      ap (λ (x : PeerView). x.require_seal) e,
                       (
-                        ap (λ (x : PeerView). x.operator_name) e,
+                        ap (λ (x : PeerView). x.limit_proxy_state) e,
                         (
-                          ap (λ (x : PeerView). x.ask_cui) e,
+                          ap (λ (x : PeerView). x.operator_name) e,
                           (
-                            ap (λ (x : PeerView). x.request_without) e,
-                            ap (λ (x : PeerView). x.reply_without) e,
+                            ap (λ (x : PeerView). x.ask_cui) e,
+                            (
+                              ap (λ (x : PeerView). x.request_without) e,
+                              ap (λ (x : PeerView). x.reply_without) e,
+                            ),
                           ),
                         ),
                       ),
@@ -151,6 +156,7 @@ peer_decides a b =
     (Decides-and _ _ (text_decides a.secret b.secret)
     (Decides-and _ _ (whole_option_decides endpoint_eq endpoint_decides a.coa b.coa)
     (Decides-and _ _ (whole_option_decides (pointwise eqb) bytes_eq-Decides a.nas_ip b.nas_ip)
+    (Decides-and _ _ (whole_option_decides (pointwise eqb) bytes_eq-Decides a.nas_ipv6 b.nas_ipv6)
     (Decides-and _ _ (option_decides string_eq string_bytes text_decides a.nas_id b.nas_id)
     (Decides-and _ _ (list_decides string_eq string_bytes text_decides a.nas_ids.items b.nas_ids.items)
     (Decides-and _ _ (booleans_Decides a.require_seal b.require_seal)
@@ -158,4 +164,4 @@ peer_decides a b =
     (Decides-and _ _ (option_decides string_eq string_bytes text_decides a.operator_name b.operator_name)
     (Decides-and _ _ (booleans_Decides a.ask_cui b.ask_cui)
     (Decides-and _ _ (whole_list_decides removed_eq removed_decides a.request_without.items b.request_without.items)
-    (whole_list_decides removed_eq removed_decides a.reply_without.items b.reply_without.items)))))))))))))
+    (whole_list_decides removed_eq removed_decides a.reply_without.items b.reply_without.items))))))))))))))

@@ -50,8 +50,10 @@ prefixes_apart a b apart =
     let name = bytes_eq a.name b.name in
     let ip = same_prefix a.ip b.ip in
     let nas_ip = same_if_there a.nas_ip b.nas_ip in
+    let nas_ipv6 = same_if_there a.nas_ipv6 b.nas_ipv6 in
     let operator = same_name_if_there a.operator_name b.operator_name in
-    let three = (or_parts ((name || ip) || nas_ip) operator apart).0 in
+    let four = (or_parts (((name || ip) || nas_ip) || nas_ipv6) operator apart).0 in
+    let three = (or_parts ((name || ip) || nas_ip) nas_ipv6 four).0 in
     let two = (or_parts (name || ip) nas_ip three).0 in
     (or_parts name ip two).1
 

@@ -6,6 +6,7 @@ use Rattle.std.specs.Str.{bytes_eq}
 use Rattle.roam_address.specs.Prefixes.{PrefixView}
 use Rattle.roam_address.specs.Same.{is_in}
 use Rattle.roam_conf.specs.Config.{ServerView, PeerView, RealmView, ConfigView}
+use Rattle.roam_conf.specs.Ways.{is_coa_reached}
 
 -- the name is one of these, where there are any
 abbrev pub is_listed : Option (List (List ℕ)) → List ℕ → Bool
@@ -27,10 +28,10 @@ is_at_server realm peer = list_any (is_server_in peer.ip) realm.servers
 -- ## Who may ask whom
 -- A realm takes Access-Requests and Accounting-Requests of a peer unless it has `peers` and the peer's name isn't
 -- among them, or it has `loop_prevention` and one of its servers is at an address of the peer. A reverse request goes to
--- no peer that isn't among `peers`.
+-- no peer that isn't among `peers`, and to none whose `coa` is of another kind, IPv4 or IPv6, than the realm's `out`.
 -- Source: ours
 -- Rules out: a realm without `peers` that takes none; a request that is sent back to where it came from
--- Stands in: `roam_conf` `Asking.antt`: `takes`, `is_peer_of`; `takes`, `is_peer_of`
+-- Stands in: `roam_conf` `Asking.antt`: `takes`, `is_target_of`; `takes`, `is_target_of`
 --
 -- the realm takes requests of the peer
 unfoldable pub takes : RealmView → PeerView → Bool
@@ -44,8 +45,12 @@ both_pass test _ _ = false
 abbrev pub takes_in : ConfigView → ℕ → ℕ → Bool
 takes_in config realm peer = both_pass takes (slice_get config.realms realm) (slice_get config.peers peer)
 
-abbrev pub is_peer_in : ConfigView → ℕ → ℕ → Bool
-is_peer_in config realm peer = both_pass is_peer_of (slice_get config.realms realm) (slice_get config.peers peer)
+-- reverse requests of the realm may go to the peer: it is one of the realm's, and isn't where `out` sends nothing
+abbrev pub is_target_of : RealmView → PeerView → Bool
+is_target_of realm peer = is_peer_of realm peer && is_coa_reached realm peer
+
+abbrev pub is_target_in : ConfigView → ℕ → ℕ → Bool
+is_target_in config realm peer = both_pass is_target_of (slice_get config.realms realm) (slice_get config.peers peer)
 
 -- no peer has the name
 abbrev pub is_no_peer : List PeerView → List ℕ → Bool

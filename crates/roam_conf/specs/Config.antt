@@ -27,6 +27,7 @@ pub record PeerView : Type 0 where
   pub secret : List ℕ
   pub coa : Option Endpoint
   pub nas_ip : Option (List ℕ)
+  pub nas_ipv6 : Option (List ℕ)
   pub nas_id : Option (List ℕ)
   pub nas_ids : List (List ℕ)
   pub require_seal : Bool
@@ -77,11 +78,12 @@ pub record RealmView : Type 0 where
 -- in octets, the limits of hops and of attributes, whether a Status-Server is answered, whether the workers share
 -- `auth` and `acct`, which names no realm has, whether names have to be well formed, whether unnamed accounting is
 -- answered, how old a reverse request may be, the peers, and the realms with their servers in order of use. Each value
--- is in its range, nothing stands twice that may not, and no peer is named that isn't there.
+-- is in its range, nothing stands twice that may not, no server is where its realm's `out` sends nothing, and no peer is
+-- named that isn't there.
 -- Source: ours
 -- Rules out: a realm without servers; an empty secret; two realms of one name; a realm whose requests are
 -- accounted for at a server that takes none
--- Stands in: `roam_conf` `Config.antt`: `ConfigView`, `Duplicates.antt`, `Asking.antt`: `has_unknown_peer`; the
+-- Stands in: `roam_conf` `Config.antt`: `ConfigView`, `Duplicates.antt`, `Ways.antt`, `Asking.antt`: `has_unknown_peer`; the
 -- invariants of `Config`, `Peer`, `Realm`, `Server`
 --
 -- the whole configuration

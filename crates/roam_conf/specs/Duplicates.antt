@@ -31,11 +31,11 @@ abbrev pub same_name_if_there : Option (List ℕ) → Option (List ℕ) → Bool
 same_name_if_there (Some a) (Some b) = str_eq_ignore_ascii_case a b
 same_name_if_there _ _ = false
 
--- equal names, prefixes, NAS-IP-Addresses or, without ASCII case, Operator-Names
+-- equal names, prefixes, NAS-IP-Addresses, NAS-IPv6-Addresses or, without ASCII case, Operator-Names
 abbrev pub same_peer : PeerView → PeerView → Bool
 same_peer a b =
     bytes_eq a.name b.name || same_prefix a.ip b.ip || same_if_there a.nas_ip b.nas_ip
-    || same_name_if_there a.operator_name b.operator_name
+    || same_if_there a.nas_ipv6 b.nas_ipv6 || same_name_if_there a.operator_name b.operator_name
 
 -- the texts of a peer's `nas_id` and `nas_ids`; those of all peers
 abbrev pub nas_texts_of : PeerView → List (List ℕ)
@@ -74,7 +74,7 @@ some_server_at endpoints servers =
 unfoldable pub has_duplicate_realm : List RealmView → List PatternView → Bool
 has_duplicate_realm realms reject = has_pair same_pattern (flat_map patterns_of realms ++ reject)
 
--- two peers are equal in one of the four, or two texts of `nas_id` and `nas_ids` of all peers are equal
+-- two peers are equal in one of the five, or two texts of `nas_id` and `nas_ids` of all peers are equal
 unfoldable pub has_duplicate_peer : List PeerView → Bool
 has_duplicate_peer peers = has_pair same_peer peers || has_pair bytes_eq (nas_texts peers)
 

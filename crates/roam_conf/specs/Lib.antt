@@ -12,4 +12,5 @@ pub mod Shown
 pub mod TargetIndex
 pub mod Targets
 pub mod Texts
+pub mod Ways
 pub mod WellFormed

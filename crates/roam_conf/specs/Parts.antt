@@ -36,6 +36,7 @@ shown_peer peer = record {
   secret = string_bytes peer.secret;
   coa = peer.coa;
   nas_ip = peer.nas_ip;
+  nas_ipv6 = peer.nas_ipv6;
   nas_id = option_map string_bytes peer.nas_id;
   nas_ids = map string_bytes peer.nas_ids.items;
   require_seal = peer.require_seal;

@@ -7,7 +7,7 @@ use Rattle.roam_conf.specs.declared.nas_index.NasRef.TheVariants.{Exactly, Begin
 use Rattle.roam_conf.specs.declared.target_index.TargetIndex.{TargetIndex}
 use Rattle.roam_conf.specs.Config.{PeerView}
 use Rattle.roam_conf.specs.Index.{owners, owner_of}
-use Rattle.roam_conf.specs.Targets.{NasPattern, exactly, begins, peer_with_nas, peer_with_nas_ip, peer_with_operator, some_operator}
+use Rattle.roam_conf.specs.Targets.{NasPattern, exactly, begins, peer_with_nas, peer_with_nas_ip, peer_with_nas_ipv6, peer_with_operator, some_nas_ipv6, some_operator}
 
 -- a pattern that is noted or looked for
 abbrev pub nas_seen : NasRef → NasPattern
@@ -23,6 +23,8 @@ nas_owner index (begins front) = owner_of (owners index.fronts) front
 pub record FindsTargets (index : TargetIndex) (peers : List PeerView) : Type 0 where
   pub patterns : (pattern : NasPattern) → nas_owner index.nas pattern ≡ peer_with_nas peers pattern
   pub nas_ips : (ip : List ℕ) → owner_of (owners index.nas_ips) ip ≡ peer_with_nas_ip peers ip
+  pub nas_ipv6s : (ip : List ℕ) → owner_of (owners index.nas_ipv6s) ip ≡ peer_with_nas_ipv6 peers ip
+  pub some_nas_ipv6 : index.some_nas_ipv6 ≡ some_nas_ipv6 peers
   pub operators : (name : List ℕ)
       → owner_of (owners index.operators) (str_to_ascii_lowercase name) ≡ peer_with_operator peers name
   pub some_operator : index.some_operator ≡ some_operator peers

@@ -66,6 +66,14 @@ BeginsWith name front = (rest : List ℕ) × (front ≢ []) × (name ≡ front +
 unfoldable pub peer_with_nas_ip : List PeerView → List ℕ → Option ℕ
 peer_with_nas_ip peers ip = first_place (λ peer. same_if_there peer.nas_ip (Some ip)) peers
 
+-- the peer with this NAS-IPv6-Address
+unfoldable pub peer_with_nas_ipv6 : List PeerView → List ℕ → Option ℕ
+peer_with_nas_ipv6 peers ip = first_place (λ peer. same_if_there peer.nas_ipv6 (Some ip)) peers
+
+-- some peer has a `nas_ipv6`
+abbrev pub some_nas_ipv6 : List PeerView → Bool
+some_nas_ipv6 peers = list_any (λ peer. is_some peer.nas_ipv6) peers
+
 -- the peer with this name as its `operator_name`, without ASCII case
 unfoldable pub peer_with_operator : List PeerView → List ℕ → Option ℕ
 peer_with_operator peers name = first_place (λ peer. same_name_if_there peer.operator_name (Some name)) peers

@@ -12,6 +12,7 @@ ghost use Rattle.roam_conf.specs.Lookup.{pattern_lists};
 ghost use Rattle.roam_conf.specs.Parts.{peer_prefix, shown_peer, shown_realm};
 ghost use Rattle.roam_conf.specs.Patterns.{is_reject, shown_pattern};
 ghost use Rattle.roam_conf.specs.TargetIndex.{FindsTargets};
+ghost use Rattle.roam_conf.specs.Ways.{has_no_way_out};
 
 use crate::indexes::Indexes;
 use crate::{ConfigParts, Endpoint, Peer, Realm, RealmPattern};
@@ -79,6 +80,7 @@ pub struct Config {
     ghost distinct_endpoints: { has_duplicate_endpoint auth acct (map shown_realm realms.items) ≡ false },
     ghost distinct_servers: { has_duplicate_server (map shown_realm realms.items) ≡ false },
     ghost distinct_links: { has_duplicate_link (map shown_peer peers.items) (map shown_realm realms.items) ≡ false },
+    ghost ways_out: { has_no_way_out (map shown_realm realms.items) ≡ false },
     ghost known_peers: { has_unknown_peer (map shown_peer peers.items) (map shown_realm realms.items) ≡ false },
 }
 
@@ -87,8 +89,8 @@ impl Config {
     ghost use Rattle.roam_conf.specs.Consistent.{IsConsistent};
     ghost use Rattle.roam_conf.specs.Shown.{shown, shown_parts};
 
-    /// The configuration of these parts, in which nothing stands twice that may not and no peer is named that isn't
-    /// there. An error says only that memory was refused.
+    /// The configuration of these parts, in which nothing stands twice that may not, no server is where its realm's
+    /// `out` sends nothing, and no peer is named that isn't there. An error says only that memory was refused.
     pub fn new(alloc: Global, parts: ConfigParts) -> Result<Config, AllocError>
         requires { IsConsistent (shown_parts parts) }
         ensures { IfOk result (λ config. shown config ≡ shown_parts parts) }

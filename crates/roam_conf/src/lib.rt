@@ -10,7 +10,7 @@
 //!   of any name; none where that is to reject; without patterns, or where it is ill formed, whole names alone | laws
 //!   `whole_name_comes_first`, `longest_suffix_comes_next`, `any_name_comes_last`,
 //!   `ill_formed_names_are_matched_whole`, `names_alone_are_matched_whole`
-//! - which peers' requests a realm takes | `takes`, `is_peer_of`
+//! - which peers' requests a realm takes, and to which peers its reverse requests may go | `takes`, `is_target_of`
 //! - which peer the names in a reverse request mean: of a NAS-Identifier the one that has it as a whole, else the one
 //!   with the longest pattern; and whose reverse requests come from an address, with the secret shared with them |
 //!   `peer_meant`, `peer_by_nas_ip`, `peer_by_operator`, `home_of`, `secret_of_home`; laws
@@ -45,6 +45,7 @@ mod server;
 mod target_index;
 mod target_lists;
 mod targets;
+mod ways;
 mod well_formed;
 
 pub use accounting::Accounting;
@@ -68,3 +69,4 @@ pub use realm::Realm;
 pub use removed::removed_attribute;
 pub use roam_address::{Address, Endpoint, Prefix, decimal};
 pub use server::Server;
+pub use ways::has_no_way_out;

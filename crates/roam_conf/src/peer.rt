@@ -22,6 +22,8 @@ pub struct Peer {
     pub coa: Option<Endpoint>,
     /// The NAS-IP-Address by which a reverse request names the peer.
     pub nas_ip: Option<[u8; 4]>,
+    /// The NAS-IPv6-Address (RFC 3162) by which a reverse request names the peer.
+    pub nas_ipv6: Option<[u8; 16]>,
     /// The NAS-Identifier by which a reverse request names the peer: 1 to 253 octets.
     pub nas_id: Option<String>,
     /// Further NAS-Identifiers of what stands behind the peer, at most 1024, each of 1 to 253 octets. One that ends in

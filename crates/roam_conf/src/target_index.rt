@@ -14,6 +14,10 @@ pub(crate) struct TargetIndex {
     pub(crate) front_lengths: [bool; 254],
     /// By NAS-IP-Address.
     pub(crate) nas_ips: Index,
+    /// By NAS-IPv6-Address.
+    pub(crate) nas_ipv6s: Index,
+    /// Whether some peer has a `nas_ipv6`.
+    pub(crate) some_nas_ipv6: bool,
     /// By the realm of Operator-Name, in lower case.
     pub(crate) operators: Index,
     /// Whether some peer has an `operator_name`.

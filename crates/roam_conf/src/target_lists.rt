@@ -7,7 +7,7 @@ ghost use Rattle.roam_conf.specs.Duplicates.{same_if_there, same_name_if_there};
 ghost use Rattle.roam_conf.specs.Index.{owners, owner_of};
 ghost use Rattle.roam_conf.specs.Parts.{shown_peer};
 ghost use Rattle.roam_conf.specs.TargetIndex.{FindsTargets};
-ghost use Rattle.roam_conf.specs.Targets.{peer_with_nas_ip, peer_with_operator, some_operator};
+ghost use Rattle.roam_conf.specs.Targets.{peer_with_nas_ip, peer_with_nas_ipv6, peer_with_operator, some_nas_ipv6, some_operator};
 
 use crate::Peer;
 use crate::index::{Index, note_key, row_of};
@@ -42,6 +42,50 @@ fn nas_ips_of(alloc: Global, peers: &[Peer]) -> Result<Index, AllocError>
         note_nas_ip(&mut index, alloc, peer, place as u16)?;
     }
     Ok(index)
+}
+
+/// Notes a peer for its NAS-IPv6-Address, where it has one.
+fn note_nas_ipv6(
+    index: &mut Index,
+    alloc: Global,
+    peer: &Peer,
+    place: u16,
+) -> Result<(), AllocError>
+    ensures { OnOk result ((ip : List ℕ) → owner_of (owners index.new) ip ≡ option_or (owner_of (owners index.old) ip)
+        (if same_if_there peer.now.nas_ipv6 (Some ip) then Some place else None)) }
+{
+    match peer.nas_ipv6 {
+        Some(ip) => {
+            let key = row_of(alloc, ip.as_slice())?;
+            note_key(index, key, place)
+        }
+        None => Ok(()),
+    }
+}
+
+/// The first peer of each NAS-IPv6-Address.
+fn nas_ipv6s_of(alloc: Global, peers: &[Peer]) -> Result<Index, AllocError>
+    requires { length peers.now ≤ 2 ^ 16 }
+    ensures { IfOk result (λ index. (ip : List ℕ)
+        → owner_of (owners index) ip ≡ peer_with_nas_ipv6 (map shown_peer peers.now) ip) }
+{
+    let mut index = IndexMap::new(alloc);
+    for (place, peer) in peers.iter().enumerate() {
+        note_nas_ipv6(&mut index, alloc, peer, place as u16)?;
+    }
+    Ok(index)
+}
+
+/// Whether one of the peers has a `nas_ipv6`.
+fn some_nas_ipv6(peers: &[Peer]) -> bool
+    ensures { result ≡ some_nas_ipv6 (map shown_peer peers.now) }
+{
+    for peer in peers {
+        if peer.nas_ipv6.is_some() {
+            return true;
+        }
+    }
+    false
 }
 
 /// Notes a peer for its `operator_name`, where it has one.
@@ -94,12 +138,15 @@ impl TargetIndex {
     {
         let nas = nas_of(alloc, peers)?;
         let nas_ips = nas_ips_of(alloc, peers)?;
+        let nas_ipv6s = nas_ipv6s_of(alloc, peers)?;
         let operators = operators_of(alloc, peers)?;
         let front_lengths = lengths_of(&nas.fronts);
         Ok(TargetIndex {
             nas,
             front_lengths,
             nas_ips,
+            nas_ipv6s,
+            some_nas_ipv6: some_nas_ipv6(peers),
             operators,
             some_operator: some_operator(peers),
         })

@@ -12,7 +12,8 @@ impl Config {
     ghost use Rattle.roam_conf.specs.Lookup.{first_answer};
     ghost use Rattle.roam_conf.specs.Shown.{shown};
     ghost use Rattle.roam_conf.specs.Targets.{begins, fronts, peer_with_nas, peer_meant};
-    ghost use Rattle.roam_conf.specs.Targets.{peer_with_nas_ip, peer_with_operator, some_operator};
+    ghost use Rattle.roam_conf.specs.Targets.{peer_with_nas_ip, peer_with_nas_ipv6, peer_with_operator};
+    ghost use Rattle.roam_conf.specs.Targets.{some_nas_ipv6, some_operator};
 
     /// Whether there may be a front of so many octets.
     fn may_have_front(&self, octets: usize) -> bool
@@ -64,6 +65,21 @@ impl Config {
         ensures bound { IfSome result (λ p. p < vec_len self.now.peers) }
     {
         owner_of(&self.found_by.targets.nas_ips, ip)
+    }
+
+    /// The index of the peer with this NAS-IPv6-Address; nobody has one that isn't of sixteen octets.
+    pub fn peer_by_nas_ipv6(&self, ip: &[u8]) -> Option<u16>
+        ensures value { result ≡ peer_with_nas_ipv6 (shown self.now).peers ip.now }
+        ensures bound { IfSome result (λ p. p < vec_len self.now.peers) }
+    {
+        owner_of(&self.found_by.targets.nas_ipv6s, ip)
+    }
+
+    /// Whether some peer has a `nas_ipv6`.
+    pub fn has_nas_ipv6s(&self) -> bool
+        ensures { result ≡ some_nas_ipv6 (shown self.now).peers }
+    {
+        self.found_by.targets.some_nas_ipv6
     }
 
     /// The index of the peer with this name as its `operator_name`, without ASCII case.

@@ -5,7 +5,7 @@ use Rattle.std.proofs.lemmas.Option.{same_Some}
 use Rattle.toml.specs.Data.{Members}
 use Rattle.toml.specs.Parse.{parse_document}
 use Rattle.roam_conf_reader.specs.declared.fault.ConfFault.{ConfFault}
-use Rattle.roam_conf_reader.specs.declared.fault.ConfFault.TheVariants.{DuplicateRealm, DuplicatePeer, DuplicateEndpoint, DuplicateServer, DuplicateLink, UnknownPeer}
+use Rattle.roam_conf_reader.specs.declared.fault.ConfFault.TheVariants.{DuplicateRealm, DuplicatePeer, DuplicateEndpoint, DuplicateServer, DuplicateLink, NoWayOut, UnknownPeer}
 use Rattle.roam_conf.specs.Config.{ConfigView}
 use Rattle.roam_conf.specs.Consistent.{IsConsistent}
 use Rattle.roam_conf_reader.specs.Document.{StatesConfig, document_misses}
@@ -42,44 +42,48 @@ not_twice text ms config fault reads once twice =
     let one : twice.config ≡ config = config_unique ms twice.config config stated reads.stated in
     false≢true (sym once ∙ ap (has_duplicate fault) (sym one) ∙ twice.twice)
 
--- the first of six tests that is true
-abbrev first_of : Bool → Bool → Bool → Bool → Bool → Bool → Option ConfFault
-first_of true b c d e f = Some DuplicateRealm
-first_of false true c d e f = Some DuplicatePeer
-first_of false false true d e f = Some DuplicateEndpoint
-first_of false false false true e f = Some DuplicateServer
-first_of false false false false true f = Some DuplicateLink
-first_of false false false false false true = Some UnknownPeer
-first_of false false false false false false = None
+-- the first of seven tests that is true
+abbrev first_of : Bool → Bool → Bool → Bool → Bool → Bool → Bool → Option ConfFault
+first_of true b c d e f g = Some DuplicateRealm
+first_of false true c d e f g = Some DuplicatePeer
+first_of false false true d e f g = Some DuplicateEndpoint
+first_of false false false true e f g = Some DuplicateServer
+first_of false false false false true f g = Some DuplicateLink
+first_of false false false false false true g = Some NoWayOut
+first_of false false false false false false true = Some UnknownPeer
+first_of false false false false false false false = None
 
 first_of_config : (config : ConfigView) →
     first_duplicate config ≡ first_of (has_duplicate DuplicateRealm config) (has_duplicate DuplicatePeer config)
     (has_duplicate DuplicateEndpoint config) (has_duplicate DuplicateServer config)
-    (has_duplicate DuplicateLink config) (has_duplicate UnknownPeer config)
+    (has_duplicate DuplicateLink config) (has_duplicate NoWayOut config) (has_duplicate UnknownPeer config)
 unfolding first_duplicate
-first_of_config config = by_cases _ _ _ _ _ _
+first_of_config config = by_cases _ _ _ _ _ _ _
   where
-    by_cases : (a b c d e f : Bool) →
+    by_cases : (a b c d e f g : Bool) →
         cond a (Some DuplicateRealm) (cond b (Some DuplicatePeer)
         (cond c (Some DuplicateEndpoint)
-        (cond d (Some DuplicateServer) (cond e (Some DuplicateLink) (cond f (Some UnknownPeer) None)))))
-        ≡ first_of a b c d e f
-    by_cases true b c d e f = refl
-    by_cases false true c d e f = refl
-    by_cases false false true d e f = refl
-    by_cases false false false true e f = refl
-    by_cases false false false false true f = refl
-    by_cases false false false false false true = refl
-    by_cases false false false false false false = refl
+        (cond d (Some DuplicateServer) (cond e (Some DuplicateLink)
+        (cond f (Some NoWayOut) (cond g (Some UnknownPeer) None))))))
+        ≡ first_of a b c d e f g
+    by_cases true b c d e f g = refl
+    by_cases false true c d e f g = refl
+    by_cases false false true d e f g = refl
+    by_cases false false false true e f g = refl
+    by_cases false false false false true f g = refl
+    by_cases false false false false false true g = refl
+    by_cases false false false false false false true = refl
+    by_cases false false false false false false false = refl
 
--- the six tests of a configuration, with the answer of each
-record Tests (config : ConfigView) (a b c d e f : Bool) : Type 0 where
+-- the seven tests of a configuration, with the answer of each
+record Tests (config : ConfigView) (a b c d e f g : Bool) : Type 0 where
   realm : has_duplicate DuplicateRealm config ≡ a
   peer : has_duplicate DuplicatePeer config ≡ b
   endpoint : has_duplicate DuplicateEndpoint config ≡ c
   server : has_duplicate DuplicateServer config ≡ d
   link : has_duplicate DuplicateLink config ≡ e
-  known : has_duplicate UnknownPeer config ≡ f
+  ways : has_duplicate NoWayOut config ≡ f
+  known : has_duplicate UnknownPeer config ≡ g
 
 -- a fault that is there, after those that aren't
 found : (text : List ℕ) (members : Members) (config : ConfigView) (fault : ConfFault) → Reads text members config →
@@ -91,9 +95,9 @@ found text ms config fault reads twice = record {
 }
 
 first_fault_at : (text : List ℕ) (members : Members) (config : ConfigView) (fault : ConfFault) →
-    Reads text members config → (a b c d e f : Bool) → Tests config a b c d e f → first_of a b c d e f ≡ Some fault →
-    IsFirstFault text fault
-first_fault_at text ms config fault reads true b c d e f tests is =
+    Reads text members config → (a b c d e f g : Bool) → Tests config a b c d e f g →
+    first_of a b c d e f g ≡ Some fault → IsFirstFault text fault
+first_fault_at text ms config fault reads true b c d e f g tests is =
     let n1 = not_syntax text ms reads.parsed in
     let n2 = not_missed text ms reads.parsed reads.complete in
     let n3 = not_none text ms config reads.parsed reads.stated in
@@ -101,7 +105,7 @@ first_fault_at text ms config fault reads true b c d e f tests is =
       holds = found text ms config DuplicateRealm reads tests.realm;
       none_before = (n1, (n2, (n3, tt)));
     })
-first_fault_at text ms config fault reads false true c d e f tests is =
+first_fault_at text ms config fault reads false true c d e f g tests is =
     let n1 = not_syntax text ms reads.parsed in
     let n2 = not_missed text ms reads.parsed reads.complete in
     let n3 = not_none text ms config reads.parsed reads.stated in
@@ -110,7 +114,7 @@ first_fault_at text ms config fault reads false true c d e f tests is =
       holds = found text ms config DuplicatePeer reads tests.peer;
       none_before = (n1, (n2, (n3, (n4, tt))));
     })
-first_fault_at text ms config fault reads false false true d e f tests is =
+first_fault_at text ms config fault reads false false true d e f g tests is =
     let n1 = not_syntax text ms reads.parsed in
     let n2 = not_missed text ms reads.parsed reads.complete in
     let n3 = not_none text ms config reads.parsed reads.stated in
@@ -120,7 +124,7 @@ first_fault_at text ms config fault reads false false true d e f tests is =
       holds = found text ms config DuplicateEndpoint reads tests.endpoint;
       none_before = (n1, (n2, (n3, (n4, (n5, tt)))));
     })
-first_fault_at text ms config fault reads false false false true e f tests is =
+first_fault_at text ms config fault reads false false false true e f g tests is =
     let n1 = not_syntax text ms reads.parsed in
     let n2 = not_missed text ms reads.parsed reads.complete in
     let n3 = not_none text ms config reads.parsed reads.stated in
@@ -131,7 +135,7 @@ first_fault_at text ms config fault reads false false false true e f tests is =
       holds = found text ms config DuplicateServer reads tests.server;
       none_before = (n1, (n2, (n3, (n4, (n5, (n6, tt))))));
     })
-first_fault_at text ms config fault reads false false false false true f tests is =
+first_fault_at text ms config fault reads false false false false true f g tests is =
     let n1 = not_syntax text ms reads.parsed in
     let n2 = not_missed text ms reads.parsed reads.complete in
     let n3 = not_none text ms config reads.parsed reads.stated in
@@ -143,7 +147,7 @@ first_fault_at text ms config fault reads false false false false true f tests i
       holds = found text ms config DuplicateLink reads tests.link;
       none_before = (n1, (n2, (n3, (n4, (n5, (n6, (n7, tt)))))));
     })
-first_fault_at text ms config fault reads false false false false false true tests is =
+first_fault_at text ms config fault reads false false false false false true g tests is =
     let n1 = not_syntax text ms reads.parsed in
     let n2 = not_missed text ms reads.parsed reads.complete in
     let n3 = not_none text ms config reads.parsed reads.stated in
@@ -153,41 +157,57 @@ first_fault_at text ms config fault reads false false false false false true tes
     let n7 = not_twice text ms config DuplicateServer reads tests.server in
     let n8 = not_twice text ms config DuplicateLink reads tests.link in
     subst (IsFirstFault text) (same_Some _ _ is) (record {
-      holds = found text ms config UnknownPeer reads tests.known;
+      holds = found text ms config NoWayOut reads tests.ways;
       none_before = (n1, (n2, (n3, (n4, (n5, (n6, (n7, (n8, tt))))))));
     })
-first_fault_at text ms config fault reads false false false false false false tests is = cc
+first_fault_at text ms config fault reads false false false false false false true tests is =
+    let n1 = not_syntax text ms reads.parsed in
+    let n2 = not_missed text ms reads.parsed reads.complete in
+    let n3 = not_none text ms config reads.parsed reads.stated in
+    let n4 = not_twice text ms config DuplicateRealm reads tests.realm in
+    let n5 = not_twice text ms config DuplicatePeer reads tests.peer in
+    let n6 = not_twice text ms config DuplicateEndpoint reads tests.endpoint in
+    let n7 = not_twice text ms config DuplicateServer reads tests.server in
+    let n8 = not_twice text ms config DuplicateLink reads tests.link in
+    let n9 = not_twice text ms config NoWayOut reads tests.ways in
+    subst (IsFirstFault text) (same_Some _ _ is) (record {
+      holds = found text ms config UnknownPeer reads tests.known;
+      none_before = (n1, (n2, (n3, (n4, (n5, (n6, (n7, (n8, (n9, tt)))))))));
+    })
+first_fault_at text ms config fault reads false false false false false false false tests is = cc
 
--- a text with duplicates, or that names a peer that isn't there, has the first of these as its first fault
+-- a text with duplicates, or with a server where `out` sends nothing, or that names a peer that isn't there, has the
+-- first of these as its first fault
 pub first_fault : (text : List ℕ) (members : Members) (config : ConfigView) (fault : ConfFault) →
     Reads text members config → first_duplicate config ≡ Some fault → IsFirstFault text fault
 first_fault text ms config fault reads is =
-    first_fault_at text ms config fault reads _ _ _ _ _ _
-    (record { realm = refl; peer = refl; endpoint = refl; server = refl; link = refl; known = refl })
+    first_fault_at text ms config fault reads _ _ _ _ _ _ _
+    (record { realm = refl; peer = refl; endpoint = refl; server = refl; link = refl; ways = refl; known = refl })
     (sym (first_of_config config) ∙ is)
 
-none_of : (a b c d e f : Bool) → first_of a b c d e f ≡ None → (a ≡ false)
-    × ((b ≡ false) × ((c ≡ false) × ((d ≡ false) × ((e ≡ false) × ((f ≡ false))))))
-none_of true b c d e f is = cc
-none_of false true c d e f is = cc
-none_of false false true d e f is = cc
-none_of false false false true e f is = cc
-none_of false false false false true f is = cc
-none_of false false false false false true is = cc
-none_of false false false false false false is = (refl, (refl, (refl, (refl, (refl, refl)))))
+none_of : (a b c d e f g : Bool) → first_of a b c d e f g ≡ None → (a ≡ false)
+    × ((b ≡ false) × ((c ≡ false) × ((d ≡ false) × ((e ≡ false) × ((f ≡ false) × ((g ≡ false)))))))
+none_of true b c d e f g is = cc
+none_of false true c d e f g is = cc
+none_of false false true d e f g is = cc
+none_of false false false true e f g is = cc
+none_of false false false false true f g is = cc
+none_of false false false false false true g is = cc
+none_of false false false false false false true is = cc
+none_of false false false false false false false is = (refl, (refl, (refl, (refl, (refl, (refl, refl))))))
 
--- a configuration without a first duplicate has none of the six
+-- a configuration without a first duplicate has none of the seven
 pub all_consistent : (config : ConfigView) → first_duplicate config ≡ None → IsConsistent config
 all_consistent config is =
-    let none = none_of _ _ _ _ _ _ (sym (first_of_config config) ∙ is) in
+    let none = none_of _ _ _ _ _ _ _ (sym (first_of_config config) ∙ is) in
     record {
       realms = none.0;
       peers = none.1.0;
       endpoints = none.1.1.0;
       servers = none.1.1.1.0;
-      links =
-          none.1.1.1.1.0;
-      known = none.1.1.1.1.1;
+      links = none.1.1.1.1.0;
+      ways = none.1.1.1.1.1.0;
+      known = none.1.1.1.1.1.1;
     }
 
 -- no fault holds in a text whose configuration has none of them
@@ -209,7 +229,10 @@ none_holds text ms config reads consistent = (
               not_twice text ms config DuplicateServer reads consistent.servers,
               (
                 not_twice text ms config DuplicateLink reads consistent.links,
-                (not_twice text ms config UnknownPeer reads consistent.known, tt),
+                (
+                  not_twice text ms config NoWayOut reads consistent.ways,
+                  (not_twice text ms config UnknownPeer reads consistent.known, tt),
+                ),
               ),
             ),
           ),

@@ -1,8 +1,6 @@
 -- What is stated is in its range.
-use Rattle.std.proofs.Common.{◌≡◌, ◌≤◌, ℕ, suc, pos, true, Bool, List, [], ◌∷◌, length, map, Option, Some, None, sym, ap, ◌∙◌, refl, String, Global, string_bytes, option_map, arith, inl, inr}
-use Rattle.std.proofs.lemmas.Bool.{cases_Bool, and_parts}
-use Rattle.std.specs.Net.Addr.{is_ipv6}
-use Rattle.roam_address.specs.Addresses.{ip_of}
+use Rattle.std.proofs.Common.{◌≡◌, ◌≤◌, ℕ, suc, pos, true, Bool, List, [], ◌∷◌, length, map, Option, Some, None, sym, ap, ◌∙◌, refl, String, Global, string_bytes, option_map, arith}
+use Rattle.std.proofs.lemmas.Bool.{and_parts}
 use Rattle.std.proofs.lemmas.Bool.Decides.{nat_tests}
 use Rattle.std.proofs.lemmas.Option.{same_Some, cond_some, option_and_then_some}
 use Rattle.std.specs.List.{list_all}
@@ -10,10 +8,9 @@ use Rattle.std.specs.Prelude.{nat_le, ◌&&◌}
 use Rattle.std.proofs.lemmas.List.{length-map}
 use Rattle.toml.specs.Data.{Data, string, integer, array, table, Items, no_items, item, Members, get_member}
 use Rattle.roam_address.specs.declared.endpoint.Endpoint.{Endpoint}
-use Rattle.roam_address.specs.Texts.{endpoint_in}
 use Rattle.roam_address.proofs.TextLemmas.{endpoint_in-port}
 use Rattle.roam_conf_reader.specs.Document.{StatesEach}
-use Rattle.roam_conf_reader.specs.Values.{number, number_or, text, text_fits, endpoint, at_ipv4, array_of, item_count, value_at, optional_at, if_there}
+use Rattle.roam_conf_reader.specs.Values.{number, number_or, text, text_fits, endpoint, array_of, item_count, value_at, optional_at, if_there}
 
 -- a text of 1 to `most` octets, all of them letters
 pub record IsInRange (most : ℕ) (letters : ℕ → Bool) (octets : List ℕ) : Type 0 where
@@ -36,18 +33,9 @@ text_range most letters (string found) octets is =
     rw both.1 at (fitting most letters found both.0)
 text_range most letters value octets is = cc
 
-of_ipv4_is : (a e : Endpoint) → at_ipv4 a ≡ Some e → a ≡ e
-of_ipv4_is a e is =
-    elim (cases_Bool (is_ipv6 (ip_of a.ip))) [
-      | inl yes' ↦ (let none : None ≡ Some e = rw yes' at is in absurd (cc))
-      | inr no' ↦ (let some : Some a ≡ Some e = rw no' at is in same_Some a e some)
-    ]
-
 endpoint_range : (value : Data) (e : Endpoint) → endpoint value ≡ Some e → 1 ≤ e.port
 unfolding endpoint
-endpoint_range (string found) e is =
-    option_and_then_some at_ipv4 (endpoint_in found) e is
-    (λ a there at. rw (of_ipv4_is a e at) at (endpoint_in-port found a there))
+endpoint_range (string found) e is = endpoint_in-port found e is
 endpoint_range value e is = cc
 
 number_range : (least most : ℕ) (value : Data) (n : ℕ) → number least most value ≡ Some n → (least ≤ n) × (n ≤ most)

@@ -9,7 +9,7 @@ use Rattle.roam_conf.specs.declared.accounting.Accounting.{Accounting}
 use Rattle.roam_conf.specs.declared.accounting.Accounting.TheVariants as kinds
 use Rattle.roam_address.specs.declared.endpoint.Endpoint.{Endpoint}
 use Rattle.roam_conf.specs.Config.{ServerView, CoaClientView, PeerView, RealmView, ConfigView}
-use Rattle.roam_conf_reader.specs.Values.{number, letters_of, text, address, ipv4, prefix, endpoint, seed_or_zeros, flag, exchange_lines, station_word, number_or, pattern, list_of, rejects, removed, nas_ids, peer_names, accounting, array_of, item_count, value_at, optional_at, socket_path}
+use Rattle.roam_conf_reader.specs.Values.{number, letters_of, text, address, ipv4, ipv6, prefix, endpoint, seed_or_zeros, flag, exchange_lines, station_word, number_or, pattern, list_of, rejects, removed, nas_ids, peer_names, accounting, array_of, item_count, value_at, optional_at, socket_path}
 
 -- the required keys of the five tables
 abbrev pub server_required : List (List ℕ)
@@ -39,8 +39,8 @@ server_optional = codes "acct" ∷ codes "require_seal" ∷ []
 
 abbrev pub peer_optional : List (List ℕ)
 peer_optional =
-    codes "coa" ∷ codes "nas_ip" ∷ codes "nas_id" ∷ codes "nas_ids" ∷ codes "require_seal" ∷ codes "limit_proxy_state"
-    ∷ codes "operator_name" ∷ codes "ask_cui" ∷ codes "request_without" ∷ codes "reply_without" ∷ []
+    codes "coa" ∷ codes "nas_ip" ∷ codes "nas_ipv6" ∷ codes "nas_id" ∷ codes "nas_ids" ∷ codes "require_seal"
+    ∷ codes "limit_proxy_state" ∷ codes "operator_name" ∷ codes "ask_cui" ∷ codes "request_without" ∷ codes "reply_without" ∷ []
 
 abbrev pub realm_optional : List (List ℕ)
 realm_optional =
@@ -104,6 +104,7 @@ pub record StatesPeer (members : Members) (peer : PeerView) : Type 0 where
   pub secret : value_at (text 64 (letters_of Any)) (codes "secret") members ≡ Some peer.secret
   pub coa : optional_at endpoint (codes "coa") members ≡ Some peer.coa
   pub nas_ip : optional_at ipv4 (codes "nas_ip") members ≡ Some peer.nas_ip
+  pub nas_ipv6 : optional_at ipv6 (codes "nas_ipv6") members ≡ Some peer.nas_ipv6
   pub nas_id : optional_at (text 253 (letters_of Any)) (codes "nas_id") members ≡ Some peer.nas_id
   pub nas_ids : nas_ids (get_member (codes "nas_ids") members) ≡ Some peer.nas_ids
   pub require_seal : flag (get_member (codes "require_seal") members) ≡ Some peer.require_seal

@@ -4,9 +4,10 @@ use Rattle.std.specs.List.{AllByRecursion}
 use Rattle.toml.specs.Data.{Members}
 use Rattle.toml.specs.Parse.{parse_document}
 use Rattle.roam_conf_reader.specs.declared.fault.ConfFault.{ConfFault}
-use Rattle.roam_conf_reader.specs.declared.fault.ConfFault.TheVariants.{Syntax, Missing, BadValue, DuplicateRealm, DuplicatePeer, DuplicateEndpoint, DuplicateServer, DuplicateLink, UnknownPeer, Memory}
+use Rattle.roam_conf_reader.specs.declared.fault.ConfFault.TheVariants.{Syntax, Missing, BadValue, DuplicateRealm, DuplicatePeer, DuplicateEndpoint, DuplicateServer, DuplicateLink, NoWayOut, UnknownPeer, Memory}
 use Rattle.roam_conf.specs.Asking.{has_unknown_peer}
 use Rattle.roam_conf.specs.Config.{ConfigView}
+use Rattle.roam_conf.specs.Ways.{has_no_way_out}
 use Rattle.roam_conf_reader.specs.Document.{StatesConfig, document_misses}
 use Rattle.roam_conf.specs.Duplicates.{has_duplicate_realm, has_duplicate_peer, has_duplicate_endpoint, has_duplicate_server, has_duplicate_link}
 
@@ -29,13 +30,15 @@ pub record StatesNone (text : List ℕ) : Type 0 where
   pub parsed : parse_document text ≡ Some members
   pub unstated : (config : ConfigView) → ¬ (StatesConfig members config)
 
--- whether a configuration has the duplicates that the fault names, or names a peer that isn't there
+-- whether a configuration has the duplicates that the fault names, or a server where its realm's `out` sends nothing, or
+-- names a peer that isn't there
 abbrev pub has_duplicate : ConfFault → ConfigView → Bool
 has_duplicate DuplicateRealm config = has_duplicate_realm config.realms config.reject
 has_duplicate DuplicatePeer config = has_duplicate_peer config.peers
 has_duplicate DuplicateEndpoint config = has_duplicate_endpoint config.auth config.acct config.realms
 has_duplicate DuplicateServer config = has_duplicate_server config.realms
 has_duplicate DuplicateLink config = has_duplicate_link config.peers config.realms
+has_duplicate NoWayOut config = has_no_way_out config.realms
 has_duplicate UnknownPeer config = has_unknown_peer config.peers config.realms
 has_duplicate _ config = false
 
@@ -47,7 +50,7 @@ pub record StatesDuplicate (text : List ℕ) (fault : ConfFault) : Type 0 where
 
 -- ## First fault
 -- The first of Syntax, Missing, BadValue, DuplicateRealm, DuplicatePeer, DuplicateEndpoint, DuplicateServer,
--- DuplicateLink, UnknownPeer that holds anywhere in the text.
+-- DuplicateLink, NoWayOut, UnknownPeer that holds anywhere in the text.
 -- Source: ours
 -- Rules out: a later fault that hides an earlier one
 -- Stands in: `roam_conf_reader` `Faults.antt`: `Holds`, `IsFirstFault`; `read_config`
@@ -62,16 +65,17 @@ Holds text DuplicatePeer = StatesDuplicate text DuplicatePeer
 Holds text DuplicateEndpoint = StatesDuplicate text DuplicateEndpoint
 Holds text DuplicateServer = StatesDuplicate text DuplicateServer
 Holds text DuplicateLink = StatesDuplicate text DuplicateLink
+Holds text NoWayOut = StatesDuplicate text NoWayOut
 Holds text UnknownPeer = StatesDuplicate text UnknownPeer
 Holds text Memory = ⊥
 
--- all nine
+-- all ten
 abbrev pub every_fault : List ConfFault
 every_fault =
     Syntax ∷ Missing ∷ BadValue ∷ DuplicateRealm ∷ DuplicatePeer ∷ DuplicateEndpoint ∷ DuplicateServer
-    ∷ DuplicateLink ∷ UnknownPeer ∷ []
+    ∷ DuplicateLink ∷ NoWayOut ∷ UnknownPeer ∷ []
 
--- the faults before a fault in the list of all nine
+-- the faults before a fault in the list of all ten
 abbrev pub earlier : ConfFault → List ConfFault
 earlier Syntax = []
 earlier Missing = Syntax ∷ []
@@ -82,9 +86,12 @@ earlier DuplicateEndpoint = Syntax ∷ Missing ∷ BadValue ∷ DuplicateRealm �
 earlier DuplicateServer = Syntax ∷ Missing ∷ BadValue ∷ DuplicateRealm ∷ DuplicatePeer ∷ DuplicateEndpoint ∷ []
 earlier DuplicateLink =
     Syntax ∷ Missing ∷ BadValue ∷ DuplicateRealm ∷ DuplicatePeer ∷ DuplicateEndpoint ∷ DuplicateServer ∷ []
-earlier UnknownPeer =
+earlier NoWayOut =
     Syntax ∷ Missing ∷ BadValue ∷ DuplicateRealm ∷ DuplicatePeer ∷ DuplicateEndpoint ∷ DuplicateServer
     ∷ DuplicateLink ∷ []
+earlier UnknownPeer =
+    Syntax ∷ Missing ∷ BadValue ∷ DuplicateRealm ∷ DuplicatePeer ∷ DuplicateEndpoint ∷ DuplicateServer
+    ∷ DuplicateLink ∷ NoWayOut ∷ []
 earlier Memory = every_fault
 
 -- none of these holds in the text
@@ -96,7 +103,7 @@ pub record IsFirstFault (text : List ℕ) (fault : ConfFault) : Type 0 where
   pub holds : Holds text fault
   pub none_before : NoneHolds text (earlier fault)
 
--- the first of the six that is there
+-- the first of the seven that is there
 unfoldable pub first_duplicate : ConfigView → Option ConfFault
 first_duplicate config =
     if has_duplicate DuplicateRealm config then Some DuplicateRealm
@@ -104,5 +111,6 @@ first_duplicate config =
     else if has_duplicate DuplicateEndpoint config then Some DuplicateEndpoint
     else if has_duplicate DuplicateServer config then Some DuplicateServer
     else if has_duplicate DuplicateLink config then Some DuplicateLink
+    else if has_duplicate NoWayOut config then Some NoWayOut
     else if has_duplicate UnknownPeer config then Some UnknownPeer
     else None

@@ -42,6 +42,7 @@ peer_in text identifiers request reply = record {
   secret = text.secret.now;
   coa = text.coa;
   nas_ip = text.nas_ip;
+  nas_ipv6 = text.nas_ipv6;
   nas_id = option_copied text.nas_id;
   nas_ids = identifiers;
   require_seal = text.require_seal;

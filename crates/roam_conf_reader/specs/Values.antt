@@ -18,9 +18,8 @@ use Rattle.roam_conf_reader.specs.declared.values.Letters.TheVariants.{Any, NoZe
 use Rattle.roam_conf.specs.Config.{PatternView, whole, suffix, any}
 use Rattle.roam_conf.specs.Letters.{is_peer_letter, is_realm_letter}
 use Rattle.roam_conf.specs.Patterns.{is_realm_name, is_reject}
-use Rattle.std.specs.Net.Addr.{is_ipv6}
 use Rattle.roam_address.specs.declared.address.Address.{Address}
-use Rattle.roam_address.specs.Addresses.{ip_of, ipv4_octets_in}
+use Rattle.roam_address.specs.Addresses.{ip_of, ipv4_octets_in, ipv6_octets_in}
 use Rattle.roam_address.specs.Prefixes.{PrefixView}
 use Rattle.roam_address.specs.Texts.{address_in, endpoint_in, whole as whole_prefix}
 use Rattle.roam_conf.specs.Texts.{removed_in}
@@ -51,30 +50,27 @@ text most letters _ = None
 abbrev pub socket_path : Data → Option (List ℕ)
 socket_path = text 107 (letters_of NoZero)
 
--- an address of IPv4; an endpoint at one
-abbrev pub of_ipv4 : Address → Option Address
-of_ipv4 a = if is_ipv6 (ip_of a) then None else Some a
-
-abbrev pub at_ipv4 : Endpoint → Option Endpoint
-at_ipv4 e = if is_ipv6 (ip_of e.ip) then None else Some e
-
--- a text that is an address of IPv4
+-- a text that is an address
 unfoldable pub address : Data → Option Address
-address (string octets) = option_and_then of_ipv4 (address_in octets)
+address (string octets) = address_in octets
 address _ = None
 
--- such a text, of which the octets are taken
+-- a text that is an address of IPv4; one that is an address of IPv6; of both the octets are taken
 unfoldable pub ipv4 : Data → Option (List ℕ)
 ipv4 (string octets) = option_and_then (λ a. ipv4_octets_in (ip_of a)) (address_in octets)
 ipv4 _ = None
 
--- a text that is an address of IPv4: the prefix that has it alone
+unfoldable pub ipv6 : Data → Option (List ℕ)
+ipv6 (string octets) = option_and_then (λ a. ipv6_octets_in (ip_of a)) (address_in octets)
+ipv6 _ = None
+
+-- a text that is an address: the prefix that has it alone
 abbrev pub prefix : Data → Option PrefixView
 prefix value = option_map whole_prefix (address value)
 
--- a text that is an endpoint at an address of IPv4
+-- a text that is an endpoint
 unfoldable pub endpoint : Data → Option Endpoint
-endpoint (string octets) = option_and_then at_ipv4 (endpoint_in octets)
+endpoint (string octets) = endpoint_in octets
 endpoint _ = None
 
 -- a text of 64 hexadecimal digits, of either case: 32 octets

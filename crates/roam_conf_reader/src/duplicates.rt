@@ -19,8 +19,8 @@ ghost use Rattle.roam_conf_reader.specs.Reading.{IsMemoryFault};
 use crate::ConfFault;
 use crate::equal_peers::has_duplicate_peer;
 use roam_conf::{
-    CoaClient, ConfigParts, Endpoint, Peer, Realm, Server, has_duplicate_realm, has_unknown_peer,
-    is_same_endpoint,
+    CoaClient, ConfigParts, Endpoint, Peer, Realm, Server, has_duplicate_realm, has_no_way_out,
+    has_unknown_peer, is_same_endpoint,
 };
 use std::alloc::Global;
 
@@ -211,7 +211,8 @@ fn has_duplicate_link(alloc: Global, peers: &[Peer], realms: &[Realm]) -> Result
     Ok(has_equal_endpoints(coas.as_slice()) || some_realm_at(coas.as_slice(), realms))
 }
 
-/// The first duplicate that is there, in the order of the faults, or else that a peer is named that isn't there.
+/// The first duplicate that is there, in the order of the faults, or else that a server is where its realm's `out` sends
+/// nothing, or that a peer is named that isn't there.
 #[tactic(auto, unfolding(crate::specs::Faults::first_duplicate))]
 pub(crate) fn first_duplicate(
     alloc: Global,
@@ -236,6 +237,9 @@ pub(crate) fn first_duplicate(
     }
     if has_duplicate_link(alloc, peers, realms)? {
         return Ok(Some(ConfFault::DuplicateLink));
+    }
+    if has_no_way_out(realms) {
+        return Ok(Some(ConfFault::NoWayOut));
     }
     if has_unknown_peer(alloc, peers, realms)? {
         return Ok(Some(ConfFault::UnknownPeer));

@@ -11,6 +11,15 @@ use crate::duplicates::from_place;
 use roam_conf::{Peer, has_duplicate_nas_text, is_same_name};
 use std::alloc::Global;
 
+fn have_same_ipv6(a: Option<[u8; 16]>, b: Option<[u8; 16]>) -> bool
+    ensures { result ≡ same_if_there a b }
+{
+    match (a, b) {
+        (Some(a), Some(b)) => a == b,
+        _ => false,
+    }
+}
+
 fn have_same_ip(a: Option<[u8; 4]>, b: Option<[u8; 4]>) -> bool
     ensures { result ≡ same_if_there a b }
 {
@@ -35,6 +44,7 @@ fn is_same_peer(a: &Peer, b: &Peer) -> bool
     a.name.as_str() == b.name.as_str()
         || a.ip.leading() == b.ip.leading()
         || have_same_ip(a.nas_ip, b.nas_ip)
+        || have_same_ipv6(a.nas_ipv6, b.nas_ipv6)
         || have_same_operator(a, b)
 }
 
@@ -49,7 +59,7 @@ fn is_among_peers(peer: &Peer, others: &[Peer]) -> bool
     false
 }
 
-/// Whether two peers are equal in their name, prefix, NAS-IP-Address or Operator-Name.
+/// Whether two peers are equal in their name, prefix, NAS-IP-Address, NAS-IPv6-Address or Operator-Name.
 fn has_equal_peers(peers: &[Peer]) -> bool
     ensures { result ≡ has_pair same_peer (map shown_peer peers.now) }
 {

@@ -21,8 +21,8 @@ pub enum ConfFault {
     BadValue,
     /// Two names, two suffixes `*.` and a name, or two `*` of realms and of `reject` are equal without ASCII case.
     DuplicateRealm,
-    /// Two peers have equal names, addresses, NAS-IP-Addresses or, without ASCII case, Operator-Names, or two texts of
-    /// `nas_id` and `nas_ids` of all peers are equal.
+    /// Two peers have equal names, addresses, NAS-IP-Addresses, NAS-IPv6-Addresses or, without ASCII case,
+    /// Operator-Names, or two texts of `nas_id` and `nas_ids` of all peers are equal.
     DuplicatePeer,
     /// Two of the broker's own sockets are at one endpoint.
     DuplicateEndpoint,
@@ -30,6 +30,8 @@ pub enum ConfFault {
     DuplicateServer,
     /// A peer's `coa` endpoint is another peer's or a server's.
     DuplicateLink,
+    /// A server's endpoint is of another kind, IPv4 or IPv6, than its realm's `out`.
+    NoWayOut,
     /// A realm names a peer that isn't there.
     UnknownPeer,
     /// A growth of memory was refused, which says nothing of the text.
@@ -49,6 +51,7 @@ fn name_of(fault: ConfFault) -> &'static str
         ConfFault::DuplicateEndpoint => "DuplicateEndpoint",
         ConfFault::DuplicateServer => "DuplicateServer",
         ConfFault::DuplicateLink => "DuplicateLink",
+        ConfFault::NoWayOut => "NoWayOut",
         ConfFault::UnknownPeer => "UnknownPeer",
         ConfFault::Memory => "Memory",
     }

@@ -116,6 +116,16 @@ pub(crate) fn optional_ipv4(table: &Table, key: &str) -> Option<Option<[u8; 4]>>
     }
 }
 
+/// The octets of an address of IPv6, or `Some(None)` where the key is absent.
+pub(crate) fn optional_ipv6(table: &Table, key: &str) -> Option<Option<[u8; 16]>>
+    ensures { result ≡ optional_at spec.ipv6 key.now (table_view table.now) }
+{
+    match value(table, key) {
+        Some(value) => Some(Some(values::ipv6_of(value)?)),
+        None => Some(None),
+    }
+}
+
 /// An endpoint, or `Some(None)` where the key is absent.
 pub(crate) fn optional_endpoint(table: &Table, key: &str) -> Option<Option<Endpoint>>
     ensures { result ≡ optional_at spec.endpoint key.now (table_view table.now) }

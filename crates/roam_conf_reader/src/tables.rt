@@ -27,9 +27,10 @@ pub(crate) const CLIENT_KEYS: [&str; 2] = ["ip", "secret"];
 pub(crate) const PEER_KEYS: [&str; 3] = ["name", "ip", "secret"];
 
 /// The keys that a peer's table may have besides.
-pub(crate) const PEER_OPTIONAL_KEYS: [&str; 10] = [
+pub(crate) const PEER_OPTIONAL_KEYS: [&str; 11] = [
     "coa",
     "nas_ip",
+    "nas_ipv6",
     "nas_id",
     "nas_ids",
     "require_seal",

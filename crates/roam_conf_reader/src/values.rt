@@ -94,17 +94,11 @@ pub(crate) fn number_of(value: &Value, least: u32, most: u32) -> Option<u32>
     }
 }
 
-/// An address of IPv4.
 #[tactic(auto, unfolding(crate::specs::Values::address))]
 pub(crate) fn address_of(value: &Value) -> Option<Address>
     ensures { result ≡ spec.address (view value.now) }
 {
-    let address = Address::from_text(value.as_str()?)?;
-    if address.is_ipv6() {
-        None
-    } else {
-        Some(address)
-    }
+    Address::from_text(value.as_str()?)
 }
 
 /// The octets of an address of IPv4.
@@ -113,6 +107,14 @@ pub(crate) fn ipv4_of(value: &Value) -> Option<[u8; 4]>
     ensures { result ≡ spec.ipv4 (view value.now) }
 {
     Address::from_text(value.as_str()?)?.ipv4_octets()
+}
+
+/// The octets of an address of IPv6.
+#[tactic(auto, unfolding(crate::specs::Values::ipv6))]
+pub(crate) fn ipv6_of(value: &Value) -> Option<[u8; 16]>
+    ensures { result ≡ spec.ipv6 (view value.now) }
+{
+    Address::from_text(value.as_str()?)?.ipv6_octets()
 }
 
 /// The addresses of a peer.
@@ -125,17 +127,11 @@ pub(crate) fn prefix_of(value: &Value) -> Option<Prefix>
     }
 }
 
-/// An endpoint at an address of IPv4.
 #[tactic(auto, unfolding(crate::specs::Values::endpoint))]
 pub(crate) fn endpoint_of(value: &Value) -> Option<Endpoint>
     ensures { result ≡ spec.endpoint (view value.now) }
 {
-    let endpoint = Endpoint::from_text(value.as_str()?)?;
-    if endpoint.ip.is_ipv6() {
-        None
-    } else {
-        Some(endpoint)
-    }
+    Endpoint::from_text(value.as_str()?)
 }
 
 /// Of which exchanges lines tell, by a text.

@@ -9,6 +9,7 @@ use crate::missing::say_missing;
 use crate::syntax::say_syntax;
 use crate::unknown_peers::say_unknown_peers;
 use crate::unsaid::Unsaid;
+use crate::ways::say_no_way_out;
 use roam_conf_reader::ConfFault;
 use std::alloc::Global;
 use toml::Table;
@@ -26,6 +27,7 @@ fn say_fault(
     match fault {
         ConfFault::Missing => say_missing(&document, lines),
         ConfFault::BadValue => say_bad_values(&document, lines),
+        ConfFault::NoWayOut => say_no_way_out(&document, lines),
         ConfFault::UnknownPeer => say_unknown_peers(&document, lines),
         _ => say_duplicates(&document, fault, lines),
     }

@@ -5,7 +5,9 @@ use crate::lines::Lines;
 use crate::place::TableKind;
 use crate::quoted::Quoted;
 use crate::unsaid::Unsaid;
+use roam_conf::{Endpoint, Prefix};
 use roam_conf_reader::ConfFault;
+use std::alloc::Global;
 use std::collections::BTreeMap;
 use std::fmt::Write;
 use toml::Value;
@@ -14,6 +16,17 @@ use toml::Value;
 #[derive(Clone, Copy)]
 struct ComparedKey(TableKind, &'static str);
 
+/// How values are compared.
+#[derive(Clone, Copy, PartialEq, Eq)]
+enum Compared {
+    /// As they stand.
+    AsText,
+    /// Without ASCII case.
+    WithoutCase,
+    /// As addresses, prefixes or endpoints, by the one text of each.
+    AsAddress,
+}
+
 /// Keys of which no two values may be equal.
 #[derive(Clone, Copy)]
 struct Group {
@@ -21,11 +34,10 @@ struct Group {
     keys: &'static [ComparedKey],
     /// Whether the values of each realm are compared apart.
     is_apart: bool,
-    /// Whether they are compared without ASCII case.
-    is_caseless: bool,
+    compared: Compared,
 }
 
-const GROUPS: [Group; 10] = [
+const GROUPS: [Group; 11] = [
     Group {
         fault: ConfFault::DuplicateRealm,
         keys: &[
@@ -34,25 +46,31 @@ const GROUPS: [Group; 10] = [
             ComparedKey(TableKind::Top, "reject"),
         ],
         is_apart: false,
-        is_caseless: true,
+        compared: Compared::WithoutCase,
     },
     Group {
         fault: ConfFault::DuplicatePeer,
         keys: &[ComparedKey(TableKind::Peer, "name")],
         is_apart: false,
-        is_caseless: false,
+        compared: Compared::AsText,
     },
     Group {
         fault: ConfFault::DuplicatePeer,
         keys: &[ComparedKey(TableKind::Peer, "ip")],
         is_apart: false,
-        is_caseless: false,
+        compared: Compared::AsAddress,
     },
     Group {
         fault: ConfFault::DuplicatePeer,
         keys: &[ComparedKey(TableKind::Peer, "nas_ip")],
         is_apart: false,
-        is_caseless: false,
+        compared: Compared::AsAddress,
+    },
+    Group {
+        fault: ConfFault::DuplicatePeer,
+        keys: &[ComparedKey(TableKind::Peer, "nas_ipv6")],
+        is_apart: false,
+        compared: Compared::AsAddress,
     },
     Group {
         fault: ConfFault::DuplicatePeer,
@@ -61,13 +79,13 @@ const GROUPS: [Group; 10] = [
             ComparedKey(TableKind::Peer, "nas_ids"),
         ],
         is_apart: false,
-        is_caseless: false,
+        compared: Compared::AsText,
     },
     Group {
         fault: ConfFault::DuplicatePeer,
         keys: &[ComparedKey(TableKind::Peer, "operator_name")],
         is_apart: false,
-        is_caseless: true,
+        compared: Compared::WithoutCase,
     },
     Group {
         fault: ConfFault::DuplicateEndpoint,
@@ -78,7 +96,7 @@ const GROUPS: [Group; 10] = [
             ComparedKey(TableKind::Realm, "reverse"),
         ],
         is_apart: false,
-        is_caseless: false,
+        compared: Compared::AsAddress,
     },
     Group {
         fault: ConfFault::DuplicateServer,
@@ -87,13 +105,13 @@ const GROUPS: [Group; 10] = [
             ComparedKey(TableKind::Server, "acct"),
         ],
         is_apart: true,
-        is_caseless: false,
+        compared: Compared::AsAddress,
     },
     Group {
         fault: ConfFault::DuplicateServer,
         keys: &[ComparedKey(TableKind::Client, "ip")],
         is_apart: true,
-        is_caseless: false,
+        compared: Compared::AsAddress,
     },
     Group {
         fault: ConfFault::DuplicateLink,
@@ -103,7 +121,7 @@ const GROUPS: [Group; 10] = [
             ComparedKey(TableKind::Server, "acct"),
         ],
         is_apart: false,
-        is_caseless: false,
+        compared: Compared::AsAddress,
     },
 ];
 
@@ -121,6 +139,17 @@ struct Seen<'a> {
     spots: BTreeMap<String, Spot<'a>>,
 }
 
+/// The one text of what a text states: an endpoint, an address or a prefix.
+fn one_text(alloc: Global, text: &str) -> Result<String, Unsaid> {
+    if let Some(endpoint) = Endpoint::from_text(text) {
+        return Ok(format!(in alloc; "{endpoint}")?);
+    }
+    match Prefix::from_text(text) {
+        Some(prefix) => Ok(format!(in alloc; "{prefix}")?),
+        None => Ok(String::from_str(alloc, text)?),
+    }
+}
+
 impl<'a> Seen<'a> {
     /// What is compared of a text: of a realm's names it is without case, and of some the realm counts.
     fn compared(
@@ -129,8 +158,11 @@ impl<'a> Seen<'a> {
         spot: Spot<'_>,
         text: &str,
     ) -> Result<String, Unsaid> {
-        let mut compared = String::from_str(document.alloc, text)?;
-        if self.group.is_caseless {
+        let mut compared = match self.group.compared {
+            Compared::AsAddress => one_text(document.alloc, text)?,
+            _ => String::from_str(document.alloc, text)?,
+        };
+        if self.group.compared == Compared::WithoutCase {
             compared.make_ascii_lowercase();
         }
         if self.group.is_apart {

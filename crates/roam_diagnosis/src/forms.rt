@@ -17,9 +17,13 @@ pub(crate) enum ValueForm {
     StationWord,
     /// 64 hexadecimal digits.
     Seed,
-    /// An IPv4 address.
+    /// An address.
     Address,
-    /// An IPv4 address, a colon and a port.
+    /// An address of IPv4.
+    Ipv4,
+    /// An address of IPv6.
+    Ipv6,
+    /// An address and a port.
     Endpoint,
     /// A text of 1 to so many octets.
     Text(usize),
@@ -104,18 +108,10 @@ fn is_removal(text: &str, kept: &[u8]) -> bool {
     }
 }
 
-/// Whether the text is an address of IPv4.
-fn is_address(text: &str) -> bool {
+/// Whether the text is an address of IPv6, or of IPv4 where that is wanted.
+fn is_address_of(text: &str, of_ipv6: bool) -> bool {
     match Address::from_text(text) {
-        Some(address) => !address.is_ipv6(),
-        None => false,
-    }
-}
-
-/// Whether the text is an endpoint at an address of IPv4.
-fn is_endpoint(text: &str) -> bool {
-    match Endpoint::from_text(text) {
-        Some(endpoint) => !endpoint.ip.is_ipv6(),
+        Some(address) => address.is_ipv6() == of_ipv6,
         None => false,
     }
 }
@@ -124,8 +120,10 @@ fn is_endpoint(text: &str) -> bool {
 fn text_fits(form: ValueForm, text: &str) -> bool {
     match form {
         ValueForm::Seed => is_seed(text),
-        ValueForm::Address => is_address(text),
-        ValueForm::Endpoint => is_endpoint(text),
+        ValueForm::Address => Address::from_text(text).is_some(),
+        ValueForm::Ipv4 => is_address_of(text, false),
+        ValueForm::Ipv6 => is_address_of(text, true),
+        ValueForm::Endpoint => Endpoint::from_text(text).is_some(),
         ValueForm::Text(most) => !text.is_empty() && text.len() <= most,
         ValueForm::SocketPath => is_socket_path(text),
         ValueForm::Secret => !text.is_empty() && text.len() <= 64,
@@ -250,9 +248,14 @@ impl fmt::Display for ValueForm {
             }
             ValueForm::StationWord => f.write_str("is neither \"clear\" nor \"hmac\""),
             ValueForm::Seed => f.write_str("is not a text of 64 hexadecimal digits"),
-            ValueForm::Address => f.write_str("is no IPv4 address in decimal, as \"192.0.2.1\""),
+            ValueForm::Address => {
+                f.write_str("is no address, as \"192.0.2.1\" or \"2001:db8::1\"")
+            }
+            ValueForm::Ipv4 => f.write_str("is no IPv4 address in decimal, as \"192.0.2.1\""),
+            ValueForm::Ipv6 => f.write_str("is no IPv6 address, as \"2001:db8::1\""),
             ValueForm::Endpoint => {
-                f.write_str("is no IPv4 address with a port of 1..65535, as \"192.0.2.1:1812\"")
+                f.write_str("is no address with a port of 1..65535, as \"192.0.2.1:1812\"")?;
+                f.write_str(" or \"[2001:db8::1]:1812\"")
             }
             ValueForm::Text(most) => write!(f, "is not a text of 1..{most} octets"),
             ValueForm::SocketPath => f.write_str("is not a path of 1..107 octets"),

@@ -31,6 +31,7 @@ mod statements;
 mod syntax;
 mod unknown_peers;
 mod unsaid;
+mod ways;
 
 pub use diagnosis::{advise, diagnose};
 pub use line::Line;

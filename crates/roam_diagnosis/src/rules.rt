@@ -30,12 +30,13 @@ const TOP: [Rule; 20] = [
     Rule("realm", true, ValueForm::Tables(1024)),
 ];
 
-const PEER: [Rule; 13] = [
+const PEER: [Rule; 14] = [
     Rule("name", true, ValueForm::PeerName),
     Rule("ip", true, ValueForm::Address),
     Rule("secret", true, ValueForm::Secret),
     Rule("coa", false, ValueForm::Endpoint),
-    Rule("nas_ip", false, ValueForm::Address),
+    Rule("nas_ip", false, ValueForm::Ipv4),
+    Rule("nas_ipv6", false, ValueForm::Ipv6),
     Rule("nas_id", false, ValueForm::Text(253)),
     Rule("nas_ids", false, ValueForm::NasIds),
     Rule("require_seal", false, ValueForm::Flag),

@@ -1,18 +1,25 @@
 //! Home servers, among all others and beside the broker's own sockets.
 
 use crate::document::{Document, Located};
+use crate::keys::Keys;
 use crate::place::TableKind;
+use roam_conf::Endpoint;
 
-/// Whether the text stands under the key.
-fn is_under(at: Located<'_>, key: &str, text: &str) -> bool {
-    match at.keys.text(key) {
-        Some(other) => other == text,
+/// The endpoint that stands under the key, if one does.
+pub(crate) fn endpoint_under(keys: Keys<'_>, key: &str) -> Option<Endpoint> {
+    Endpoint::from_text(keys.text(key)?)
+}
+
+/// Whether the endpoint stands under the key.
+fn is_under(at: Located<'_>, key: &str, endpoint: Endpoint) -> bool {
+    match endpoint_under(at.keys, key) {
+        Some(other) => other == endpoint,
         None => false,
     }
 }
 
 /// Whether the endpoint is one of the broker's own that a table states.
-fn is_own_in(at: Located<'_>, endpoint: &str) -> bool {
+fn is_own_in(at: Located<'_>, endpoint: Endpoint) -> bool {
     match at.place.kind {
         TableKind::Top => is_under(at, "auth", endpoint) || is_under(at, "acct", endpoint),
         TableKind::Realm => is_under(at, "out", endpoint) || is_under(at, "reverse", endpoint),
@@ -22,7 +29,7 @@ fn is_own_in(at: Located<'_>, endpoint: &str) -> bool {
 
 /// Whether a server's endpoint under the key is one of the broker's own.
 pub(crate) fn is_own(document: &Document<'_>, server: Located<'_>, key: &str) -> bool {
-    let Some(endpoint) = server.keys.text(key) else {
+    let Some(endpoint) = endpoint_under(server.keys, key) else {
         return false;
     };
     for at in document.tables.as_slice() {
@@ -33,24 +40,16 @@ pub(crate) fn is_own(document: &Document<'_>, server: Located<'_>, key: &str) ->
     false
 }
 
-/// What stands before the colon of an endpoint.
-fn address_of(endpoint: &str) -> &str {
-    match endpoint.split_once(':') {
-        Some((address, _)) => address,
-        None => endpoint,
-    }
-}
-
 /// Whether the broker asks two servers from one address, and finds them at one endpoint.
 fn are_one(server: Located<'_>, other: Located<'_>) -> bool {
     match (
-        server.keys.text("auth"),
-        other.keys.text("auth"),
-        server.named.text("out"),
-        other.named.text("out"),
+        endpoint_under(server.keys, "auth"),
+        endpoint_under(other.keys, "auth"),
+        endpoint_under(server.named, "out"),
+        endpoint_under(other.named, "out"),
     ) {
         (Some(here), Some(there), Some(out), Some(other_out)) => {
-            here == there && address_of(out) == address_of(other_out)
+            here == there && out.ip == other_out.ip
         }
         _ => false,
     }

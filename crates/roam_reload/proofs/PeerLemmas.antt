@@ -9,7 +9,7 @@ use Rattle.roam_conf.specs.declared.peer.Peer.{Peer}
 use Rattle.roam_reload.specs.Differences.{IsOtherPeer, PeersDiffer}
 use Rattle.roam_reload.specs.Reload.{KeepsPeers, peer_part}
 use Rattle.roam_reload.specs.declared.keys.PeerKey.{PeerKey}
-use Rattle.roam_reload.specs.declared.keys.PeerKey.TheVariants.{Name, Ip, Secret, Coa, NasIp, NasId, NasIds, OperatorName, AskCui, RequestWithout, ReplyWithout}
+use Rattle.roam_reload.specs.declared.keys.PeerKey.TheVariants.{Name, Ip, Secret, Coa, NasIp, NasIpv6, NasId, NasIds, OperatorName, AskCui, RequestWithout, ReplyWithout}
 
 -- the parts of some peers' tables
 abbrev pub parts : List Peer → List PeerView
@@ -22,6 +22,7 @@ other_part a b Ip d = λ e. d (ap (λ (x : PeerView). x.ip) e)
 other_part a b Secret d = λ e. d (ap (λ (x : PeerView). x.secret) e)
 other_part a b Coa d = λ e. d (ap (λ (x : PeerView). x.coa) e)
 other_part a b NasIp d = λ e. d (ap (λ (x : PeerView). x.nas_ip) e)
+other_part a b NasIpv6 d = λ e. d (ap (λ (x : PeerView). x.nas_ipv6) e)
 other_part a b NasId d = λ e. d (ap (λ (x : PeerView). x.nas_id) e)
 other_part a b NasIds d = λ e. d (ap (λ (x : PeerView). x.nas_ids) e)
 other_part a b OperatorName d = λ e. d (ap (λ (x : PeerView). x.operator_name) e)

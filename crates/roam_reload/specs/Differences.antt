@@ -44,6 +44,7 @@ PeersDiffer old new peer_key.Ip = new.ip ≢ old.ip
 PeersDiffer old new peer_key.Secret = new.secret ≢ old.secret
 PeersDiffer old new peer_key.Coa = new.coa ≢ old.coa
 PeersDiffer old new peer_key.NasIp = new.nas_ip ≢ old.nas_ip
+PeersDiffer old new peer_key.NasIpv6 = new.nas_ipv6 ≢ old.nas_ipv6
 PeersDiffer old new peer_key.NasId = new.nas_id ≢ old.nas_id
 PeersDiffer old new peer_key.NasIds = new.nas_ids ≢ old.nas_ids
 PeersDiffer old new peer_key.OperatorName = new.operator_name ≢ old.operator_name

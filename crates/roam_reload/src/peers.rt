@@ -23,6 +23,8 @@ pub fn peer_difference(old: &Peer, new: &Peer) -> Option<PeerKey>
         Some(PeerKey::Coa)
     } else if old.nas_ip != new.nas_ip {
         Some(PeerKey::NasIp)
+    } else if old.nas_ipv6 != new.nas_ipv6 {
+        Some(PeerKey::NasIpv6)
     } else if old.nas_id != new.nas_id {
         Some(PeerKey::NasId)
     } else if old.nas_ids != new.nas_ids {

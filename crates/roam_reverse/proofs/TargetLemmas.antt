@@ -4,8 +4,8 @@ use Rattle.std.specs.Prelude.{is_some, slice_get, if◌then◌else◌}
 use Rattle.std.specs.Option.{option_map_or}
 use Rattle.std.proofs.lemmas.Bool.{cases_Bool}
 use Rattle.roam_conf.specs.Config.{PeerView}
-use Rattle.roam_conf.specs.Targets.{peer_meant, peer_with_nas_ip, peer_with_operator}
-use Rattle.roam_reverse.specs.Target.{has_coa, peer_of_nas, peer_of_operator, same_peer, with_coa}
+use Rattle.roam_conf.specs.Targets.{peer_meant, peer_with_nas_ip, peer_with_nas_ipv6, peer_with_operator}
+use Rattle.roam_reverse.specs.Target.{has_coa, peer_of_names, peer_of_nas, peer_of_operator, same_peer, with_coa}
 
 -- what is kept where a test passes
 pub kept : (b : Bool) (found index : ℕ) → (if b then Some found else None) ≡ Some index → (found ≡ index) × (b ≡ true)
@@ -69,3 +69,33 @@ nas-names peers (Some ip) (Some name) index h =
       λ x is. ap (peer_with_nas_ip peers) (sym (some-is ip x is)) ∙ both.0,
       λ n is. ap (peer_meant peers) (sym (some-is name n is)) ∙ both.1,
     )
+
+-- and so does a NAS-IPv6-Address that is looked at
+abbrev pub NasNames : List PeerView → Option (List ℕ) → Option (List ℕ) → Option (List ℕ) → ℕ → Type 0
+NasNames peers ip name ipv6 index =
+    ((x : List ℕ) → ip ≡ Some x → peer_with_nas_ip peers x ≡ Some index)
+    × ((n : List ℕ) → name ≡ Some n → peer_meant peers n ≡ Some index)
+    × ((x : List ℕ) → ipv6 ≡ Some x → peer_with_nas_ipv6 peers x ≡ Some index)
+
+of-ipv6 : (peers : List PeerView) (ip : List ℕ) (index : ℕ) → peer_with_nas_ipv6 peers ip ≡ Some index
+    → (x : List ℕ) → Some ip ≡ Some x → peer_with_nas_ipv6 peers x ≡ Some index
+of-ipv6 peers ip index h x is = ap (peer_with_nas_ipv6 peers) (sym (some-is ip x is)) ∙ h
+
+with-ipv6 : (peers : List PeerView) (ip name : Option (List ℕ)) (v6 : List ℕ) (index : ℕ)
+    → same_peer (peer_of_nas peers (ip, name)) (peer_with_nas_ipv6 peers v6) ≡ Some index
+    → NasNames peers ip name (Some v6) index
+with-ipv6 peers ip name v6 index h =
+    let both = same-peer-is (peer_of_nas peers (ip, name)) (peer_with_nas_ipv6 peers v6) index h in
+    let names = nas-names peers ip name index both.0 in
+    (names.0, names.1, of-ipv6 peers v6 index both.1)
+
+pub all-names : (peers : List PeerView) (ip name ipv6 : Option (List ℕ)) (index : ℕ)
+    → peer_of_names peers (ip, name) ipv6 ≡ Some index → NasNames peers ip name ipv6 index
+all-names peers ip name None index h =
+    let names = nas-names peers ip name index h in
+    (names.0, names.1, λ x is. absurd (cc is))
+all-names peers None None (Some v6) index h =
+    (λ x is. absurd (cc is), λ n is. absurd (cc is), of-ipv6 peers v6 index h)
+all-names peers (Some ip) None (Some v6) index h = with-ipv6 peers (Some ip) None v6 index h
+all-names peers None (Some name) (Some v6) index h = with-ipv6 peers None (Some name) v6 index h
+all-names peers (Some ip) (Some name) (Some v6) index h = with-ipv6 peers (Some ip) (Some name) v6 index h

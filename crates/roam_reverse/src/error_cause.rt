@@ -206,7 +206,7 @@ pub fn route_of<A: Allocator + Copy>(
     let Some(peer) = target(config, request) else {
         return Err(REQUEST_NOT_ROUTABLE);
     };
-    if !config.is_peer_of(realm, peer) {
+    if !config.is_target_of(realm, peer) {
         return Err(REQUEST_NOT_ROUTABLE);
     }
     let own = names_sessions(config, realm);

@@ -3,12 +3,16 @@
 ghost use Rattle.std.specs.Prelude.{◌≡◌, ◌<◌, IfSome, option_map, vec_len};
 ghost use Rattle.roam_conf.specs.Shown.{shown};
 ghost use Rattle.roam_reverse.specs.Shown.{shown_names};
-ghost use Rattle.roam_reverse.specs.Target.{peer_named, peer_of_nas, peer_of_operator, same_peer, target, with_coa};
+ghost use Rattle.roam_reverse.specs.Target.{ipv6_of, peer_named, peer_of_names, peer_of_nas, peer_of_operator};
+ghost use Rattle.roam_reverse.specs.Target.{same_peer, target, with_coa};
 
 use roam_conf::Config;
 use roam_route::{NasName, nas_of};
 use roam_wire::View;
 use roam_wire::attribute_type::OPERATOR_NAME;
+
+/// The type of a NAS-IPv6-Address (RFC 3162, section 2.1).
+pub const NAS_IPV6_ADDRESS: u8 = 95;
 
 /// The first octet of an Operator-Name that is the name of a realm (RFC 5580, section 4.1).
 const REALM: u8 = b'1';
@@ -35,6 +39,29 @@ fn peer_of_nas(config: &Config, names: NasName<'_>) -> Option<u16>
     }
 }
 
+/// The peer that all of an access server's names mean that are there.
+fn peer_of_names(config: &Config, names: NasName<'_>, ipv6: Option<&[u8]>) -> Option<u16>
+    ensures { result ≡ peer_of_names (shown config.now).peers (shown_names names.entry)
+        (option_map (λ value. value.now) ipv6.entry) }
+{
+    match (names.ip_address, names.identifier, ipv6) {
+        (_, _, None) => peer_of_nas(config, names),
+        (None, None, Some(ip)) => config.peer_by_nas_ipv6(ip),
+        (_, _, Some(ip)) => same_peer(peer_of_nas(config, names), config.peer_by_nas_ipv6(ip)),
+    }
+}
+
+/// The NAS-IPv6-Address of a packet, where some peer has a `nas_ipv6`.
+fn ipv6_of<'a>(config: &Config, request: &View<'a>) -> Option<&'a [u8]>
+    ensures { option_map (λ value. value.now) result ≡ ipv6_of (shown config.now).peers request.now.attributes }
+{
+    if config.has_nas_ipv6s() {
+        request.first(NAS_IPV6_ADDRESS)
+    } else {
+        None
+    }
+}
+
 /// The peer that an Operator-Name names.
 fn peer_of_operator(config: &Config, operator: &[u8]) -> Option<u16>
     ensures { result ≡ peer_of_operator (shown config.now).peers operator.now }
@@ -47,13 +74,18 @@ fn peer_of_operator(config: &Config, operator: &[u8]) -> Option<u16>
 
 /// The peer that is named: by the Operator-Name, where there is one and some peer has one, else by the names of
 /// the access server.
-fn peer_named(config: &Config, operator: Option<&[u8]>, names: NasName<'_>) -> Option<u16>
+fn peer_named(
+    config: &Config,
+    operator: Option<&[u8]>,
+    names: NasName<'_>,
+    ipv6: Option<&[u8]>,
+) -> Option<u16>
     ensures { result ≡ peer_named (shown config.now).peers (option_map (λ value. value.now) operator.entry)
-        (shown_names names.entry) }
+        (shown_names names.entry) (option_map (λ value. value.now) ipv6.entry) }
 {
     match operator {
         Some(operator) if config.has_operators() => peer_of_operator(config, operator),
-        _ => peer_of_nas(config, names),
+        _ => peer_of_names(config, names, ipv6),
     }
 }
 
@@ -70,13 +102,14 @@ fn with_coa(config: &Config, peer: Option<u16>) -> Option<u16>
 }
 
 /// The index of the peer that a reverse request is for: the one that its Operator-Name names, where it has one
-/// and some peer has an `operator_name`, else the one that its NAS-IP-Address and its NAS-Identifier name; if
-/// that takes reverse requests. Takes no memory.
+/// and some peer has an `operator_name`, else the one that its NAS-IP-Address, its NAS-IPv6-Address and
+/// its NAS-Identifier name; if that takes reverse requests. Takes no memory.
 #[tactic(auto, unfolding(crate::specs::Target::target))]
 pub fn target(config: &Config, request: &View<'_>) -> Option<u16>
     ensures value { result ≡ target (shown config.now).peers request.now.attributes }
     ensures bound { IfSome result (λ peer. peer < vec_len config.now.peers) }
 {
-    let named = peer_named(config, request.first(OPERATOR_NAME), nas_of(request));
+    let operator = request.first(OPERATOR_NAME);
+    let named = peer_named(config, operator, nas_of(request), ipv6_of(config, request));
     with_coa(config, named)
 }

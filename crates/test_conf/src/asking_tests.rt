@@ -42,7 +42,10 @@ pub(crate) fn who_may_ask_whom<R: Abort + AllocGlobal>(rt: &R) -> Result<(), Fai
     let config = with_peers(rt.alloc())?;
     for (realm, peer, takes, is_peer) in TAKEN {
         assert!(rt; config.takes(realm, peer) == takes, "{realm} {peer}");
-        assert!(rt; config.is_peer_of(realm, peer) == is_peer, "{realm} {peer}");
+        assert!(rt;
+            config.is_target_of(realm, peer) == is_peer,
+            "{realm} {peer}"
+        );
     }
     Ok(())
 }

@@ -130,7 +130,7 @@ pub const POLICIES: [Change; 18] = [
     (
         "[[realm.server]]",
         "[[realm.coa_client]]\nip = \"198.51.100.9/32\"\nsecret = \"of the client\"\nport = 1\n[[realm.server]]",
-        "BadValue\na.conf:25: realm \"a.example\", coa_client 1: ip: \"198.51.100.9/32\" is no IPv4 address in decimal, as \"192.0.2.1\"\na.conf:27: realm \"a.example\", coa_client 1: port: is no key of a coa_client\n",
+        "BadValue\na.conf:25: realm \"a.example\", coa_client 1: ip: \"198.51.100.9/32\" is no address, as \"192.0.2.1\" or \"2001:db8::1\"\na.conf:27: realm \"a.example\", coa_client 1: port: is no key of a coa_client\n",
     ),
     (
         "[[realm]]",
@@ -194,12 +194,12 @@ pub const BAD_VALUES: [Change; 17] = [
     (
         "\"192.0.2.1\"",
         "\"192.0.2.0/24\"",
-        "BadValue\na.conf:9: peer \"nas1\": ip: \"192.0.2.0/24\" is no IPv4 address in decimal, as \"192.0.2.1\"\n",
+        "BadValue\na.conf:9: peer \"nas1\": ip: \"192.0.2.0/24\" is no address, as \"192.0.2.1\" or \"2001:db8::1\"\n",
     ),
     (
         "\"127.0.0.1:1813\"",
         "\"localhost:1813\"",
-        "BadValue\na.conf:4: acct: \"localhost:1813\" is no IPv4 address with a port of 1..65535, as \"192.0.2.1:1812\"\n",
+        "BadValue\na.conf:4: acct: \"localhost:1813\" is no address with a port of 1..65535, as \"192.0.2.1:1812\" or \"[2001:db8::1]:1812\"\n",
     ),
     (
         "\"nas1\"",
@@ -239,7 +239,7 @@ pub const BAD_VALUES: [Change; 17] = [
     (
         "coa =",
         "nas_id = \"\"\"\n[[realm]]\nwait = 0\"\"\"\ncoa = 1 #",
-        "BadValue\na.conf:14: peer \"nas1\": coa: 1 is no IPv4 address with a port of 1..65535, as \"192.0.2.1:1812\": put it in quotation marks\n",
+        "BadValue\na.conf:14: peer \"nas1\": coa: 1 is no address with a port of 1..65535, as \"192.0.2.1:1812\" or \"[2001:db8::1]:1812\": put it in quotation marks\n",
     ),
     (
         "tries = 2\nwait = 1000\nhold = 5000\nmax_pending = 300\nmax_sessions = 100\n",
