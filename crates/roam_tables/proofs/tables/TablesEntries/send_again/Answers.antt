@@ -31,16 +31,14 @@ invariant_of-self g c =
           c.self.view_is c.args.realm c.args.ticket c.in-Some.at
           (sym c.ticket_slot.ensures ∙ c.in-Some.is) (sent_again c.args.deadline)
           (λ e. refl) (λ e. refl) c.send_again-marks.result.0 c.send_again-marks.result.1
-          c.send_again-marks.ensures.from c.send_again-marks.ensures.to c.send_again-marks.new.slots c.change_at.new.realms.items
-          c.send_again-marks.ensures.puts
-          c.change_at.ensures;
+          c.send_again-marks.ensures.from c.send_again-marks.ensures.to c.send_again-marks.new.slots
+          c.change_at.new.realms.items c.send_again-marks.ensures.puts c.change_at.ensures;
       rounds = still_rounds i.slots i.by_ticket i.by_client i.realms.items c.self.invariant.tables c.args.self.now
           c.self.view_is c.args.realm c.args.ticket c.in-Some.at
           (sym c.ticket_slot.ensures ∙ c.in-Some.is) (sent_again c.args.deadline)
           (λ e. refl) (λ e. refl) c.send_again-marks.result.0 c.send_again-marks.result.1
-          c.send_again-marks.ensures.from c.send_again-marks.ensures.to c.send_again-marks.new.slots c.change_at.new.realms.items
-          c.send_again-marks.ensures.puts
-          c.change_at.ensures
+          c.send_again-marks.ensures.from c.send_again-marks.ensures.to c.send_again-marks.new.slots
+          c.change_at.new.realms.items c.send_again-marks.ensures.puts c.change_at.ensures
           (kept_hash i.key) (run_at i.rounds) c.self.invariant.rounds (same_hash i.key c.args.deadline);
     }
 
