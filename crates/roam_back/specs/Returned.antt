@@ -45,8 +45,9 @@ is_own own request a =
 
 -- ## Own names
 -- In a realm with `own_names` a User-Name of an Access-Accept is returned where its name part, what follows its own
--- last `@`, is that of the request, without ASCII case; each other goes, one that has none too. An access server
--- uses that name in its accounting (RFC 2865, section 5.1).
+-- last
+-- `@`, is that of the request, without ASCII case; each other goes, one that has none too. An access server uses that
+-- name in its accounting (RFC 2865, section 5.1).
 -- Source: RFC 2865 section 5.1; ours
 -- Rules out: an Accept of one realm that names a user of another
 -- Stands in: `roam_back` `Returned.antt`: `named`, `is_own`; `back_passing`, the law `own_names`
@@ -68,9 +69,10 @@ abbrev pub removed_of : List RemovedAttribute → ℕ → List RemovedAttribute
 removed_of removed code = if is_access_reply code then removed else []
 
 -- ## Reply that passes
--- A reply as it is returned to a peer for a realm: an Access-Accept, -Reject or -Challenge without the attributes
--- that the lists of the two name, in the order of the reply, an Access-Accept also without the User-Names that
--- don't pass; any other reply whole. What is returned for a reply is what is returned for this.
+-- A reply as it is returned to a peer for a realm: an Access-Accept, -Reject or -Challenge without the attributes that
+-- the lists of the two name, in the order of the reply, an Access-Accept also without the User-Names that don't pass;
+-- any other reply whole. What is returned for a reply is what is
+-- returned for this.
 -- Source: ours
 -- Rules out: an attribute taken out of another realm's replies; a reply's State or Proxy-State taken for one that goes
 -- Stands in: `roam_back` `Returned.antt`: `passing_reply`; `back_passing`, the law `passing_replies`
