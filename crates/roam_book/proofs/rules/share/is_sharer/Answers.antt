@@ -8,7 +8,7 @@ use Rattle.roam_book.proofs.rules.share.is_sharer.Goals as goal
 
 -- the entry's octets are a packet's
 pub name_part-requires : goal.name_part-requires
-name_part-requires g c = rw c.as_slice.ensures c.requires
+name_part-requires g c = rw c.as_slice.ensures c.requires.packet
 
 -- the share of a name
 pub returns-in-Name : goal.returns-in-Name
