@@ -8,11 +8,11 @@ use Rattle.roam_book.proofs.rules.share.is_sharer.Goals as goal
 
 -- the entry's octets are a packet's
 pub name_part-requires : goal.name_part-requires
-name_part-requires c = rw c.as_slice.ensures c.requires
+name_part-requires g c = rw c.as_slice.ensures c.requires.packet
 
 -- the share of a name
 pub returns-in-Name : goal.returns-in-Name
-returns-in-Name c =
+returns-in-Name g c =
     let e : PlainEntry = shown c.args.entry.now in
     let part : Option (List ℕ) = option_map (λ p. p.now) c.in-Name.part in
     let name : option_map (λ p. p.now) c.name_part.result ≡ name_part e.request.octets =
