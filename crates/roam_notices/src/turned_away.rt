@@ -79,7 +79,7 @@ fn advice(fault: ReplyFault) -> &'static str
 
 /// Who sent them: a home server, or an access server that answers a Disconnect- or CoA-Request.
 fn who(sender: Sender<'_>) -> &'static str
-    ensures { result.now ≡ spec.who_text sender }
+    ensures { result.now ≡ spec.who_text sender.entry }
 {
     match sender {
         Sender::HomeServer | Sender::Unknown => "home server",

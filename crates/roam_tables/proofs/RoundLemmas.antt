@@ -6,10 +6,10 @@ use Rattle.std.proofs.lemmas.Bool.{cases_eq}
 use Rattle.roam_hash.specs.declared.hash_key.HashKey.{HashKey}
 use Rattle.roam_pending.specs.declared.key.Requester.{Requester}
 use Rattle.roam_pending.specs.declared.key.Requester.TheVariants as requester
-use Rattle.roam_pending.specs.Conversations.{Round, kept_state, round_with}
+use Rattle.roam_pending.specs.Conversations.{kept_state, round_with}
 use Rattle.roam_pending.specs.ListLaws.{IsIn}
 use Rattle.roam_pending.specs.PlainEntry.{PlainEntry, PlainStanding, done, waiting}
-use Rattle.roam_pending.specs.Realms.{sent_again, waits_on, with_standing}
+use Rattle.roam_pending.specs.Realms.{sent_again, waits_on}
 use Rattle.roam_tables.specs.declared.entry_index.TicketKey.{TicketKey}
 use Rattle.roam_tables.specs.declared.round_runs.RoundKey.{RoundKey}
 use Rattle.roam_tables.specs.Stands.{Stored, entry_at}
