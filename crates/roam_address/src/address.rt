@@ -23,6 +23,16 @@ impl Address {
     ghost use Rattle.roam_address.specs.Reading.{Reads};
     ghost use Rattle.roam_address.specs.Texts.{address_in};
 
+    /// `0.0.0.0`.
+    pub const UNSPECIFIED: Address = Address {
+        ip: IpAddr::V4(Ipv4Addr::UNSPECIFIED),
+    };
+
+    /// `127.0.0.1`.
+    pub const LOCALHOST: Address = Address {
+        ip: IpAddr::V4(Ipv4Addr::LOCALHOST),
+    };
+
     /// The address `ip`, where it is one here.
     pub fn new(ip: IpAddr) -> Option<Address>
         ensures { MatchOption result (IsMapped ip) (λ a. (ip_of a ≡ ip) × (¬ (IsMapped ip))) }
@@ -37,7 +47,7 @@ impl Address {
     }
 
     /// The IPv4 address of these octets.
-    pub const fn from_ipv4_octets(octets: [u8; 4]) -> Address
+    pub fn from_ipv4_octets(octets: [u8; 4]) -> Address
         ensures { IsV4And (ip_of result) (λ a. ipv4_octets a ≡ octets) }
     {
         Address {

@@ -1,8 +1,7 @@
 -- What is found by a key, on a link, or done.
 use Rattle.std.proofs.Common.{◌≡◌, ℕ, ◌<◌, Bool, true, false, List, [], ◌∷◌, Option, Some, None, refl, ap, sym, ◌∙◌, subst, arith, cond, eqb, inl, inr, is_some}
-use Rattle.std.specs.Prelude.{◌&&◌, ◌||◌, ◌==◌, nat_eq, option_map}
+use Rattle.std.specs.Prelude.{◌&&◌, ◌||◌, ◌==◌, option_map}
 use Rattle.std.specs.List.{cons_option, find, list_any}
-use Rattle.std.specs.Cmp.Lexicographic.{pointwise}
 use Rattle.std.proofs.lemmas.Bool.{cases_Bool}
 use Rattle.std.proofs.lemmas.Bool.Decides.{nat_tests}
 use Rattle.roam_conf.specs.declared.place.Link.{Link}

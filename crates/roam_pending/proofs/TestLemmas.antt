@@ -1,8 +1,7 @@
 -- Tests of numbers and keys, and lists whose elements are kept or joined.
 use Rattle.std.proofs.Common.{◌≡◌, ◌≢◌, ℕ, ◌<◌, ◌≤◌, Bool, true, false, List, [], ◌∷◌, ◌++◌, Some, None, refl, arith, eqb, ltb, inl, inr}
-use Rattle.std.specs.Prelude.{◌⊎◌, nat_eq}
+use Rattle.std.specs.Prelude.{◌⊎◌}
 use Rattle.std.specs.List.{AllByRecursion, filter, find}
-use Rattle.std.specs.Cmp.Lexicographic.{pointwise}
 use Rattle.std.proofs.lemmas.Bool.{cases_Bool}
 use Rattle.std.proofs.lemmas.Bool.Decides.{nat_tests}
 use Rattle.roam_conf.proofs.EqualPartsLemmas.{endpoint_decides}

@@ -59,7 +59,7 @@ struct LinkText<'c> {
 
 /// What isn't configured.
 const NOWHERE: Endpoint = Endpoint {
-    ip: Address::from_ipv4_octets([0; 4]),
+    ip: Address::UNSPECIFIED,
     port: 0,
 };
 

@@ -4,7 +4,7 @@ ghost use Rattle.std.specs.Prelude.{◌≡◌, ◌<◌, IfSome, IsFalse, IsTrue,
 ghost use Rattle.std.specs.List.{list_any};
 ghost use Rattle.roam_telling.specs.SaidLately.{is_recent};
 
-use roam_conf::Endpoint;
+use roam_conf::{Address, Endpoint};
 use roam_notices::TurnedAway;
 
 /// For how long it isn't said again of a server, in milliseconds.
@@ -41,7 +41,7 @@ impl SaidLately {
         let none = Said {
             realm: 0,
             from: Endpoint {
-                ip: [0; 4],
+                ip: Address::UNSPECIFIED,
                 port: 0,
             },
             until: 0,

@@ -15,15 +15,15 @@ use std::mem::size_of;
 
 /// A step of a history: what happened, and what it was answered with. Contracts see it as values.
 ///
-/// Over `Global` it takes 88 octets, with one packet or with none, beside the octets of the datagram
-/// and of the packet, which lie in a block each. Further packets take 40 octets each, in a list.
+/// Over `Global` it takes 120 octets, with one packet or with none, beside the octets of the datagram
+/// and of the packet, which lie in a block each. Further packets take 56 octets each, in a list.
 #[derive(Drop)]
 pub struct Step<A: Allocator> {
     pub(crate) came: StoredEvent<A>,
     sent: StoredAnswer<A>,
 }
 
-const _: () = prove!(size_of::<Step<Global>>() == 88);
+const _: () = prove!(size_of::<Step<Global>>() == 120);
 
 impl<A: Allocator> Model for Step<A> {
     ghost use Rattle.roam_trace.specs.Steps.{PlainStep};

@@ -12,7 +12,7 @@ use roam_route::Out;
 use roam_wire::{Octets, Refusal};
 use std::alloc::Allocator;
 
-/// What a step was answered with, in 40 octets and those of its packets. A list of no packet or of one
+/// What a step was answered with, in 56 octets and those of its packets. A list of no packet or of one
 /// is let go, and the one packet stands here: no block is kept for it but its octets.
 #[derive(Drop)]
 pub(crate) enum StoredAnswer<A: Allocator> {

@@ -10,7 +10,7 @@ use roam_route::Datagram;
 use roam_wire::Octets;
 use std::alloc::Allocator;
 
-/// What happened. The small fields stand first, beside the enum's own tag, so that it takes 48 octets,
+/// What happened. The small fields stand first, beside the enum's own tag, so that it takes 64 octets,
 /// 8 fewer than an `Event`.
 #[derive(Drop)]
 pub(crate) enum StoredEvent<A: Allocator> {

@@ -569,7 +569,7 @@ pub(crate) fn a_fault_that_cannot_be_told_keeps_its_status<
 }
 
 const AUTH: Endpoint = Endpoint {
-    ip: Address::from_ipv4_octets([127, 0, 0, 1]),
+    ip: Address::LOCALHOST,
     port: 11812,
 };
 

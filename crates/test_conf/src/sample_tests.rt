@@ -18,10 +18,12 @@ fn own(port: u16) -> Endpoint {
     }
 }
 
-const COA: Endpoint = Endpoint {
-    ip: v4([192, 0, 2, 1]),
-    port: 3799,
-};
+fn coa() -> Endpoint {
+    Endpoint {
+        ip: v4([192, 0, 2, 1]),
+        port: 3799,
+    }
+}
 
 /// The numbers of a configuration and its first realm.
 fn numbers(config: &Config, realm: &Realm) -> [u32; 7] {
@@ -145,7 +147,7 @@ pub(crate) fn the_keys_of_peers_are_read<R: Abort + AllocGlobal>(rt: &R) -> Resu
     let config = config_of(rt.alloc(), &parts)?;
     let first = (
         alone([192, 0, 2, 1]),
-        Some(COA),
+        Some(coa()),
         Some([192, 0, 2, 1]),
         true,
         false,
@@ -199,8 +201,8 @@ fn links(config: &Config) -> [Option<Link>; 5] {
         config.link_of(0, home_server(1, 1812)),
         config.link_of(0, home_server(2, 1813)),
         config.link_of(1, home_server(2, 1813)),
-        config.link_of(1, COA),
-        config.link_of(2, COA),
+        config.link_of(1, coa()),
+        config.link_of(2, coa()),
     ]
 }
 

@@ -31,15 +31,19 @@ const RESPONSE: &str = "0500001ea1e81fcd91eda44683d85e49b2655719210a000000000000
 
 const RETURNED: &str = "050500144511dc97de8dbcfd887f32eb5da70447";
 
-const ACCESS_SERVER: Endpoint = Endpoint {
-    ip: Address::from_ipv4_octets([192, 0, 2, 1]),
-    port: 5000,
-};
+fn access_server() -> Endpoint {
+    Endpoint {
+        ip: Address::from_ipv4_octets([192, 0, 2, 1]),
+        port: 5000,
+    }
+}
 
-const HOME_SERVER: Endpoint = Endpoint {
-    ip: Address::from_ipv4_octets([198, 51, 100, 1]),
-    port: 1813,
-};
+fn home_server() -> Endpoint {
+    Endpoint {
+        ip: Address::from_ipv4_octets([198, 51, 100, 1]),
+        port: 1813,
+    }
+}
 
 /// The octets that a text of hexadecimal digits spells.
 fn octets(rt: &impl Abort, alloc: Global, text: &str) -> Vec<u8> {
@@ -114,7 +118,7 @@ fn parties(config: &Config) -> Option<(&Peer, &Server)> {
 /// Whether the request is the realm's own, and goes to the home server with the first Identifier of its lane.
 fn goes_to_home_server(rt: &impl Abort, alloc: Global, config: &Config) -> Option<bool> {
     let start = octets(rt, alloc, START);
-    let job = job_of(alloc, config, Place::Acct, ACCESS_SERVER, start)?;
+    let job = job_of(alloc, config, Place::Acct, access_server(), start)?;
     let mut lane = Lane::new(0);
     let id = admit(&mut lane, 0)?;
     let request = View::read(job.octets.as_slice()).ok()?;
@@ -128,7 +132,7 @@ fn goes_to_home_server(rt: &impl Abort, alloc: Global, config: &Config) -> Optio
 /// Whether the home server's reply is the realm's own, is taken for what was forwarded, and goes to the access server.
 fn returns(rt: &impl Abort, alloc: Global, config: &Config) -> Option<bool> {
     let response = octets(rt, alloc, RESPONSE);
-    let job = job_of(alloc, config, Place::Out(0), HOME_SERVER, response)?;
+    let job = job_of(alloc, config, Place::Out(0), home_server(), response)?;
     let (start, sent) = (octets(rt, alloc, START), octets(rt, alloc, FORWARDED));
     let reply = View::read(job.octets.as_slice()).ok()?;
     let (request, forwarded) = (View::read(&start).ok()?, View::read(&sent).ok()?);

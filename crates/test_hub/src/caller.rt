@@ -15,10 +15,12 @@ use std::process::Abort;
 use std::sync::Wait;
 
 /// The access server of the tests.
-pub(crate) const NAS: Endpoint = Endpoint {
-    ip: Address::from_ipv4_octets([192, 0, 2, 1]),
-    port: 5000,
-};
+pub(crate) fn nas() -> Endpoint {
+    Endpoint {
+        ip: Address::from_ipv4_octets([192, 0, 2, 1]),
+        port: 5000,
+    }
+}
 
 /// Access-Request 7 for `u@a.example`.
 pub(crate) const REQUEST_7: &str =
@@ -84,7 +86,7 @@ impl<'h, 'c, A: Allocator + Copy, N: Opened> Caller<'h, 'c, A, N> {
     ) -> Caller<'h, 'c, A, N>
         requires { shown config.now ≡ N.opening.config }
     {
-        let datagram = datagram(rt, alloc, Place::Auth, NAS, octets);
+        let datagram = datagram(rt, alloc, Place::Auth, nas(), octets);
         let Ok(Prepared::Job(job)) = prepare(alloc, config, &datagram) else {
             panic!(rt; "no job");
         };

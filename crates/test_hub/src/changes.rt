@@ -8,7 +8,7 @@ ghost use Rattle.roam_history.specs.HubOpening.{fresh_opening};
 ghost use Rattle.roam_history.specs.Books.{books_of, count_of};
 ghost use Rattle.roam_hub.specs.Pausing.{ArePaused, opening_over};
 
-use crate::caller::{NAS, OTHER_FIRST, OTHER_REQUEST_7, datagram, sends};
+use crate::caller::{OTHER_FIRST, OTHER_REQUEST_7, datagram, nas, sends};
 use crate::configuration::config_of;
 use roam_book::Start;
 use roam_conf::{Address, Config, Endpoint, Place};
@@ -31,16 +31,20 @@ pub(crate) struct Exchange {
 }
 
 /// The home server of `a.example`, for accounting.
-const HOME_SERVER: Endpoint = Endpoint {
-    ip: Address::from_ipv4_octets([198, 51, 100, 1]),
-    port: 1813,
-};
+fn home_server() -> Endpoint {
+    Endpoint {
+        ip: Address::from_ipv4_octets([198, 51, 100, 1]),
+        port: 1813,
+    }
+}
 
 /// The same, for reverse requests.
-const SERVER_IN_REVERSE: Endpoint = Endpoint {
-    ip: Address::from_ipv4_octets([198, 51, 100, 1]),
-    port: 40000,
-};
+fn server_in_reverse() -> Endpoint {
+    Endpoint {
+        ip: Address::from_ipv4_octets([198, 51, 100, 1]),
+        port: 40000,
+    }
+}
 
 /// A Start of `u@a.example`, and as it leaves; the server's reply, and as the access server gets it. By the RFCs'
 /// formulas.
@@ -111,59 +115,65 @@ const CHANGED: [&str; 5] = [
 ];
 
 /// Before the change: a request of each realm, and none is answered yet.
-pub(crate) const BEFORE: [Exchange; 2] = [
-    Exchange {
-        at: Place::Acct,
-        from: NAS,
-        octets: START,
-        sent: FORWARDED,
-    },
-    Exchange {
-        at: Place::Auth,
-        from: NAS,
-        octets: OTHER_REQUEST_7,
-        sent: OTHER_FIRST,
-    },
-];
+pub(crate) fn before() -> [Exchange; 2] {
+    [
+        Exchange {
+            at: Place::Acct,
+            from: nas(),
+            octets: START,
+            sent: FORWARDED,
+        },
+        Exchange {
+            at: Place::Auth,
+            from: nas(),
+            octets: OTHER_REQUEST_7,
+            sent: OTHER_FIRST,
+        },
+    ]
+}
 
 /// The first realm goes on: the reply is returned, a duplicate gets the held reply, and the session ends by its id.
-pub(crate) const GOES_ON: [Exchange; 3] = [
-    Exchange {
-        at: Place::Out(0),
-        from: HOME_SERVER,
-        octets: STARTED,
-        sent: RETURNED,
-    },
-    Exchange {
-        at: Place::Acct,
-        from: NAS,
-        octets: START,
-        sent: RETURNED,
-    },
-    Exchange {
-        at: Place::Reverse(0),
-        from: SERVER_IN_REVERSE,
-        octets: DISCONNECT,
-        sent: DISCONNECTED,
-    },
-];
+pub(crate) fn what_goes_on() -> [Exchange; 3] {
+    [
+        Exchange {
+            at: Place::Out(0),
+            from: home_server(),
+            octets: STARTED,
+            sent: RETURNED,
+        },
+        Exchange {
+            at: Place::Acct,
+            from: nas(),
+            octets: START,
+            sent: RETURNED,
+        },
+        Exchange {
+            at: Place::Reverse(0),
+            from: server_in_reverse(),
+            octets: DISCONNECT,
+            sent: DISCONNECTED,
+        },
+    ]
+}
 
 /// After the change: the second realm's request isn't known any more, and is sent as a new one; the third realm is
 /// there.
-const BEGIN: [Exchange; 2] = [
-    Exchange {
-        at: Place::Auth,
-        from: NAS,
-        octets: OTHER_REQUEST_7,
-        sent: OTHER_SECOND,
-    },
-    Exchange {
-        at: Place::Auth,
-        from: NAS,
-        octets: THIRD_REQUEST,
-        sent: THIRD_FIRST,
-    },
-];
+fn begin() -> [Exchange; 2] {
+    [
+        Exchange {
+            at: Place::Auth,
+            from: nas(),
+            octets: OTHER_REQUEST_7,
+            sent: OTHER_SECOND,
+        },
+        Exchange {
+            at: Place::Auth,
+            from: nas(),
+            octets: THIRD_REQUEST,
+            sent: THIRD_FIRST,
+        },
+    ]
+}
 
 /// Whether each of these is answered by its packet.
 pub(crate) fn are_answered<A: Allocator + Copy, N: Opened, R: Abort + Wait>(
@@ -213,7 +223,7 @@ pub(crate) fn paused<A: Allocator + Copy, N: Opened + Send + Sync, R: Abort + Wa
     let (hub, mut seat) = Hub::<A, N>::open(alloc, config, starts, blanks)
         .ok()
         .expect(rt, "a hub");
-    assert!(rt; are_answered(rt, alloc, config, &hub, &mut seat, &BEFORE));
+    assert!(rt; are_answered(rt, alloc, config, &hub, &mut seat, &before()));
     let room = hub.pause_room().ok().expect(rt, "memory");
     let PausedHub { shards, .. } = hub.pause(rt, room).expect(rt, "shards");
     shards
@@ -272,7 +282,7 @@ fn are_answered_after<R: Abort + Wait>(
 /// Whether the first realm goes on over a change, and the others begin.
 pub(crate) fn goes_on_over_a_change<R: Abort + Wait>(rt: &R, alloc: Global) -> bool {
     let (old, new) = two_configurations(rt, alloc);
-    let goes_on = are_answered_after(rt, alloc, &old, &new, &GOES_ON);
-    let others_begin = are_answered_after(rt, alloc, &old, &new, &BEGIN);
+    let goes_on = are_answered_after(rt, alloc, &old, &new, &what_goes_on());
+    let others_begin = are_answered_after(rt, alloc, &old, &new, &begin());
     goes_on && others_begin
 }

@@ -8,7 +8,7 @@ ghost use Rattle.roam_history.specs.HubOpening.{fresh_opening};
 ghost use Rattle.roam_history.specs.Books.{books_of, count_of};
 ghost use Rattle.roam_hub.specs.Pausing.{ArePaused, opening_over};
 
-use crate::changes::{BEFORE, GOES_ON, are_answered, goes_on, paused, two_configurations};
+use crate::changes::{are_answered, before, goes_on, paused, two_configurations, what_goes_on};
 use crate::growths::{Over, blanks};
 use roam_book::Start;
 use roam_conf::Config;
@@ -30,7 +30,7 @@ fn stands<'r, R: Abort + Wait>(
     requires { ArePaused (shown config.now) shards.items }
 {
     let blanks = blanks(rt, over, config.shards);
-    goes_on::<_, Brand, R>(rt, over, config, shards, blanks, &GOES_ON)
+    goes_on::<_, Brand, R>(rt, over, config, shards, blanks, &what_goes_on())
 }
 
 /// A change, while growths are refused: whether each refusal is told, and the first realm goes on under the old
@@ -115,7 +115,7 @@ fn pause_is_refused<'r, N: Opened + Send + Sync, R: Abort + Wait>(
 {
     let opened = Hub::<Over<'r>, N>::open(over, config, starts, blanks);
     let (hub, mut seat) = opened.ok().expect(rt, "a hub");
-    assert!(rt; are_answered(rt, over, config, &hub, &mut seat, &BEFORE));
+    assert!(rt; are_answered(rt, over, config, &hub, &mut seat, &before()));
     for n in over.each_growth() {
         over.refuse_nth(n);
         let is_refused = hub.pause_room().is_err();
@@ -124,7 +124,7 @@ fn pause_is_refused<'r, N: Opened + Send + Sync, R: Abort + Wait>(
         }
     }
     over.refuse_nth(0);
-    are_answered(rt, over, config, &hub, &mut seat, &GOES_ON)
+    are_answered(rt, over, config, &hub, &mut seat, &what_goes_on())
 }
 
 /// Whether all that holds.

@@ -4,7 +4,7 @@ ghost use Rattle.std.specs.Prelude.{◌≡◌};
 ghost use Rattle.roam_conf.specs.Shown.{shown};
 
 use crate::audits::{counting, found};
-use crate::caller::{NAS, REQUEST_7, REQUEST_8, datagram, sends};
+use crate::caller::{REQUEST_7, REQUEST_8, datagram, nas, sends};
 use roam_conf::{Address, Config, Endpoint, Place};
 use roam_hub::{Answered, AuditFault, Call, Hub, HubFault, Open, Opened, Report, Seat};
 use roam_route::{Datagram, Prepared, prepare};
@@ -13,16 +13,20 @@ use std::process::Abort;
 use std::sync::Wait;
 
 /// The home server of the realm, for accounting.
-const SERVER: Endpoint = Endpoint {
-    ip: Address::from_ipv4_octets([198, 51, 100, 1]),
-    port: 1813,
-};
+fn server() -> Endpoint {
+    Endpoint {
+        ip: Address::from_ipv4_octets([198, 51, 100, 1]),
+        port: 1813,
+    }
+}
 
 /// The same, for reverse requests.
-const SERVER_IN_REVERSE: Endpoint = Endpoint {
-    ip: Address::from_ipv4_octets([198, 51, 100, 1]),
-    port: 40000,
-};
+fn server_in_reverse() -> Endpoint {
+    Endpoint {
+        ip: Address::from_ipv4_octets([198, 51, 100, 1]),
+        port: 40000,
+    }
+}
 
 /// The Start of session 01, the server's answer, and a Disconnect-Request with that session id and no
 /// User-Name; and what is sent for each of them. Computed by others, by the RFCs' formulas.
@@ -116,8 +120,8 @@ pub(crate) fn full<N: Opened + Send + Sync, R: Abort + Wait>(
     requires { shown config.now ≡ N.opening.config }
 {
     let mut seat = seat;
-    let first = datagram(rt, alloc, Place::Auth, NAS, REQUEST_7);
-    let second = datagram(rt, alloc, Place::Auth, NAS, REQUEST_8);
+    let first = datagram(rt, alloc, Place::Auth, nas(), REQUEST_7);
+    let second = datagram(rt, alloc, Place::Auth, nas(), REQUEST_8);
     let (_, none) = arrive(rt, alloc, config, &hub, &mut seat, &first);
     let (answered, gone) = arrive(rt, alloc, config, &hub, &mut seat, &second);
     let is_second = sends(rt, alloc, &answered.answer, SECOND_OF_HUB);
@@ -161,9 +165,15 @@ pub(crate) fn session<N: Opened + Send + Sync, R: Abort + Wait>(
     requires { shown config.now ≡ N.opening.config }
 {
     let mut seat = seat;
-    let start = datagram(rt, alloc, Place::Acct, NAS, START);
-    let started = datagram(rt, alloc, Place::Out(0), SERVER, STARTED);
-    let disconnect = datagram(rt, alloc, Place::Reverse(0), SERVER_IN_REVERSE, DISCONNECT);
+    let start = datagram(rt, alloc, Place::Acct, nas(), START);
+    let started = datagram(rt, alloc, Place::Out(0), server(), STARTED);
+    let disconnect = datagram(
+        rt,
+        alloc,
+        Place::Reverse(0),
+        server_in_reverse(),
+        DISCONNECT,
+    );
     let (answered, _) = arrive(rt, alloc, config, &hub, &mut seat, &start);
     let is_forwarded = sends(rt, alloc, &answered.answer, FORWARDED);
     let (answered, _) = arrive(rt, alloc, config, &hub, &mut seat, &started);

@@ -3,7 +3,7 @@
 ghost use Rattle.std.specs.Prelude.{◌≡◌};
 ghost use Rattle.roam_conf.specs.Shown.{shown};
 
-use crate::caller::{NAS, REQUEST_7};
+use crate::caller::{REQUEST_7, nas};
 use roam_conf::{Config, Place};
 use roam_hub::{Call, Hub, Open, Opened, Seat, Ticked};
 use roam_route::{Datagram, Prepared, prepare};
@@ -36,7 +36,7 @@ fn request<N: Opened, R: Abort + Wait>(
     }
     let datagram = Datagram {
         at: Place::Auth,
-        from: NAS,
+        from: nas(),
         octets: Octets::copy_of(alloc, octets.as_slice())
             .ok()
             .expect(rt, "memory"),

@@ -7,10 +7,12 @@ use roam_wire::Refusal;
 use std::process::Abort;
 
 /// Where it came from in the tests.
-const SOURCE: Endpoint = Endpoint {
-    ip: Address::from_ipv4_octets([198, 51, 100, 1]),
-    port: 1812,
-};
+fn source() -> Endpoint {
+    Endpoint {
+        ip: Address::from_ipv4_octets([198, 51, 100, 1]),
+        port: 1812,
+    }
+}
 
 /// These refusals are told so, where their place belongs to the realm `b.example` or to none.
 fn expect<R: AllocGlobal + Abort>(
@@ -43,14 +45,14 @@ fn lines(rt: HostRuntime) {
     expect(
         &rt,
         Refusal::BadReply,
-        Some(Origin::Datagram(Place::Out(3), SOURCE)),
+        Some(Origin::Datagram(Place::Out(3), source())),
         1,
         "refused 16 BadReply at out:3 (b.example) from 198.51.100.1:1812 (peer north): other secret?",
     );
     expect(
         &rt,
         Refusal::BadReplyMessageAuthenticator,
-        Some(Origin::Unsealed(Place::Out(3), SOURCE)),
+        Some(Origin::Unsealed(Place::Out(3), source())),
         2,
         "refused 17 BadReplyMessageAuthenticator at out:3 (b.example) from 198.51.100.1:1812 (peer north) \
             (2 times): no Message-Authenticator",
@@ -58,14 +60,14 @@ fn lines(rt: HostRuntime) {
     expect(
         &rt,
         Refusal::UnknownSource,
-        Some(Origin::Datagram(Place::Auth, SOURCE)),
+        Some(Origin::Datagram(Place::Auth, source())),
         1234,
         "refused 4 UnknownSource at auth from 198.51.100.1:1812 (peer north) (1234 times)",
     );
     expect(
         &rt,
         Refusal::WrongCode,
-        Some(Origin::Datagram(Place::Reverse(0), SOURCE)),
+        Some(Origin::Datagram(Place::Reverse(0), source())),
         2,
         "refused 5 WrongCode at reverse:0 (b.example) from 198.51.100.1:1812 (peer north) (2 times)",
     );

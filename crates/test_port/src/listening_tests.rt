@@ -15,10 +15,12 @@ const REQUEST: [u8; 43] = [
     117, 64, 97, 46, 101, 120, 97, 109, 112, 108, 101, 40, 6, 0, 0, 0, 1, 44, 4, 48, 49,
 ];
 
-const ACCESS_SERVER: Endpoint = Endpoint {
-    ip: Address::from_ipv4_octets([192, 0, 2, 1]),
-    port: 5000,
-};
+fn access_server() -> Endpoint {
+    Endpoint {
+        ip: Address::from_ipv4_octets([192, 0, 2, 1]),
+        port: 5000,
+    }
+}
 
 /// A port that fails 99 times, gives the request, and fails from then on.
 fn tape(alloc: Global, answers: &[Answer]) -> Tape<'_> {
@@ -27,7 +29,7 @@ fn tape(alloc: Global, answers: &[Answer]) -> Tape<'_> {
         answers,
         played: 0,
         octets: &REQUEST,
-        from: ACCESS_SERVER,
+        from: access_server(),
         failing: &[],
         sends: 0,
         went: Vec::new(alloc),
@@ -42,7 +44,7 @@ fn word<A: Allocator>(heard: &Heard<A>) -> &'static str {
         Heard::NoMemory => "no memory",
         Heard::Datagram(d)
             if d.at == Place::Acct
-                && d.from == ACCESS_SERVER
+                && d.from == access_server()
                 && d.octets.as_slice() == REQUEST.as_slice() => { "the request" }
         Heard::Datagram(_) => "another datagram",
     }

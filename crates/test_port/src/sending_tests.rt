@@ -10,17 +10,19 @@ use std::process::Abort;
 use std::test::Fail;
 use test_allocator::Refusing;
 
-const ACCESS_SERVER: Endpoint = Endpoint {
-    ip: Address::from_ipv4_octets([192, 0, 2, 1]),
-    port: 5000,
-};
+fn access_server() -> Endpoint {
+    Endpoint {
+        ip: Address::from_ipv4_octets([192, 0, 2, 1]),
+        port: 5000,
+    }
+}
 
 /// A packet of one octet that leaves from a place.
 fn packet(alloc: Global, from: Place, octet: u8) -> Result<Out<Global>, NoMemory> {
     Ok(Out {
         realm: None,
         from,
-        to: ACCESS_SERVER,
+        to: access_server(),
         bytes: Octets::copy_of(alloc, &[octet])?,
     })
 }
@@ -32,7 +34,7 @@ fn tape<'a>(alloc: Global, failing: &'a [(usize, SendFault)]) -> Tape<'a> {
         answers: &[],
         played: 0,
         octets: &[],
-        from: ACCESS_SERVER,
+        from: access_server(),
         failing,
         sends: 0,
         went: Vec::new(alloc),

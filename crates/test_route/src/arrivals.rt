@@ -1,6 +1,6 @@
 //! The configuration, and the packets that arrive.
 
-use roam_conf::{Address, Config, Endpoint, Link, Place};
+use roam_conf::{Config, Link, Place};
 use roam_conf_reader::read_config;
 use roam_route::Side;
 use std::alloc::Global;
@@ -21,47 +21,26 @@ require_seal = true
 pub const START: &str =
     "0405002b40d7b5a889c55fa9032ba5d6be378f2e010d7540612e6578616d706c652806000000012c043031";
 
-pub const NAS: Endpoint = Endpoint {
-    ip: Address::from_ipv4_octets([192, 0, 2, 1]),
-    port: 5000,
-};
+pub const NAS: &str = "192.0.2.1:5000";
 
-pub const SEALER: Endpoint = Endpoint {
-    ip: Address::from_ipv4_octets([192, 0, 2, 2]),
-    port: 5000,
-};
+pub const SEALER: &str = "192.0.2.2:5000";
 
-pub const STRANGER: Endpoint = Endpoint {
-    ip: Address::from_ipv4_octets([192, 0, 2, 9]),
-    port: 5000,
-};
+pub const STRANGER: &str = "192.0.2.9:5000";
 
-pub const COA: Endpoint = Endpoint {
-    ip: Address::from_ipv4_octets([192, 0, 2, 1]),
-    port: 3799,
-};
+pub const COA: &str = "192.0.2.1:3799";
 
-pub const AUTH: Endpoint = Endpoint {
-    ip: Address::from_ipv4_octets([198, 51, 100, 1]),
-    port: 1812,
-};
+pub const AUTH: &str = "198.51.100.1:1812";
 
-pub const HOME: Endpoint = Endpoint {
-    ip: Address::from_ipv4_octets([198, 51, 100, 1]),
-    port: 40000,
-};
+pub const HOME: &str = "198.51.100.1:40000";
 
-pub const ACCT: Endpoint = Endpoint {
-    ip: Address::from_ipv4_octets([198, 51, 100, 1]),
-    port: 1813,
-};
+pub const ACCT: &str = "198.51.100.1:1813";
 
 /// Where packets arrive, where they come from, who that is, and a text of rows: the packet's digits and
 /// what it gives, `refused N` with a refusal's number, `realm N` for the event of a realm, behind it
 /// `names M` where a reverse request names realm M, or `reject` or `answer` and the digits of the local
 /// reject or of the answer to a Status-Server. Digits in three runs with `*` between them stand for the first, the
 /// second fifteen times, and the third.
-pub type Rows = (Place, Endpoint, Side, &'static str);
+pub type Rows = (Place, &'static str, Side, &'static str);
 
 /// What an access server sends to the first socket.
 const REQUESTS: &str = "# an Access-Request

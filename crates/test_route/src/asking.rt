@@ -2,19 +2,13 @@
 //! Python's hashlib and hmac.
 
 use crate::arrivals::{NAS, Rows, SEALER};
-use roam_conf::{Address, Endpoint, Place};
+use roam_conf::Place;
 use roam_route::Side;
 
 /// A peer at the address of a server's `auth`, and one at that of its `acct`.
-const AT_AUTH_SERVER: Endpoint = Endpoint {
-    ip: Address::from_ipv4_octets([198, 51, 100, 1]),
-    port: 5000,
-};
+const AT_AUTH_SERVER: &str = "198.51.100.1:5000";
 
-const AT_ACCT_SERVER: Endpoint = Endpoint {
-    ip: Address::from_ipv4_octets([198, 51, 100, 7]),
-    port: 5000,
-};
+const AT_ACCT_SERVER: &str = "198.51.100.7:5000";
 
 pub const PEERS_OF_A_REALM: [Rows; 6] = [
     (

@@ -182,6 +182,7 @@ fn expect_row(
     let said = Said { side, word, value };
     let refusing = Refusing::new(alloc);
     let octets = spelled(rt, alloc, digits);
+    let from = Endpoint::from_text(from).expect(rt, "an endpoint");
     let mut growths = 0;
     for n in refusing.each_growth() {
         let datagram = arrival(rt, &refusing, at, from, &octets, seconds);

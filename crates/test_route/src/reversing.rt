@@ -2,7 +2,7 @@
 //! with Python's hashlib.
 
 use crate::arrivals::{HOME, Rows, STRANGER};
-use roam_conf::{Address, Endpoint, Place};
+use roam_conf::Place;
 use roam_route::Side;
 
 /// The key that says how old one may be.
@@ -15,10 +15,7 @@ ip = \"198.51.100.9\"
 secret = \"pc\"
 ";
 
-const CLIENT_AT: Endpoint = Endpoint {
-    ip: Address::from_ipv4_octets([198, 51, 100, 9]),
-    port: 40000,
-};
+const CLIENT_AT: &str = "198.51.100.9:40000";
 
 /// What a home server sends, each with the wall clock's seconds behind it, where they are known.
 const WITH_TIMES: &str =

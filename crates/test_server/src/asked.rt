@@ -12,7 +12,7 @@ use std::time::{Clock, Duration};
 
 /// Where the counts are asked for.
 pub(crate) const METRICS: Endpoint = Endpoint {
-    ip: Address::from_ipv4_octets([127, 0, 0, 1]),
+    ip: Address::LOCALHOST,
     port: 19812,
 };
 

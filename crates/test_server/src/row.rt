@@ -90,7 +90,7 @@ pub(crate) const ROWS: [Row; 20] = [
 /// What a server answers while another has its ports.
 pub(crate) const TAKEN: Result<(), ServeFault> = Err(ServeFault::Bind(
     Endpoint {
-        ip: Address::from_ipv4_octets([127, 0, 0, 1]),
+        ip: Address::LOCALHOST,
         port: 11812,
     },
     IN_USE,
@@ -101,7 +101,7 @@ const IN_USE: Reason = Reason(98);
 
 /// Where the realm takes reverse requests.
 const REVERSE: Endpoint = Endpoint {
-    ip: Address::from_ipv4_octets([127, 0, 0, 1]),
+    ip: Address::LOCALHOST,
     port: 13000,
 };
 

@@ -295,6 +295,6 @@ impl<'c> RealmSettings<'c> {
 
 /// The endpoint of a peer that takes no reverse requests.
 const NOWHERE: Endpoint = Endpoint {
-    ip: Address::from_ipv4_octets([0; 4]),
+    ip: Address::UNSPECIFIED,
     port: 0,
 };
