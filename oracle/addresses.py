@@ -97,3 +97,27 @@ disconnect(2, by_name(b"nas7"), "for the one that takes it at an IPv4 address",
            [given_back(refused_with(502, req, secret=H6), HOME6, 1, "reverse:1")], 1, HOME6, H6, OTHER)
 disconnect(0, BY_IPV6, "from a further sender of IPv4, to the realm of IPv6",
            [sent(reverse(40, 1, BY_IPV6 + OTHER + T(2), K6), COA6, 1)], 1, "192.0.2.9:40000", b"pc", OTHER)
+
+# Whose secret a request is signed with is who sent it.
+row = Row("the-longest-prefix", "prefixes", SOURCE)
+for ticket, (what, ip, name) in enumerate((
+        ("an address that has an access server alone", "192.0.2.1", P), ("the next one, of the prefix of 24 bits", "192.0.2.2", b"net"),
+        ("the last of its first half", "192.0.2.127", b"net"), ("the first of the prefix of 25 bits", "192.0.2.128", b"half"),
+        ("its last", "192.0.2.255", b"half"), ("one behind it, of the prefix of no bits", "192.0.3.0", b"all"),
+        ("the last address of IPv4", "255.255.255.255", b"all"),
+        ("an address of the prefix of 32 bits", "[2001:db8::1]", b"ipv6"), ("the last before the prefix of 48", "[2001:db8:0:ffff:ffff:ffff:ffff:ffff]", b"ipv6"),
+        ("the first of that", "[2001:db8:1::]", b"site"), ("one that stands alone", "[2001:db8:1::7]", b"one"),
+        ("the next one", "[2001:db8:1::8]", b"site"))):
+    req = request(ticket, A, name)
+    row.arrive(0, req, [sent(forward(req, ticket, ticket))], what, source=f"{ip}:5000")
+    if name not in (b"all", b"ipv6"):
+        shorter = b"ipv6" if ip[0] == "[" else b"all"
+        row.arrive(0, request(200, A, shorter), 6, "with the secret of a shorter prefix", source=f"{ip}:5000")
+row.arrive(0, q5, 4, "an address of IPv6 that no prefix has: that of no bits is one of IPv4", source="[2001:db9::1]:5000")
+row.arrive(0, q5, 4, "an address whose first bits are those of an IPv4 address", source="[c000:201::]:5000")
+to_b = request(99, B, b"homes")
+row.arrive(0, to_b, 25, "a request that would go to a server at an address of its sender's prefix", source="198.51.100.2:5000")
+to_a = request(99, A, b"homes")
+row.arrive(0, to_a, [sent(forward(to_a, 12, 12))], "one for a realm that doesn't guard against that", source="198.51.100.2:5000")
+to_b = request(99, B, b"net")
+row.arrive(0, to_b, [sent(forward(to_b, 0, 0), S1, 1)], "one of another prefix", source="192.0.2.9:5000")

@@ -75,8 +75,10 @@ class Config:
         self.answer_unnamed = document.get("answer_unnamed", False)
         self.auth, self.acct = document["auth"], document["acct"]
         self.peers = document["peer"]
-        for table in self.peers + [client for realm in document["realm"] for client in realm.get("coa_client", [])]:
-            table["ip"] = one_text(table["ip"])
+        for client in (client for realm in document["realm"] for client in realm.get("coa_client", [])):
+            client["ip"] = one_text(client["ip"])
+        for peer in self.peers:
+            peer["prefix"] = ipaddress.ip_network(peer["ip"])
         self.realms = [with_unsaid(realm) for realm in document["realm"]]
         for realm in self.realms:
             realm["out"] = endpoint(realm["out"])
@@ -84,8 +86,9 @@ class Config:
                 server["links"] = {k: endpoint(server[k]) for k in ("auth", "acct") if k in server}
 
     def peer_of(self, ip):
-        """The index of the access server with that address."""
-        return next((i for i, p in enumerate(self.peers) if p["ip"] == ip), None)
+        """The index of the access server with the longest prefix that has that address."""
+        having = [(p["prefix"].prefixlen, i) for i, p in enumerate(self.peers) if ipaddress.ip_address(ip) in p["prefix"]]
+        return max(having)[1] if having else None
 
     def names_of(self, realm):
         """A realm's names and patterns."""
@@ -113,7 +116,8 @@ class Config:
         """Whether a realm takes requests of an access server."""
         table = self.realms[realm]
         addresses = [ip for server in table["server"] for ip, _ in server["links"].values()]
-        is_loop = table.get("loop_prevention", False) and self.peers[peer]["ip"] in addresses
+        is_loop = table.get("loop_prevention", False) and any(
+            ipaddress.ip_address(ip) in self.peers[peer]["prefix"] for ip in addresses)
         return self.is_peer_of(realm, peer) and not is_loop
 
     def link_of(self, realm, source):

@@ -364,8 +364,18 @@ LOGINS = {
 
 # An access server of IPv6, one that takes reverse requests at the other kind of address, and a home server of IPv6.
 NAS6 = in_ipv6(NAS1).replace("nas1", "nas6").replace("xyzzy5461", "k6")
-NAS7 = in_ipv6(N2).replace("n2", "nas7").replace("s2", "k7") + 'coa = "192.0.2.7:3799"\nnas_id = "nas7"\n'
+NAS7 = in_ipv6(N2).replace("n2", "nas7").replace("s2", "k7").replace("::2", "::/64") + 'coa = "192.0.2.7:3799"\nnas_id = "nas7"\n'
 SERVER6 = server("2001:db8:1::1", "h6", "[2001:db8:1::1]:1812", "[2001:db8:1::1]:1813")
+
+
+def at_prefix(name, prefix):
+    """An access server, or many, at the addresses of a prefix; its secret is its name."""
+    return f"""
+[[peer]]
+name = "{name}"
+ip = "{prefix}"
+secret = "{name}"
+"""
 
 
 def at_ipv6(table):
@@ -378,6 +388,11 @@ ADDRESSES = {
     "both-kinds": configuration(
         realm("a.example", servers(1)), at_ipv6(realm("b.example", [SERVER6, client("192.0.2.9", "pc")])),
         peers=(NAS1, NAS6, NAS7)),
+    "prefixes": configuration(
+        realm("a.example", servers(1)), realm("b.example", servers(1), loop_prevention=True),
+        peers=(at_prefix("all", "0.0.0.0/0"), at_prefix("net", "192.0.2.0/24"), NAS1, at_prefix("half", "192.0.2.128/25"),
+               at_prefix("ipv6", "2001:db8::/32"), at_prefix("site", "2001:DB8:1::/48"), at_prefix("one", "2001:db8:1::7/128"),
+               at_prefix("homes", "198.51.100.0/30"))),
 }
 
 RANDOM = {

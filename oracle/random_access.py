@@ -44,7 +44,12 @@ class AccessScript(Script):
         return self.random.choice(self.config.peers)
 
     def port_of(self, peer):
-        return at(peer["ip"], self.random.choice((5000, 5000, 5001)))
+        return at(self.address_of(peer), self.random.choice((5000, 5000, 5001)))
+
+    def address_of(self, peer):
+        """An address of an access server."""
+        prefix = peer["prefix"]
+        return str(prefix[0] if prefix.num_addresses == 1 else prefix[self.random.randrange(1, min(prefix.num_addresses, 9))])
 
     def id(self):
         return self.random.randrange(3)

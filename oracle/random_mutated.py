@@ -214,7 +214,7 @@ class MutatedScript(FederationScript):
 
     def elsewhere(self, place, source):
         ip, port = endpoint(source)
-        known = [end[0] for end in self.server_ends()] + [peer["ip"] for peer in self.config.peers]
+        known = [end[0] for end in self.server_ends()] + [self.address_of(peer) for peer in self.config.peers]
         realm = self.random.choice((*range(len(self.config.realms) + 1), 65535))
         places = ("auth", "acct", f"out:{realm}", f"reverse:{realm}")
         return self.random.choice((

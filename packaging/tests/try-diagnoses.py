@@ -167,6 +167,7 @@ def syntax(name, header, key, text, column, nth=0, wanted=""):
 
 ENDPOINT = 'is no address with a port of 1..65535, as "192.0.2.1:1812" or "[2001:db8::1]:1812"'
 ADDRESS = 'is no address, as "192.0.2.1" or "2001:db8::1"'
+PREFIX = ADDRESS + ', and no prefix, as "192.0.2.0/24", behind which all bits are 0'
 IPV4 = 'is no IPv4 address in decimal, as "192.0.2.1"'
 IPV6 = 'is no IPv6 address, as "2001:db8::1"'
 SECRET = "is not a text of 1..64 octets"
@@ -459,12 +460,14 @@ MISTAKES = [
     ("no peer", no_peer),
     ("empty file", nothing),
     ("[[server]]", server_above),
-    value(ONE_PEER, "ip", '"192.0.2.300"', '"192.0.2.300" ' + ADDRESS),
-    value(ONE_PEER, "ip", '"192.0.02.1"', '"192.0.02.1" ' + ADDRESS),
-    value(ONE_PEER, "ip", '"2001:db8::1"', '"2001:db8::1" ' + ADDRESS),
-    value(SERVER, "auth", '"[2001:db8::1]:1812"', '"[2001:db8::1]:1812" ' + ENDPOINT, 2),
+    value(ONE_PEER, "ip", '"192.0.2.300"', '"192.0.2.300" ' + PREFIX),
+    value(ONE_PEER, "ip", '"192.0.02.1"', '"192.0.02.1" ' + PREFIX),
+    value(ONE_PEER, "ip", '"::ffff:192.0.2.1"', '"::ffff:192.0.2.1" ' + PREFIX),
+    value(ONE_PEER, "ip", '"2001:db8::1/48"', '"2001:db8::1/48" ' + PREFIX),
+    value(ONE_PEER, "ip", '"fe80::1%eth0"', '"fe80::1%eth0" ' + PREFIX),
+    value(SERVER, "auth", '"2001:db8::1:1812"', '"2001:db8::1:1812" ' + ENDPOINT, 2),
     value(SERVER, "auth", '"radius.example:1812"', '"radius.example:1812" ' + ENDPOINT, 1),
-    value(ONE_PEER, "ip", '"192.0.2.0/24"', '"192.0.2.0/24" ' + ADDRESS),
+    value(ONE_PEER, "ip", '"192.0.2.1/24"', '"192.0.2.1/24" ' + PREFIX),
     value(REALM, "wait", "-1", "-1 is not in 1..60000", 0),
     value(REALM, "tries", '"3"', '"3" is not in 1..10', 1),
     value(REALM, "wait", '"2s"', '"2s" is not in 1..60000', 1),
@@ -526,7 +529,9 @@ MISTAKES = [
     value(TOP, "seed", "0", "is not a text of 64 hexadecimal digits"),
     value(TOP, "auth", "1812", "1812 " + ENDPOINT),
     value(ONE_PEER, "coa", '"192.0.2.1:03799"', '"192.0.2.1:03799" ' + ENDPOINT),
-    value(ONE_PEER, "nas_ip", '""', '"" ' + ADDRESS),
+    value(ONE_PEER, "nas_ip", '""', '"" ' + IPV4),
+    value(ONE_PEER, "nas_ip", '"2001:db8::1"', '"2001:db8::1" ' + IPV4),
+    value(ONE_PEER, "nas_ipv6", '"192.0.2.1"', '"192.0.2.1" ' + IPV6),
     value(ONE_PEER, "nas_id", '""', '"" is not a text of 1..253 octets'),
     value(ONE_PEER, "nas_ids", '["wlc-*", ""]', '"" is not in an array of 0..1024 texts of 1..253 octets'),
     value(ONE_PEER, "nas_ids", '"wlc-*"', '"wlc-*" is not in an array of 0..1024 texts of 1..253 octets'),

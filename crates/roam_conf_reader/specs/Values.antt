@@ -21,7 +21,7 @@ use Rattle.roam_conf.specs.Patterns.{is_realm_name, is_reject}
 use Rattle.roam_address.specs.declared.address.Address.{Address}
 use Rattle.roam_address.specs.Addresses.{ip_of, ipv4_octets_in, ipv6_octets_in}
 use Rattle.roam_address.specs.Prefixes.{PrefixView}
-use Rattle.roam_address.specs.Texts.{address_in, endpoint_in, whole as whole_prefix}
+use Rattle.roam_address.specs.Texts.{address_in, endpoint_in, prefix_in}
 use Rattle.roam_conf.specs.Texts.{removed_in}
 
 -- an integer from `least` to `most`
@@ -64,9 +64,10 @@ unfoldable pub ipv6 : Data → Option (List ℕ)
 ipv6 (string octets) = option_and_then (λ a. ipv6_octets_in (ip_of a)) (address_in octets)
 ipv6 _ = None
 
--- a text that is an address: the prefix that has it alone
-abbrev pub prefix : Data → Option PrefixView
-prefix value = option_map whole_prefix (address value)
+-- a text that is a prefix, or an address: the prefix that has it alone
+unfoldable pub prefix : Data → Option PrefixView
+prefix (string octets) = prefix_in octets
+prefix _ = None
 
 -- a text that is an endpoint
 unfoldable pub endpoint : Data → Option Endpoint

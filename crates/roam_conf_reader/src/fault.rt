@@ -21,7 +21,7 @@ pub enum ConfFault {
     BadValue,
     /// Two names, two suffixes `*.` and a name, or two `*` of realms and of `reject` are equal without ASCII case.
     DuplicateRealm,
-    /// Two peers have equal names, addresses, NAS-IP-Addresses, NAS-IPv6-Addresses or, without ASCII case,
+    /// Two peers have equal names, prefixes, NAS-IP-Addresses, NAS-IPv6-Addresses or, without ASCII case,
     /// Operator-Names, or two texts of `nas_id` and `nas_ids` of all peers are equal.
     DuplicatePeer,
     /// Two of the broker's own sockets are at one endpoint.

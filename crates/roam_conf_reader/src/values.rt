@@ -117,14 +117,11 @@ pub(crate) fn ipv6_of(value: &Value) -> Option<[u8; 16]>
     Address::from_text(value.as_str()?)?.ipv6_octets()
 }
 
-/// The addresses of a peer.
+#[tactic(auto, unfolding(crate::specs::Values::prefix))]
 pub(crate) fn prefix_of(value: &Value) -> Option<Prefix>
     ensures { option_map shown_prefix result ≡ spec.prefix (view value.now) }
 {
-    match address_of(value) {
-        Some(address) => Some(Prefix::of(address)),
-        None => None,
-    }
+    Prefix::from_text(value.as_str()?)
 }
 
 #[tactic(auto, unfolding(crate::specs::Values::endpoint))]

@@ -1,6 +1,6 @@
 //! What may stand under a key, and the words for what doesn't fit.
 
-use roam_conf::{Address, Endpoint, removed_attribute};
+use roam_conf::{Address, Endpoint, Prefix, removed_attribute};
 use roam_wire::RemovedAttribute;
 use std::fmt;
 use toml::Value;
@@ -19,6 +19,8 @@ pub(crate) enum ValueForm {
     Seed,
     /// An address.
     Address,
+    /// An address, or a prefix.
+    Prefix,
     /// An address of IPv4.
     Ipv4,
     /// An address of IPv6.
@@ -121,6 +123,7 @@ fn text_fits(form: ValueForm, text: &str) -> bool {
     match form {
         ValueForm::Seed => is_seed(text),
         ValueForm::Address => Address::from_text(text).is_some(),
+        ValueForm::Prefix => Prefix::from_text(text).is_some(),
         ValueForm::Ipv4 => is_address_of(text, false),
         ValueForm::Ipv6 => is_address_of(text, true),
         ValueForm::Endpoint => Endpoint::from_text(text).is_some(),
@@ -250,6 +253,10 @@ impl fmt::Display for ValueForm {
             ValueForm::Seed => f.write_str("is not a text of 64 hexadecimal digits"),
             ValueForm::Address => {
                 f.write_str("is no address, as \"192.0.2.1\" or \"2001:db8::1\"")
+            }
+            ValueForm::Prefix => {
+                f.write_str("is no address, as \"192.0.2.1\" or \"2001:db8::1\", and no prefix, ")?;
+                f.write_str("as \"192.0.2.0/24\", behind which all bits are 0")
             }
             ValueForm::Ipv4 => f.write_str("is no IPv4 address in decimal, as \"192.0.2.1\""),
             ValueForm::Ipv6 => f.write_str("is no IPv6 address, as \"2001:db8::1\""),

@@ -32,7 +32,7 @@ const TOP: [Rule; 20] = [
 
 const PEER: [Rule; 14] = [
     Rule("name", true, ValueForm::PeerName),
-    Rule("ip", true, ValueForm::Address),
+    Rule("ip", true, ValueForm::Prefix),
     Rule("secret", true, ValueForm::Secret),
     Rule("coa", false, ValueForm::Endpoint),
     Rule("nas_ip", false, ValueForm::Ipv4),

@@ -160,7 +160,7 @@ pub const POLICIES: [Change; 18] = [
 ];
 
 /// Values aren't of their form, or keys are unknown. No secret is shown.
-pub const BAD_VALUES: [Change; 17] = [
+pub const BAD_VALUES: [Change; 18] = [
     (
         "wait = 1000",
         "wait = 0",
@@ -193,8 +193,13 @@ pub const BAD_VALUES: [Change; 17] = [
     ),
     (
         "\"192.0.2.1\"",
-        "\"192.0.2.0/24\"",
-        "BadValue\na.conf:9: peer \"nas1\": ip: \"192.0.2.0/24\" is no address, as \"192.0.2.1\" or \"2001:db8::1\"\n",
+        "\"192.0.2.1/24\"",
+        "BadValue\na.conf:9: peer \"nas1\": ip: \"192.0.2.1/24\" is no address, as \"192.0.2.1\" or \"2001:db8::1\", and no prefix, as \"192.0.2.0/24\", behind which all bits are 0\n",
+    ),
+    (
+        "coa = \"192.0.2.1:3799\"",
+        "nas_ip = \"2001:db8::1\"\nnas_ipv6 = \"192.0.2.1\"",
+        "BadValue\na.conf:11: peer \"nas1\": nas_ip: \"2001:db8::1\" is no IPv4 address in decimal, as \"192.0.2.1\"\na.conf:12: peer \"nas1\": nas_ipv6: \"192.0.2.1\" is no IPv6 address, as \"2001:db8::1\"\n",
     ),
     (
         "\"127.0.0.1:1813\"",
@@ -249,7 +254,7 @@ pub const BAD_VALUES: [Change; 17] = [
 ];
 
 /// Values stand twice: both places.
-pub const DUPLICATES: [Change; 6] = [
+pub const DUPLICATES: [Change; 8] = [
     (
         "\n[[realm]]\n",
         "[[realm]]\nname = \"A.Example\"\nout = \"127.0.0.1:2001\"\nreverse = \"127.0.0.1:3001\"\ntries = 2\nwait = 1000\nhold = 5000\nmax_pending = 300\nmax_sessions = 100\n[[realm.server]]\nauth = \"198.51.100.1:1812\"\nacct = \"198.51.100.1:1813\"\nsecret = \"h2\"\nrequire_seal = true\n[[realm]]\n",
@@ -279,5 +284,15 @@ pub const DUPLICATES: [Change; 6] = [
         "\"192.0.2.1:3799\"",
         "\"198.51.100.1:1813\"",
         "DuplicateLink\na.conf:26: realm \"a.example\", server 1: acct: \"198.51.100.1:1813\" stands also in line 11: peer \"nas1\": coa\n",
+    ),
+    (
+        "\n[[realm]]\n",
+        "[[peer]]\nname = \"nas2\"\nip = \"2001:db8::/32\"\nsecret = \"s\"\n[[peer]]\nname = \"nas3\"\nip = \"2001:DB8:0::/32\"\nsecret = \"s\"\n[[realm]]\n",
+        "DuplicatePeer\na.conf:19: peer \"nas3\": ip: \"2001:DB8:0::/32\" stands also in line 15: peer \"nas2\": ip\n",
+    ),
+    (
+        "\"127.0.0.1:2000\"",
+        "\"[2001:db8::10]:2000\"",
+        "NoWayOut\na.conf:25: realm \"a.example\", server 1: auth: \"198.51.100.1:1812\" is IPv4, but out is IPv6\na.conf:26: realm \"a.example\", server 1: acct: \"198.51.100.1:1813\" is IPv4, but out is IPv6\n",
     ),
 ];
