@@ -1,7 +1,7 @@
 #!/usr/bin/env python3
 """try-diagnoses.py PROGRAM [--table]
 
-Makes 132 mistakes in samples/visited-network.conf, one at a time, and runs `PROGRAM check` on each. The diagnosis
+Makes 137 mistakes in samples/visited-network.conf, one at a time, and runs `PROGRAM check` on each. The diagnosis
 must name the fault, and the line, the table and the key where the mistake was made, and what is wrong with it. No
 output may hold a secret of the file. --table prints a row for each.
 """
@@ -166,8 +166,7 @@ def syntax(name, header, key, text, column, nth=0, wanted=""):
 
 
 ENDPOINT = 'is no address with a port of 1..65535, as "192.0.2.1:1812" or "[2001:db8::1]:1812"'
-ADDRESS = 'is no address, as "192.0.2.1" or "2001:db8::1"'
-PREFIX = ADDRESS + ', and no prefix, as "192.0.2.0/24", behind which all bits are 0'
+PREFIX = 'is no address or prefix, as "192.0.2.1", "2001:db8::1" or "192.0.2.0/24", whose other bits are 0'
 IPV4 = 'is no IPv4 address in decimal, as "192.0.2.1"'
 IPV6 = 'is no IPv6 address, as "2001:db8::1"'
 SECRET = "is not a text of 1..64 octets"
@@ -334,6 +333,12 @@ def two_peers(key, text):
     return f"DuplicatePeer: {key}", make
 
 
+def other_kind(sample):
+    """A server of IPv6 in a realm whose socket is of IPv4."""
+    number = sample.put(SERVER, "auth", '"[2001:DB8:0::1]:1812"', 1)
+    return "NoWayOut", [f'{at(number)}{table(SERVER, 1)}auth: "[2001:db8::1]:1812" is IPv6, but out is IPv4']
+
+
 def two_names(sample):
     """Two realms of one name, in other case."""
     first = sample.key(REALM, "name", 0) + 1
@@ -455,6 +460,7 @@ MISTAKES = [
     value(TOP, "auth", '"203.0.113.10:99999"', '"203.0.113.10:99999" ' + ENDPOINT),
     value(TOP, "acct", '"203.0.113.10"', '"203.0.113.10" ' + ENDPOINT),
     ("DuplicateRealm: names in other case", two_names),
+    ("NoWayOut", other_kind),
     ("realm without a server", no_server),
     ("realm without a name", no_name),
     ("no peer", no_peer),

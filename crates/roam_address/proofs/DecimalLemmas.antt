@@ -24,7 +24,8 @@ unfolding decimal_in
 decimal_in-not least most text is_not = rw is_not
 
 -- the digits of a decimal number
-pub decimal_digits : (text : List ℕ) → is_decimal text ≡ true → (list_all is_ascii_digit text ≡ true) × (0 < length text)
+pub decimal_digits : (text : List ℕ) → is_decimal text ≡ true → (list_all is_ascii_digit text ≡ true)
+    × (0 < length text)
 unfolding is_decimal
 decimal_digits text is = grind (arith, nat_tests)
 

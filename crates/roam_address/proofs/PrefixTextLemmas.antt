@@ -118,7 +118,8 @@ module _ (text : List ℕ) (none : (p : Prefix) → ¬ (IsPrefixText text p)) wh
       ap (λ (r : Option Address). whole_or_part r (cut_last 47 text)) (none_in text (address_in text) refl no_whole)
       ∙ of_cut (cut_last 47 text) (cut_last-parts 47 text)
 
-pub is_prefix_in : (text : List ℕ) (r : Option Prefix) → Reads IsPrefixText text r → option_map shown_prefix r ≡ prefix_in text
+pub is_prefix_in : (text : List ℕ) (r : Option Prefix) → Reads IsPrefixText text r →
+    option_map shown_prefix r ≡ prefix_in text
 is_prefix_in text None none = sym (of_none text none)
 is_prefix_in text (Some p) (inl h) = sym (of_whole text p h)
 is_prefix_in text (Some p) (inr h) = sym (of_part text p h)

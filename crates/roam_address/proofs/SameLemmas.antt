@@ -78,7 +78,8 @@ first_at test n (y ∷ ys) zero x at passes none =
     rw here (ap (λ k. Some k) same)
 first_at test n (y ∷ ys) (suc i) x at passes none =
     let no' : test y ≡ false = none 0 y (omega arith) refl in
-    let rest = first_at test (n + 1) ys i x at passes (λ k z before there. none (suc k) z (omega (arith, before)) there) in
+    let rest = first_at test (n + 1) ys i x at passes
+    (λ k z before there. none (suc k) z (omega (arith, before)) there) in
     let same : n + 1 + i ≡ n + suc i = omega arith in
     rw no' (rest ∙ ap (λ k. Some k) same)
 
@@ -143,7 +144,8 @@ module _ (prefixes : List Prefix) (a : Address) where
       HasTwice prefixes
   passes_twice place h k p before there passes =
       let n = length_of p in
-      let parts = and_parts (is_in a (shown_prefix p)) (list_all (is_no_longer a n) (map shown_prefix prefixes)) passes in
+      let parts = and_parts (is_in a (shown_prefix p)) (list_all (is_no_longer a n) (map shown_prefix prefixes))
+      passes in
       let has = (in_decides p a).0 parts.0 in
       let other = all_at (is_no_longer a n) (map shown_prefix prefixes) place (shown_prefix h.prefix) parts.1
       (at_shown prefixes place h.prefix h.there) in

@@ -27,8 +27,9 @@ is_at_server realm peer = list_any (is_server_in peer.ip) realm.servers
 
 -- ## Who may ask whom
 -- A realm takes Access-Requests and Accounting-Requests of a peer unless it has `peers` and the peer's name isn't
--- among them, or it has `loop_prevention` and one of its servers is at an address of the peer. A reverse request goes to
--- no peer that isn't among `peers`, and to none whose `coa` is of another kind, IPv4 or IPv6, than the realm's `out`.
+-- among them, or it has `loop_prevention` and one of its servers is at an address of the peer. A reverse request goes
+-- to no peer that isn't among `peers`, and to none whose `coa` is of another kind, IPv4 or IPv6, than the realm's
+-- `out`.
 -- Source: ours
 -- Rules out: a realm without `peers` that takes none; a request that is sent back to where it came from
 -- Stands in: `roam_conf` `Asking.antt`: `takes`, `is_target_of`; `takes`, `is_target_of`

@@ -74,17 +74,17 @@ pub record RealmView : Type 0 where
   pub servers : List ServerView
 
 -- ## Configuration
--- The operator's values as a record: shards, seed, the broker's endpoints, the limits of a trace in steps and
--- in octets, the limits of hops and of attributes, whether a Status-Server is answered, whether the workers share
--- `auth` and `acct`, which names no realm has, whether names have to be well formed, whether unnamed accounting is
--- answered, how old a reverse request may be, the peers, and the realms with their servers in order of use. Each value
--- is in its range, nothing stands twice that may not, no server is where its realm's `out` sends nothing, and no peer is
+-- The operator's values as a record: shards, seed, the broker's endpoints, the limits of a trace in steps and in
+-- octets, the limits of hops and of attributes, whether a Status-Server is answered, whether the workers share `auth`
+-- and `acct`, which names no realm has, whether names have to be well formed, whether unnamed accounting is answered,
+-- how old a reverse request may be, the peers, and the realms with their servers in order of use. Each value is in
+-- its range, nothing stands twice that may not, no server is where its realm's `out` sends nothing, and no peer is
 -- named that isn't there.
 -- Source: ours
 -- Rules out: a realm without servers; an empty secret; two realms of one name; a realm whose requests are
 -- accounted for at a server that takes none
--- Stands in: `roam_conf` `Config.antt`: `ConfigView`, `Duplicates.antt`, `Ways.antt`, `Asking.antt`: `has_unknown_peer`; the
--- invariants of `Config`, `Peer`, `Realm`, `Server`
+-- Stands in: `roam_conf` `Config.antt`: `ConfigView`, `Duplicates.antt`, `Ways.antt`, `Asking.antt`:
+-- `has_unknown_peer`; the invariants of `Config`, `Peer`, `Realm`, `Server`
 --
 -- the whole configuration
 pub record ConfigView : Type 0 where

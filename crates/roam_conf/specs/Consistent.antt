@@ -5,8 +5,8 @@ use Rattle.roam_conf.specs.Config.{ConfigView}
 use Rattle.roam_conf.specs.Duplicates.{has_duplicate_realm, has_duplicate_peer, has_duplicate_endpoint, has_duplicate_server, has_duplicate_link}
 use Rattle.roam_conf.specs.Ways.{has_no_way_out}
 
--- nothing stands twice that may not, no server is where its realm's `out` sends nothing, and no peer is named that isn't
--- there
+-- nothing stands twice that may not, no server is where its realm's `out` sends nothing, and no peer is named that
+-- isn't there
 pub record IsConsistent (config : ConfigView) : Type 0 where
   pub realms : has_duplicate_realm config.realms config.reject ≡ false
   pub peers : has_duplicate_peer config.peers ≡ false

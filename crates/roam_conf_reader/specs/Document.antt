@@ -40,7 +40,8 @@ server_optional = codes "acct" ∷ codes "require_seal" ∷ []
 abbrev pub peer_optional : List (List ℕ)
 peer_optional =
     codes "coa" ∷ codes "nas_ip" ∷ codes "nas_ipv6" ∷ codes "nas_id" ∷ codes "nas_ids" ∷ codes "require_seal"
-    ∷ codes "limit_proxy_state" ∷ codes "operator_name" ∷ codes "ask_cui" ∷ codes "request_without" ∷ codes "reply_without" ∷ []
+    ∷ codes "limit_proxy_state" ∷ codes "operator_name" ∷ codes "ask_cui" ∷ codes "request_without" ∷ codes
+    "reply_without" ∷ []
 
 abbrev pub realm_optional : List (List ℕ)
 realm_optional =

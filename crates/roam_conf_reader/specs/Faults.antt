@@ -30,8 +30,8 @@ pub record StatesNone (text : List ℕ) : Type 0 where
   pub parsed : parse_document text ≡ Some members
   pub unstated : (config : ConfigView) → ¬ (StatesConfig members config)
 
--- whether a configuration has the duplicates that the fault names, or a server where its realm's `out` sends nothing, or
--- names a peer that isn't there
+-- whether a configuration has the duplicates that the fault names, or a server where its realm's `out` sends nothing,
+-- or names a peer that isn't there
 abbrev pub has_duplicate : ConfFault → ConfigView → Bool
 has_duplicate DuplicateRealm config = has_duplicate_realm config.realms config.reject
 has_duplicate DuplicatePeer config = has_duplicate_peer config.peers

@@ -211,8 +211,8 @@ fn has_duplicate_link(alloc: Global, peers: &[Peer], realms: &[Realm]) -> Result
     Ok(has_equal_endpoints(coas.as_slice()) || some_realm_at(coas.as_slice(), realms))
 }
 
-/// The first duplicate that is there, in the order of the faults, or else that a server is where its realm's `out` sends
-/// nothing, or that a peer is named that isn't there.
+/// The first duplicate that is there, in the order of the faults, or else that a server is where its realm's `out`
+/// sends nothing, or that a peer is named that isn't there.
 #[tactic(auto, unfolding(crate::specs::Faults::first_duplicate))]
 pub(crate) fn first_duplicate(
     alloc: Global,

@@ -24,7 +24,6 @@ enum Unwise {
     SampleSecret,
     /// A socket at all addresses.
     AnyAddress,
-    AnyIpv6Address,
     /// A home server at one of the broker's own endpoints.
     OwnServer,
     /// Another secret than an earlier server has that is the same for the broker.
@@ -63,10 +62,10 @@ fn has_short_rest(at: Located<'_>) -> bool {
     0 < rest && rest < number(at, "tries").saturating_mul(number(at, "wait"))
 }
 
-/// Whether the text under the key begins so.
-fn begins_with(at: Located<'_>, key: &str, front: &str) -> bool {
+/// Whether the text under the key is an endpoint at all addresses.
+fn is_at_any_address(at: Located<'_>, key: &str) -> bool {
     match at.keys.text(key) {
-        Some(text) => text.starts_with(front),
+        Some(text) => text.starts_with("0.0.0.0:") || text.starts_with("[::]:"),
         None => false,
     }
 }
@@ -83,8 +82,7 @@ impl Unwise {
                 None => false,
             },
             Unwise::SampleSecret => at.keys.has_sample_secret(),
-            Unwise::AnyAddress => begins_with(at, key, "0.0.0.0:"),
-            Unwise::AnyIpv6Address => begins_with(at, key, "[::]:"),
+            Unwise::AnyAddress => is_at_any_address(at, key),
             Unwise::OwnServer => servers::is_own(document, at, key),
             Unwise::OtherSecret => servers::has_other_secret(document, at),
             Unwise::Default => names::has_default(at, key),
@@ -109,45 +107,18 @@ const SHORT_SECRET: &str = "has less than 8 octets, and can be found by trying";
 const SAMPLE_SECRET: &str = "is a sample's, which everybody knows: make one of your own";
 
 const ANY_ADDRESS: &str =
-    "is 0.0.0.0: replies may leave from another address than the one that was asked";
-
-const ANY_IPV6_ADDRESS: &str =
-    "is ::: replies may leave from another address than the one that was asked";
+    "is every address: replies may leave from another address than the one that was asked";
 
 const OWN_SERVER: &str = "is the broker's own: what is sent there comes back to it";
 
 const DEFAULT: &str = "is a name as any other: what FreeRADIUS calls DEFAULT is also = [\"*\"]";
 
 /// The advice for each kind of tables; that for sockets first.
-const OF_SOCKETS: [Advice; 8] = [
+const OF_SOCKETS: [Advice; 4] = [
     Advice(TableKind::Top, "auth", Unwise::AnyAddress, ANY_ADDRESS),
     Advice(TableKind::Top, "acct", Unwise::AnyAddress, ANY_ADDRESS),
     Advice(TableKind::Realm, "out", Unwise::AnyAddress, ANY_ADDRESS),
     Advice(TableKind::Realm, "reverse", Unwise::AnyAddress, ANY_ADDRESS),
-    Advice(
-        TableKind::Top,
-        "auth",
-        Unwise::AnyIpv6Address,
-        ANY_IPV6_ADDRESS,
-    ),
-    Advice(
-        TableKind::Top,
-        "acct",
-        Unwise::AnyIpv6Address,
-        ANY_IPV6_ADDRESS,
-    ),
-    Advice(
-        TableKind::Realm,
-        "out",
-        Unwise::AnyIpv6Address,
-        ANY_IPV6_ADDRESS,
-    ),
-    Advice(
-        TableKind::Realm,
-        "reverse",
-        Unwise::AnyIpv6Address,
-        ANY_IPV6_ADDRESS,
-    ),
 ];
 
 const OF_PEERS: [Advice; 3] = [

@@ -1,6 +1,7 @@
 //! What may stand under a key, and the words for what doesn't fit.
 
-use roam_conf::{Address, Endpoint, Prefix, removed_attribute};
+use crate::network_forms::NetworkForm;
+use roam_conf::removed_attribute;
 use roam_wire::RemovedAttribute;
 use std::fmt;
 use toml::Value;
@@ -17,16 +18,8 @@ pub(crate) enum ValueForm {
     StationWord,
     /// 64 hexadecimal digits.
     Seed,
-    /// An address.
-    Address,
-    /// An address, or a prefix.
-    Prefix,
-    /// An address of IPv4.
-    Ipv4,
-    /// An address of IPv6.
-    Ipv6,
-    /// An address and a port.
-    Endpoint,
+    /// A text that says where something is.
+    Network(NetworkForm),
     /// A text of 1 to so many octets.
     Text(usize),
     /// A text of 1 to 107 octets, none of them 0.
@@ -110,23 +103,11 @@ fn is_removal(text: &str, kept: &[u8]) -> bool {
     }
 }
 
-/// Whether the text is an address of IPv6, or of IPv4 where that is wanted.
-fn is_address_of(text: &str, of_ipv6: bool) -> bool {
-    match Address::from_text(text) {
-        Some(address) => address.is_ipv6() == of_ipv6,
-        None => false,
-    }
-}
-
 /// Whether the text is of the form, where that is one of texts.
 fn text_fits(form: ValueForm, text: &str) -> bool {
     match form {
         ValueForm::Seed => is_seed(text),
-        ValueForm::Address => Address::from_text(text).is_some(),
-        ValueForm::Prefix => Prefix::from_text(text).is_some(),
-        ValueForm::Ipv4 => is_address_of(text, false),
-        ValueForm::Ipv6 => is_address_of(text, true),
-        ValueForm::Endpoint => Endpoint::from_text(text).is_some(),
+        ValueForm::Network(form) => form.fits(text),
         ValueForm::Text(most) => !text.is_empty() && text.len() <= most,
         ValueForm::SocketPath => is_socket_path(text),
         ValueForm::Secret => !text.is_empty() && text.len() <= 64,
@@ -251,19 +232,7 @@ impl fmt::Display for ValueForm {
             }
             ValueForm::StationWord => f.write_str("is neither \"clear\" nor \"hmac\""),
             ValueForm::Seed => f.write_str("is not a text of 64 hexadecimal digits"),
-            ValueForm::Address => {
-                f.write_str("is no address, as \"192.0.2.1\" or \"2001:db8::1\"")
-            }
-            ValueForm::Prefix => {
-                f.write_str("is no address, as \"192.0.2.1\" or \"2001:db8::1\", and no prefix, ")?;
-                f.write_str("as \"192.0.2.0/24\", behind which all bits are 0")
-            }
-            ValueForm::Ipv4 => f.write_str("is no IPv4 address in decimal, as \"192.0.2.1\""),
-            ValueForm::Ipv6 => f.write_str("is no IPv6 address, as \"2001:db8::1\""),
-            ValueForm::Endpoint => {
-                f.write_str("is no address with a port of 1..65535, as \"192.0.2.1:1812\"")?;
-                f.write_str(" or \"[2001:db8::1]:1812\"")
-            }
+            ValueForm::Network(form) => f.write_str(form.misfit()),
             ValueForm::Text(most) => write!(f, "is not a text of 1..{most} octets"),
             ValueForm::SocketPath => f.write_str("is not a path of 1..107 octets"),
             ValueForm::Secret => f.write_str("is not a text of 1..64 octets"),

@@ -21,6 +21,7 @@ mod line;
 mod lines;
 mod missing;
 mod names;
+mod network_forms;
 mod place;
 mod quoted;
 mod rules;

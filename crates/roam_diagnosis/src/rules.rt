@@ -1,6 +1,7 @@
 //! Which keys the tables of a configuration have, and what stands under each.
 
 use crate::forms::ValueForm;
+use crate::network_forms::NetworkForm;
 use crate::place::TableKind;
 
 /// A key of a table: its name, whether it is required, and what stands under it.
@@ -10,15 +11,15 @@ pub(crate) struct Rule(pub &'static str, pub bool, pub ValueForm);
 const TOP: [Rule; 20] = [
     Rule("shards", false, ValueForm::Number(1, 64)),
     Rule("seed", false, ValueForm::Seed),
-    Rule("auth", true, ValueForm::Endpoint),
-    Rule("acct", true, ValueForm::Endpoint),
+    Rule("auth", true, ValueForm::Network(NetworkForm::Endpoint)),
+    Rule("acct", true, ValueForm::Network(NetworkForm::Endpoint)),
     Rule("trace_limit", false, ValueForm::Number(1, 1000000)),
     Rule("trace_octets", false, ValueForm::Number(1, 1073741824)),
     Rule("max_hops", false, ValueForm::Number(1, 100)),
     Rule("max_attributes", false, ValueForm::Number(1, 2000)),
     Rule("status_server", false, ValueForm::Flag),
     Rule("spread", false, ValueForm::Flag),
-    Rule("metrics", false, ValueForm::Endpoint),
+    Rule("metrics", false, ValueForm::Network(NetworkForm::Endpoint)),
     Rule("control", false, ValueForm::SocketPath),
     Rule("log_exchanges", false, ValueForm::ExchangeLines),
     Rule("log_station", false, ValueForm::StationWord),
@@ -32,11 +33,11 @@ const TOP: [Rule; 20] = [
 
 const PEER: [Rule; 14] = [
     Rule("name", true, ValueForm::PeerName),
-    Rule("ip", true, ValueForm::Prefix),
+    Rule("ip", true, ValueForm::Network(NetworkForm::Prefix)),
     Rule("secret", true, ValueForm::Secret),
-    Rule("coa", false, ValueForm::Endpoint),
-    Rule("nas_ip", false, ValueForm::Ipv4),
-    Rule("nas_ipv6", false, ValueForm::Ipv6),
+    Rule("coa", false, ValueForm::Network(NetworkForm::Endpoint)),
+    Rule("nas_ip", false, ValueForm::Network(NetworkForm::Ipv4)),
+    Rule("nas_ipv6", false, ValueForm::Network(NetworkForm::Ipv6)),
     Rule("nas_id", false, ValueForm::Text(253)),
     Rule("nas_ids", false, ValueForm::NasIds),
     Rule("require_seal", false, ValueForm::Flag),
@@ -60,8 +61,8 @@ const REALM: [Rule; 23] = [
     Rule("own_names", false, ValueForm::Flag),
     Rule("conversations", false, ValueForm::Flag),
     Rule("own_sessions", false, ValueForm::Flag),
-    Rule("out", true, ValueForm::Endpoint),
-    Rule("reverse", false, ValueForm::Endpoint),
+    Rule("out", true, ValueForm::Network(NetworkForm::Endpoint)),
+    Rule("reverse", false, ValueForm::Network(NetworkForm::Endpoint)),
     Rule("tries", false, ValueForm::Number(1, 10)),
     Rule("wait", false, ValueForm::Number(1, 60000)),
     Rule("rest", false, ValueForm::Number(0, 3600000)),
@@ -74,14 +75,14 @@ const REALM: [Rule; 23] = [
 ];
 
 const SERVER: [Rule; 4] = [
-    Rule("auth", true, ValueForm::Endpoint),
-    Rule("acct", true, ValueForm::Endpoint),
+    Rule("auth", true, ValueForm::Network(NetworkForm::Endpoint)),
+    Rule("acct", true, ValueForm::Network(NetworkForm::Endpoint)),
     Rule("secret", true, ValueForm::Secret),
     Rule("require_seal", false, ValueForm::Flag),
 ];
 
 const CLIENT: [Rule; 2] = [
-    Rule("ip", true, ValueForm::Address),
+    Rule("ip", true, ValueForm::Network(NetworkForm::Address)),
     Rule("secret", true, ValueForm::Secret),
 ];
 

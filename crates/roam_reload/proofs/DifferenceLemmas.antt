@@ -24,3 +24,5 @@ same_endpoints a b is = (endpoint_decides a b).0 is
 
 pub other_endpoints : (a b : Endpoint) → same_endpoint a b ≡ false → a ≡ b → ⊥
 other_endpoints a b no' is = true≢false (sym ((endpoint_decides a b).1 is) ∙ no')
+
+pub ruleset endpoint_tests = (same_endpoints, other_endpoints)

@@ -21,11 +21,11 @@ pub record KeepsPeers (old new : List PeerView) : Type 0 where
   pub same : map peer_part new ≡ map peer_part old ++ more
 
 -- ## Carried over
--- A realm is carried over from one configuration to another where it stands at the same index with an equal
--- table, its `name` and `also` aside, and the old peers are the first of the new ones, with equal `name`, `ip`,
--- `secret`, `coa`, `nas_ip`, `nas_ipv6`, `nas_id`, `nas_ids`, `operator_name`, `ask_cui`, `request_without` and `reply_without`;
--- `require_seal`, `limit_proxy_state` and further peers may differ. Of any other realm it is said why it isn't: the
--- first key that differs, the first old peer that went or differs, or that it was added or removed.
+-- A realm is carried over from one configuration to another where it stands at the same index with an equal table,
+-- its `name` and `also` aside, and the old peers are the first of the new ones, with equal `name`, `ip`, `secret`,
+-- `coa`, `nas_ip`, `nas_ipv6`, `nas_id`, `nas_ids`, `operator_name`, `ask_cui`, `request_without` and
+-- `reply_without`; `require_seal`, `limit_proxy_state` and further peers may differ. Of any other realm it is said
+-- why it isn't: the first key that differs, the first old peer that went or differs, or that it was added or removed.
 -- Source: ours
 -- Rules out: a realm that goes on under another secret; one whose peers have other indexes; one whose `peers` name
 -- another peer by the same text

@@ -93,7 +93,7 @@ fn other_difference(old: &Realm, new: &Realm) -> Option<RealmKey>
 }
 
 /// Whether two realms take reverse requests at one endpoint, or neither takes them.
-#[tactic(auto, using(crate::proofs::DifferenceLemmas::same_endpoints, crate::proofs::DifferenceLemmas::other_endpoints))]
+#[tactic(auto, using(crate::proofs::DifferenceLemmas::endpoint_tests))]
 fn is_same_reverse(a: Option<Endpoint>, b: Option<Endpoint>) -> bool
     ensures same { IsTrue result → a ≡ b }
     ensures other { IsFalse result → a ≢ b }

@@ -24,8 +24,8 @@ peer_of_nas peers (Some ip, None) = peer_with_nas_ip peers ip
 peer_of_nas peers (None, Some name) = peer_meant peers name
 peer_of_nas peers (Some ip, Some name) = same_peer (peer_with_nas_ip peers ip) (peer_meant peers name)
 
--- and a NAS-IPv6-Address: it names the peer too, where it stands there. That of a peer has sixteen octets, so one of another
--- size names none (RFC 3162, section 2.1)
+-- and a NAS-IPv6-Address: it names the peer too, where it stands there. That of a peer has sixteen octets, so one of
+-- another size names none (RFC 3162, section 2.1)
 abbrev pub peer_of_names : List PeerView → Option (List ℕ) × Option (List ℕ) → Option (List ℕ) → Option ℕ
 peer_of_names peers names None = peer_of_nas peers names
 peer_of_names peers (None, None) (Some ip) = peer_with_nas_ipv6 peers ip
@@ -59,13 +59,13 @@ with_coa peers (Some index) = if has_coa peers index then Some index else None
 
 -- ## Target of a reverse request
 -- Where the request has an Operator-Name and some peer has an `operator_name`, the peer with this one, without ASCII
--- case, behind the octet `1`: the names of the access server aren't looked at then. Else the peer whose `nas_ip` is the
--- NAS-IP-Address, whose `nas_ipv6` is the NAS-IPv6-Address, where some peer has one, and which the NAS-Identifier means,
--- where they stand there; one of them does at least. The first attribute of each type counts. It is a target where it has
--- `coa`, of the same kind as the realm's `out`, and the realm has no list of peers or the peer is among them.
+-- case, behind the octet `1`: the names of the access server aren't looked at then. Else the peer whose `nas_ip` is
+-- the NAS-IP-Address, whose `nas_ipv6` is the NAS-IPv6-Address, where some peer has one, and which the NAS-Identifier
+-- means, where they stand there; one of them does at least. The first attribute of each type counts. It is a target
+-- where it has `coa`, of the same kind as the realm's `out`, and the realm has no list of peers or the peer is among
+-- them.
 -- Source: RFC 8559 sections 3 and 4, RFC 5580 section 4.1, RFC 5176 section 3, RFC 3162 section 2.1, RFC 2865
--- sections 5.4 and 5.32; that
--- an Operator-Name comes first, and what a NAS-Identifier means, is ours
+-- sections 5.4 and 5.32; that an Operator-Name comes first, and what a NAS-Identifier means, is ours
 -- Rules out: a peer that agrees in one name of several; any peer where nothing is named; an access server's name that
 -- beats the Operator-Name
 -- Stands in: `roam_reverse` `Target.antt`: `peer_named`, `target`, `target_in`; `target`, `route_of`, the laws

@@ -41,6 +41,7 @@ third_line = refl
 
 -- a packet that leaves for realm 0
 printed_packet : packet_line (Some 0) (place.Out 0)
-    (record { ip = record { ip = V4 (record { octets = 198 ∷ 51 ∷ 100 ∷ 1 ∷ [] }) }; port = 1812 }) (1 ∷ 0 ∷ 0 ∷ 61 ∷ []) ≡ codes "0 out:0 198.51.100.1:1812 0100003d\n"
+    (record { ip = record { ip = V4 (record { octets = 198 ∷ 51 ∷ 100 ∷ 1 ∷ [] }) }; port = 1812 })
+    (1 ∷ 0 ∷ 0 ∷ 61 ∷ []) ≡ codes "0 out:0 198.51.100.1:1812 0100003d\n"
 unfolding digits encode_with
 printed_packet = refl

@@ -8,14 +8,12 @@ ghost use Rattle.roam_sockets.specs.Faults.{IsFaultOf};
 
 use crate::descriptors::descriptors_wanted;
 use crate::fault::{ServeFault, reason_of};
-use crate::options::{bind_to, family_of, set_option};
-use os::FromRawFd;
+use crate::opening::{bind, bind_beside, is_free};
 use roam_conf::{Config, Endpoint, Place, is_same_endpoint};
 use roam_port::{endpoint_of, place_of, socket_numbers, worker_of};
 use std::alloc::Global;
 use std::io;
 use std::net::{Net, UdpSocket};
-use std::os::fd::AsRawFd;
 
 /// A socket that is bound.
 #[derive(Drop)]
@@ -29,55 +27,6 @@ pub struct BoundSocket {
     /// Whether it was open before for another configuration.
     pub was_open: bool,
     pub socket: UdpSocket,
-}
-
-/// A socket for datagrams of an endpoint's kind that isn't bound yet, and doesn't wait.
-fn unbound(endpoint: Endpoint) -> io::Result<UdpSocket> {
-    let kind = libc::net::SOCK_DGRAM | libc::net::SOCK_CLOEXEC | libc::net::SOCK_NONBLOCK;
-    let fd = unsafe { libc::net::socket(family_of(endpoint), kind, 0) };
-    if fd < 0 {
-        return Err(io::Error::from_raw_os_error(os::errno()));
-    }
-    Ok(unsafe { UdpSocket::from_raw_fd(fd) })
-}
-
-/// A socket of IPv6 that doesn't wait.
-fn bind_ipv6(endpoint: Endpoint) -> io::Result<UdpSocket> {
-    let socket = unbound(endpoint)?;
-    if !bind_to(socket.as_raw_fd(), endpoint) {
-        return Err(io::Error::from_raw_os_error(os::errno()));
-    }
-    Ok(socket)
-}
-
-/// A socket that doesn't wait.
-fn bind<R: Net>(rt: &R, endpoint: Endpoint) -> io::Result<UdpSocket> {
-    if endpoint.ip.is_ipv6() {
-        return bind_ipv6(endpoint);
-    }
-    let socket = UdpSocket::bind(rt, endpoint.socket_address())?;
-    socket.set_nonblocking(true)?;
-    Ok(socket)
-}
-
-/// A socket that doesn't wait, beside which others may be bound to the same endpoint: the system picks the
-/// one to which a datagram goes by its source.
-fn bind_beside(endpoint: Endpoint) -> io::Result<UdpSocket> {
-    let socket = unbound(endpoint)?;
-    let fd = socket.as_raw_fd();
-    if !set_option(fd, libc::net::SO_REUSEPORT, 1) {
-        return Err(io::Error::from_raw_os_error(os::errno()));
-    }
-    if !bind_to(fd, endpoint) {
-        return Err(io::Error::from_raw_os_error(os::errno()));
-    }
-    Ok(socket)
-}
-
-/// Whether a socket can be bound to the endpoint of which several are to be bound: nobody else has one there.
-fn is_free<R: Net>(rt: &R, endpoint: Endpoint) -> io::Result<()> {
-    bind(rt, endpoint)?;
-    Ok(())
 }
 
 /// The fault of a socket that can't be bound to an endpoint, where the server wants so many descriptors.

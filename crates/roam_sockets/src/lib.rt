@@ -23,6 +23,7 @@ mod dealing;
 mod descriptors;
 mod fault;
 mod listener;
+mod opening;
 mod options;
 mod polls;
 mod receiver;

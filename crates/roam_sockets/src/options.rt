@@ -64,7 +64,8 @@ fn address_octets(endpoint: Endpoint) -> ([u8; 128], u32)
     }
 }
 
-/// Binds a socket of the endpoint's kind to the endpoint; one of IPv6 is then for IPv6 alone. Answers whether it was bound.
+/// Binds a socket of the endpoint's kind to the endpoint; one of IPv6 is then for IPv6 alone. Answers whether it was
+/// bound.
 pub fn bind_to(fd: RawFd, endpoint: Endpoint) -> bool {
     if endpoint.ip.is_ipv6() && !set_ipv6_only(fd) {
         return false;

@@ -1,7 +1,7 @@
 //! All examples, in one test: a test costs the proof more than an example.
 
 use crate::{
-    asking_tests, further_tests, name_tests, order_tests, policy_tests, removed_tests,
+    asking_tests, further_tests, name_tests, order_tests, peer_tests, policy_tests, removed_tests,
     sample_tests, size_tests, target_tests, value_tests,
 };
 use std::test::Fail;
@@ -29,7 +29,9 @@ fn all_examples(rt: HostRuntime) -> Result<(), Fail> {
     sample_tests::the_sample_is_read(&rt)?;
     sample_tests::numbers_that_are_not_written(&rt)?;
     sample_tests::a_realm_may_take_no_reverse_requests(&rt)?;
-    sample_tests::the_keys_of_peers_are_read(&rt)?;
+    peer_tests::the_keys_of_peers_are_read(&rt)?;
+    peer_tests::the_longest_prefix_is_found(&rt)?;
+    peer_tests::the_spellings_of_addresses(&rt)?;
     sample_tests::realms_peers_links_and_home_servers_are_found(&rt)?;
     sample_tests::equality(&rt)?;
     sample_tests::what_absent_keys_say(&rt)?;

@@ -18,6 +18,8 @@ mod name_tests;
 #[cfg(test)]
 mod order_tests;
 #[cfg(test)]
+mod peer_tests;
+#[cfg(test)]
 mod policy_tests;
 #[cfg(test)]
 mod removed_tests;

@@ -116,7 +116,14 @@ const TWO_FAULTS: [Document; 8] = [
 ];
 
 /// A second peer, realm or server that is equal to the first in something, or in nothing.
-const SECOND_ONES: [Document; 12] = [
+const SECOND_ONES: [Document; 13] = [
+    // A realm's socket of another kind than its server.
+    (
+        &SAMPLE,
+        "127.0.0.1:2000",
+        "[2001:db8::10]:2000",
+        Some(ConfFault::NoWayOut),
+    ),
     // The sample itself, and the sample without a realm.
     (&SAMPLE, AS_IT_IS, AS_IT_IS, None),
     (&[TOP, PEER], AS_IT_IS, AS_IT_IS, Some(ConfFault::Missing)),

@@ -1,7 +1,7 @@
 //! What is read from documents that are accepted, and what is found in it.
 
-use crate::documents::{SAMPLE, SECOND_PEER, alone, changed, config_of, home_server, v4};
-use roam_conf::{Config, Endpoint, Link, Peer, Prefix, Realm};
+use crate::documents::{SAMPLE, SECOND_PEER, changed, config_of, home_server, v4};
+use roam_conf::{Config, Endpoint, Link, Realm};
 use roam_conf_reader::read_config;
 use std::alloc::Global;
 use std::process::Abort;
@@ -120,41 +120,6 @@ pub(crate) fn a_realm_may_take_no_reverse_requests<R: Abort + AllocGlobal>(
     let config = config_of(rt.alloc(), &LEAST_WITH_REVERSE)?;
     assert!(rt; config.realms[0].max_sessions == 20000);
     assert!(rt; config.home_of(0, v4([198, 51, 100, 1])) == Some(0));
-    Ok(())
-}
-
-/// What a peer has besides its name and secret.
-fn others(peer: &Peer) -> (Prefix, Option<Endpoint>, Option<[u8; 4]>, bool, bool) {
-    (
-        peer.ip,
-        peer.coa,
-        peer.nas_ip,
-        peer.nas_id.is_some(),
-        peer.require_seal,
-    )
-}
-
-// The optional keys of a peer, there and left out.
-pub(crate) fn the_keys_of_peers_are_read<R: Abort + AllocGlobal>(rt: &R) -> Result<(), Fail> {
-    let parts = [
-        TOP,
-        PEER,
-        SECOND_PEER,
-        "require_seal = true\n",
-        REALM,
-        SERVER,
-    ];
-    let config = config_of(rt.alloc(), &parts)?;
-    let first = (
-        alone([192, 0, 2, 1]),
-        Some(coa()),
-        Some([192, 0, 2, 1]),
-        true,
-        false,
-    );
-    let second = (alone([192, 0, 2, 2]), None, None, false, true);
-    let found = others(config.peers.get(1).expect(rt, "a second peer"));
-    assert!(rt; (others(&config.peers[0]), found) == (first, second));
     Ok(())
 }
 

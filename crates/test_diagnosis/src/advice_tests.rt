@@ -46,7 +46,7 @@ const ADVICE: [Change; 30] = [
     (
         "\"127.0.0.1:2000\"",
         "\"0.0.0.0:2000\"",
-        "a.conf:16: realm \"a.example\": out: is 0.0.0.0: replies may leave from another address than the one that was asked\n",
+        "a.conf:16: realm \"a.example\": out: is every address: replies may leave from another address than the one that was asked\n",
     ),
     (
         "auth = \"198.51.100.1:1812\"",

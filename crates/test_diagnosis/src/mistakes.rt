@@ -194,7 +194,7 @@ pub const BAD_VALUES: [Change; 18] = [
     (
         "\"192.0.2.1\"",
         "\"192.0.2.1/24\"",
-        "BadValue\na.conf:9: peer \"nas1\": ip: \"192.0.2.1/24\" is no address, as \"192.0.2.1\" or \"2001:db8::1\", and no prefix, as \"192.0.2.0/24\", behind which all bits are 0\n",
+        "BadValue\na.conf:9: peer \"nas1\": ip: \"192.0.2.1/24\" is no address or prefix, as \"192.0.2.1\", \"2001:db8::1\" or \"192.0.2.0/24\", whose other bits are 0\n",
     ),
     (
         "coa = \"192.0.2.1:3799\"",

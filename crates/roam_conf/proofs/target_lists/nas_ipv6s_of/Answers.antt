@@ -18,7 +18,8 @@ loop-place-preserved c = λ key.
     let peer = c.index-peers-place.result in
     noted_peer (owner_of (owners c.loop-place.index) key) (owner_of (owners c.note_nas_ipv6.new.index) key)
     (same_if_there (shown_peer peer).nas_ipv6 (Some key)) i
-    (position_from (λ (x : PeerView). same_if_there x.nas_ipv6 (Some key)) (i + 1) (map shown_peer (drop (i + 1) peers)))
+    (position_from (λ (x : PeerView). same_if_there x.nas_ipv6 (Some key)) (i + 1)
+    (map shown_peer (drop (i + 1) peers)))
     (c.in_ok-note_nas_ipv6.ensures key)
     ∙ ap (λ o. option_or (owner_of (owners c.loop-place.index) key) o)
     (position_at (λ (x : PeerView). same_if_there x.nas_ipv6 (Some key)) peers i peer (omega arith)

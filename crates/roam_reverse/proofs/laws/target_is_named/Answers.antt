@@ -36,6 +36,7 @@ returns-clause-nas c = λ peers attributes index none found.
 pub returns-clause-nameless : goal.returns-clause-nameless
 unfolding target
 returns-clause-nameless c = λ peers attributes none nameless no_ipv6.
-    ap (λ (o : Option (List ℕ)). with_coa peers (peer_named peers o (nas_of attributes) (ipv6_of peers attributes))) none
+    ap (λ (o : Option (List ℕ)). with_coa peers (peer_named peers o (nas_of attributes) (ipv6_of peers attributes)))
+    none
     ∙ ap (λ names. with_coa peers (peer_of_names peers names (ipv6_of peers attributes))) nameless
     ∙ ap (λ (o : Option (List ℕ)). with_coa peers (peer_of_names peers (None, None) o)) no_ipv6
