@@ -25,7 +25,7 @@ class Written:
     """The lines, and how much isn't carried over and how much is changed."""
 
     def __init__(self):
-        self.lines, self.lost, self.changed = [], 0, 0
+        self.lines, self.lost, self.changed, self.unnamed = [], 0, 0, set()
 
     def put(self, *lines):
         self.lines += lines
@@ -38,32 +38,88 @@ class Written:
         self.changed += 1
         self.put(f"# Changed: {printable(what)}")
 
+    def own_address(self, candidates, kind):
+        """The first of this machine's addresses that is of the kind. Where there is none, a word of one that has to be written."""
+        found = next((it for it in candidates if it and kind_of(it) == kind), None)
+        if found:
+            return found
+        placeholder = {"IPv4": "127.0.0.1", "IPv6": "::1"}[kind]
+        if kind not in self.unnamed:
+            self.unnamed.add(kind)
+            self.change(f"no address of this machine is named that is of {kind}: write it in place of {placeholder}, everywhere")
+        return placeholder
+
 
 def printable(text):
     return "".join(letter if letter.isprintable() else "?" for letter in text)
 
 
-def endpoint_of(text, port, options):
-    """An address and a port of `address`, `*`, `name` and these with a port; None for what is no IPv4 address."""
-    if text.startswith("[") or text.count(":") > 1:
+def address_of(text):
+    """An address of IPv4 or IPv6, with one spelling for each. None for a zone, for 0.0.0.0 and ::, and for what is none."""
+    try:
+        address = ipaddress.ip_address(text)
+    except ValueError:
         return None
-    host, _, stated = text.partition(":")
+    if "%" in text or address.is_unspecified:
+        return None
+    return str(address.ipv4_mapped or address) if address.version == 6 else str(address)
+
+
+def network_of(text):
+    """A prefix, or an address as one of all its bits; None for what is neither. Bits that don't count become 0."""
+    try:
+        network = ipaddress.ip_network(text if "/" in text else address_of(text) or "", strict=False)
+    except ValueError:
+        return None
+    return None if network.version == 6 and network.network_address.ipv4_mapped else network
+
+
+def network_text(network):
+    """A prefix as roam's `ip` has it."""
+    return str(network.network_address if network.prefixlen == network.max_prefixlen else network)
+
+
+def parts_of(text):
+    """The host and the port that stands behind it, or an empty text. An address of IPv6 with a port is in brackets."""
+    if text.startswith("["):
+        host, closed_by, rest = text[1:].partition("]")
+        return host, rest.removeprefix(":") if closed_by and rest[:1] in ("", ":") else "none"
+    host, _, port = text.partition(":") if text.count(":") < 2 else (text, "", "")
+    return host, port
+
+
+def looked_up(name):
+    """The address of a name now: of IPv4 where it has one."""
+    try:
+        found = [it[4][0] for it in socket.getaddrinfo(name, None, type=socket.SOCK_DGRAM)]
+    except (OSError, UnicodeError):
+        return None
+    return next((it for it in found if is_ipv4(it)), found[0] if found else None)
+
+
+def endpoint_of(text, port, options):
+    """An address and a port of `address`, `*`, `name` and these with a port; None for what is no address."""
+    host, stated = parts_of(text)
     stated = stated or str(port)
     if not stated.isdigit() or not 1 <= int(stated) <= 65535:
         return None
-    try:
-        return str(ipaddress.IPv4Address(host)), int(stated)
-    except ValueError:
-        if host != "*" and options.resolve:
-            try:
-                return socket.gethostbyname(host), int(stated)
-            except OSError:
-                pass
-        return None
+    address = address_of(host)
+    if not address and options.resolve and re.search("[A-Za-z]", host) and ":" not in host:
+        address = address_of(looked_up(host) or "")
+    return (address, int(stated)) if address else None
+
+
+def is_ipv4(address):
+    return ":" not in address
+
+
+def kind_of(address):
+    return "IPv4" if is_ipv4(address) else "IPv6"
 
 
 def endpoint_text(endpoint):
-    return f'"{endpoint[0]}:{endpoint[1]}"'
+    address, port = endpoint
+    return f'"{address}:{port}"' if is_ipv4(address) else f'"[{address}]:{port}"'
 
 
 def fault_of(secret):
@@ -100,7 +156,6 @@ def options_of(about, conf):
     parser.add_argument("conf", help=conf, **({} if conf.startswith("the ") else {"nargs": "+"}))
     parser.add_argument("--address", help="this machine's address, where the file names none")
     parser.add_argument("--resolve", action="store_true", help="look names of clients and servers up, now")
-    parser.add_argument("--expand", type=int, default=16, help="a prefix of clients of at most so many addresses becomes a peer for each of them")
     parser.add_argument("--out", type=int, default=20001, help="port of the first realm's `out`")
     parser.add_argument("--reverse", type=int, help="port of the first realm's `reverse`, where there are to be any")
     parser.add_argument("--max-pending", type=int, help="of each realm")

@@ -7,11 +7,10 @@ Of clients, home servers, pools, realms, listen, log and security sections it is
 Where a whole client or realm isn't carried over, its status is 1.
 """
 
-import ipaddress
 import sys
 
-from converted_conf import (ALSO, HOPS, NAME, REJECTS, REST_AFTER_OF_ALL, SERVERS, TABLES, Written, closed, endpoint_of, fault_of,
-                            options_of, peer_name, toml)
+from converted_conf import (ALSO, HOPS, NAME, REJECTS, REST_AFTER_OF_ALL, SERVERS, TABLES, Written, closed, endpoint_of, fault_of, kind_of,
+                            network_of, network_text, options_of, peer_name, toml)
 from converted_conf import endpoint_text as written
 from freeradius_conf import Unreadable, read
 from radsecproxy_names import NotASuffix, covers, items_of
@@ -23,7 +22,12 @@ REASONS = {
                     "username": "no test users", "password": "no test users", "zombie_period": "a server rests at once"},
     "realm": {"virtual_server": "nothing is answered for a home server", "fallback": "none", "coa_pool": "a Disconnect goes to the peer that it names"},
 }
-ADDRESSES = ("ipaddr", "ipv4addr")
+ADDRESSES = ("ipaddr", "ipv4addr", "ipv6addr")
+
+
+def stated_address(section):
+    """What a section has of the keys of an address, or an empty text."""
+    return next((section.get(key) for key in ADDRESSES if section.get(key)), "")
 
 
 class Conversion:
@@ -71,8 +75,7 @@ class Conversion:
     def endpoint_at(self, section, port):
         stated = section and section.get("port")
         port = int(stated) if stated and stated.isdigit() and int(stated) else port
-        address = section and next((section.get(key) for key in ADDRESSES if section.get(key)), None)
-        found = endpoint_of(address, port, self.options) if address else None
+        found = endpoint_of(stated_address(section), port, self.options) if section else None
         return found or (self.address, port)
 
     def write_top(self):
@@ -84,11 +87,10 @@ class Conversion:
         auth, acct = self.listening(("auth", "auth+acct")), self.listening(("acct", "auth+acct"))
         stated = [it.get(key) for it in (auth, acct, *self.homes.values()) if it for key in (*ADDRESSES, "src_ipaddr") if it.kind == "listen" or key == "src_ipaddr"]
         found = [it for text in stated if text for it in [endpoint_of(text, 1, self.options)] if it]
-        self.address = self.options.address or (found[0][0] if found else None)
-        if not self.address:
-            out.change("the files name no address of this machine: write it in place of 127.0.0.1, everywhere")
-            self.address = "127.0.0.1"
+        self.address = self.options.address or (found[0][0] if found else out.own_address([], "IPv4"))
+        self.own = [self.address, *(it[0] for it in found)]
         places = self.endpoint_at(auth, 1812), self.endpoint_at(acct, 1813)
+        self.kind = kind_of(places[0][0])
         self.used |= set(places)
         out.put(f"auth = {written(places[0])}", f"acct = {written(places[1])}")
         if self.security is None or self.security.says("status_server") is not False:
@@ -112,42 +114,29 @@ class Conversion:
         secret, fault = fault_of(section.get("secret"))
         if (section.get("proto") or "udp").lower() not in ("udp", "*"):
             fault = f"no {section.get('proto').upper()}"
-        text = next((section.get(key) for key in ADDRESSES if section.get(key)), None)
-        if text is None and not section.get("ipv6addr"):
-            text = section.name
-        for address in [] if fault else self.addresses_of(section, text):
-            if address in self.addresses:
-                out.lose(f"client {section.name}: {address} is a client before it")
-            elif len(self.addresses) == TABLES:
-                out.lose(f"client {section.name}: {address}: roam takes {TABLES} peers")
-            else:
-                self.write_peer(section, address, secret)
+        network = None if fault else self.network(section, stated_address(section) or section.name)
         if fault:
             out.lose(f"client {section.name}: {fault}")
+        elif network in self.addresses:
+            out.lose(f"client {section.name}: {network_text(network)} is a client before it")
+        elif network and len(self.addresses) == TABLES:
+            out.lose(f"client {section.name}: roam takes {TABLES} peers")
+        elif network:
+            self.write_peer(section, network, secret)
         if len(self.addresses) == before:
             self.lost_tables.append(f"client {section.name}")
 
-    def addresses_of(self, section, text):
-        mask = section.get("netmask")
-        if text is None:
-            self.out.lose(f"client {section.name}: it is of IPv6")
-            return []
-        if "/" in text or mask and mask != "32":
-            try:
-                found = [str(it) for it in ipaddress.IPv4Network(text if "/" in text else f"{text}/{mask}", strict=False)]
-            except ValueError:
-                found = []
-            if 1 <= len(found) <= self.options.expand:
-                if len(found) > 1:
-                    self.out.change(f"client {section.name}: the prefix {text} is {len(found)} peers, one for each address")
-                return found
-            self.out.lose(f"client {section.name}: the prefix {text} "
-                          + (f"has {len(found)} addresses, each a peer (--expand)" if found else "isn't of IPv4"))
-            return []
-        found = endpoint_of(text, 1, self.options)
-        if not found:
-            self.out.lose(f"client {section.name}: {text} is no IPv4 address (names need --resolve)")
-        return [found[0]] if found else []
+    def network(self, section, text):
+        """The address or prefix of a client, if requests from there can come to `auth`."""
+        text = f"{text}/{section.get('netmask')}" if section.get("netmask") and "/" not in text else text
+        found = None if "/" in text else endpoint_of(text, 1, self.options)
+        network = network_of(found[0] if found else text)
+        if network is None:
+            self.out.lose(f"client {section.name}: {text} is no address or prefix (names need --resolve)")
+        elif f"IPv{network.version}" != self.kind:
+            self.out.lose(f"client {section.name}: {text} is of IPv{network.version}, and `auth` of {self.kind}")
+            return None
+        return network
 
     def wants(self, section, key):
         """Whether yes is said of a client: by itself, or else for all."""
@@ -156,20 +145,31 @@ class Conversion:
             self.out.change(f"client {section.name}: {key} auto: there is no auto, so it isn't wanted")
         return said.lower() in ("yes", "on", "1")
 
-    def write_peer(self, section, address, secret):
+    def coa_of(self, section, network):
+        """Where Disconnects go for a client, with the key and the address that they name it by."""
+        name, is_one = section.get("coa_server"), network.prefixlen == network.max_prefixlen
+        coa = self.homes.get(name or "")
+        place = coa and endpoint_of(stated_address(coa), int(coa.get("port") or 3799), self.options)
+        if name and not place:
+            self.out.lose(f"client {section.name}: coa_server {name}: no home_server with an address")
+        elif place and not is_one:
+            self.out.lose(f"client {section.name}: coa_server {name}: a prefix has no NAS-IP-Address")
+        elif place:
+            key, attribute = ("nas_ip", "NAS-IP-Address") if network.version == 4 else ("nas_ipv6", "NAS-IPv6-Address")
+            self.out.change(f"client {section.name}: a Disconnect names it by {attribute} {network_text(network)}; what stands behind it by `nas_ids`,"
+                            " if you write them")
+            return [f"coa = {written(place)}", f'{key} = "{network_text(network)}"']
+        return []
+
+    def write_peer(self, section, network, secret):
         out = self.out
-        self.addresses.add(address)
+        self.addresses.add(network)
         seal, limit = self.wants(section, "require_message_authenticator"), self.wants(section, "limit_proxy_state")
         self.lose_settings(section, ("proto",))
-        coa = self.homes.get(section.get("coa_server") or "")
-        place = coa and endpoint_of(next((coa.get(key) for key in ADDRESSES if coa.get(key)), ""), int(coa.get("port") or 3799), self.options)
-        if section.get("coa_server") and not place:
-            out.lose(f"client {section.name}: coa_server {section.get('coa_server')}: no home_server of an IPv4 address")
-        if place:
-            out.change(f"client {section.name}: a Disconnect names it by NAS-IP-Address {address}; what stands behind it by `nas_ids`, if you write them")
-        out.put("[[peer]]", f"name = {toml(peer_name(section.get('shortname') or section.name, self.names))}", f'ip = "{address}"',
+        coa = self.coa_of(section, network)
+        out.put("[[peer]]", f"name = {toml(peer_name(section.get('shortname') or section.name, self.names))}", f'ip = "{network_text(network)}"',
                 f"secret = {toml(secret)}", *(["require_seal = true"] if seal else []), *(["limit_proxy_state = true"] if limit and not seal else []),
-                *([f"coa = {written(place)}", f'nas_ip = "{address}"'] if place else []), "")
+                *coa, "")
 
     # Realms
 
@@ -193,7 +193,14 @@ class Conversion:
         return [self.homes[it] for it in pool.all("home_server") if it in self.homes] if pool else []
 
     def servers_of(self, section):
-        return [it for it in self.members(section, "auth_pool") if self.fault_of_home(it) is None]
+        return self.of_one_kind([it for it in self.members(section, "auth_pool") if self.fault_of_home(it) is None])
+
+    def of_one_kind(self, homes):
+        """Those at addresses of the first one's kind, as one socket sends to all of them."""
+        return [it for it in homes if self.kind_of_home(it) == self.kind_of_home(homes[0])]
+
+    def kind_of_home(self, home):
+        return kind_of(self.endpoint(home, 1812)[0])
 
     def fault_of_home(self, home):
         """Why a home server can't be one of roam, or nothing."""
@@ -201,14 +208,13 @@ class Conversion:
             return f"no {home.get('proto').upper()}"
         if (home.get("type") or "auth").lower() not in ("auth", "acct", "auth+acct"):
             return f"it is of type {home.get('type')}"
-        text = next((home.get(key) for key in ADDRESSES if home.get(key)), "")
+        text = stated_address(home)
         if not endpoint_of(text, 1, self.options):
-            return f"{text or 'it'} is no IPv4 address (names need --resolve)"
+            return f"{text or 'it'} is no address (names need --resolve)"
         return fault_of(home.get("secret"))[1]
 
     def endpoint(self, home, port):
-        text = next(home.get(key) for key in ADDRESSES if home.get(key))
-        return endpoint_of(text, int(home.get("port") or port), self.options)
+        return endpoint_of(stated_address(home), int(home.get("port") or port), self.options)
 
     def fallen(self, items, own=()):
         """What becomes of names whose own realm isn't there."""
@@ -239,6 +245,8 @@ class Conversion:
         homes = []
         for home in self.members(section, "auth_pool"):
             fault = self.fault_of_home(home) or (f"roam takes {SERVERS}" if len(homes) == SERVERS else None)
+            if not fault and homes and self.kind_of_home(home) != self.kind_of_home(homes[0]):
+                fault = f"it is of {self.kind_of_home(home)}, and the realm's first one of {self.kind_of_home(homes[0])}"
             if fault:
                 out.lose(f"realm {section.name}: home_server {home.name}: {fault}")
             else:
@@ -261,11 +269,13 @@ class Conversion:
                        + ("; a login stays at the server that it began at (conversations)" if len(homes) > 1 else ""))
         if not any(key == "nostrip" for key, _ in section.settings):
             out.change(f"realm {section.name}: FreeRADIUS strips the realm of its names; roam never does")
-        partners = [it for it in self.members(section, "acct_pool") if self.fault_of_home(it) is None and (it.get("type") or "auth") != "auth"]
+        kind = self.kind_of_home(homes[0])
+        partners = [it for it in self.members(section, "acct_pool")
+                    if self.fault_of_home(it) is None and (it.get("type") or "auth") != "auth" and self.kind_of_home(it) == kind]
         out.put("[[realm]]", f"name = {toml(name)}", *(["also = [" + ", ".join(map(toml, also)) + "]"] if also else []))
         index, self.realms = self.realms, self.realms + 1
         source = endpoint_of(homes[0].get("src_ipaddr") or "", 1, self.options)
-        source = source[0] if source else self.address
+        source = out.own_address([*source[:1], *self.own] if source else self.own, kind)
         out.put(f"out = {written(self.free_port(source, self.options.out + index))}")
         coa = self.listening(("coa",))
         if coa and coa.get("clients"):

@@ -6,13 +6,12 @@ is a comment too: `# Changed: ..`. How many there are is said on standard error.
 Where a whole client or realm isn't carried over, its status is 1.
 """
 
-import argparse
 import ipaddress
 import re
 import sys
 
-from converted_conf import (ALSO, HOPS, NAME, REJECTS, REST_AFTER_OF_ALL, SERVERS, TABLES, Written, closed, endpoint_of, fault_of,
-                            options_of, peer_name, toml)
+from converted_conf import (ALSO, HOPS, NAME, REJECTS, REST_AFTER_OF_ALL, SERVERS, TABLES, Written, closed, endpoint_of, fault_of, kind_of,
+                            network_of, network_text, options_of, peer_name, toml)
 from converted_conf import endpoint_text as written
 from radsecproxy_conf import Block, Unreadable, blocks_of
 from radsecproxy_names import NotASuffix, covers, items_of
@@ -31,7 +30,7 @@ REASONS = {
     "ttlattribute": "max_hops counts the proxies by their Proxy-States",
     "addttl": "max_hops counts the proxies by their Proxy-States",
     "listentcp": "no TCP", "listentls": "no TLS", "listendtls": "no DTLS",
-    "sourcetcp": "no TCP", "sourcetls": "no TLS", "sourcedtls": "no DTLS", "ipv6only": "no IPv6",
+    "sourcetcp": "no TCP", "sourcetls": "no TLS", "sourcedtls": "no DTLS",
     "rewriteattribute": "a User-Name is carried as it stands",
     "dynamiclookupcommand": "home servers aren't discovered", "blockingstartup": "home servers aren't discovered",
     "replymessage": "an Access-Reject of the broker has no Reply-Message",
@@ -54,7 +53,7 @@ REWRITES = ("rewrite", "rewritein", "rewriteout")
 # Expressions of names without an `@`, which the broker rejects anyway.
 WITHOUT_REALM = ("/^$/", "/^[^@]*$/", "/^[^@]+$/")
 # Options that say what is so anyway.
-IDLE = {("ipv4only", "on"), ("ipv6only", "off"), ("tcpkeepalive", "off"), ("loopprevention", "off"),
+IDLE = {(key, value) for key in ("ipv4only", "ipv6only") for value in ("on", "off")} | { ("tcpkeepalive", "off"), ("loopprevention", "off"),
         ("requiremessageauthenticator", "off"), ("requiremessageauthenticatorproxy", "off"),
         ("accountingresponse", "off"), ("blockingstartup", "off")}
 
@@ -101,26 +100,25 @@ class Conversion:
         udp, source = top.all("listenudp"), top.get("sourceudp", "*")
         listen = [endpoint_of(text, 1812, self.options) for text in udp]
         found = [endpoint for endpoint in listen if endpoint]
-        home = endpoint_of(source, 1, self.options)
-        self.address = self.options.address or (found[0][0] if found else home[0] if home else None)
-        if not self.address:
-            out.change("the file names no address of this machine: write it in place of 127.0.0.1, everywhere")
-            self.address = "127.0.0.1"
-        auth = found[0] if found else (self.address, 1812)
-        acct = found[1] if len(found) > 1 else (auth[0], 1813 if auth[1] != 1813 else 1814)
+        homes = [it for text in top.all("sourceudp") for it in [endpoint_of(text, 1, self.options)] if it]
+        named = [self.options.address, *(it[0] for it in found + homes)]
+        first = next((it for it in named if it), None)
+        auth = found[0] if found else (first or out.own_address([], "IPv4"), 1812)
+        others = [it for it in found[1:] if kind_of(it[0]) == kind_of(auth[0])]
+        acct = others[0] if others else (auth[0], 1813 if auth[1] != 1813 else 1814)
+        self.kind, self.own = kind_of(auth[0]), [*(it[0] for it in homes), auth[0], *named]
         for text in [text for text, endpoint in zip(udp, listen) if endpoint not in (auth, acct) and endpoint]:
             out.lose(f"listenudp {text}: one endpoint for Access, one for accounting")
         for text, endpoint in zip(udp, listen):
-            if not endpoint and not text.startswith("*"):
-                out.lose(f"listenudp {text}: no IPv4 address")
+            if not endpoint and not re.match(r"\*|\[?::[\]:]|0\.0\.0\.0\b", text + ":"):
+                out.lose(f"listenudp {text}: no address")
         out.change("radsecproxy takes Access and accounting at either port; roam takes Access at `auth` alone,"
                    " accounting at `acct`")
-        if home and home[1] != 1:
+        if any(it[1] != 1 for it in homes):
             out.change(f"sourceudp {source}: each realm has a port of its own")
         if top.is_on("loopprevention"):
             out.change("loopprevention compares names; loop_prevention, in the realms that it is for, compares addresses, and an"
                        " Access-Request gets an Access-Reject")
-        self.source = home[0] if home else auth[0]
         out.lose_options(top, {"listenudp", "sourceudp", "loopprevention", "logfullusername", "logmac"})
         self.used |= {auth, acct}
         out.put(f"auth = {written(auth)}", f"acct = {written(acct)}",
@@ -215,47 +213,54 @@ class Conversion:
             self.lost_tables.append(f"client {block.name}")
 
     def write_peers(self, block, host, secret):
-        """Whether one of its addresses is a peer, by this block or by one before it."""
-        out, before = self.out, len(self.addresses)
-        addresses = self.addresses_of(block, host)
-        for address in addresses:
-            if address in self.addresses:
-                out.lose(f"client {block.name}: {address} is a client before it, which radsecproxy takes first")
-            elif len(self.addresses) == TABLES:
-                out.lose(f"client {block.name}: {address}: roam takes {TABLES} peers")
-            else:
-                self.write_peer(block, address, secret, len(self.addresses) == before)
-        return any(address in self.addresses for address in addresses)
+        """Whether what it names is a peer, by this block or by one before it."""
+        out, network = self.out, self.network(block, host)
+        if network is None:
+            return False
+        text, before = network_text(network), self.first_around(network)
+        if before is not None and before == network:
+            out.lose(f"client {block.name}: {text} is a client before it, which radsecproxy takes first")
+        elif before is not None:
+            out.lose(f"client {block.name}: {text} is in {before} of a client before it, which radsecproxy takes first")
+        elif len(self.addresses) == TABLES:
+            out.lose(f"client {block.name}: {text}: roam takes {TABLES} peers")
+            return False
+        else:
+            self.write_peer(block, network, secret)
+        return True
 
-    def addresses_of(self, block, host):
-        if "/" in host:
-            try:
-                addresses = [str(address) for address in ipaddress.IPv4Network(host, strict=False)]
-            except ValueError:
-                addresses = []
-            if 1 <= len(addresses) <= self.options.expand:
-                self.out.change(f"client {block.name}: the prefix {host} is {len(addresses)} peers, one for each address")
-                return addresses
-            why = "isn't of IPv4" if not addresses else f"has {len(addresses)} addresses, each a peer (--expand)"
-            self.out.lose(f"client {block.name}: the prefix {host} {why}")
-            return []
-        found = endpoint_of(host, 1, self.options)
-        if not found:
-            why = "IPv6" if ":" in host else self.unresolved("a name: write its address (or use --resolve)")
-            self.out.lose(f"client {block.name}: {host} is {why}")
-        return [found[0]] if found else []
+    def first_around(self, network):
+        """The first prefix of a client that the network lies in."""
+        return next((it for it in self.addresses if it.version == network.version and network.subnet_of(it)), None)
+
+    def client_at(self, address):
+        """The client of the longest prefix that the address lies in."""
+        around = [it for it in self.addresses if ipaddress.ip_address(address) in it]
+        return self.addresses[max(around, key=lambda it: it.prefixlen)] if around else None
+
+    def network(self, block, host):
+        """The address or prefix of a client, if requests from there can come to `auth`."""
+        found = None if "/" in host else endpoint_of(host, 1, self.options)
+        network = network_of(found[0] if found else re.sub(r"[][]", "", host))
+        if network is None:
+            why = "is no prefix" if "/" in host else f"is {self.unresolved('a name: write its address (or use --resolve)')}"
+            self.out.lose(f"client {block.name}: {host} {why}")
+        elif f"IPv{network.version}" != self.kind:
+            self.out.lose(f"client {block.name}: {host} is of IPv{network.version}, and `auth` of {self.kind}")
+            return None
+        return network
 
     def unresolved(self, why):
         """Why a name isn't an address, where it was looked up too."""
-        return "a name that has no IPv4 address now" if self.options.resolve else why
+        return "a name that has no address now" if self.options.resolve else why
 
-    def write_peer(self, block, address, secret, is_first):
+    def write_peer(self, block, network, secret):
         out = self.out
         chosen = peer_name(block.name, self.names)
-        self.addresses[address] = block.name
-        if is_first:
+        if block.name not in self.addresses.values():
             self.tell_client(block)
-        out.put("[[peer]]", f"name = {toml(chosen)}", f'ip = "{address}"', f"secret = {toml(secret)}")
+        self.addresses[network] = block.name
+        out.put("[[peer]]", f"name = {toml(chosen)}", f'ip = "{network_text(network)}"', f"secret = {toml(secret)}")
         if block.is_on("requiremessageauthenticator"):
             out.put("require_seal = true")
         elif block.is_on("requiremessageauthenticatorproxy"):
@@ -380,9 +385,10 @@ class Conversion:
         if also:
             out.put("also = [" + ", ".join(map(toml, also)) + "]")
         index, self.realms = self.realms, self.realms + 1
-        out.put(f"out = {written(self.free_port(self.options.out + index))}")
+        source = out.own_address(self.own, kind_of(self.endpoint(first)[0]))
+        out.put(f"out = {written(self.free_port(source, self.options.out + index))}")
         if self.options.reverse:
-            out.put(f"reverse = {written(self.free_port(self.options.reverse + index))}")
+            out.put(f"reverse = {written(self.free_port(source, self.options.reverse + index))}")
         if not is_forwarded:
             answered = block.is_on("accountingresponse")
             out.put(f'accounting = "{"answer" if answered else "drop"}"')
@@ -409,15 +415,15 @@ class Conversion:
             known[self.endpoint(server)[0]] = server.name
             on = server.is_on("loopprevention") if server.get("loopprevention") else self.top.is_on("loopprevention")
             clients = [it for it in self.of_kind("client") if on and it.name == server.name]
-            if clients and self.addresses.get(self.endpoint(server)[0]) != server.name:
+            if clients and self.client_at(self.endpoint(server)[0]) != server.name:
                 self.out.lose(f"loopprevention of server {server.name}: the client of this name has another address")
             elif clients:
                 named = True
         if not named:
             return
         for address, server in known.items():
-            client = self.addresses.get(address, server)
-            if client != server:
+            client = self.client_at(address)
+            if client not in (None, server):
                 self.out.change(f"realm {block.name}: client {client} has the address of server {server}, and isn't let in there")
         self.out.put("loop_prevention = true")
 
@@ -434,11 +440,11 @@ class Conversion:
             lists.append(together[:MOST])
         self.write_lists(*lists)
 
-    def free_port(self, port):
-        while (self.source, port) in self.used:
+    def free_port(self, source, port):
+        while (source, port) in self.used:
             port += 1
-        self.used.add((self.source, port))
-        return self.source, port
+        self.used.add((source, port))
+        return source, port
 
     # Servers
 
@@ -452,8 +458,14 @@ class Conversion:
         if not is_udp(block):
             return block, f"no {block.get('type').upper()}; let a radsecproxy beside it speak that"
         if not self.endpoint(block):
-            return block, f"it is {self.unresolved('no IPv4 address (names need --resolve)')}"
+            return block, f"it is {self.unresolved('no address (names need --resolve)')}"
         return block, secret_of(block)[1]
+
+    def server_of_kind(self, name, kind):
+        """The same, where it has to be of the kind of the realm's first server, as one socket sends to all of them."""
+        block, fault = self.server(name)
+        own = kind if fault else kind_of(self.endpoint(block)[0])
+        return block, fault or (f"it is of {own}, and the realm's first server of {kind}" if own != kind else None)
 
     def endpoint(self, block):
         host = (block.all("host") or [block.name])[0]
@@ -461,16 +473,17 @@ class Conversion:
 
     def pairs(self, block):
         """Each server of the realm, with the one for its accounting, if there is one."""
-        accounting = []
+        accounting, usable = [], self.usable(block)
+        kind = kind_of(self.endpoint(usable[0][0])[0]) if usable else None
         for name in block.all("accountingserver"):
-            server, fault = self.server(name)
+            server, fault = self.server_of_kind(name, kind)
             if fault:
                 self.out.lose(f"realm {block.name}: accountingserver {name}: {fault}")
             else:
                 accounting.append(server)
         pairs = []
         for name in block.all("server"):
-            server, fault = self.server(name)
+            server, fault = self.server_of_kind(name, kind)
             if fault is None and len(pairs) == SERVERS:
                 fault = f"roam takes {SERVERS}"
             if fault:

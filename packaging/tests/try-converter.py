@@ -7,6 +7,8 @@ docs/FILES.md, and to choose for each of many names the realm that radsecproxy c
 `roam check` judges it too.
 """
 
+import argparse
+import ipaddress
 import os
 import random
 import re
@@ -21,6 +23,7 @@ HERE = os.path.dirname(os.path.abspath(__file__))
 ROOT = os.path.dirname(os.path.dirname(HERE))
 INSTALLED = os.path.join(os.path.dirname(HERE), "installed")
 sys.path.insert(0, INSTALLED)
+import converted_conf  # noqa: E402
 import radsecproxy_conf  # noqa: E402
 import radsecproxy_names  # noqa: E402
 
@@ -58,6 +61,11 @@ client wired {
     type udp
     secret prefix-of-four
     rewriteIn no-vlan
+}
+client wired-1 {
+    host 192.0.2.18
+    type udp
+    secret one-of-four
 }
 client dormitories {
     host 10.20.0.0/16
@@ -141,6 +149,11 @@ server of-six {
     type udp
     secret of-six
 }
+server spare-six {
+    host [2001:db8::3]
+    type tcp
+    secret spare-six
+}
 server spare {
     host 198.51.100.20
     type udp
@@ -181,6 +194,13 @@ realm /@(.+\.)?inst2\.example$/ {
 realm six.example {
     server of-six
 }
+realm both.example {
+    server home-2
+    server of-six
+}
+realm seven.example {
+    server spare-six
+}
 realm /^[a-k].*@half\.example$/ {
     server home-2
 }
@@ -195,15 +215,16 @@ realm * {
 # Words that must stand in a comment, beside whether something is lost by it.
 TOLD = [("Not carried over", what) for what in (
     "loglevel 3", "logdestination", "fticksreporting Full", "ftickskey:",
-    "prefix 10.20.0.0/16", "IPv6", "localhost is a name", "90 octets", "192.0.2.1 is a client before it",
+    "of-six: [2001:db8::1] is of IPv6, and `auth` of IPv4", "wired-1: 192.0.2.18 is in 192.0.2.16/30", "localhost is a name", "90 octets", "192.0.2.1 is a client before it",
     "lab.home.example is never reached", "accountingserver books",
-    "realm six.example: none of its servers could be carried over. The realm of * takes",
+    "realm both.example: server of-six: it is of IPv6, and the realm's first server of IPv4", "spare-six: no TCP",
+    "realm seven.example: none of its servers could be carried over. The realm of * takes",
     "realm /^[a-k].*@half\\.example$/: neither", "server spare: no realm")]
 TOLD += [("Changed", what) for what in (
     "takes Access and accounting", "loopprevention compares", "no Status-Server is sent",
     "realm /^$/: it has no server. Its names get an Access-Reject, without a Reply-Message",
     "realm suspended.example: it has no server", "realm /@.+\\.3gppnetwork\\.org$/: it has no server",
-    "nothing behind its `@`", "its accounting goes to no server here")]
+    "nothing behind its `@`", "of IPv6: write it in place of ::1", "its accounting goes to no server here")]
 
 # What an operator decides: of each option of rewrite blocks, loops, accounting and realms without a server.
 DECIDED = r"""# An operator who takes out, supplements and rejects
@@ -394,7 +415,7 @@ EXPRESSIONS = [
 
 
 # What of it is lost as a whole.
-LOST = ["client dormitories", "client of-six", "client named", "client long", "realm six.example",
+LOST = ["client of-six", "client named", "client long", "realm seven.example",
         r"realm /^[a-k].*@half\.example$/"]
 
 
@@ -430,8 +451,14 @@ def in_range(value, least, most):
 
 
 def is_endpoint(text):
-    host, _, port = text.partition(":")
-    return re.fullmatch(r"(\d{1,3}\.){3}\d{1,3}", host) and in_range(int(port), 1, 65535)
+    host, _, port = text.rpartition(":")
+    if host.startswith("["):
+        return ipaddress.IPv6Address(host[1:-1]) and host.endswith("]") and in_range(int(port), 1, 65535)
+    return ipaddress.IPv4Address(host) and in_range(int(port), 1, 65535)
+
+
+def is_of_ipv6(endpoint):
+    return endpoint.startswith("[")
 
 
 def keeps_lists(table):
@@ -451,8 +478,9 @@ def keeps_the_rules(conf):
     assert 1 <= len(conf["peer"]) <= 1024 and 1 <= len(conf["realm"]) <= 1024
     for peer in conf["peer"]:
         assert set(peer) <= {"name", "ip", "secret", "require_seal", "limit_proxy_state", "operator_name", "ask_cui",
-                             "request_without", "reply_without", "coa", "nas_ip"}
+                             "request_without", "reply_without", "coa", "nas_ip", "nas_ipv6"}
         keeps_lists(peer)
+        assert str(ipaddress.ip_network(peer["ip"])).removesuffix("/32").removesuffix("/128") == peer["ip"]
         assert re.fullmatch(r"[A-Za-z0-9._-]{1,64}", peer["name"]) and 1 <= len(peer["secret"].encode()) <= 64
     names, endpoints = [], [conf["auth"], conf["acct"]]
     for realm in conf["realm"]:
@@ -467,6 +495,7 @@ def keeps_the_rules(conf):
         assert all(("acct" in server) == ("accounting" not in realm) for server in realm["server"])
         servers = [server[key] for server in realm["server"] for key in ("auth", "acct") if key in server]
         assert len(set(servers)) == len(servers) and all(map(is_endpoint, servers))
+        assert all(is_of_ipv6(it) == is_of_ipv6(realm["out"]) for it in servers)
         assert 1 <= len(realm["server"]) <= 8 and len(realm.get("also", [])) <= 256
         assert in_range(realm.get("tries", 3), 1, 10) and in_range(realm.get("wait", 2000), 1, 60000)
         assert in_range(realm.get("rest", 30000), 0, 3600000) and in_range(realm.get("rest_after", 3), 1, 256) and in_range(realm.get("hold", 10000), 0, 60000)
@@ -543,7 +572,7 @@ def with_origin(conf, blocks):
 
 
 # Realms of the first file that roam can't have.
-NOT_CARRIED = {"lab.home.example", "six.example", "/^[a-k].*@half\\.example$/"}
+NOT_CARRIED = {"lab.home.example", "seven.example", "/^[a-k].*@half\\.example$/"}
 
 
 def look_over(name, text, peers, realms, told, lost, roam, is_old=True):
@@ -583,6 +612,21 @@ def read_expressions():
     print(f"{len(EXPRESSIONS)} expressions")
 
 
+def read_addresses():
+    """Endpoints and prefixes, and how they are written."""
+    options = argparse.Namespace(resolve=False)
+    for text, wanted in (("192.0.2.1", '"192.0.2.1:7"'), ("192.0.2.1:9", '"192.0.2.1:9"'), ("[2001:DB8::0:1]", '"[2001:db8::1]:7"'),
+                         ("[2001:db8::1]:9", '"[2001:db8::1]:9"'), ("2001:db8::1", '"[2001:db8::1]:7"'), ("::ffff:192.0.2.1", '"192.0.2.1:7"')):
+        assert converted_conf.endpoint_text(converted_conf.endpoint_of(text, 7, options)) == wanted, text
+    for text in ("*", "*:1812", "[::]", "::", "0.0.0.0:1812", "[fe80::1%eth0]", "[2001:db8::1", "[2001:db8::1]9x", "192.0.2.1:0", "a.example", "1.2.3"):
+        assert converted_conf.endpoint_of(text, 7, options) is None, text
+    for text, wanted in (("192.0.2.18/30", "192.0.2.16/30"), ("192.0.2.1/32", "192.0.2.1"), ("2001:DB8::1/32", "2001:db8::/32"),
+                         ("2001:db8::1", "2001:db8::1"), ("0.0.0.0/0", "0.0.0.0/0"), ("192.0.2.16/255.255.255.252", "192.0.2.16/30")):
+        assert converted_conf.network_text(converted_conf.network_of(text)) == wanted, text
+    for text in ("::ffff:192.0.2.0/120", "192.0.2.0/33", "a.example/24", "", "0.0.0.0"):
+        assert converted_conf.network_of(text) is None, text
+
+
 def network():
     """The network of docs/MIGRATING.md: what the page has of it is what the converter writes, but for what is new there."""
     with open(os.path.join(ROOT, "docs", "MIGRATING.md"), encoding="utf-8") as file:
@@ -616,19 +660,23 @@ def main():
     roam = sys.argv[1] if len(sys.argv) > 1 else None
     read_expressions()
     network()
-    conf = look_over("eduroam.conf", EDUROAM, 9, 4, TOLD, LOST, roam)
+    conf = look_over("eduroam.conf", EDUROAM, 7, 6, TOLD, LOST, roam)
     assert "log_exchanges" not in conf and conf["control"] == "/run/roam/control" and conf["answer_unnamed"]
     assert conf["reject"] == ["myabc.com", "*.myabc.com", "*.3gppnetwork.org", "suspended.example"]
-    assert [realm.get("accounting") for realm in conf["realm"]] == [None, "drop", "answer", None]
-    assert [peer["name"] for peer in conf["peer"] if peer.get("request_without") == ["81"]] == ["wired", "wired-2", "wired-3", "wired-4"]
+    assert [realm.get("accounting") for realm in conf["realm"]] == [None, "drop", "answer", "drop", "drop", None]
+    assert [(peer["name"], peer["ip"]) for peer in conf["peer"] if peer.get("request_without") == ["81"]] == [("wired", "192.0.2.16/30")]
+    assert [peer["ip"] for peer in conf["peer"] if "/" in peer["ip"]] == ["192.0.2.16/30", "10.20.0.0/16"]
+    assert conf["realm"][3]["out"].startswith("[::1]:") and conf["realm"][3]["server"][0]["auth"] == "[2001:db8::2]:1812"
+    assert [server["auth"] for server in conf["realm"][4]["server"]] == ["198.51.100.18:11812"]
     assert [peer["secret"] for peer in conf["peer"]][:3] == ["a\\bcA d"] + ['it is "quoted"'] * 2
-    last = conf["realm"][3]
+    last = conf["realm"][5]
     assert last["also"] == ["*"] and last["tries"] == 2 and last["wait"] == 3000 and last["loop_prevention"] and last["rest_after"] == 50
     assert [server["acct"] for server in conf["realm"][0]["server"]] == ["198.51.100.17:1813", "198.51.100.18:11813"]
     decided(look_over("decided.conf", DECIDED, 4, 4, DECIDED_TOLD, [], roam))
     newer = look_over("newer.conf", NEWER, 2, 1, [], [], roam, is_old=False)
     assert [(peer.get("require_seal"), peer.get("limit_proxy_state")) for peer in newer["peer"]] == [(None, True), (True, None)]
     assert newer["realm"][0]["accounting"] == "drop" and newer["realm"][0]["server"][0]["require_seal"]
+    read_addresses()
     look_over("five-hundred.conf", five_hundred(), 100, 500, [], [], roam)
     private = look_over("private.conf", "LogFullUsername off\n" + five_hundred(), 100, 500, [], [], roam)
     assert private["log_exchanges"] == "none"

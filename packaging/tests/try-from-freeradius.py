@@ -90,6 +90,7 @@ client 192.0.2.2 {
 client wired {
   ipaddr = 192.0.2.16/30
   secret = 'of wired'
+  coa_server = one-coa
   require_message_authenticator = yes
 }
 client dormitories {
@@ -182,6 +183,11 @@ home_server_pool six {
   type = fail-over
   home_server = of-six
 }
+home_server_pool both {
+  type = fail-over
+  home_server = home-1
+  home_server = of-six
+}
 realm a.example {
   auth_pool = home
   acct_pool = home-acct
@@ -202,6 +208,9 @@ realm here.example {
 realm six.example {
   auth_pool = six
 }
+realm both.example {
+  auth_pool = both
+}
 realm "~^[a-k]+\.half\.example$" {
   pool = second
 }
@@ -215,12 +224,12 @@ realm DEFAULT {
 }
 """
 TOLD = [("Not carried over", what) for what in (
-    "client dormitories: the prefix 10.20.0.0/16", "client six: it is of IPv6", "realm ~.*\\.c\\.b\\.example$: *.c.b.example is never reached",
-    "realm here.example: it has no pool", "realm six.example: home_server of-six", "realm ~^[a-k]+\\.half\\.example$: neither")]
+    "client six: 2001:db8::1 is of IPv6, and `auth` of IPv4", "client wired: coa_server one-coa: a prefix", "realm ~.*\\.c\\.b\\.example$: *.c.b.example is never reached",
+    "realm here.example: it has no pool", "realm both.example: home_server of-six: it is of IPv6", "realm ~^[a-k]+\\.half\\.example$: neither")]
 TOLD += [("Changed", what) for what in (
     "client undecided: limit_proxy_state auto", "client one: a Disconnect names it by NAS-IP-Address 192.0.2.1", "its pool is of type keyed-balance",
-    "FreeRADIUS strips the realm", "no Status-Server and no test user", "FreeRADIUS handles its accounting itself")]
-LOST = ["client dormitories", "client six", "realm here.example", "realm six.example"]
+    "FreeRADIUS strips the realm", "of IPv6: write it in place of ::1", "no Status-Server and no test user", "FreeRADIUS handles its accounting itself")]
+LOST = ["client six", "realm here.example"]
 
 
 def parts_of_try_converter():
@@ -297,11 +306,14 @@ def main():
     for kind, what in TOLD:
         assert any(line.startswith(f"# {kind}: ") and what in line for line in text.splitlines()), what
     assert [(it["name"], it["ip"], it["secret"]) for it in conf["peer"]][:3] == [
-        ("first", "192.0.2.1", 'a "secret" # of one'), ("192.0.2.2", "192.0.2.2", "of-two"), ("wired", "192.0.2.16", "of wired")]
+        ("first", "192.0.2.1", 'a "secret" # of one'), ("192.0.2.2", "192.0.2.2", "of-two"), ("wired", "192.0.2.16/30", "of wired")]
     first = conf["peer"][0]
     assert first["coa"] == "192.0.2.1:3799" and first["nas_ip"] == "192.0.2.1" and first["limit_proxy_state"] and "require_seal" not in first
-    assert [it["name"] for it in conf["peer"] if it.get("require_seal")] == ["wired", "wired-2", "wired-3", "wired-4"]
-    a, b, x, every = conf["realm"]
+    assert [it["name"] for it in conf["peer"] if it.get("require_seal")] == ["wired"]
+    assert [it["ip"] for it in conf["peer"] if "coa" not in it] == ["192.0.2.2", "192.0.2.16/30", "10.20.0.0/16", "192.0.2.40"]
+    a, b, x, six, both, every = conf["realm"]
+    assert six["out"].startswith("[::1]:") and [it["auth"] for it in six["server"]] == ["[2001:db8::2]:1812"]
+    assert [it["auth"] for it in both["server"]] == ["198.51.100.1:1812"] and both["out"].startswith("203.0.113.11:")
     assert a["server"] == [{"auth": "198.51.100.1:1812", "acct": "198.51.100.1:1813", "secret": "of-home", "require_seal": True}]
     assert (a["wait"], a["rest"], a["out"], a["reverse"], a["hold"]) == (4000, 60000, "203.0.113.11:20001", "203.0.113.10:3799", 7000)
     assert b["also"] == ["*.b.example"] and b["server"][0]["acct"] == "198.51.100.2:11813" and "rest" not in b and b["reverse"] != a["reverse"]
