@@ -68,7 +68,7 @@ CASES = [
     ("federation", "above-2", ACCESS, "u@inst.test", REJECT),
     ("federation", "above-1", ACCESS, "u@college.example", to("192.0.2.17:1812", (), (OPERATOR, CUI), (VLAN, VLAN))),
     ("federation", "above-1", ACCESS, "u@school.example", REJECT),
-    ("federation", "library", ACCESS, "u@school.example", to("192.0.2.49:1812")),
+    ("federation", "library", ACCESS, "u@school.example", to("[2001:db8:1:49::1]:1812")),
     ("federation", "institute", ACCESS, "u@college.example", to("192.0.2.17:1812", (), (26,))),
     ("federation", "university", ACCESS, "u@college.example", refused(8), UNSEALED),
     ("federation", "school", ACCESS, "u@college.example", to("192.0.2.17:1812", named("school.example")[:1], (CUI,)), UNSEALED),
@@ -106,6 +106,11 @@ SESSIONS = [
     ("hub", "trains", "u@operator.example", b"train-2", "198.51.100.17", "192.0.2.17:3799"),
     ("visited-network", "visited-network", "u@university.example", b"ap-1", "198.51.100.2", "192.0.2.1:3799"),
 ]
+
+
+def within(peer):
+    """An address of the peer's: of a prefix the last."""
+    return peer["prefix"][-1]
 
 
 def request(code, number, user, secret, how):
@@ -163,7 +168,7 @@ class Played:
             for past in range(10):
                 self.event(f"T {self.now - 90000 + past * 5000} {shard}")
         at = "auth" if code == ACCESS else "acct"
-        sent, why = self.event(f"A {self.now} {at} {peer['ip']}:40000 {octets.hex()}")
+        sent, why = self.event(f"A {self.now} {at} {within(peer)}:40000 {octets.hex()}")
         if expected[0] == "refused":
             return None if why == expected[1] and not sent else f"{why} {sent}"
         if why is not None or len(sent) != 1:
@@ -176,7 +181,7 @@ class Played:
         return self.forwarded(realm, place, goes_to, packet, *expected[1:])
 
     def forwarded(self, realm, place, goes_to, packet, endpoint, has, lacks, accept):
-        if realm == "-" or f"{goes_to[0]}:{goes_to[1]}" != endpoint:
+        if realm == "-" or broker.at(*goes_to) != endpoint:
             return f"went to {goes_to}"
         missing = [it for it in has if packet.attributes.count(it) != 1]
         kept = [kind for kind, _ in packet.attributes if kind in lacks]
@@ -195,16 +200,16 @@ def session(played, name, user, nas, sender, endpoint):
     peer = next(it for it in played.config.peers if it["name"] == name)
     played.now += 100000
     octets = request(ACCOUNTING, 1, user, peer["secret"].encode(), [(32, nas)])
-    [(realm, place, goes_to, sent)], _ = played.event(f"A {played.now} acct {peer['ip']}:40002 {octets.hex()}")
+    [(realm, place, goes_to, sent)], _ = played.event(f"A {played.now} acct {within(peer)}:40002 {octets.hex()}")
     secret = played.secret_at(realm, goes_to)
     answer = packets.signed(packets.ACCOUNTING_RESPONSE, sent[1], sent[4:20], [], secret)
-    played.event(f"A {played.now} {place} {goes_to[0]}:{goes_to[1]} {answer.hex()}")
+    played.event(f"A {played.now} {place} {broker.at(*goes_to)} {answer.hex()}")
     secret, wrong = played.config.home_of(realm, sender)["secret"].encode(), []
     for number, (id, wanted) in enumerate(((b"0001", endpoint), (b"0002", None))):
         ends = [(1, user.encode()), (32, nas), (44, id), (55, int(played.now / 1000).to_bytes(4, "big"))]
         octets = packets.signed(packets.DISCONNECT_REQUEST, number, packets.ZEROS, ends, secret)
         [(_, _, goes_to, sent)], _ = played.event(f"A {played.now} reverse:{realm} {sender}:40003 {octets.hex()}")
-        got = f"{goes_to[0]}:{goes_to[1]}" if sent[0] == packets.DISCONNECT_REQUEST else None
+        got = broker.at(*goes_to) if sent[0] == packets.DISCONNECT_REQUEST else None
         wrong += [] if got == wanted else [f"a Disconnect of {user} with {id} goes to {got}, not {wanted}"]
     return wrong
 
@@ -217,7 +222,7 @@ def share(played):
     for number in range(66):
         user = "u@alive.org" if number == 65 else "u@dead.org"
         octets = request(ACCESS, number, user, peer["secret"].encode(), None)
-        numbers.append(played.event(f"A {played.now} auth {peer['ip']}:40001 {octets.hex()}")[1])
+        numbers.append(played.event(f"A {played.now} auth {within(peer)}:40001 {octets.hex()}")[1])
     return [] if numbers == [None] * 64 + [27, None] else [f"federation: of one name {numbers.count(None)} wait, {numbers[-2:]}"]
 
 
