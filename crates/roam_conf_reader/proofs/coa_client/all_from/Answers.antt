@@ -1,4 +1,4 @@
-use Rattle.std.proofs.Common.{◌≡◌, ◌≤◌, Err, Global, IfOk, Ok, Result, Vec, arith, map, vec_len}
+use Rattle.std.proofs.Common.{◌≤◌, Err, Global, IfOk, Ok, Result, Vec, arith, map, vec_len}
 use Rattle.std.proofs.lemmas.List.{length-map}
 use Rattle.toml.specs.Data.{Items}
 use Rattle.toml.specs.View.{array_view}

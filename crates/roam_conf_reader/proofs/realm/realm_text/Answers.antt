@@ -9,17 +9,17 @@ use Rattle.roam_conf_reader.specs.Document.{StatesRealm, StatesServer, StatesTab
 use Rattle.roam_conf_reader.specs.Values.{array_of, endpoint, number_or, optional_at, value_at}
 use Rattle.roam_conf_reader.proofs.realm.realm_text.Goals as goal
 
-no_servers : (members : Members) (r : RealmView) → None ≡ value_at (array_of 8) (codes "server") members →
-    StatesRealm members r → ⊥
-no_servers members r none stated =
+no_servers : (ms : Members) (r : RealmView) → None ≡ value_at (array_of 8) (codes "server") ms →
+    StatesRealm ms r → ⊥
+no_servers ms r none stated =
     subst (λ (o : Option Items). StatesTables StatesServer o r.servers) (sym none) stated.servers
 
-no_sessions : (members : Members) (r : RealmView) (reverse : Option Endpoint) (default : ℕ) →
-    Some reverse ≡ optional_at endpoint (codes "reverse") members → default ≡ sessions_unless_said reverse →
-    None ≡ number_or default 0 65536 (get_member (codes "max_sessions") members) → StatesRealm members r → ⊥
-no_sessions members r reverse default there is none stated =
+no_sessions : (ms : Members) (r : RealmView) (reverse : Option Endpoint) (default : ℕ) →
+    Some reverse ≡ optional_at endpoint (codes "reverse") ms → default ≡ sessions_unless_said reverse →
+    None ≡ number_or default 0 65536 (get_member (codes "max_sessions") ms) → StatesRealm ms r → ⊥
+no_sessions ms r reverse default there is none stated =
     let same : reverse ≡ r.reverse = same_Some reverse r.reverse (there ∙ stated.reverse) in
-    let found : number_or default 0 65536 (get_member (codes "max_sessions") members) ≡ Some r.max_sessions =
+    let found : number_or default 0 65536 (get_member (codes "max_sessions") ms) ≡ Some r.max_sessions =
     rw (is, same) stated.max_sessions in
     none-some r.max_sessions (none ∙ found)
 
