@@ -81,7 +81,6 @@ class Config:
             peer["prefix"] = ipaddress.ip_network(peer["ip"])
         self.realms = [with_unsaid(realm) for realm in document["realm"]]
         for realm in self.realms:
-            realm["out"] = endpoint(realm["out"])
             for server in realm["server"]:
                 server["links"] = {k: endpoint(server[k]) for k in ("auth", "acct") if k in server}
 
@@ -160,7 +159,8 @@ class Config:
 
     def is_reached(self, realm, index):
         """Whether an access server takes Disconnects and CoAs at an address of the kind of the realm's own socket."""
-        return "coa" in self.peers[index] and is_ipv6(endpoint(self.peers[index]["coa"])[0]) == is_ipv6(self.realms[realm]["out"][0])
+        coa, out = self.peers[index].get("coa"), self.realms[realm]["out"]
+        return coa is not None and is_ipv6(endpoint(coa)[0]) == is_ipv6(endpoint(out)[0])
 
     def named_by_nas(self, ip, name, ipv6=None):
         """The access servers that a NAS-IP-Address, a NAS-Identifier and a NAS-IPv6-Address name, each where it is there."""

@@ -54,8 +54,9 @@ def opened_at(config):
         places |= {f"{key}:{n}": realm[key] for key in ("out", "reverse") if key in realm}
     sockets = {}
     for place, text in places.items():
-        sockets[place] = socket.socket(socket.AF_INET, socket.SOCK_DGRAM)
-        sockets[place].bind(apart.endpoint(text))
+        own = apart.endpoint(text)
+        sockets[place] = socket.socket(socket.AF_INET6 if apart.is_ipv6(own[0]) else socket.AF_INET, socket.SOCK_DGRAM)
+        sockets[place].bind(own)
     return sockets
 
 
@@ -69,6 +70,7 @@ def stand_in(path):
         for place, opened in sockets.items():
             if opened in ready:
                 datagram, source = opened.recvfrom(65535)
+                source = source[:2]
                 try:
                     sent += core.arrive(now, place, source, datagram, int(time.time()))
                 except packets.Refused as refused:
@@ -79,7 +81,7 @@ def stand_in(path):
             last = now
         for _, place, to, octets in sent:
             sockets[place].sendto(octets, to)
-        rests = {f"{realm.endpoint_of(link)[0]}:{realm.endpoint_of(link)[1]}" for realm in core.realms for link in realm.rests}
+        rests = {apart.at(*realm.endpoint_of(link)) for realm in core.realms for link in realm.rests}
         for endpoint in rests - resting:
             say(f"home server {endpoint} keeps silent: it rests")
         for endpoint in resting - rests:
