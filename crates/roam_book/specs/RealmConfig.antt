@@ -6,6 +6,7 @@ use Rattle.roam_conf.specs.Config.{ConfigView, PeerView, RealmView, ServerView}
 use Rattle.roam_conf.specs.Lookup.{endpoint_of, homes}
 use Rattle.roam_conf.specs.Secrets as secrets
 use Rattle.roam_conf.specs.declared.accounting.Accounting.TheVariants.{Forwarded}
+use Rattle.roam_address.specs.declared.address.TheConstants.Address.{UNSPECIFIED}
 use Rattle.roam_address.specs.declared.endpoint.Endpoint.{Endpoint}
 use Rattle.roam_conf.specs.declared.place.Link.{Link}
 use Rattle.roam_conf.specs.declared.place.Link.TheVariants as link
@@ -29,7 +30,7 @@ pub record RealmConfig : Type 0 where
 
 -- nowhere: the endpoint of a link that isn't there
 abbrev pub nowhere : Endpoint
-nowhere = record { ip = 0 ∷ 0 ∷ 0 ∷ 0 ∷ []; port = 0 }
+nowhere = record { ip = UNSPECIFIED; port = 0 }
 
 -- what stands for a realm that isn't configured: it has no servers
 abbrev pub no_realm : RealmView

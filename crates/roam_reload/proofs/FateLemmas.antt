@@ -1,5 +1,6 @@
 -- What becomes of a realm.
 use Rattle.std.proofs.Common.{◌≡◌, ◌≢◌, ℕ, false, ◌<◌, [], Some, None, option_map, length, slice_get, ap, sym, ◌∙◌}
+use Rattle.roam_address.specs.declared.address.TheConstants.Address.{UNSPECIFIED}
 use Rattle.roam_conf.specs.declared.accounting.Accounting.TheVariants.{Forwarded}
 use Rattle.roam_conf.specs.Config.{ConfigView, RealmView}
 use Rattle.roam_reload.specs.Differences.{RealmsDiffer}
@@ -12,7 +13,7 @@ abbrev no_realm : RealmView
 no_realm = record {
   name = [];
   also = [];
-  out = record { ip = []; port = 0 };
+  out = record { ip = UNSPECIFIED; port = 0 };
   reverse = None;
   tries = 0;
   wait = 0;

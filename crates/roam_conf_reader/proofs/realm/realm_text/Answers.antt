@@ -4,7 +4,7 @@ use Rattle.std.proofs.lemmas.Option.{none-some, same_Some}
 use Rattle.toml.specs.Data.{Items, Members, get_member}
 use Rattle.toml.specs.View.{table_view}
 use Rattle.roam_conf.specs.Config.{RealmView}
-use Rattle.roam_conf.specs.declared.endpoint.Endpoint.{Endpoint}
+use Rattle.roam_address.specs.declared.endpoint.Endpoint.{Endpoint}
 use Rattle.roam_conf_reader.specs.Document.{StatesRealm, StatesServer, StatesTables, sessions_unless_said}
 use Rattle.roam_conf_reader.specs.Values.{array_of, endpoint, number_or, optional_at, value_at}
 use Rattle.roam_conf_reader.proofs.realm.realm_text.Goals as goal
