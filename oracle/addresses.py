@@ -1,5 +1,6 @@
 """Rows of IPv6: places, sources, home servers, and access servers that Disconnect and CoA name by such an address."""
 from formulas import *
+from reverse import Story, id_of
 from row import Row
 
 SOURCE = "addresses"
@@ -62,6 +63,39 @@ row.reverse(0, reverse(40, 11, BY_IPV6 + NAME), 4, "from an IPv4 address", sourc
 row = Row("ipv6-names-that-nobody-has", "one-server", SOURCE)
 ask(row, 0, 0, BY_NAME + attribute(95, bytes(16)), 0, "the name, and a NAS-IPv6-Address", COA, home=HOME)
 nak(row, 0, 1, BY_IPV6, "a NAS-IPv6-Address alone", home=HOME)
+
+
+
+def of_nas(number):
+    """The name of an access server with one of its own behind it, as a NAS-IPv6-Address."""
+    return BY_NAME + attribute(95, IPV6[:15] + bytes([number]))
+
+
+# An id that two access servers of one peer gave. In any realm with `own_sessions` what tells them apart is looked at.
+row = Story("ipv6-names-of-sessions", "own-sessions")
+row.account("a Start at a first access server", START, b"1", name=NAME + of_nas(1))
+row.account("a Start at a second one", START, b"1", name=NAME + of_nas(2))
+row.nak("the id: two have it", 508, BY_NAME + id_of(b"1"))
+row.ask("the id, of the first", of_nas(1) + id_of(b"1"))
+row.ask("the id, of the second, and of a third behind it", of_nas(2) + of_nas(3) + id_of(b"1"))
+row.nak("the id, of a third", 503, of_nas(3) + id_of(b"1"))
+row.nak("the id, and fifteen octets", 503, BY_NAME + attribute(95, IPV6[:15]) + id_of(b"1"))
+row.nak("the id, and no octets", 503, BY_NAME + attribute(95, b"") + id_of(b"1"))
+row.account("a Stop at a third", STOP, b"1", name=NAME + of_nas(3))
+row.account("a Stop at none of them", STOP, b"1", name=NAME + BY_NAME)
+row.nak("the id: two have it", 508, BY_NAME + id_of(b"1"))
+row.account("an Accounting-On of the first", ON, name=NAME + of_nas(1))
+row.nak("the id, of the first", 503, of_nas(1) + id_of(b"1"))
+row.ask("the id", BY_NAME + id_of(b"1"))
+row.account("a Start at none of them", START, b"1", name=NAME + BY_NAME)
+row.nak("the id: two have it", 508, BY_NAME + id_of(b"1"))
+row.ask("the id, of the second", of_nas(2) + id_of(b"1"))
+row.account("a Stop at the second", STOP, b"1", name=NAME + of_nas(2))
+row.nak("the id, of the second", 503, of_nas(2) + id_of(b"1"))
+row.ask("the id", BY_NAME + id_of(b"1"))
+row.account("a Start at the second", START, b"1", name=NAME + of_nas(2))
+row.account("an Accounting-Off of all with that name", OFF, name=NAME + BY_NAME)
+row.nak("the id", 503, BY_NAME + id_of(b"1"))
 
 OTHER = named("u@b.example")
 K6, H6 = b"k6", b"h6"

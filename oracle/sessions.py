@@ -6,7 +6,7 @@ from packets import *
 
 START, STOP, INTERIM_UPDATE, ACCOUNTING_ON, ACCOUNTING_OFF = 1, 2, 3, 7, 8
 # What names an access server behind a proxy, in the order in which a record has it.
-NAMES_OF_NAS = (NAS_IP_ADDRESS, NAS_IDENTIFIER)
+NAMES_OF_NAS = (NAS_IP_ADDRESS, NAS_IDENTIFIER, NAS_IPV6_ADDRESS)
 
 
 class Sessions:

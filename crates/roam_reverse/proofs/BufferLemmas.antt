@@ -27,16 +27,21 @@ front [] h l long = absurd (omega (arith, long))
 front (a ∷ []) h l long = absurd (omega (arith, long))
 front (a ∷ b ∷ rest) h l long = refl
 
--- three parts behind the octets of a number
-pub three-parts : (zero first second third : List ℕ) (at to end : ℕ) (h l : ℕ) (a b c : Option (List ℕ))
-    → 2 ≤ length zero
+-- four parts behind the octets of a number
+pub four-parts : (zero first second third fourth : List ℕ) (at to on end : ℕ) (h l : ℕ)
+    (a b c d : Option (List ℕ)) → 2 ≤ length zero
     → take at first ≡ take 2 (slice_set (slice_set zero 0 h) 1 l) ++ part_text a
     → take to second ≡ take at first ++ part_text b
-    → take end third ≡ take to second ++ part_text c
-    → take end third ≡ h ∷ l ∷ part_text a ++ (part_text b ++ part_text c)
-three-parts zero first second third at to end h l a b c long one two three =
-    three
-    ∙ ap (λ (x : List ℕ). x ++ part_text c)
+    → take on third ≡ take to second ++ part_text c
+    → take end fourth ≡ take on third ++ part_text d
+    → take end fourth ≡ h ∷ l ∷ part_text a ++ (part_text b ++ (part_text c ++ part_text d))
+four-parts zero first second third fourth at to on end h l a b c d long one two three four =
+    four
+    ∙ ap (λ (x : List ℕ). x ++ part_text d)
+    (three ∙ ap (λ (x : List ℕ). x ++ part_text c)
     (two ∙ ap (λ (x : List ℕ). x ++ part_text b)
-    (one ∙ ap (λ (x : List ℕ). x ++ part_text a) (front zero h l long)))
-    ∙ append_assoc (h ∷ l ∷ part_text a) (part_text b) (part_text c)
+    (one ∙ ap (λ (x : List ℕ). x ++ part_text a) (front zero h l long))))
+    ∙ ap (λ (x : List ℕ). x ++ part_text d)
+    (append_assoc (h ∷ l ∷ part_text a) (part_text b) (part_text c))
+    ∙ append_assoc (h ∷ l ∷ part_text a) (part_text b ++ part_text c) (part_text d)
+    ∙ ap (λ (x : List ℕ). h ∷ l ∷ part_text a ++ x) (append_assoc (part_text b) (part_text c) (part_text d))

@@ -44,20 +44,35 @@ module _ (mask : Mask) (F G : ℕ → Option Session) (t : ℕ) where
 -- the groups of what is asked are those of its parts
 pub facet-grouped : {A : Type 0} (q : Asked) (f : Facets A) (F : ℕ → Option Session) → AreFaceted F f
     → is_some q.id ≡ f.with_id → IsGrouped (rows_under (mask_of q) F) (groups_of (facet_of q f))
-facet-grouped {A} q f F are id = by q.nas.address q.nas.identifier
+facet-grouped {A} q f F are id = by q.nas.address q.nas.identifier q.nas.ipv6
   where
-    by : (a i : Option (List ℕ))
-        → IsGrouped (rows_under (masked (is_some a) (is_some i) (is_some q.id)) F) (groups_of (facet_by a i f))
-    by None None =
-        subst (λ (b : Bool). IsGrouped (rows_under (masked false false b) F) (groups_of f.by_peer)) (sym id) are.by_peer
-    by (Some a) None =
-        subst (λ (b : Bool). IsGrouped (rows_under (masked true false b) F) (groups_of f.by_address)) (sym id)
+    by : (a i v : Option (List ℕ))
+        → IsGrouped (rows_under (masked (is_some a) (is_some i) (is_some v) (is_some q.id)) F)
+        (groups_of (facet_by a i v f))
+    by None None None =
+        subst (λ (b : Bool). IsGrouped (rows_under (masked false false false b) F) (groups_of f.by_peer)) (sym id)
+        are.by_peer
+    by (Some a) None None =
+        subst (λ (b : Bool). IsGrouped (rows_under (masked true false false b) F) (groups_of f.by_address)) (sym id)
         are.by_address
-    by None (Some i) =
-        subst (λ (b : Bool). IsGrouped (rows_under (masked false true b) F) (groups_of f.by_identifier)) (sym id)
+    by None (Some i) None =
+        subst (λ (b : Bool). IsGrouped (rows_under (masked false true false b) F) (groups_of f.by_identifier)) (sym id)
         are.by_identifier
-    by (Some a) (Some i) =
-        subst (λ (b : Bool). IsGrouped (rows_under (masked true true b) F) (groups_of f.by_both)) (sym id) are.by_both
+    by (Some a) (Some i) None =
+        subst (λ (b : Bool). IsGrouped (rows_under (masked true true false b) F) (groups_of f.by_both)) (sym id)
+        are.by_both
+    by None None (Some v) =
+        subst (λ (b : Bool). IsGrouped (rows_under (masked false false true b) F) (groups_of f.by_ipv6)) (sym id)
+        are.by_ipv6
+    by (Some a) None (Some v) =
+        subst (λ (b : Bool). IsGrouped (rows_under (masked true false true b) F) (groups_of f.by_address_ipv6))
+        (sym id) are.by_address_ipv6
+    by None (Some i) (Some v) =
+        subst (λ (b : Bool). IsGrouped (rows_under (masked false true true b) F) (groups_of f.by_identifier_ipv6))
+        (sym id) are.by_identifier_ipv6
+    by (Some a) (Some i) (Some v) =
+        subst (λ (b : Bool). IsGrouped (rows_under (masked true true true b) F) (groups_of f.by_all)) (sym id)
+        are.by_all
 
 -- as many have a row as pass a test
 passing : {X : Type 0} → (X → Bool) → Option X → Bool

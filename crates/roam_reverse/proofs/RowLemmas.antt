@@ -55,18 +55,19 @@ number-of : (a b : ℕ) → a / 256 ≡ b / 256 → a % 256 ≡ b % 256 → a �
 number-of a b high low = omega (arith, high, low)
 
 -- what is asked, by its parts
-asked : ℕ → Option (List ℕ) → Option (List ℕ) → Option (List ℕ) → Asked
-asked peer address identifier id =
-    record { peer = peer; nas = record { address = address; identifier = identifier }; id = id }
+asked : ℕ → Option (List ℕ) → Option (List ℕ) → Option (List ℕ) → Option (List ℕ) → Asked
+asked peer address identifier ipv6 id =
+    record { peer = peer; nas = record { address = address; identifier = identifier; ipv6 = ipv6 }; id = id }
 
 asked-is : (p q : Asked) → p.peer ≡ q.peer → p.nas.address ≡ q.nas.address → p.nas.identifier ≡ q.nas.identifier
-    → p.id ≡ q.id → p ≡ q
+    → p.nas.ipv6 ≡ q.nas.ipv6 → p.id ≡ q.id → p ≡ q
 unfolding asked
-asked-is p q peers addresses identifiers ids =
-    ap (λ (n : ℕ). asked n p.nas.address p.nas.identifier p.id) peers
-    ∙ ap (λ (o : Option (List ℕ)). asked q.peer o p.nas.identifier p.id) addresses
-    ∙ ap (λ (o : Option (List ℕ)). asked q.peer q.nas.address o p.id) identifiers
-    ∙ ap (λ (o : Option (List ℕ)). asked q.peer q.nas.address q.nas.identifier o) ids
+asked-is p q peers addresses identifiers ipv6s ids =
+    ap (λ (n : ℕ). asked n p.nas.address p.nas.identifier p.nas.ipv6 p.id) peers
+    ∙ ap (λ (o : Option (List ℕ)). asked q.peer o p.nas.identifier p.nas.ipv6 p.id) addresses
+    ∙ ap (λ (o : Option (List ℕ)). asked q.peer q.nas.address o p.nas.ipv6 p.id) identifiers
+    ∙ ap (λ (o : Option (List ℕ)). asked q.peer q.nas.address q.nas.identifier o p.id) ipv6s
+    ∙ ap (λ (o : Option (List ℕ)). asked q.peer q.nas.address q.nas.identifier q.nas.ipv6 o) ids
 
 -- equal rows are of one question
 pub row-is : (p q : Asked) → row_text p ≡ row_text q → p ≡ q
@@ -74,13 +75,17 @@ unfolding first_of behind
 row-is p q e =
     let high : p.peer / 256 ≡ q.peer / 256 = ap first_of e in
     let low : p.peer % 256 ≡ q.peer % 256 = ap (λ (l : List ℕ). first_of (behind l)) e in
-    let parts : part_text p.nas.address ++ (part_text p.nas.identifier ++ part_text p.id)
-    ≡ part_text q.nas.address ++ (part_text q.nas.identifier ++ part_text q.id) =
+    let parts : part_text p.nas.address ++ (part_text p.nas.identifier ++ (part_text p.nas.ipv6 ++ part_text p.id))
+    ≡ part_text q.nas.address ++ (part_text q.nas.identifier ++ (part_text q.nas.ipv6 ++ part_text q.id)) =
     ap (λ (l : List ℕ). behind (behind l)) e in
-    let addresses = part-split p.nas.address q.nas.address (part_text p.nas.identifier ++ part_text p.id)
-    (part_text q.nas.identifier ++ part_text q.id) parts in
-    let identifiers = part-split p.nas.identifier q.nas.identifier (part_text p.id) (part_text q.id) addresses.1 in
-    asked-is p q (number-of p.peer q.peer high low) addresses.0 identifiers.0 (part-is p.id q.id identifiers.1)
+    let addresses = part-split p.nas.address q.nas.address
+    (part_text p.nas.identifier ++ (part_text p.nas.ipv6 ++ part_text p.id))
+    (part_text q.nas.identifier ++ (part_text q.nas.ipv6 ++ part_text q.id)) parts in
+    let identifiers = part-split p.nas.identifier q.nas.identifier (part_text p.nas.ipv6 ++ part_text p.id)
+    (part_text q.nas.ipv6 ++ part_text q.id) addresses.1 in
+    let ipv6s = part-split p.nas.ipv6 q.nas.ipv6 (part_text p.id) (part_text q.id) identifiers.1 in
+    asked-is p q (number-of p.peer q.peer high low) addresses.0 identifiers.0 ipv6s.0
+    (part-is p.id q.id ipv6s.1)
 
 -- a session's row by all that it is, is its own
 id_of : Option (List ℕ) → List ℕ
@@ -128,36 +133,60 @@ module _ (q : Asked) (s : Session) where
   unfolding chosen
   agrees-is h =
       let outer = and_parts
-      (q.peer == s.peer && agrees_in q.nas.address s.nas.address && agrees_in q.nas.identifier s.nas.identifier)
+      (q.peer == s.peer && agrees_in q.nas.address s.nas.address && agrees_in q.nas.identifier s.nas.identifier
+      && agrees_in q.nas.ipv6 s.nas.ipv6)
       (agrees_in q.id (Some s.id)) h in
+      let last = and_parts
+      (q.peer == s.peer && agrees_in q.nas.address s.nas.address && agrees_in q.nas.identifier s.nas.identifier)
+      (agrees_in q.nas.ipv6 s.nas.ipv6) outer.0 in
       let named = and_parts (q.peer == s.peer && agrees_in q.nas.address s.nas.address)
-      (agrees_in q.nas.identifier s.nas.identifier) outer.0 in
+      (agrees_in q.nas.identifier s.nas.identifier) last.0 in
       let first = and_parts (q.peer == s.peer) (agrees_in q.nas.address s.nas.address) named.0 in
       asked-is q (asked_by (mask_of q) s) (number-is q.peer s.peer first.0)
       (part-agrees q.nas.address s.nas.address first.1) (part-agrees q.nas.identifier s.nas.identifier named.1)
-      (part-agrees q.id (Some s.id) outer.1)
+      (part-agrees q.nas.ipv6 s.nas.ipv6 last.1) (part-agrees q.id (Some s.id) outer.1)
 
   is-agrees : q ≡ asked_by (mask_of q) s → agrees q s ≡ true
   unfolding chosen
   is-agrees e =
       and_from
-      (q.peer == s.peer && agrees_in q.nas.address s.nas.address && agrees_in q.nas.identifier s.nas.identifier)
+      (q.peer == s.peer && agrees_in q.nas.address s.nas.address && agrees_in q.nas.identifier s.nas.identifier
+      && agrees_in q.nas.ipv6 s.nas.ipv6)
       (agrees_in q.id (Some s.id))
+      (and_from
+      (q.peer == s.peer && agrees_in q.nas.address s.nas.address && agrees_in q.nas.identifier s.nas.identifier)
+      (agrees_in q.nas.ipv6 s.nas.ipv6)
       (and_from (q.peer == s.peer && agrees_in q.nas.address s.nas.address)
       (agrees_in q.nas.identifier s.nas.identifier)
       (and_from (q.peer == s.peer) (agrees_in q.nas.address s.nas.address)
       (same-number q.peer s.peer (ap (λ (p : Asked). p.peer) e))
       (agrees-part q.nas.address s.nas.address (ap (λ (p : Asked). p.nas.address) e)))
       (agrees-part q.nas.identifier s.nas.identifier (ap (λ (p : Asked). p.nas.identifier) e)))
+      (agrees-part q.nas.ipv6 s.nas.ipv6 (ap (λ (p : Asked). p.nas.ipv6) e)))
       (agrees-part q.id (Some s.id) (ap (λ (p : Asked). p.id) e))
 
-  lacks-disagrees : lacks (mask_of q) s ≡ true → agrees q s ≡ false
-  lacks-disagrees h = elim (or_cases (is_some q.nas.address && is_none s.nas.address)
+  -- what doesn't agree by the names doesn't agree
+  without-last :
+      (q.peer == s.peer && agrees_in q.nas.address s.nas.address && agrees_in q.nas.identifier s.nas.identifier
+      && agrees_in q.nas.ipv6 s.nas.ipv6) ≡ false → agrees q s ≡ false
+  without-last fails =
+      and_left
+      (q.peer == s.peer && agrees_in q.nas.address s.nas.address && agrees_in q.nas.identifier s.nas.identifier
+      && agrees_in q.nas.ipv6 s.nas.ipv6)
+      (agrees_in q.id (Some s.id)) fails
+
+  -- nor by one of the first two
+  names-disagree :
+      ((is_some q.nas.address && is_none s.nas.address)
+      || (is_some q.nas.identifier && is_none s.nas.identifier)) ≡ true
+      → (q.peer == s.peer && agrees_in q.nas.address s.nas.address && agrees_in q.nas.identifier s.nas.identifier
+      && agrees_in q.nas.ipv6 s.nas.ipv6) ≡ false
+  names-disagree h = elim (or_cases (is_some q.nas.address && is_none s.nas.address)
       (is_some q.nas.identifier && is_none s.nas.identifier) h) [
         | inl address ↦
             and_left
             (q.peer == s.peer && agrees_in q.nas.address s.nas.address && agrees_in q.nas.identifier s.nas.identifier)
-            (agrees_in q.id (Some s.id))
+            (agrees_in q.nas.ipv6 s.nas.ipv6)
             (and_left (q.peer == s.peer && agrees_in q.nas.address s.nas.address)
             (agrees_in q.nas.identifier s.nas.identifier)
             (and_right (q.peer == s.peer) (agrees_in q.nas.address s.nas.address)
@@ -165,10 +194,20 @@ module _ (q : Asked) (s : Session) where
         | inr identifier ↦
             and_left
             (q.peer == s.peer && agrees_in q.nas.address s.nas.address && agrees_in q.nas.identifier s.nas.identifier)
-            (agrees_in q.id (Some s.id))
+            (agrees_in q.nas.ipv6 s.nas.ipv6)
             (and_right (q.peer == s.peer && agrees_in q.nas.address s.nas.address)
             (agrees_in q.nas.identifier s.nas.identifier)
             (lacks-part q.nas.identifier s.nas.identifier identifier))
+      ]
+
+  lacks-disagrees : lacks (mask_of q) s ≡ true → agrees q s ≡ false
+  lacks-disagrees h = elim (or_cases
+      ((is_some q.nas.address && is_none s.nas.address) || (is_some q.nas.identifier && is_none s.nas.identifier))
+      (is_some q.nas.ipv6 && is_none s.nas.ipv6) h) [
+        | inl either ↦ without-last (names-disagree either)
+        | inr ipv6 ↦ without-last (and_right
+            (q.peer == s.peer && agrees_in q.nas.address s.nas.address && agrees_in q.nas.identifier s.nas.identifier)
+            (agrees_in q.nas.ipv6 s.nas.ipv6) (lacks-part q.nas.ipv6 s.nas.ipv6 ipv6))
       ]
 
   -- a session is in the group of what is asked just where it agrees

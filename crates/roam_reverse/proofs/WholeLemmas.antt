@@ -73,7 +73,8 @@ and-true false = refl
 
 peer-agrees : (peer : ℕ) (s : Session) → agrees (of_peer peer) s ≡ (peer == s.peer)
 peer-agrees peer s =
-    and-true (peer == s.peer && true && true) ∙ and-true (peer == s.peer && true) ∙ and-true (peer == s.peer)
+    and-true (peer == s.peer && true && true && true) ∙ and-true (peer == s.peer && true && true)
+    ∙ and-true (peer == s.peer && true) ∙ and-true (peer == s.peer)
 
 turned : (a b : ℕ) → (a == b) ≡ (b == a)
 turned a b = elim (cases_eq a b) [
@@ -99,12 +100,12 @@ count-filter p r (x ∷ xs) same = elim (cases_Bool (r x)) [
 
 -- the groups of peers
 module _ (F : ℕ → Option Session) (p : PlainGroups)
-    (grouped : IsGrouped (rows_under (masked false false false) F) p) where
+    (grouped : IsGrouped (rows_under (masked false false false false) F) p) where
   abbrev pub L : List Session
   L = all_listed F
 
   abbrev pub rows : ℕ → Option (List ℕ)
-  rows = rows_under (masked false false false) F
+  rows = rows_under (masked false false false false) F
 
   abbrev pub row : ℕ → List ℕ
   row peer = row_text (of_peer peer)
@@ -163,7 +164,7 @@ module _ (F : ℕ → Option Session) (p : PlainGroups)
         by : (o : Option Session) → F t ≡ o → (v : Session) × (F t ≡ Some v) × (row v.peer ≡ most.row)
         by None at = absurd (
             let k : rows t ≡ None =
-            ap (λ (o : Option Session). option_and_then (row_under (masked false false false)) o) at in
+            ap (λ (o : Option Session). option_and_then (row_under (masked false false false false)) o) at in
             cc (k, row-there))
         by (Some v) at = (
           v,

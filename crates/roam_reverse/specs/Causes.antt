@@ -46,7 +46,8 @@ cause_by_meant (s ∷ []) = None
 cause_by_meant (s ∷ t ∷ others) = Some MULTIPLE_SESSION_SELECTION
 
 -- the sessions that a request to a peer means: those of the ledger with its first Acct-Session-Id, of that peer and of
--- the access server that its first NAS-IP-Address and its first NAS-Identifier name. Without an id it means none
+-- the access server that its first NAS-IP-Address, NAS-Identifier and NAS-IPv6-Address name. Without an id it means
+-- none
 abbrev pub meant_with : ℕ → List Attribute → List Session → Option (List ℕ) → List Session
 meant_with peer attributes sessions None = []
 meant_with peer attributes sessions (Some id) =

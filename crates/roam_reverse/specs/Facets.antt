@@ -16,25 +16,34 @@ abbrev pub rows_under : Mask → (ℕ → Option Session) → ℕ → Option (Li
 rows_under mask F t = option_and_then (row_under mask) (F t)
 
 -- by the peer alone, or by some names of the access server, and by the id or not
-abbrev pub masked : Bool → Bool → Bool → Mask
-masked address identifier id = record { address = address; identifier = identifier; id = id }
+abbrev pub masked : Bool → Bool → Bool → Bool → Mask
+masked address identifier ipv6 id =
+    record { address = address; identifier = identifier; ipv6 = ipv6; id = id }
 
 -- the sessions of these tickets are in their groups
 pub record AreFaceted {A : Type 0} (F : ℕ → Option Session) (f : Facets A) : Type 0 where
-  pub by_peer : IsGrouped (rows_under (masked false false f.with_id) F) (groups_of f.by_peer)
-  pub by_address : IsGrouped (rows_under (masked true false f.with_id) F) (groups_of f.by_address)
-  pub by_identifier : IsGrouped (rows_under (masked false true f.with_id) F) (groups_of f.by_identifier)
-  pub by_both : IsGrouped (rows_under (masked true true f.with_id) F) (groups_of f.by_both)
+  pub by_peer : IsGrouped (rows_under (masked false false false f.with_id) F) (groups_of f.by_peer)
+  pub by_address : IsGrouped (rows_under (masked true false false f.with_id) F) (groups_of f.by_address)
+  pub by_identifier : IsGrouped (rows_under (masked false true false f.with_id) F) (groups_of f.by_identifier)
+  pub by_both : IsGrouped (rows_under (masked true true false f.with_id) F) (groups_of f.by_both)
+  pub by_ipv6 : IsGrouped (rows_under (masked false false true f.with_id) F) (groups_of f.by_ipv6)
+  pub by_address_ipv6 : IsGrouped (rows_under (masked true false true f.with_id) F) (groups_of f.by_address_ipv6)
+  pub by_identifier_ipv6 : IsGrouped (rows_under (masked false true true f.with_id) F) (groups_of f.by_identifier_ipv6)
+  pub by_all : IsGrouped (rows_under (masked true true true f.with_id) F) (groups_of f.by_all)
 
 -- the octets are the row of a session by some of its parts
 abbrev pub HasRow : {A : Type 0} → Mask → Session → Option (Vec ℕ A) → Type 0
 HasRow mask s row = option_map (λ r. r.items) row ≡ row_under mask s
 
 pub record HasFacetRows {A : Type 0} (id : Bool) (s : Session) (rows : FacetRows A) : Type 0 where
-  pub by_peer : HasRow (masked false false id) s rows.by_peer
-  pub by_address : HasRow (masked true false id) s rows.by_address
-  pub by_identifier : HasRow (masked false true id) s rows.by_identifier
-  pub by_both : HasRow (masked true true id) s rows.by_both
+  pub by_peer : HasRow (masked false false false id) s rows.by_peer
+  pub by_address : HasRow (masked true false false id) s rows.by_address
+  pub by_identifier : HasRow (masked false true false id) s rows.by_identifier
+  pub by_both : HasRow (masked true true false id) s rows.by_both
+  pub by_ipv6 : HasRow (masked false false true id) s rows.by_ipv6
+  pub by_address_ipv6 : HasRow (masked true false true id) s rows.by_address_ipv6
+  pub by_identifier_ipv6 : HasRow (masked false true true id) s rows.by_identifier_ipv6
+  pub by_all : HasRow (masked true true true id) s rows.by_all
 
 -- a ticket behind all others has this session now
 pub record ComesIn (F G : ℕ → Option Session) (t : ℕ) (s : Session) : Type 0 where
@@ -48,13 +57,22 @@ pub record FacetsHaveRoom {A : Type 0} (n : ℕ) (f : Facets A) : Type 0 where
   pub by_address : HasRoom n f.by_address
   pub by_identifier : HasRoom n f.by_identifier
   pub by_both : HasRoom n f.by_both
+  pub by_ipv6 : HasRoom n f.by_ipv6
+  pub by_address_ipv6 : HasRoom n f.by_address_ipv6
+  pub by_identifier_ipv6 : HasRoom n f.by_identifier_ipv6
+  pub by_all : HasRoom n f.by_all
 
 -- the groups in which sessions are found by the names that are asked for
-abbrev pub facet_by : {A : Type 0} → Option (List ℕ) → Option (List ℕ) → Facets A → Groups A
-facet_by None None f = f.by_peer
-facet_by (Some address) None f = f.by_address
-facet_by None (Some identifier) f = f.by_identifier
-facet_by (Some address) (Some identifier) f = f.by_both
+abbrev pub facet_by :
+    {A : Type 0} → Option (List ℕ) → Option (List ℕ) → Option (List ℕ) → Facets A → Groups A
+facet_by None None None f = f.by_peer
+facet_by (Some address) None None f = f.by_address
+facet_by None (Some identifier) None f = f.by_identifier
+facet_by (Some address) (Some identifier) None f = f.by_both
+facet_by None None (Some ipv6) f = f.by_ipv6
+facet_by (Some address) None (Some ipv6) f = f.by_address_ipv6
+facet_by None (Some identifier) (Some ipv6) f = f.by_identifier_ipv6
+facet_by (Some address) (Some identifier) (Some ipv6) f = f.by_all
 
 abbrev pub facet_of : {A : Type 0} → Asked → Facets A → Groups A
-facet_of q f = facet_by q.nas.address q.nas.identifier f
+facet_of q f = facet_by q.nas.address q.nas.identifier q.nas.ipv6 f

@@ -12,6 +12,7 @@ abbrev pub shown_nas : NasRef → Nas
 shown_nas nas = record {
   address = option_map shown_short nas.address;
   identifier = option_map shown_short nas.identifier;
+  ipv6 = option_map shown_short nas.ipv6;
 }
 
 -- a session
@@ -29,6 +30,7 @@ kept_session s = record {
   nas = record {
     address = option_map kept_octets s.address;
     identifier = option_map kept_octets s.identifier;
+    ipv6 = option_map kept_octets s.ipv6;
   };
   id = kept_octets s.id;
 }

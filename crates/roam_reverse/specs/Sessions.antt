@@ -9,12 +9,15 @@ use Rattle.roam_wire.specs.Packet.{Attribute}
 use Rattle.roam_wire.specs.Attributes.{first_value}
 use Rattle.roam_wire.specs.declared.attribute_type.TheConstants.{ACCT_STATUS_TYPE, ACCT_SESSION_ID}
 use Rattle.roam_route.specs.UserName.{nas_of}
+use Rattle.roam_reverse.specs.declared.nas_target.TheConstants.{NAS_IPV6_ADDRESS}
 use Rattle.roam_reverse.specs.declared.accounting.TheConstants.{START, STOP, INTERIM_UPDATE, ACCOUNTING_ON, ACCOUNTING_OFF}
 
--- the names of an access server: its NAS-IP-Address and its NAS-Identifier, each its octets or none
+-- the names of an access server: its NAS-IP-Address, its NAS-Identifier and its NAS-IPv6-Address (RFC 3162, section
+-- 2.1), each its octets or none
 pub record Nas : Type 0 where
   pub address : Option (List ℕ)
   pub identifier : Option (List ℕ)
+  pub ipv6 : Option (List ℕ)
 
 -- a session of a peer: the names of its access server, where these are kept, and the octets of its Acct-Session-Id (RFC
 -- 2866, section 5.5)
@@ -33,7 +36,7 @@ same_part _ _ = false
 abbrev pub same_session : Session → Session → Bool
 same_session a b =
     a.peer == b.peer && same_part a.nas.address b.nas.address && same_part a.nas.identifier b.nas.identifier
-    && bytes_eq a.id b.id
+    && same_part a.nas.ipv6 b.nas.ipv6 && bytes_eq a.id b.id
 
 -- whether a session is in a list
 abbrev pub has_session : Session → List Session → Bool
@@ -63,7 +66,7 @@ agrees_in (Some name) (Some own) = bytes_eq name own
 abbrev pub agrees : Asked → Session → Bool
 agrees q s =
     q.peer == s.peer && agrees_in q.nas.address s.nas.address && agrees_in q.nas.identifier s.nas.identifier
-    && agrees_in q.id (Some s.id)
+    && agrees_in q.nas.ipv6 s.nas.ipv6 && agrees_in q.id (Some s.id)
 
 -- those of a list that agree
 abbrev pub agreeing : Asked → List Session → List Session
@@ -125,10 +128,14 @@ number_in _ = None
 -- the names of the access server that a request has; and those that count: a ledger of a realm without `own_sessions`
 -- keeps none and asks for none
 abbrev pub nas_in : List Attribute → Nas
-nas_in attributes = record { address = (nas_of attributes).0; identifier = (nas_of attributes).1 }
+nas_in attributes = record {
+  address = (nas_of attributes).0;
+  identifier = (nas_of attributes).1;
+  ipv6 = first_value NAS_IPV6_ADDRESS attributes;
+}
 
 abbrev pub no_nas : Nas
-no_nas = record { address = None; identifier = None }
+no_nas = record { address = None; identifier = None; ipv6 = None }
 
 abbrev pub counted_nas : Bool → List Attribute → Nas
 counted_nas own attributes = if own then nas_in attributes else no_nas

@@ -25,6 +25,7 @@ abbrev pub arrayed_nas : NasArray → Nas
 arrayed_nas nas = record {
   address = option_map short_octets nas.address;
   identifier = option_map short_octets nas.identifier;
+  ipv6 = option_map short_octets nas.ipv6;
 }
 
 abbrev pub arrayed_session : SessionArray → Session

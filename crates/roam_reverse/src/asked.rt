@@ -5,16 +5,18 @@ ghost use Rattle.roam_reverse.specs.Sessions.{counted_nas, nas_in, no_nas};
 ghost use Rattle.roam_reverse.specs.Private.Masks.{asked_for, narrow};
 ghost use Rattle.roam_reverse.specs.Kept.{shown_asked, shown_nas, shown_session};
 
+use crate::nas_target::NAS_IPV6_ADDRESS;
 use crate::short::Short;
 use crate::short_copies::first_short;
 use roam_wire::View;
 use roam_wire::attribute_type::{NAS_IDENTIFIER, NAS_IP_ADDRESS};
 
-/// The names of an access server (RFC 2865, sections 5.4 and 5.32).
+/// The names of an access server (RFC 2865, sections 5.4 and 5.32; RFC 3162, section 2.1).
 #[derive(Clone, Copy)]
 pub(crate) struct NasRef<'a> {
     pub(crate) address: Option<Short<'a>>,
     pub(crate) identifier: Option<Short<'a>>,
+    pub(crate) ipv6: Option<Short<'a>>,
 }
 
 /// A session of a peer: the names of its access server, where they count, and its Acct-Session-Id (RFC 2866, section
@@ -40,6 +42,7 @@ pub(crate) struct AskedRef<'a> {
 pub(crate) struct Mask {
     pub(crate) address: bool,
     pub(crate) identifier: bool,
+    pub(crate) ipv6: bool,
     pub(crate) id: bool,
 }
 
@@ -50,6 +53,7 @@ pub(crate) fn no_nas<'a>() -> NasRef<'a>
     NasRef {
         address: None,
         identifier: None,
+        ipv6: None,
     }
 }
 
@@ -60,6 +64,7 @@ pub(crate) fn nas_in<'a>(request: &View<'a>) -> NasRef<'a>
     NasRef {
         address: first_short(request, NAS_IP_ADDRESS),
         identifier: first_short(request, NAS_IDENTIFIER),
+        ipv6: first_short(request, NAS_IPV6_ADDRESS),
     }
 }
 
@@ -92,6 +97,9 @@ impl<'a> SessionRef<'a> {
         if mask.identifier && self.nas.identifier.is_none() {
             return None;
         }
+        if mask.ipv6 && self.nas.ipv6.is_none() {
+            return None;
+        }
         Some(AskedRef {
             peer: self.peer,
             nas: NasRef {
@@ -101,6 +109,7 @@ impl<'a> SessionRef<'a> {
                 } else {
                     None
                 },
+                ipv6: if mask.ipv6 { self.nas.ipv6 } else { None },
             },
             id: if mask.id { Some(self.id) } else { None },
         })

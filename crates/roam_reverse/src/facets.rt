@@ -1,4 +1,4 @@
-//! The sessions of a peer by the names of their access servers: by none of them, by one, by both.
+//! The sessions of a peer by the names of their access servers: by none of them, by some, by all.
 
 ghost use Rattle.std.specs.Prelude.{◌≡◌, ℕ, ◌+◌, Option, None, IfOk, OnOk, filter, is_some, length};
 ghost use Rattle.roam_reverse.specs.Facets.{AreFaceted, ComesIn, FacetsHaveRoom, HasFacetRows, HasRow, facet_of};
@@ -16,8 +16,8 @@ use roam_hash::HashKey;
 use roam_wire::NoMemory;
 use std::alloc::Allocator;
 
-/// Tickets of sessions in groups: by the peer, and by the peer and one or both of the access server's names, where a
-/// session has them; and where `with_id` says it, by the id besides.
+/// Tickets of sessions in groups: by the peer, and by the peer and some of the access server's names, where a session
+/// has them; and where `with_id` says it, by the id besides.
 #[derive(Drop)]
 pub(crate) struct Facets<A: Allocator> {
     pub(crate) with_id: bool,
@@ -25,6 +25,10 @@ pub(crate) struct Facets<A: Allocator> {
     pub(crate) by_address: Groups<A>,
     pub(crate) by_identifier: Groups<A>,
     pub(crate) by_both: Groups<A>,
+    pub(crate) by_ipv6: Groups<A>,
+    pub(crate) by_address_ipv6: Groups<A>,
+    pub(crate) by_identifier_ipv6: Groups<A>,
+    pub(crate) by_all: Groups<A>,
 }
 
 /// The rows of a session by which it is found so.
@@ -34,15 +38,20 @@ pub(crate) struct FacetRows<A: Allocator> {
     pub(crate) by_address: Option<Vec<u8, A>>,
     pub(crate) by_identifier: Option<Vec<u8, A>>,
     pub(crate) by_both: Option<Vec<u8, A>>,
+    pub(crate) by_ipv6: Option<Vec<u8, A>>,
+    pub(crate) by_address_ipv6: Option<Vec<u8, A>>,
+    pub(crate) by_identifier_ipv6: Option<Vec<u8, A>>,
+    pub(crate) by_all: Option<Vec<u8, A>>,
 }
 
 /// What is asked for by these names of the access server, and by the id or not.
-fn mask(address: bool, identifier: bool, id: bool) -> Mask
-    ensures { result ≡ record { address = address; identifier = identifier; id = id } }
+fn mask(address: bool, identifier: bool, ipv6: bool, id: bool) -> Mask
+    ensures { result ≡ record { address = address; identifier = identifier; ipv6 = ipv6; id = id } }
 {
     Mask {
         address,
         identifier,
+        ipv6,
         id,
     }
 }
@@ -69,15 +78,23 @@ pub(crate) fn facet_rows<A: Allocator + Copy>(
 ) -> Result<FacetRows<A>, NoMemory>
     ensures { IfOk result (HasFacetRows with_id (shown_session session.entry)) }
 {
-    let by_peer = row_under(alloc, session, mask(false, false, with_id))?;
-    let by_address = row_under(alloc, session, mask(true, false, with_id))?;
-    let by_identifier = row_under(alloc, session, mask(false, true, with_id))?;
-    let by_both = row_under(alloc, session, mask(true, true, with_id))?;
+    let by_peer = row_under(alloc, session, mask(false, false, false, with_id))?;
+    let by_address = row_under(alloc, session, mask(true, false, false, with_id))?;
+    let by_identifier = row_under(alloc, session, mask(false, true, false, with_id))?;
+    let by_both = row_under(alloc, session, mask(true, true, false, with_id))?;
+    let by_ipv6 = row_under(alloc, session, mask(false, false, true, with_id))?;
+    let by_address_ipv6 = row_under(alloc, session, mask(true, false, true, with_id))?;
+    let by_identifier_ipv6 = row_under(alloc, session, mask(false, true, true, with_id))?;
+    let by_all = row_under(alloc, session, mask(true, true, true, with_id))?;
     Ok(FacetRows {
         by_peer,
         by_address,
         by_identifier,
         by_both,
+        by_ipv6,
+        by_address_ipv6,
+        by_identifier_ipv6,
+        by_all,
     })
 }
 
@@ -93,6 +110,10 @@ impl<A: Allocator + Copy> Facets<A> {
             by_address: Groups::new(alloc, key),
             by_identifier: Groups::new(alloc, key),
             by_both: Groups::new(alloc, key),
+            by_ipv6: Groups::new(alloc, key),
+            by_address_ipv6: Groups::new(alloc, key),
+            by_identifier_ipv6: Groups::new(alloc, key),
+            by_all: Groups::new(alloc, key),
         }
     }
 
@@ -106,7 +127,11 @@ impl<A: Allocator + Copy> Facets<A> {
         self.by_peer.reserve()?;
         self.by_address.reserve()?;
         self.by_identifier.reserve()?;
-        self.by_both.reserve()
+        self.by_both.reserve()?;
+        self.by_ipv6.reserve()?;
+        self.by_address_ipv6.reserve()?;
+        self.by_identifier_ipv6.reserve()?;
+        self.by_all.reserve()
     }
 
     /// Puts a session with its rows last, where there is room. Takes no memory.
@@ -121,6 +146,11 @@ impl<A: Allocator + Copy> Facets<A> {
         self.by_address.append(ticket, rows.by_address);
         self.by_identifier.append(ticket, rows.by_identifier);
         self.by_both.append(ticket, rows.by_both);
+        self.by_ipv6.append(ticket, rows.by_ipv6);
+        self.by_address_ipv6.append(ticket, rows.by_address_ipv6);
+        self.by_identifier_ipv6
+            .append(ticket, rows.by_identifier_ipv6);
+        self.by_all.append(ticket, rows.by_all);
     }
 
     /// Takes a session out.
@@ -133,24 +163,36 @@ impl<A: Allocator + Copy> Facets<A> {
     {
         let id = self.with_id;
         self.by_peer
-            .remove(ticket, Row::under(session, mask(false, false, id)));
+            .remove(ticket, Row::under(session, mask(false, false, false, id)));
         self.by_address
-            .remove(ticket, Row::under(session, mask(true, false, id)));
+            .remove(ticket, Row::under(session, mask(true, false, false, id)));
         self.by_identifier
-            .remove(ticket, Row::under(session, mask(false, true, id)));
+            .remove(ticket, Row::under(session, mask(false, true, false, id)));
         self.by_both
-            .remove(ticket, Row::under(session, mask(true, true, id)));
+            .remove(ticket, Row::under(session, mask(true, true, false, id)));
+        self.by_ipv6
+            .remove(ticket, Row::under(session, mask(false, false, true, id)));
+        self.by_address_ipv6
+            .remove(ticket, Row::under(session, mask(true, false, true, id)));
+        self.by_identifier_ipv6
+            .remove(ticket, Row::under(session, mask(false, true, true, id)));
+        self.by_all
+            .remove(ticket, Row::under(session, mask(true, true, true, id)));
     }
 
     /// The groups in which sessions are found by the names that are asked for.
     fn groups_for(&self, asked: AskedRef<'_>) -> &Groups<A>
         ensures { result.now ≡ facet_of (shown_asked asked.entry) self.now }
     {
-        match (asked.nas.address, asked.nas.identifier) {
-            (None, None) => &self.by_peer,
-            (Some(_), None) => &self.by_address,
-            (None, Some(_)) => &self.by_identifier,
-            (Some(_), Some(_)) => &self.by_both,
+        match (asked.nas.address, asked.nas.identifier, asked.nas.ipv6) {
+            (None, None, None) => &self.by_peer,
+            (Some(_), None, None) => &self.by_address,
+            (None, Some(_), None) => &self.by_identifier,
+            (Some(_), Some(_), None) => &self.by_both,
+            (None, None, Some(_)) => &self.by_ipv6,
+            (Some(_), None, Some(_)) => &self.by_address_ipv6,
+            (None, Some(_), Some(_)) => &self.by_identifier_ipv6,
+            (Some(_), Some(_), Some(_)) => &self.by_all,
         }
     }
 

@@ -8,7 +8,7 @@
 //! # Proved
 //!
 //! - which access server a reverse request is for: the one that its Operator-Name names, else the one that its
-//!   NAS-IP-Address and NAS-Identifier name | `target`, law `target_is_named`
+//!   NAS-IP-Address, NAS-Identifier and NAS-IPv6-Address name | `target`, law `target_is_named`
 //! - why it isn't forwarded: the first cause that holds; without one there is a target among the realm's peers, no
 //!   salted string, and a User-Name names this realm; with `own_sessions` just one session of the realm's own
 //!   agrees with it | `verdict`, `route_of`, laws `forwarded_has_target`, `forwarded_is_of_one_session`

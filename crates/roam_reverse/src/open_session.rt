@@ -20,6 +20,7 @@ pub(crate) struct OpenSession<A: Allocator> {
     pub(crate) peer: u16,
     pub(crate) address: Option<KeptShort<A>>,
     pub(crate) identifier: Option<KeptShort<A>>,
+    pub(crate) ipv6: Option<KeptShort<A>>,
     pub(crate) id: KeptShort<A>,
 }
 
@@ -53,11 +54,13 @@ impl<A: Allocator + Copy> OpenSession<A> {
     {
         let address = kept(alloc, session.nas.address)?;
         let identifier = kept(alloc, session.nas.identifier)?;
+        let ipv6 = kept(alloc, session.nas.ipv6)?;
         let id = KeptShort::copy_of(alloc, session.id)?;
         Ok(OpenSession {
             peer: session.peer,
             address,
             identifier,
+            ipv6,
             id,
         })
     }
@@ -73,6 +76,7 @@ impl<A: Allocator> OpenSession<A> {
             nas: NasRef {
                 address: lent(&self.address),
                 identifier: lent(&self.identifier),
+                ipv6: lent(&self.ipv6),
             },
             id: self.id.lend(),
         }

@@ -14,7 +14,7 @@ use std::marker::Model;
 /// A row: it has room for the octets of any names and any id that a packet holds. Contracts see those octets.
 #[derive(Drop)]
 pub(crate) struct Row {
-    octets: [u8; 768],
+    octets: [u8; 1024],
     len: usize,
 }
 
@@ -25,13 +25,13 @@ impl Model for Row {
 
     ghost view = { λ r. take r.len r.octets };
 
-    ghost invariant = { λ r. r.len ≤ 768 };
+    ghost invariant = { λ r. r.len ≤ 1024 };
 }
 
 /// Writes a part behind others: an octet 0 where it isn't there, else its size and 1, and the part. Gives where
 /// it ends.
-fn put_part(buffer: &mut [u8; 768], at: usize, part: Option<Short<'_>>) -> usize
-    requires { at ≤ 514 }
+fn put_part(buffer: &mut [u8; 1024], at: usize, part: Option<Short<'_>>) -> usize
+    requires { at ≤ 770 }
     ensures text { take result buffer.new
         ≡ take at buffer.old ++ part_text (option_map shown_short part.entry) }
     ensures end { result ≡ at + length (part_text (option_map shown_short part.entry)) }
@@ -52,12 +52,13 @@ impl Row {
     pub(crate) fn of(asked: AskedRef<'_>) -> Row
         ensures { result ≡ row_text (shown_asked asked.entry) }
     {
-        let mut octets = [0; 768];
+        let mut octets = [0; 1024];
         octets[0] = (asked.peer / 256) as u8;
         octets[1] = (asked.peer % 256) as u8;
         let addressed = put_part(&mut octets, 2, asked.nas.address);
         let identified = put_part(&mut octets, addressed, asked.nas.identifier);
-        let len = put_part(&mut octets, identified, asked.id);
+        let addressed_by_ipv6 = put_part(&mut octets, identified, asked.nas.ipv6);
+        let len = put_part(&mut octets, addressed_by_ipv6, asked.id);
         Row { octets, len }
     }
 

@@ -16,6 +16,7 @@ use std::marker::Model;
 pub(crate) struct NasArray {
     pub(crate) address: Option<ShortArray>,
     pub(crate) identifier: Option<ShortArray>,
+    pub(crate) ipv6: Option<ShortArray>,
 }
 
 /// A session, kept without memory.
@@ -54,6 +55,7 @@ impl NasArray {
         NasArray {
             address: array_of(nas.address),
             identifier: array_of(nas.identifier),
+            ipv6: array_of(nas.ipv6),
         }
     }
 
@@ -64,6 +66,7 @@ impl NasArray {
         NasRef {
             address: lent(&self.address),
             identifier: lent(&self.identifier),
+            ipv6: lent(&self.ipv6),
         }
     }
 }

@@ -9,7 +9,9 @@ asked_for s = record { peer = s.peer; nas = s.nas; id = Some s.id }
 
 -- a session lacks a part that is asked for
 abbrev pub lacks : Mask → Session → Bool
-lacks mask s = (mask.address && is_none s.nas.address) || (mask.identifier && is_none s.nas.identifier)
+lacks mask s =
+    (mask.address && is_none s.nas.address) || (mask.identifier && is_none s.nas.identifier)
+    || (mask.ipv6 && is_none s.nas.ipv6)
 
 -- what is asked for a session by its peer and some of its parts
 abbrev pub asked_by : Mask → Session → Asked
@@ -18,6 +20,7 @@ asked_by mask s = record {
   nas = record {
     address = if mask.address then s.nas.address else None;
     identifier = if mask.identifier then s.nas.identifier else None;
+    ipv6 = if mask.ipv6 then s.nas.ipv6 else None;
   };
   id = if mask.id then Some s.id else None;
 }
@@ -28,4 +31,9 @@ narrow mask s = if lacks mask s then None else Some (asked_by mask s)
 
 -- the parts that are asked for
 abbrev pub mask_of : Asked → Mask
-mask_of q = record { address = is_some q.nas.address; identifier = is_some q.nas.identifier; id = is_some q.id }
+mask_of q = record {
+  address = is_some q.nas.address;
+  identifier = is_some q.nas.identifier;
+  ipv6 = is_some q.nas.ipv6;
+  id = is_some q.id;
+}

@@ -12,7 +12,8 @@ part_text (Some octets) = (1 + length octets) ∷ octets
 -- the number of the peer, the high octet first, and each part
 abbrev pub row_text : Asked → List ℕ
 row_text q =
-    q.peer / 256 ∷ q.peer % 256 ∷ part_text q.nas.address ++ (part_text q.nas.identifier ++ part_text q.id)
+    q.peer / 256 ∷ q.peer % 256 ∷ part_text q.nas.address
+    ++ (part_text q.nas.identifier ++ (part_text q.nas.ipv6 ++ part_text q.id))
 
 -- the row of a session by some of its parts; by all that it is
 abbrev pub row_under : Mask → Session → Option (List ℕ)

@@ -97,6 +97,22 @@ append-requires-2 g c =
         ends = omega (arith, room.by_both.ends, some);
         beside = omega (arith, room.by_both.beside, some);
       };
+      by_ipv6 = record {
+        ends = omega (arith, room.by_ipv6.ends, some);
+        beside = omega (arith, room.by_ipv6.beside, some);
+      };
+      by_address_ipv6 = record {
+        ends = omega (arith, room.by_address_ipv6.ends, some);
+        beside = omega (arith, room.by_address_ipv6.beside, some);
+      };
+      by_identifier_ipv6 = record {
+        ends = omega (arith, room.by_identifier_ipv6.ends, some);
+        beside = omega (arith, room.by_identifier_ipv6.beside, some);
+      };
+      by_all = record {
+        ends = omega (arith, room.by_all.ends, some);
+        beside = omega (arith, room.by_all.beside, some);
+      };
     }
 
 pub append-requires-3 : goal.append-requires-3
@@ -119,5 +135,21 @@ append-requires-3 g c =
       by_both = record {
         ends = omega (arith, room.by_both.ends, some);
         beside = omega (arith, room.by_both.beside, some);
+      };
+      by_ipv6 = record {
+        ends = omega (arith, room.by_ipv6.ends, some);
+        beside = omega (arith, room.by_ipv6.beside, some);
+      };
+      by_address_ipv6 = record {
+        ends = omega (arith, room.by_address_ipv6.ends, some);
+        beside = omega (arith, room.by_address_ipv6.beside, some);
+      };
+      by_identifier_ipv6 = record {
+        ends = omega (arith, room.by_identifier_ipv6.ends, some);
+        beside = omega (arith, room.by_identifier_ipv6.beside, some);
+      };
+      by_all = record {
+        ends = omega (arith, room.by_all.ends, some);
+        beside = omega (arith, room.by_all.beside, some);
       };
     }

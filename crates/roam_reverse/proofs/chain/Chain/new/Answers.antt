@@ -34,12 +34,20 @@ returns-clause-sound g c =
           by_address = record { ends = omega arith; beside = omega arith };
           by_identifier = record { ends = omega arith; beside = omega arith };
           by_both = record { ends = omega arith; beside = omega arith };
+          by_ipv6 = record { ends = omega arith; beside = omega arith };
+          by_address_ipv6 = record { ends = omega arith; beside = omega arith };
+          by_identifier_ipv6 = record { ends = omega arith; beside = omega arith };
+          by_all = record { ends = omega arith; beside = omega arith };
         };
         of_id = record {
           by_peer = record { ends = omega arith; beside = omega arith };
           by_address = record { ends = omega arith; beside = omega arith };
           by_identifier = record { ends = omega arith; beside = omega arith };
           by_both = record { ends = omega arith; beside = omega arith };
+          by_ipv6 = record { ends = omega arith; beside = omega arith };
+          by_address_ipv6 = record { ends = omega arith; beside = omega arith };
+          by_identifier_ipv6 = record { ends = omega arith; beside = omega arith };
+          by_all = record { ends = omega arith; beside = omega arith };
         };
       };
       ticket_room = omega arith;

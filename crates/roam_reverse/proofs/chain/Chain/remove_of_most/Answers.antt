@@ -11,9 +11,10 @@ use Rattle.roam_reverse.proofs.WholeLemmas.{made-way, nobody-there, victim-held}
 use Rattle.roam_reverse.proofs.chain.Chain.remove_of_most.Goals as goal
 
 by-peer : {A : Type 0} (c : Chain A) → IsSound c
-    → IsGrouped (rows_under (masked false false false) (session_at c)) (groups_of c.of_peer.by_peer)
+    → IsGrouped (rows_under (masked false false false false) (session_at c)) (groups_of c.of_peer.by_peer)
 by-peer c sound =
-    subst (λ (b : Bool). IsGrouped (rows_under (masked false false b) (session_at c)) (groups_of c.of_peer.by_peer))
+    subst
+    (λ (b : Bool). IsGrouped (rows_under (masked false false false b) (session_at c)) (groups_of c.of_peer.by_peer))
     sound.no_ids sound.of_peer.by_peer
 
 pub remove-requires-clause-held : goal.remove-requires-clause-held
