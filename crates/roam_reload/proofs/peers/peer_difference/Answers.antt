@@ -53,9 +53,8 @@ returns-then-ne-11-clause-some c =
 -- peers with equal keys have equal parts
 same_part : (a b : PeerView) → b.name ≡ a.name → b.ip ≡ a.ip → b.secret ≡ a.secret → b.coa ≡ a.coa →
     b.nas_ip ≡ a.nas_ip → b.nas_ipv6 ≡ a.nas_ipv6 → b.nas_id ≡ a.nas_id → b.nas_ids ≡ a.nas_ids →
-    b.operator_name ≡ a.operator_name →
-    b.ask_cui ≡ a.ask_cui → b.request_without ≡ a.request_without → b.reply_without ≡ a.reply_without →
-    peer_part b ≡ peer_part a
+    b.operator_name ≡ a.operator_name → b.ask_cui ≡ a.ask_cui → b.request_without ≡ a.request_without →
+    b.reply_without ≡ a.reply_without → peer_part b ≡ peer_part a
 same_part a b name ip secret coa nas_ip nas_ipv6 nas_id nas_ids operator_name ask_cui requests replies = λ i. record {
   name = name i;
   ip = ip i;
@@ -108,5 +107,4 @@ returns-else-ne-11-clause-none c =
     search rules in
     let ask_cui : new.ask_cui ≡ old.ask_cui = search rules in
     same_part (shown_peer old) (shown_peer new) name ip secret coa nas_ip nas_ipv6 nas_id identifiers operator_name
-    ask_cui
-    requests replies
+    ask_cui requests replies
