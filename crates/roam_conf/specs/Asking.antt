@@ -42,9 +42,9 @@ takes_in config realm peer = both_pass takes (slice_get config.realms realm) (sl
 abbrev pub is_peer_in : ConfigView → ℕ → ℕ → Bool
 is_peer_in config realm peer = both_pass is_peer_of (slice_get config.realms realm) (slice_get config.peers peer)
 
--- no peer has the name
+-- no peer that is here has the name
 abbrev pub is_no_peer : List PeerView → List ℕ → Bool
-is_no_peer peers name = not (list_any (λ peer. bytes_eq name peer.name) peers)
+is_no_peer peers name = not (list_any (λ peer. not peer.gone && bytes_eq name peer.name) peers)
 
 -- one of the names that the realm has, where it has any, is no peer's
 abbrev pub names_no_peer : List PeerView → RealmView → Bool

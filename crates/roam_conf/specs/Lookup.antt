@@ -1,5 +1,5 @@
 -- Look-ups in a configuration. Ours.
-use Rattle.std.specs.Prelude.{◌≡◌, ◌≢◌, ℕ, ◌+◌, ◌<◌, ◌==◌, ◌||◌, not, nat_lt, if◌then◌else◌, Bool, false, List, [], ◌∷◌, ◌++◌, length, map, Option, Some, None, option_map, option_and_then, slice_get}
+use Rattle.std.specs.Prelude.{◌≡◌, ◌≢◌, ℕ, ◌+◌, ◌<◌, ◌==◌, ◌||◌, ◌&&◌, not, nat_lt, if◌then◌else◌, Bool, false, List, [], ◌∷◌, ◌++◌, length, map, Option, Some, None, option_map, option_and_then, slice_get}
 use Rattle.std.specs.List.{list_any, position_from}
 use Rattle.std.specs.Option.{option_or, option_map_or}
 use Rattle.std.specs.Str.{bytes_eq}
@@ -85,9 +85,9 @@ abbrev pub NoSuffix : (List ℕ → Type 0) → ConfigView → List ℕ → Type
 NoSuffix Test config name =
     (ending : List ℕ) → EndsIn name ending → Test ending → owner_with config (suffix ending) ≡ None
 
--- the peer with this address
+-- the peer with this address that is here
 unfoldable pub peer_with_ip : List PeerView → List ℕ → Option ℕ
-peer_with_ip peers ip = first_place (λ peer. bytes_eq peer.ip ip) peers
+peer_with_ip peers ip = first_place (λ peer. not peer.gone && bytes_eq peer.ip ip) peers
 
 -- the first server, in the order of use, that has the address in its `auth` or its `acct` endpoint
 unfoldable pub server_with_ip : List ServerView → List ℕ → Option ℕ

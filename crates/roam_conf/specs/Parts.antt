@@ -25,6 +25,7 @@ shown_names names = map string_bytes names.items
 
 abbrev pub shown_peer : Peer → PeerView
 shown_peer peer = record {
+  gone = peer.gone;
   name = string_bytes peer.name;
   ip = peer.ip;
   secret = string_bytes peer.secret;
@@ -42,6 +43,7 @@ shown_peer peer = record {
 
 abbrev pub shown_realm : Realm → RealmView
 shown_realm realm = record {
+  gone = realm.gone;
   name = string_bytes realm.name;
   also = map shown_pattern realm.also.items;
   peers = option_map shown_names realm.peers;

@@ -29,7 +29,7 @@ pub(crate) struct Indexes {
     ghost marked: { AreMarked suffix_lengths (owners names) },
 }
 
-/// The first peer of each address.
+/// The first peer of each address that is here.
 fn ips_of(alloc: Global, peers: &[Peer]) -> Result<Index, AllocError>
     requires { length peers.now ≤ 2 ^ 16 }
     ensures { IfOk result (λ index. (ip : List ℕ)
@@ -37,8 +37,10 @@ fn ips_of(alloc: Global, peers: &[Peer]) -> Result<Index, AllocError>
 {
     let mut index = IndexMap::new(alloc);
     for (place, peer) in peers.iter().enumerate() {
-        let key = row_of(alloc, &peer.ip)?;
-        note(&mut index, key, place as u16)?;
+        if !peer.gone {
+            let key = row_of(alloc, &peer.ip)?;
+            note(&mut index, key, place as u16)?;
+        }
     }
     Ok(index)
 }

@@ -99,6 +99,7 @@ pub record StatesClient (members : Members) (client : CoaClientView) : Type 0 wh
 
 -- a table of the array `peer`
 pub record StatesPeer (members : Members) (peer : PeerView) : Type 0 where
+  pub here : peer.gone ≡ false
   pub name : value_at (text 64 (letters_of PeerName)) (codes "name") members ≡ Some peer.name
   pub ip : value_at address (codes "ip") members ≡ Some peer.ip
   pub secret : value_at (text 64 (letters_of Any)) (codes "secret") members ≡ Some peer.secret
@@ -132,6 +133,7 @@ is_accounted realm = are_accounted realm.accounting realm.servers
 
 -- a table of the array `realm`; `wait`, `hold` and `rest` are in milliseconds
 pub record StatesRealm (members : Members) (realm : RealmView) : Type 0 where
+  pub here : realm.gone ≡ false
   pub name : value_at (text 253 (letters_of RealmName)) (codes "name") members ≡ Some realm.name
   pub also : list_of pattern 256 (get_member (codes "also") members) ≡ Some realm.also
   pub peers : optional_at peer_names (codes "peers") members ≡ Some realm.peers

@@ -36,6 +36,7 @@ client_in text = record { ip = text.ip; secret = text.secret.now }
 -- with these NAS-Identifiers and lists of attributes to remove
 abbrev pub peer_in : PeerText → List (List ℕ) → List RemovedAttribute → List RemovedAttribute → PeerView
 peer_in text identifiers request reply = record {
+  gone = false;
   name = text.name.now;
   ip = text.ip;
   secret = text.secret.now;
@@ -65,6 +66,7 @@ abbrev pub realm_in :
     RealmText → List PatternView → Option (List (List ℕ)) → List RemovedAttribute → List RemovedAttribute
     → List CoaClientView → List ServerView → RealmView
 realm_in text also peers request reply clients servers = record {
+  gone = false;
   name = text.name.now;
   also = also;
   peers = peers;

@@ -67,9 +67,11 @@ fn own_endpoints(
     endpoints.push(auth)?;
     endpoints.push(acct)?;
     for realm in realms {
-        endpoints.push(realm.out)?;
-        if let Some(reverse) = realm.reverse {
-            endpoints.push(reverse)?;
+        if !realm.gone {
+            endpoints.push(realm.out)?;
+            if let Some(reverse) = realm.reverse {
+                endpoints.push(reverse)?;
+            }
         }
     }
     Ok(endpoints)

@@ -32,10 +32,12 @@ fn have_same_operator(a: &Peer, b: &Peer) -> bool
 fn is_same_peer(a: &Peer, b: &Peer) -> bool
     ensures { result ≡ same_peer (shown_peer a.now) (shown_peer b.now) }
 {
-    a.name.as_str() == b.name.as_str()
-        || a.ip == b.ip
-        || have_same_ip(a.nas_ip, b.nas_ip)
-        || have_same_operator(a, b)
+    !a.gone
+        && !b.gone
+        && (a.name.as_str() == b.name.as_str()
+            || a.ip == b.ip
+            || have_same_ip(a.nas_ip, b.nas_ip)
+            || have_same_operator(a, b))
 }
 
 fn is_among_peers(peer: &Peer, others: &[Peer]) -> bool
@@ -49,7 +51,7 @@ fn is_among_peers(peer: &Peer, others: &[Peer]) -> bool
     false
 }
 
-/// Whether two peers are equal in their name, address, NAS-IP-Address or Operator-Name.
+/// Whether two peers that are here are equal in their name, address, NAS-IP-Address or Operator-Name.
 fn has_equal_peers(peers: &[Peer]) -> bool
     ensures { result ≡ has_pair same_peer (map shown_peer peers.now) }
 {
