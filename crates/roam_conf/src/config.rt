@@ -132,4 +132,47 @@ impl Config {
             found_by,
         })
     }
+
+    /// The parts of a configuration again. Takes no memory.
+    pub fn into_parts(self) -> ConfigParts
+        ensures { shown_parts result ≡ shown self.entry }
+    {
+        let Config {
+            shards,
+            seed,
+            auth,
+            acct,
+            trace_limit,
+            trace_octets,
+            max_hops,
+            max_attributes,
+            status_server,
+            spread,
+            reject,
+            well_formed,
+            answer_unnamed,
+            fresh,
+            peers,
+            realms,
+            ..
+        } = self;
+        ConfigParts {
+            shards,
+            seed,
+            auth,
+            acct,
+            trace_limit,
+            trace_octets,
+            max_hops,
+            max_attributes,
+            status_server,
+            spread,
+            reject,
+            well_formed,
+            answer_unnamed,
+            fresh,
+            peers,
+            realms,
+        }
+    }
 }

@@ -109,7 +109,9 @@ pub fn realm_difference(old: &Realm, new: &Realm) -> Option<RealmKey>
     ensures none { IfNone result (realm_part (shown_realm new.now) ≡ realm_part (shown_realm old.now)) }
     ensures some { IfSome result (RealmsDiffer (shown_realm old.now) (shown_realm new.now)) }
 {
-    if !is_same_endpoint(old.out, new.out) {
+    if old.gone != new.gone {
+        Some(RealmKey::Gone)
+    } else if !is_same_endpoint(old.out, new.out) {
         Some(RealmKey::Out)
     } else if !is_same_reverse(new.reverse, old.reverse) {
         Some(RealmKey::Reverse)
