@@ -18,6 +18,7 @@ pub mod BookView
 pub mod LostTicks
 pub mod RealmTurn
 pub mod Reload
+pub mod Carrying
 pub mod Rooms
 pub mod Sound
 pub mod Stays

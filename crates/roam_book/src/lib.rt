@@ -34,12 +34,11 @@
 //! - with its memory in hand a tick always answers | `tick_room`, `Book::tick_reserved`
 //! - a tick is the least due entry, taken until none is left, and then none is due (where `wait` is at least 1,
 //!   as in each configuration) | law `ticks_take_the_least_due_first`
-//! - a realm that another configuration carries over goes on under it as it stands: its state is the one
-//!   before, with a cursor 0 for each further peer, or memory is refused and nothing changed |
-//!   `Book::carry_over`; `RealmNumbers::carry_over`: `state`, `sound`; law `carried_realms_go_on`: `parts`
-//! - where no peer is added, nothing changes for it: in any state and for any events its written broker is the
-//!   same, so over both configurations it sends what it would have sent under the first | law
-//!   `carried_realms_go_on`: `same`, `over_both`
+//! - a realm that goes on under another configuration does so in what is carried over of its state, or memory is refused
+//!   and nothing changed | `Book::carry_over`; `carry_over`: `state`, `sound`
+//! - nothing comes by a change, and nothing goes whose sender and link stay | law `carried_takes_no_more`
+//! - where a change doesn't touch it, it goes on as it stands, and where no peer is new it sends over both
+//!   configurations what it would have sent under the first | law `untouched_realms_go_on`
 //! - what admission gives to a realm is what its rules take: a request that can be forwarded, from one with
 //!   whom a secret is shared, or a packet from a link | law `events`
 #![tactic(auto)]
@@ -55,8 +54,9 @@ pub use laws::{events, silent_servers, ticks_take_the_least_due_first};
 pub use packets::answer::{Answer, Twin, refused};
 pub use packets::forwarding::RequestRef;
 pub use packets::tick_memory::{Room, room_for};
+pub use rules::carried_lanes::FreshLanes;
 pub use rules::evict_done::only_done_due;
-pub use rules::reload::carried_realms_go_on;
+pub use rules::reload::{carried_takes_no_more, carry_over, changed_peers, untouched_realms_go_on};
 pub use rules::requests::LATEST;
 pub use state::gauges::{Gauges, SERVER_LINKS, waiting_at};
 pub use state::hash_key::{HASH_STREAM, hash_key};

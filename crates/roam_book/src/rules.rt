@@ -2,6 +2,9 @@
 
 pub mod admit;
 pub mod admit_plan;
+pub mod carried_ends;
+pub mod carried_entries;
+pub mod carried_lanes;
 pub mod conversations;
 pub mod due_action;
 pub mod evict_done;

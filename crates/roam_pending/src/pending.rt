@@ -6,7 +6,7 @@ ghost use Rattle.roam_pending.specs.Conversations.{last_round};
 ghost use Rattle.roam_pending.specs.DueOrder.{due_after};
 ghost use Rattle.roam_pending.specs.EntryList.{IsEntryList, IsNew, find_client, find_ticket, first_done};
 ghost use Rattle.roam_pending.specs.EntryList.{besides, put, without};
-ghost use Rattle.roam_pending.specs.Realms.{IsChanged, sent_again, with_standing};
+ghost use Rattle.roam_pending.specs.Realms.{IsChanged, sent_again, with_ends, with_standing};
 ghost use Rattle.roam_pending.specs.Shown.{shown, shown_standing, seen, taken};
 
 use crate::conversations::round_in;
@@ -14,6 +14,7 @@ use crate::due::Due;
 use crate::entry::{Entry, Standing};
 use crate::key::Key;
 use crate::list_search::{client_in, count_below, done_in, due_in, place_of};
+use roam_conf::Link;
 use roam_wire::NoMemory;
 use std::alloc::Allocator;
 use std::marker::Model;
@@ -219,6 +220,17 @@ impl<A: Allocator> Pending<A> {
     {
         if let Some(place) = place_of(&self.entries, ticket) {
             self.entries[place].standing.wait_on(deadline);
+        }
+    }
+
+    /// Gives the entry of a ticket other numbers of its ends, as `Entries::set_ends` says. Takes no memory.
+    pub fn set_ends(&mut self, ticket: u64, home: Option<u8>, link: Option<Link>)
+        ensures realm { self.new.realm ≡ self.old.realm }
+        ensures entries { IsChanged (with_ends home link) ticket self.old.entries self.new.entries }
+        ensures room { self.new.spare ≡ self.old.spare }
+    {
+        if let Some(place) = place_of(&self.entries, ticket) {
+            self.entries[place].set_ends(home, link);
         }
     }
 }

@@ -1,7 +1,7 @@
 //! The sessions of a ledger in the order in which they were opened.
 
 ghost use Rattle.std.specs.Prelude.{◌≡◌, ◌≢◌, ℕ, ◌+◌, ◌-◌, ◌<◌, ◌≤◌, [], ◌∷◌, ◌++◌, true};
-ghost use Rattle.std.specs.Prelude.{None, Some, IsOk, IsSome, OnOk, OnErr, filter, is_some, length};
+ghost use Rattle.std.specs.Prelude.{None, Some, IsOk, IsSome, OnOk, OnErr, drop, filter, is_some, length};
 ghost use Rattle.roam_reverse.specs.Private.Tickets.{IsTicketOf};
 ghost use Rattle.roam_reverse.specs.Sessions.{agrees, has_most, within, without_agreeing, without_first};
 ghost use Rattle.roam_reverse.specs.Kept.{kept_session, shown_asked, shown_session};
@@ -198,6 +198,48 @@ impl<A: Allocator + Copy> Chain<A> {
     {
         while let Some(ticket) = self.of_peer.oldest(asked) {
             self.remove(ticket);
+        }
+    }
+
+    /// The least ticket of a session, or a greater one where there is no session.
+    fn first_ticket(&self) -> u64
+        ensures { (t : ℕ) → t < result → session_at self.now t ≡ None }
+    {
+        let mut first = u64::MAX;
+        for ticket in self.by_ticket.keys().as_slice() {
+            if *ticket < first {
+                first = *ticket;
+            }
+        }
+        first
+    }
+
+    /// Takes the session of a ticket out, where there is one.
+    fn remove_if_there(&mut self, ticket: u64)
+        requires { IsSound self.old }
+        ensures sound { IsSound self.new }
+        ensures sessions { PutsAt (session_at self.old) (session_at self.new) ticket None }
+        ensures count { session_count self.new ≤ session_count self.old }
+        ensures room { self.new.spare ≡ self.old.spare }
+    {
+        if self.by_ticket.contains_key(&ticket) {
+            self.remove(ticket);
+        }
+    }
+
+    /// Where there are more sessions than may be, the oldest go.
+    pub(crate) fn keep_newest(&mut self, limit: usize)
+        requires { IsSound self.old }
+        ensures sound { IsSound self.new }
+        ensures sessions { sessions_of self.new
+            ≡ drop (length (sessions_of self.old) - limit) (sessions_of self.old) }
+        ensures count { session_count self.new ≤ limit }
+        ensures room { self.new.spare ≡ self.old.spare }
+    {
+        let mut ticket = self.first_ticket();
+        while self.len() > limit && ticket < self.next {
+            self.remove_if_there(ticket);
+            ticket += 1;
         }
     }
 }

@@ -1,13 +1,13 @@
 //! The ledger of a realm's open sessions.
 
-ghost use Rattle.std.specs.Prelude.{◌≡◌, ◌<◌, [], IfOk, IsOk, None, OnOk, OnErr, filter, is_some, length, true};
+ghost use Rattle.std.specs.Prelude.{◌≡◌, ◌<◌, ◌-◌, [], drop, IfOk, IsOk, None, OnOk, OnErr, filter, is_some, length, true};
 ghost use Rattle.roam_reverse.specs.Sessions.{IsLedger, agrees, applied, change_by_request, changed, is_open};
-ghost use Rattle.roam_reverse.specs.Sessions.{has_session, with_session, without_agreeing, without_session};
+ghost use Rattle.roam_reverse.specs.Sessions.{has_session, with_session, without_agreeing, without_peer, without_session};
 ghost use Rattle.roam_reverse.specs.Kept.{kept_session, shown_asked, shown_session};
 ghost use Rattle.roam_reverse.specs.Shown.{HasRoomFor, IsClosing};
 
 use crate::accounting::{Said, said_by};
-use crate::asked::{AskedRef, SessionRef, counted_nas};
+use crate::asked::{AskedRef, SessionRef, counted_nas, no_nas};
 use crate::chain::Chain;
 use crate::open_session::NewSession;
 use crate::session::{Change, NasArray, PreparedChange, SessionArray};
@@ -219,5 +219,26 @@ impl<A: Allocator + Copy> Sessions<A> {
             ≡ without_agreeing (shown_asked asked.entry) self.old.sessions }
     {
         self.chain.remove_agreeing(asked);
+    }
+
+    /// Takes all sessions of a peer out, as one that went. Takes no memory.
+    pub fn close_peer(&mut self, peer: u16)
+        ensures limit { self.new.limit ≡ self.old.limit }
+        ensures sessions { self.new.sessions ≡ without_peer peer self.old.sessions }
+    {
+        self.close_all(AskedRef {
+            peer,
+            nas: no_nas(),
+            id: None,
+        });
+    }
+
+    /// Keeps so many sessions at most from now on: where there are more, the oldest go. Takes no memory.
+    pub fn limit_to(&mut self, limit: u32)
+        ensures limit { self.new.limit ≡ limit }
+        ensures sessions { self.new.sessions ≡ drop (length self.old.sessions - limit) self.old.sessions }
+    {
+        self.chain.keep_newest(limit as usize);
+        self.limit = limit;
     }
 }

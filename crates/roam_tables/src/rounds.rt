@@ -72,6 +72,21 @@ pub(crate) fn hashes_in<A: Allocator>(
     }
 }
 
+/// The hash of the round that the entry of a slot keeps, if it keeps one.
+pub(crate) fn kept_hash_in<A: Allocator>(
+    slots: &Slab<Slot<A>, A>,
+    at: usize,
+    key: HashKey,
+) -> Option<u64>
+    requires { IsSome (place slots.now at) }
+    ensures { IfSome (place slots.now at) (λ x. result ≡ kept_hash key x.entry) }
+{
+    match slots.get(at) {
+        Some(slot) => kept_hash(key, &slot.entry),
+        None => unreachable!(),
+    }
+}
+
 /// A ticket of a realm comes into the run of a hash, if there is one. Where a growth was refused all is as it was.
 fn come<A: Allocator + Copy>(
     alloc: A,

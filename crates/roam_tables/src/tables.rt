@@ -18,9 +18,10 @@ use crate::growth::grow;
 use crate::realm_queues::RealmQueues;
 use crate::realms::{add_at, add_empty, change_at, no_entries, runs_of, take_at};
 use crate::round_runs::{RoundIndex, RoundKey, run_of};
-use crate::rounds::{go, hashes_in, kept_hash, move_round};
-use crate::slots::{Slot, entry_in, exchange, put, send_again, take};
+use crate::rounds::{go, hashes_in, kept_hash, kept_hash_in, move_round};
+use crate::slots::{Slot, entry_in, exchange, put, send_again, set_ends, take};
 use indexmap::IndexMap;
+use roam_conf::Link;
 use roam_hash::HashKey;
 use roam_pending::{Due, Entries, Entry, Key, Standing};
 use roam_wire::NoMemory;
@@ -265,6 +266,16 @@ impl<A: Allocator + Copy> Entries<A> for Tables<A> {
         if let Some(at) = ticket_slot(&self.by_ticket, TicketKey { realm, ticket }) {
             let marks = send_again(&mut self.slots, at, deadline);
             change_at(&mut self.realms, realm, marks.0, marks.1);
+        }
+    }
+
+    fn set_ends(&mut self, realm: u16, ticket: u64, home: Option<u8>, link: Option<Link>) {
+        if let Some(at) = ticket_slot(&self.by_ticket, TicketKey { realm, ticket }) {
+            if link.is_none() {
+                let from = kept_hash_in(&self.slots, at, self.key);
+                go(&mut self.rounds, realm, ticket, from);
+            }
+            set_ends(&mut self.slots, at, home, link);
         }
     }
 }

@@ -74,7 +74,7 @@ fn new_lane<A: Allocator>(
 }
 
 /// A lane for each link, of which nothing is in use.
-fn new_lanes<A: Allocator + Copy>(
+pub(crate) fn new_lanes<A: Allocator + Copy>(
     alloc: A,
     settings: &RealmSettings<'_>,
 ) -> Result<Vec<LazyLane<A>, A>, NoMemory>
@@ -92,7 +92,7 @@ fn new_lanes<A: Allocator + Copy>(
 }
 
 /// All servers' links of a realm, awake.
-fn new_rests<A: Allocator + Copy>(
+pub(crate) fn new_rests<A: Allocator + Copy>(
     alloc: A,
     settings: &RealmSettings<'_>,
 ) -> Result<Vec<Rest, A>, NoMemory>

@@ -1,7 +1,7 @@
 //! What the rules of a realm read of the configuration.
 
 ghost use Rattle.std.specs.Prelude.{◌≡◌, ◌↔◌, ◌<◌, ◌≤◌, ◌+◌, IfOk, IsTrue, Some, length};
-ghost use Rattle.std.specs.Prelude.{slice_get, unwrap_or, vec_len};
+ghost use Rattle.std.specs.Prelude.{map, slice_get, unwrap_or, vec_len};
 ghost use Rattle.std.specs.Result.{result_err};
 ghost use Rattle.roam_wire.specs.Secret.{IsSecret};
 ghost use Rattle.roam_conf.specs.Shown.{shown};
@@ -173,6 +173,13 @@ impl<'c> RealmSettings<'c> {
         ensures few { result ≤ 1024 }
     {
         self.config.peers.len()
+    }
+
+    /// All peers.
+    pub(crate) fn peers(&self) -> &[Peer]
+        ensures { map shown_peer result.now ≡ self.now.peers }
+    {
+        self.config.peers.as_slice()
     }
 
     /// The home server of a place.

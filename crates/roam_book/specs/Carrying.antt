@@ -1,0 +1,32 @@
+-- What is at hand when a realm goes on under another part of a configuration: words of private functions alone (ours).
+use Rattle.std.specs.Prelude.{◌≡◌, ◌⊎◌, true, ℕ, ◌<◌, ◌≤◌, List, length, map, Option, Some, None, slice_get, vec_capacity}
+use Rattle.roam_conf.specs.Config.{PeerView}
+use Rattle.roam_pending.specs.ListLaws.{IsIn}
+use Rattle.roam_reload.specs.Kept.{same_out, server_then}
+use Rattle.roam_reload.specs.Reload.{peer_part}
+use Rattle.roam_book.specs.RealmConfig.{RealmConfig, link_count}
+use Rattle.roam_book.specs.Rests.{all_awake}
+use Rattle.roam_book.specs.Sound.{AreOwnLanes, marks_of}
+use Rattle.roam_book.specs.declared.rules.carried_lanes.FreshLanes.{FreshLanes}
+use Rattle.roam_book.specs.declared.state.realm_numbers.RealmNumbers.{RealmNumbers}
+
+-- an old peer's table is the one that it was, in the part on which packets depend, or its index is one of these
+abbrev pub AreChanged : List PeerView → List PeerView → List ℕ → Type 0
+AreChanged old new changed =
+    (peer : ℕ) → peer < length old
+    → IsIn peer changed ⊎ (slice_get (map peer_part new) peer ≡ slice_get (map peer_part old) peer)
+
+-- each server stands where it stood, and what is forwarded leaves from the same `out`
+pub record StandAsBefore (old new : RealmConfig) : Type 0 where
+  pub out : same_out old.realm new.realm ≡ true
+  pub count : length new.realm.servers ≡ length old.realm.servers
+  pub servers : (server : ℕ) → server < length old.realm.servers
+      → server_then old.realm.servers new.realm.servers server ≡ Some server
+
+-- the memory is there: of further lanes, where each link stands where it stood; else of all
+abbrev pub IsReadyToCarry : {A : Type 0} → RealmConfig → RealmConfig → RealmNumbers A → Option (FreshLanes A) → Type 0
+IsReadyToCarry old new numbers None =
+    (link_count old ≤ link_count new) × (link_count new ≤ vec_capacity numbers.lanes) × StandAsBefore old new
+IsReadyToCarry old new numbers (Some fresh) =
+    (length fresh.lanes.items ≡ link_count new) × AreOwnLanes new (marks_of fresh.lanes.items)
+    × (fresh.rests.items ≡ all_awake new)
