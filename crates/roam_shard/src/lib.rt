@@ -18,10 +18,9 @@
 //! - a shard is taken from its configuration and goes on under it where it stands; memory for another
 //!   configuration is taken first, and refused or not the shard stands as it did | `Shard::pause`, `resume`;
 //!   `Paused::reserve`: `still`
-//! - where it follows another configuration, for which that memory is there, each of its realms that is carried
-//!   over is in the state in which it stood, and any other begins anew at the place of its random words and the
-//!   ticket where the realm of its index stood; no allocation can fail there | `Paused::follow`: `stands`,
-//!   `follow`
+//! - where it follows another configuration, for which that memory is there, each of its realms that is here in both goes
+//!   on in what is carried over of its state, and any other has nothing, at the place of its random words and the ticket
+//!   where the realm of its index stood; no allocation can fail there | `Paused::follow`: `stands`, `follow`
 //! - what is looked at of a shard, for the log and the counts, is what stands there: the entry that waits on a
 //!   link with an Identifier, that of a key and that of a ticket, the next one that is due, and of how many
 //!   entries and sessions, of each realm that is its own. That the threads note the one that ends, and log of
