@@ -17,11 +17,13 @@
 #![tactic(auto)]
 
 mod basic_string;
+mod changes;
 mod check;
 mod compare;
 mod control;
 mod looking;
 mod program;
+mod realm_changes;
 mod reload;
 mod restating;
 mod serving;

@@ -1,6 +1,6 @@
 -- Which numbers realms and peers have while a server runs (ours). A file that follows another one is laid out by it, so
 -- that an index is such a number, and the order in a file decides nothing.
-use Rattle.std.specs.Prelude.{◌≡◌, ◌⊎◌, ℕ, ◌&&◌, not, Bool, true, false, List, [], ◌∷◌, ◌++◌, filter, map, Option, Some, None, option_map, slice_get, unwrap_or}
+use Rattle.std.specs.Prelude.{◌≡◌, ◌⊎◌, ℕ, ◌<◌, ◌&&◌, not, Bool, true, false, List, [], ◌∷◌, ◌++◌, filter, length, map, Option, Some, None, option_map, slice_get, unwrap_or}
 use Rattle.std.specs.List.{find, list_any}
 use Rattle.std.specs.Option.{option_map_or}
 use Rattle.std.specs.Str.{bytes_eq, str_eq_ignore_ascii_case}
@@ -62,6 +62,10 @@ laid_out old new = record new {
   peers = laid_by same_peer_name gone_peer old.peers new.peers;
   realms = laid_by same_realm_name gone_realm old.realms new.realms;
 }
+
+-- more realms or peers came since the start than have a number
+abbrev pub TooMany : ConfigView → Type 0
+TooMany config = (1024 < length config.peers) ⊎ (1024 < length config.realms)
 
 -- who stands at a number is the same, or went
 abbrev pub SameOrGone : {X : Type 0} → (X → X → Bool) → (X → Bool) → X → X → Type 0

@@ -1,14 +1,15 @@
 //! A configuration is laid out by the one which it follows, so that an index is one realm's, or one peer's, for as long
 //! as a server runs.
 
-ghost use Rattle.std.specs.Prelude.{◌≡◌, ◌++◌, IfOk, OnOk, Some, false, map, option_map};
+ghost use Rattle.std.specs.Prelude.{◌≡◌, ◌++◌, Err, IfOk, OnOk, Some, [], false, map, option_map};
 ghost use Rattle.std.specs.List.{find};
 ghost use Rattle.roam_conf.specs.Duplicates.{has_duplicate_peer, has_duplicate_realm};
 ghost use Rattle.roam_conf.specs.Parts.{shown_peer, shown_realm};
 ghost use Rattle.roam_conf.specs.Patterns.{shown_pattern};
 ghost use Rattle.roam_conf.specs.Shown.{shown, shown_parts};
 ghost use Rattle.roam_reload.specs.Laying.{left_in, peers_in, realms_in, without_first};
-ghost use Rattle.roam_reload.specs.Numbers.{gone_peer, gone_realm, laid_by, laid_out, same_peer_name, same_realm_name};
+ghost use Rattle.roam_reload.specs.Numbers.{TooMany, gone_peer, gone_realm, laid_by, laid_out, same_peer_name};
+ghost use Rattle.roam_reload.specs.Numbers.{same_realm_name};
 
 use crate::gone::{gone_peer, gone_realm};
 use crate::numbers::{is_same_peer, is_same_realm};
@@ -158,7 +159,8 @@ fn laid_realms(alloc: Global, old: &[Realm], new: Vec<Realm>) -> Result<Vec<Real
 ///
 /// `Memory`; `Numbers` where realms or peers are more than have a number.
 pub fn lay_out(alloc: Global, old: &Config, new: Config) -> Result<ConfigParts, LayFault>
-    ensures { IfOk result (λ parts. shown_parts parts ≡ laid_out (shown old.now) (shown new.entry)) }
+    ensures ok { IfOk result (λ parts. shown_parts parts ≡ laid_out (shown old.now) (shown new.entry)) }
+    ensures err { result ≡ Err LayFault.Numbers → TooMany (laid_out (shown old.now) (shown new.entry)) }
 {
     let parts = new.into_parts();
     let ConfigParts { peers, realms, .. } = parts;

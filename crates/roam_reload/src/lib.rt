@@ -38,5 +38,5 @@ pub use kind::PlaceKind;
 pub use laws::laid_out_keeps_numbers;
 pub use laying_out::{LayFault, lay_out};
 pub use peers::{other_peer, peer_difference};
-pub use realms::realm_difference;
+pub use realms::{is_other_in, realm_difference};
 pub use sources::home_then;

@@ -189,6 +189,9 @@ impl<R: Threads + Wait + Clock + Net + Log + Sync, G, N: Opened> Attendant<'_, '
         let Some(realm) = shared.config.realms.get(usize::from(index)) else {
             return;
         };
+        if realm.gone {
+            return;
+        }
         if let Some(gauges) = shared.hub.look(self.rt, &self.seat, index) {
             let dropped = DroppedText {
                 cause,
@@ -200,13 +203,13 @@ impl<R: Threads + Wait + Clock + Net + Log + Sync, G, N: Opened> Attendant<'_, '
         }
     }
 
-    /// Tells what the realms drop that begin anew, or aren't there, under the configuration that follows.
+    /// Tells what the realms drop that went, under the configuration that follows.
     fn tell_dropped_by(&self, next: &Config) {
         let config = self.shared.config;
         for index in 0..config.realms.len() {
             match fate_of(config, next, index as u16) {
-                Fate::CarriedOver | Fate::Added => {}
-                _ => self.tell_dropped_of(index as u16, DropCause::Reload),
+                Fate::Gone => self.tell_dropped_of(index as u16, DropCause::Reload),
+                Fate::Unchanged | Fate::Carried | Fate::New | Fate::Away => {}
             }
         }
     }

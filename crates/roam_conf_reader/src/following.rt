@@ -1,0 +1,29 @@
+//! A configuration that is to follow the one which is served.
+
+ghost use Rattle.std.specs.Prelude.{◌≡◌, Err, IfOk};
+ghost use Rattle.roam_conf.specs.Shown.{shown};
+ghost use Rattle.roam_reload.specs.Numbers.{TooMany, laid_out};
+
+use crate::duplicates::first_duplicate;
+use roam_conf::Config;
+use roam_reload::{LayFault, lay_out};
+use std::alloc::Global;
+
+/// A configuration laid out by the one which it is to follow, and with that one's seed: each realm and each peer of both
+/// has the index that it had.
+///
+/// # Errors
+///
+/// `Memory`; `Numbers` where realms or peers are more than have an index.
+pub fn following_config(alloc: Global, old: &Config, new: Config) -> Result<Config, LayFault>
+    ensures ok { IfOk result (λ config. shown config ≡ laid_out (shown old.now) (shown new.entry)) }
+    ensures err { result ≡ Err LayFault.Numbers → TooMany (laid_out (shown old.now) (shown new.entry)) }
+{
+    let parts = lay_out(alloc, old, new)?;
+    match first_duplicate(alloc, &parts) {
+        // Nothing stands twice in what is laid out that doesn't in the file.
+        Ok(Some(_)) => Err(LayFault::Memory),
+        Ok(None) => Config::new(alloc, parts).map_err(|_| LayFault::Memory),
+        Err(_) => Err(LayFault::Memory),
+    }
+}
