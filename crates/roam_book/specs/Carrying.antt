@@ -5,9 +5,11 @@ use Rattle.roam_pending.specs.ListLaws.{IsIn}
 use Rattle.roam_reload.specs.Kept.{same_out, server_then}
 use Rattle.roam_reload.specs.Reload.{peer_part}
 use Rattle.roam_book.specs.RealmConfig.{RealmConfig, link_count}
+use Rattle.roam_book.specs.Reload.{LossView}
 use Rattle.roam_book.specs.Rests.{all_awake}
 use Rattle.roam_book.specs.Sound.{AreOwnLanes, marks_of}
 use Rattle.roam_book.specs.declared.rules.carried_lanes.FreshLanes.{FreshLanes}
+use Rattle.roam_book.specs.declared.rules.losses.Loss.{Loss}
 use Rattle.roam_book.specs.declared.state.realm_numbers.RealmNumbers.{RealmNumbers}
 
 -- an old peer's table is the one that it was, in the part on which packets depend, or its index is one of these
@@ -30,3 +32,7 @@ IsReadyToCarry old new numbers None =
 IsReadyToCarry old new numbers (Some fresh) =
     (length fresh.lanes.items ≡ link_count new) × AreOwnLanes new (marks_of fresh.lanes.items)
     × (fresh.rests.items ≡ all_awake new)
+
+-- what is counted of losses
+abbrev pub shown_loss : Loss → LossView
+shown_loss loss = record { waiting = loss.waiting; held = loss.held; sessions = loss.sessions }

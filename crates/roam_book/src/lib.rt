@@ -56,6 +56,7 @@ pub use packets::forwarding::RequestRef;
 pub use packets::tick_memory::{Room, room_for};
 pub use rules::carried_lanes::FreshLanes;
 pub use rules::evict_done::only_done_due;
+pub use rules::losses::{Loss, all_of, losses_of};
 pub use rules::reload::{carried_takes_no_more, carry_over, changed_peers, untouched_realms_go_on};
 pub use rules::requests::LATEST;
 pub use state::gauges::{Gauges, SERVER_LINKS, waiting_at};

@@ -8,6 +8,7 @@ pub mod carried_lanes;
 pub mod conversations;
 pub mod due_action;
 pub mod evict_done;
+pub mod losses;
 pub mod new_requests;
 pub mod reload;
 pub mod replaced;

@@ -1,6 +1,6 @@
 //! The sessions of a ledger in the order in which they were opened.
 
-ghost use Rattle.std.specs.Prelude.{◌≡◌, ◌≢◌, ℕ, ◌+◌, ◌-◌, ◌<◌, ◌≤◌, [], ◌∷◌, ◌++◌, true};
+ghost use Rattle.std.specs.Prelude.{◌≡◌, ◌≢◌, ℕ, ◌+◌, ◌-◌, ◌<◌, ◌≤◌, [], ◌∷◌, ◌++◌, false, true};
 ghost use Rattle.std.specs.Prelude.{None, Some, IsOk, IsSome, OnOk, OnErr, drop, filter, is_some, length};
 ghost use Rattle.roam_reverse.specs.Private.Tickets.{IsTicketOf};
 ghost use Rattle.roam_reverse.specs.Sessions.{agrees, has_most, within, without_agreeing, without_first};
@@ -241,5 +241,13 @@ impl<A: Allocator + Copy> Chain<A> {
             self.remove_if_there(ticket);
             ticket += 1;
         }
+    }
+
+    /// How many sessions agree with what is asked, which names no id.
+    pub(crate) fn count_of_peer(&self, asked: AskedRef<'_>) -> usize
+        ensures { IsSound self.now → is_some (shown_asked asked.entry).id ≡ false
+            → result ≡ length (filter (agrees (shown_asked asked.entry)) (sessions_of self.now)) }
+    {
+        self.of_peer.count(asked)
     }
 }

@@ -2,7 +2,8 @@
 
 ghost use Rattle.std.specs.Prelude.{◌≡◌, ◌<◌, ◌-◌, [], drop, IfOk, IsOk, None, OnOk, OnErr, filter, is_some, length, true};
 ghost use Rattle.roam_reverse.specs.Sessions.{IsLedger, agrees, applied, change_by_request, changed, is_open};
-ghost use Rattle.roam_reverse.specs.Sessions.{has_session, with_session, without_agreeing, without_peer, without_session};
+ghost use Rattle.roam_reverse.specs.Sessions.{count_of_peer, has_session, with_session, without_agreeing};
+ghost use Rattle.roam_reverse.specs.Sessions.{without_peer, without_session};
 ghost use Rattle.roam_reverse.specs.Kept.{kept_session, shown_asked, shown_session};
 ghost use Rattle.roam_reverse.specs.Shown.{HasRoomFor, IsClosing};
 
@@ -240,5 +241,16 @@ impl<A: Allocator + Copy> Sessions<A> {
     {
         self.chain.keep_newest(limit as usize);
         self.limit = limit;
+    }
+
+    /// How many sessions of a peer are open. Takes no memory.
+    pub fn count_of(&self, peer: u16) -> usize
+        ensures { result ≡ count_of_peer peer self.now.sessions }
+    {
+        self.chain.count_of_peer(AskedRef {
+            peer,
+            nas: no_nas(),
+            id: None,
+        })
     }
 }

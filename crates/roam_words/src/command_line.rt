@@ -23,8 +23,10 @@ pub enum ControlOrder {
     Metrics,
     /// To stop.
     Stop,
-    /// To read its configuration again, and to serve that one.
+    /// To read its configuration again, and to serve that one, if nothing is lost by that.
     Reload,
+    /// The same, whatever is lost.
+    ReloadAndLose,
     /// The stored steps of a shard, as a script.
     Trace(u16),
 }
@@ -74,7 +76,8 @@ pub enum Command<'a> {
     Control {
         /// The path of the socket.
         path: &'a str,
-        /// What it is asked for: `status`, `status --json`, `status --watch`, `metrics`, `stop`, `reload` or `trace N`.
+        /// What it is asked for: `status`, `status --json`, `status --watch`, `metrics`, `stop`,
+        /// `reload`, `reload --lose` or `trace N`.
         order: ControlOrder,
     },
     /// To print the usage: `help`, `--help` or `-h`.
@@ -228,6 +231,21 @@ fn of_status<'a>(path: &'a str, option: &str) -> Option<Command<'a>>
     Some(Command::Control { path, order })
 }
 
+/// What `ctl`, a path, `reload` and a word ask for.
+fn of_reload<'a>(path: &'a str, option: &str) -> Option<Command<'a>>
+    ensures { MatchOption result
+        (AsksNothing (codes "ctl" ∷ path.now ∷ codes "reload" ∷ option.now ∷ []))
+        (λ c. Asks (codes "ctl" ∷ path.now ∷ codes "reload" ∷ option.now ∷ []) (shown c)) }
+{
+    match option {
+        "--lose" => Some(Command::Control {
+            path,
+            order: ControlOrder::ReloadAndLose,
+        }),
+        _ => None,
+    }
+}
+
 /// What `ctl` and three words ask for.
 fn of_control_words<'a>(path: &'a str, word: &str, last: &str) -> Option<Command<'a>>
     ensures { MatchOption result
@@ -236,6 +254,7 @@ fn of_control_words<'a>(path: &'a str, word: &str, last: &str) -> Option<Command
 {
     match word {
         "status" => of_status(path, last),
+        "reload" => of_reload(path, last),
         "trace" => match decimal(last, 0, 65535) {
             Some(shard) => Some(Command::Control {
                 path,

@@ -129,7 +129,11 @@ impl<A: Allocator + Copy> RealmNumbers<A> {
 }
 
 /// Whether neither the realm's table nor any peer's is another one, as far as its packets depend on them.
-fn is_untouched(old: &RealmSettings<'_>, new: &RealmSettings<'_>, changed: &[u16]) -> bool {
+pub(crate) fn is_untouched(
+    old: &RealmSettings<'_>,
+    new: &RealmSettings<'_>,
+    changed: &[u16],
+) -> bool {
     changed.is_empty() && realm_difference(old.realm(), new.realm()).is_none()
 }
 

@@ -1,11 +1,12 @@
 //! What the server's own thread does while the others serve: it answers what it is asked for.
 
-ghost use Rattle.std.specs.Prelude.{IfSome};
+ghost use Rattle.std.specs.Prelude.{IfOk, IfSome};
 ghost use Rattle.roam_conf.specs.Shown.{shown};
 ghost use Rattle.roam_reload.specs.Reload.{MayFollow};
 
+use crate::asked::losing::{all_losses, tell_losses, why_not};
 use crate::asked::overview::Overview;
-use crate::change::next::{Next, prepare_next};
+use crate::change::next::{Next, out_of_memory, prepare_next};
 use crate::change::source::Source;
 use log::Log;
 use roam_conf::Config;
@@ -14,7 +15,6 @@ use roam_counters::Process;
 use roam_hub::{HubFault, Opened, Seat};
 use roam_metrics::{StatusForm, page, status};
 use roam_notices::{DropCause, DroppedText, ReloadEnd};
-use roam_reload::{Fate, fate_of};
 use roam_sockets::{BoundSocket, now};
 use roam_telling::{ThreadCounts, tell_dropped, tell_reload};
 use roam_trace::Step;
@@ -203,14 +203,31 @@ impl<R: Threads + Wait + Clock + Net + Log + Sync, G, N: Opened> Attendant<'_, '
         }
     }
 
-    /// Tells what the realms drop that went, under the configuration that follows.
-    fn tell_dropped_by(&self, next: &Config) {
-        let config = self.shared.config;
-        for index in 0..config.realms.len() {
-            match fate_of(config, next, index as u16) {
-                Fate::Gone => self.tell_dropped_of(index as u16, DropCause::Reload),
-                Fate::Unchanged | Fate::Carried | Fate::New | Fate::Away => {}
-            }
+    /// Why a configuration isn't followed by which something would be lost, unless that is agreed to: then it is told what
+    /// goes.
+    fn objection_to(&self, next: &Config, is_agreed: bool) -> Option<Reply> {
+        let shared = self.shared;
+        let Ok(losses) = all_losses(self.rt, shared, &self.seat, next) else {
+            return Some(out_of_memory(shared.alloc));
+        };
+        if is_agreed {
+            tell_losses(self.rt, shared.config, losses.as_slice());
+            return None;
+        }
+        match why_not(shared.alloc, shared.config, losses.as_slice()) {
+            Some(text) => Some(plain_reply(Course::Declined, text)),
+            None => None,
+        }
+    }
+
+    /// The configuration that is to follow, with all that the server needs for it; or why none follows.
+    fn next_of<S: Source>(&self, source: &mut S, is_agreed: bool) -> Result<Next, Reply>
+        ensures { IfOk result (λ next. MayFollow N.opening.config (shown next.configured.config)) }
+    {
+        let next = prepare_next(self.rt, self.shared, self.sockets, source)?;
+        match self.objection_to(&next.configured.config, is_agreed) {
+            Some(reply) => Err(reply),
+            None => Ok(next),
         }
     }
 
@@ -232,10 +249,9 @@ impl<R: Threads + Wait + Clock + Net + Log + Sync, G, N: Opened> Attendant<'_, '
             Order::Status(form) => self.status(form),
             Order::Stop => Ok(self.stop()),
             Order::Trace(shard) => self.trace(shard),
-            Order::Reload => {
-                match prepare_next(self.rt, self.shared, self.sockets, source) {
+            Order::Reload(is_agreed) => {
+                match self.next_of(source, is_agreed) {
                     Ok(next) => {
-                        self.tell_dropped_by(&next.configured.config);
                         self.let_go_all();
                         return Some(next);
                     }

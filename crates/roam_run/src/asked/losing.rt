@@ -1,0 +1,100 @@
+//! What a change takes of each realm: told where it is made; and why it isn't made, where nobody agreed to lose that.
+
+use roam_book::{Loss, changed_peers};
+use roam_conf::Config;
+use roam_hub::{Opened, Seat};
+use roam_notices::{DropCause, DroppedText};
+use roam_telling::tell_dropped;
+use roam_workers::Shared;
+use std::alloc::{AllocError, Global};
+use std::io::Write;
+use std::sync::Wait;
+
+/// What goes of the realm of an index; nothing where that isn't known.
+fn loss_at<R: Wait, G, N: Opened>(
+    rt: &R,
+    shared: &Shared<'_, '_, G, N>,
+    seat: &Seat<Global, N>,
+    realm: u16,
+    next: &Config,
+    changed: &[u16],
+) -> Loss {
+    match shared.hub.losses(rt, seat, realm, next, changed) {
+        Some(loss) => loss,
+        None => Loss {
+            waiting: 0,
+            held: 0,
+            sessions: 0,
+        },
+    }
+}
+
+/// What goes of each realm where a configuration follows.
+pub fn all_losses<R: Wait, G, N: Opened>(
+    rt: &R,
+    shared: &Shared<'_, '_, G, N>,
+    seat: &Seat<Global, N>,
+    next: &Config,
+) -> Result<Vec<Loss>, AllocError> {
+    let config = shared.config;
+    let peers = config.peers.as_slice();
+    let Ok(changed) = changed_peers(shared.alloc, peers, next.peers.as_slice()) else {
+        return Err(AllocError);
+    };
+    let mut losses = Vec::new(shared.alloc);
+    for realm in 0..config.realms.len() {
+        let loss = loss_at(rt, shared, seat, realm as u16, next, changed.as_slice());
+        losses.push(loss)?;
+    }
+    Ok(losses)
+}
+
+/// Whether nothing goes.
+fn is_nothing(loss: &Loss) -> bool {
+    loss.waiting == 0 && loss.held == 0 && loss.sessions == 0
+}
+
+/// Adds the line of what would go of a realm.
+fn push_line(text: &mut Vec<u8>, name: &str, loss: &Loss) -> bool {
+    let waiting = loss.waiting;
+    let held = loss.held;
+    let sessions = loss.sessions;
+    writeln!(
+        text,
+        "realm {name}: would lose {waiting} waiting requests, {held} held replies, {sessions} sessions"
+    )
+    .is_ok()
+}
+
+/// The lines of what would go; none where nothing would.
+pub fn why_not(alloc: Global, config: &Config, losses: &[Loss]) -> Option<Vec<u8>> {
+    let mut text = Vec::new(alloc);
+    for (realm, loss) in config.realms.iter().zip(losses.iter()) {
+        if !is_nothing(loss) {
+            let _is_said = push_line(&mut text, realm.name.as_str(), loss);
+        }
+    }
+    if text.is_empty() {
+        return None;
+    }
+    let words = b"declined: who agrees to lose that says reload --lose\n";
+    let _is_said = text.extend_from_slice(words.as_slice()).is_ok();
+    Some(text)
+}
+
+/// Tells what goes of each realm.
+pub fn tell_losses<R: log::Log>(rt: &R, config: &Config, losses: &[Loss]) {
+    for (realm, loss) in config.realms.iter().zip(losses.iter()) {
+        if loss.waiting > 0 || loss.sessions > 0 {
+            tell_dropped(
+                rt,
+                DroppedText {
+                    cause: DropCause::Reload,
+                    realm: realm.name.as_str(),
+                    waiting: loss.waiting as u64,
+                    sessions: loss.sessions as u64,
+                },
+            );
+        }
+    }
+}
