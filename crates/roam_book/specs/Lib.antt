@@ -19,6 +19,7 @@ pub mod LostTicks
 pub mod RealmTurn
 pub mod Reload
 pub mod Carrying
+pub mod Saving
 pub mod Rooms
 pub mod Sound
 pub mod Stays

@@ -14,6 +14,7 @@ use crate::asked::{AskedRef, SessionRef};
 use crate::facets::Facets;
 use crate::groups::Groups;
 use crate::open_session::{NewSession, OpenSession};
+use crate::parts::SessionParts;
 use crate::row::Row;
 use indexmap::IndexMap;
 use roam_hash::HashKey;
@@ -249,5 +250,21 @@ impl<A: Allocator + Copy> Chain<A> {
             → result ≡ length (filter (agrees (shown_asked asked.entry)) (sessions_of self.now)) }
     {
         self.of_peer.count(asked)
+    }
+
+    /// Adds the tickets of all sessions, in no order.
+    pub(crate) fn add_tickets(&self, tickets: &mut Vec<u64, A>) -> Result<(), NoMemory> {
+        for ticket in self.by_ticket.keys().as_slice() {
+            tickets.push(*ticket).map_err(|_| NoMemory)?;
+        }
+        Ok(())
+    }
+
+    /// The session of a ticket, where there is one.
+    pub(crate) fn parts_of(&self, ticket: u64) -> Option<SessionParts<'_>> {
+        match self.by_ticket.get(&ticket) {
+            Some(session) => Some(session.parts()),
+            None => None,
+        }
     }
 }

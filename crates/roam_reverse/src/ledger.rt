@@ -112,7 +112,10 @@ impl<A: Allocator + Copy> Sessions<A> {
 
     /// The same for a session that is open: one that is there, or that can't be kept, wants no
     /// memory.
-    fn prepare_opening(&mut self, session: SessionRef<'_>) -> Result<PreparedChange<A>, NoMemory>
+    pub(crate) fn prepare_opening(
+        &mut self,
+        session: SessionRef<'_>,
+    ) -> Result<PreparedChange<A>, NoMemory>
         ensures change { IfOk result (λ prepared.
             changed self.old.limit prepared self.old.sessions
             ≡ with_session self.old.limit (shown_session session.entry) self.old.sessions) }

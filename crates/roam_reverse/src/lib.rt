@@ -32,6 +32,7 @@ mod ledger;
 mod nas_target;
 mod neighbours;
 mod open_session;
+mod parts;
 mod row;
 mod session;
 mod short;
@@ -45,4 +46,5 @@ pub use laws::{
 };
 pub use ledger::Sessions;
 pub use nas_target::target;
+pub use parts::SessionParts;
 pub use session::PreparedChange;

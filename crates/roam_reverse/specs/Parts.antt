@@ -1,0 +1,21 @@
+-- Sessions by the octets of their parts (ours).
+use Rattle.std.specs.Prelude.{◌≤◌, ℕ, List, length, option_map}
+use Rattle.std.specs.Borrow.{Bor}
+use Rattle.std.specs.Option.{ForSome}
+use Rattle.roam_reverse.specs.Sessions.{Session}
+use Rattle.roam_reverse.specs.Shown.{shown_octets}
+use Rattle.roam_reverse.specs.declared.parts.SessionParts.{SessionParts}
+
+-- a session whose parts are looked at where they lie
+abbrev pub shown_parts : SessionParts → Session
+shown_parts s = record {
+  peer = s.peer;
+  nas = record { address = option_map shown_octets s.address; identifier = option_map shown_octets s.identifier };
+  id = s.id.now;
+}
+
+-- an attribute has room for each part (RFC 2865, section 5)
+pub record AreShort (s : Session) : Type 0 where
+  pub address : ForSome s.nas.address (λ octets. length octets ≤ 253)
+  pub identifier : ForSome s.nas.identifier (λ octets. length octets ≤ 253)
+  pub id : length s.id ≤ 253
