@@ -2,7 +2,7 @@
 use Rattle.std.specs.Prelude.{◌≡◌, ◌⊎◌, true, ℕ, ◌<◌, ◌≤◌, List, length, map, Option, Some, None, slice_get, vec_capacity}
 use Rattle.roam_conf.specs.Config.{PeerView}
 use Rattle.roam_pending.specs.ListLaws.{IsIn}
-use Rattle.roam_reload.specs.Kept.{same_out, server_then}
+use Rattle.roam_reload.specs.Kept.{same_out, same_servers}
 use Rattle.roam_reload.specs.Reload.{peer_part}
 use Rattle.roam_book.specs.RealmConfig.{RealmConfig, link_count}
 use Rattle.roam_book.specs.Reload.{LossView}
@@ -18,17 +18,16 @@ AreChanged old new changed =
     (peer : ℕ) → peer < length old
     → IsIn peer changed ⊎ (slice_get (map peer_part new) peer ≡ slice_get (map peer_part old) peer)
 
--- each server stands where it stood, and what is forwarded leaves from the same `out`
+-- each server stands where it stood, what is forwarded leaves from the same `out`, and no peer's place is gone
 pub record StandAsBefore (old new : RealmConfig) : Type 0 where
   pub out : same_out old.realm new.realm ≡ true
-  pub count : length new.realm.servers ≡ length old.realm.servers
-  pub servers : (server : ℕ) → server < length old.realm.servers
-      → server_then old.realm.servers new.realm.servers server ≡ Some server
+  pub servers : same_servers old.realm.servers new.realm.servers ≡ true
+  pub peers : length old.peers ≤ length new.peers
 
 -- the memory is there: of further lanes, where each link stands where it stood; else of all
 abbrev pub IsReadyToCarry : {A : Type 0} → RealmConfig → RealmConfig → RealmNumbers A → Option (FreshLanes A) → Type 0
 IsReadyToCarry old new numbers None =
-    (link_count old ≤ link_count new) × (link_count new ≤ vec_capacity numbers.lanes) × StandAsBefore old new
+    (link_count new ≤ vec_capacity numbers.lanes) × StandAsBefore old new
 IsReadyToCarry old new numbers (Some fresh) =
     (length fresh.lanes.items ≡ link_count new) × AreOwnLanes new (marks_of fresh.lanes.items)
     × (fresh.rests.items ≡ all_awake new)

@@ -1,6 +1,6 @@
 -- A realm that goes on when the configuration changes (ours): its state under its part of the new one, of what it had. A
 -- server or a peer of both is the same one; all else goes, and no more.
-use Rattle.std.specs.Prelude.{◌≡◌, ℕ, zero, suc, ◌+◌, ◌-◌, ◌&&◌, not, nat_le, nat_lt, Bool, false, List, [], ◌∷◌, ◌++◌, drop, filter, length, map, Option, Some, None, option_and_then, option_map, replicate, slice_get, slice_index, if◌then◌else◌}
+use Rattle.std.specs.Prelude.{◌≡◌, ℕ, zero, suc, ◌+◌, ◌-◌, ◌&&◌, not, nat_le, nat_lt, Bool, false, List, [], ◌∷◌, ◌++◌, drop, filter, length, map, Option, Some, None, is_some, option_and_then, option_map, replicate, slice_get, slice_index, if◌then◌else◌}
 use Rattle.std.specs.List.{filter_map}
 use Rattle.std.specs.Option.{option_map_or}
 use Rattle.roam_wire.specs.Reading.{packet_of}
@@ -14,7 +14,7 @@ use Rattle.roam_pending.specs.declared.key.Key.{Key}
 use Rattle.roam_pending.specs.declared.key.Requester.{Requester}
 use Rattle.roam_pending.specs.declared.key.Requester.TheVariants as requester
 use Rattle.roam_pending.specs.PlainEntry.{PlainEntry, PlainRequest, PlainStanding, waiting, done, is_done}
-use Rattle.roam_reload.specs.Kept.{home_then, keeps_coa, keeps_requests, keeps_sessions, of_peer, same_out, same_sessions, server_then}
+use Rattle.roam_reload.specs.Kept.{home_then, keeps_coa, keeps_requests, keeps_sessions, of_peer, same_out, same_servers, same_sessions, server_then}
 use Rattle.roam_reload.specs.Reload.{IsUntouched, KeepsPeers, realm_part}
 use Rattle.roam_reverse.specs.Sessions.{Session}
 use Rattle.roam_book.specs.RealmConfig.{RealmConfig, link_count, link_place, links_from, realm_config, server_link_count}
@@ -62,7 +62,8 @@ fits c peer q =
     nat_le (forwarded_length (shaped (shaping_from c peer) (packet_of q.octets))) MAX_PACKET_LENGTH
 
 abbrev pub outgrows : RealmConfig → RealmConfig → PlainRequest → Requester → Bool
-outgrows old new q (requester.Peer peer) = fits old peer q && not (fits new peer q)
+outgrows old new q (requester.Peer peer) =
+    is_some (slice_get old.peers peer) && fits old peer q && not (fits new peer q)
 outgrows old new q (requester.Home home) = false
 
 abbrev pub request_from : PlainRequest → Requester → PlainRequest
@@ -125,12 +126,15 @@ cursor_then old new cursors l =
 abbrev pub cursors_then : RealmConfig → RealmConfig → List ℕ → List ℕ
 cursors_then old new cursors = map (cursor_then old new cursors) (links_of new)
 
--- how a server's link rests, and its counts, go with it; a further one is awake
+-- how a server's link rests, and its counts, go with it; a further one is awake. Where all servers stand where they
+-- stood, all do
 abbrev pub rest_then : RealmConfig → RealmConfig → List Rest → Link → Rest
 rest_then old new rests l = option_map_or (rest_of old rests) (link_before old new l) awake
 
 abbrev pub rests_then : RealmConfig → RealmConfig → List Rest → List Rest
-rests_then old new rests = map (rest_then old new rests) (server_links_of new)
+rests_then old new rests =
+    if same_servers old.realm.servers new.realm.servers then rests
+    else map (rest_then old new rests) (server_links_of new)
 
 -- where fewer sessions are kept than before, the oldest go
 abbrev pub newest : RealmConfig → RealmConfig → List Session → List Session
@@ -219,7 +223,8 @@ PlacesStay =
 
 -- and has them when it is carried over
 abbrev pub CarriedHasPlaces : Type 0
-CarriedHasPlaces = (old new : RealmConfig) (s : RealmState) → HasPlaces new (carried old new s)
+CarriedHasPlaces =
+    (old new : RealmConfig) (s : RealmState) → HasPlaces old s → HasPlaces new (carried old new s)
 
 -- so over both configurations it sends what its broker would have sent had nothing changed: events before and after the
 -- change are one list to it

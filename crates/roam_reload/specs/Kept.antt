@@ -2,7 +2,7 @@
 -- has depend on it: tests of the tables that stand at one number in both. Each is true of equal tables. Ours.
 use Rattle.std.specs.Prelude.{ℕ, ◌-◌, ◌&&◌, ◌||◌, not, nat_lt, Bool, true, false, List, [], ◌∷◌, length, Option, Some, None, is_some, option_and_then, option_map, slice_get, if◌then◌else◌}
 use Rattle.std.specs.Cmp.Lexicographic.{pointwise}
-use Rattle.std.specs.Option.{option_to_list}
+use Rattle.std.specs.Option.{option_map_or, option_to_list}
 use Rattle.std.specs.Str.{bytes_eq}
 use Rattle.roam_conf.specs.Config.{CoaClientView, PeerView, RealmView, ServerView}
 use Rattle.roam_conf.specs.Duplicates.{same_endpoint}
@@ -44,9 +44,10 @@ keeps_coa old new =
 abbrev pub keeps_sessions : PeerView → PeerView → Bool
 keeps_sessions old new = stays old.gone new.gone
 
--- such a test of the peers that stand at a number in two lists
+-- such a test of the peers that stand at a number in two lists. Where none stood there, nothing changes
 abbrev pub of_peer : (PeerView → PeerView → Bool) → List PeerView → List PeerView → ℕ → Bool
-of_peer test old new peer = both_or_none test (slice_get old peer) (slice_get new peer)
+of_peer test old new peer =
+    option_map_or (λ before. option_map_or (test before) (slice_get new peer) false) (slice_get old peer) true
 
 -- ## Same server
 -- A server of a realm is the same in both where `auth`, `acct` and `secret` are equal, wherever it stands in the order
@@ -65,6 +66,10 @@ abbrev pub server_then : List ServerView → List ServerView → ℕ → Option 
 server_then old new server =
     if both_or_none same_server (slice_get old server) (slice_get new server) then Some server
     else option_and_then (λ s. first_place (same_server s) new) (slice_get old server)
+
+-- all servers stand where they stood
+abbrev pub same_servers : List ServerView → List ServerView → Bool
+same_servers old new = pointwise same_server old new
 
 -- a source of a realm's reverse requests: its addresses, and the secret shared with it
 pub record Source : Type 0 where

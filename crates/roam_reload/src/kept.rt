@@ -5,7 +5,7 @@ ghost use Rattle.roam_conf.specs.Duplicates.{same_endpoint};
 ghost use Rattle.roam_conf.specs.Lookup.{first_place};
 ghost use Rattle.roam_conf.specs.Parts.{shown_peer, shown_realm, shown_server};
 ghost use Rattle.roam_reload.specs.Kept.{both_or_none, keeps_coa, keeps_requests, keeps_sessions, of_peer};
-ghost use Rattle.roam_reload.specs.Kept.{same_out, same_server, server_then, stays};
+ghost use Rattle.roam_reload.specs.Kept.{same_out, same_server, same_servers, server_then, stays};
 
 use roam_conf::{Endpoint, Peer, Realm, Server, is_same_endpoint};
 
@@ -47,8 +47,8 @@ pub fn peer_keeps_requests(old: &[Peer], new: &[Peer], peer: u16) -> bool
 {
     match (old.get(usize::from(peer)), new.get(usize::from(peer))) {
         (Some(old), Some(new)) => keeps_requests(old, new),
-        (None, None) => true,
-        _ => false,
+        (None, _) => true,
+        (Some(_), None) => false,
     }
 }
 
@@ -58,8 +58,8 @@ pub fn peer_keeps_coa(old: &[Peer], new: &[Peer], peer: u16) -> bool
 {
     match (old.get(usize::from(peer)), new.get(usize::from(peer))) {
         (Some(old), Some(new)) => keeps_coa(old, new),
-        (None, None) => true,
-        _ => false,
+        (None, _) => true,
+        (Some(_), None) => false,
     }
 }
 
@@ -69,8 +69,8 @@ pub fn peer_keeps_sessions(old: &[Peer], new: &[Peer], peer: u16) -> bool
 {
     match (old.get(usize::from(peer)), new.get(usize::from(peer))) {
         (Some(old), Some(new)) => stays(old, new),
-        (None, None) => true,
-        _ => false,
+        (None, _) => true,
+        (Some(_), None) => false,
     }
 }
 
@@ -91,6 +91,21 @@ fn stands_there(old: &[Server], new: &[Server], server: u8) -> bool
         (None, None) => true,
         _ => false,
     }
+}
+
+/// Whether all servers stand where they stood.
+pub fn has_same_servers(old: &Realm, new: &Realm) -> bool
+    ensures { result ≡ same_servers (shown_realm old.now).servers (shown_realm new.now).servers }
+{
+    if old.servers.len() != new.servers.len() {
+        return false;
+    }
+    for place in 0..old.servers.len() {
+        if !is_same_server(&old.servers[place], &new.servers[place]) {
+            return false;
+        }
+    }
+    true
 }
 
 /// The first place of a server.

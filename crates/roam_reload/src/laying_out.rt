@@ -162,17 +162,45 @@ pub fn lay_out(alloc: Global, old: &Config, new: Config) -> Result<ConfigParts, 
     ensures ok { IfOk result (λ parts. shown_parts parts ≡ laid_out (shown old.now) (shown new.entry)) }
     ensures err { result ≡ Err LayFault.Numbers → TooMany (laid_out (shown old.now) (shown new.entry)) }
 {
-    let parts = new.into_parts();
-    let ConfigParts { peers, realms, .. } = parts;
+    let ConfigParts {
+        shards,
+        seed: _,
+        auth,
+        acct,
+        trace_limit,
+        trace_octets,
+        max_hops,
+        max_attributes,
+        status_server,
+        spread,
+        reject,
+        well_formed,
+        answer_unnamed,
+        fresh,
+        peers,
+        realms,
+    } = new.into_parts();
     let peers = laid_peers(alloc, old.peers.as_slice(), peers)?;
     let realms = laid_realms(alloc, old.realms.as_slice(), realms)?;
     if peers.len() > MOST || realms.len() > MOST {
         return Err(LayFault::Numbers);
     }
     Ok(ConfigParts {
+        shards,
         seed: old.seed,
+        auth,
+        acct,
+        trace_limit,
+        trace_octets,
+        max_hops,
+        max_attributes,
+        status_server,
+        spread,
+        reject,
+        well_formed,
+        answer_unnamed,
+        fresh,
         peers,
         realms,
-        ..parts
     })
 }

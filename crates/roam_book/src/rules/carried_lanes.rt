@@ -1,9 +1,9 @@
 //! The lanes and the rests of a realm that goes on under another part of a configuration.
 
-ghost use Rattle.std.specs.Prelude.{◌≡◌, ◌↔◌, ◌<◌, IfOk, IsTrue, length};
+ghost use Rattle.std.specs.Prelude.{◌≡◌, ◌↔◌, ◌<◌, IfOk, IsTrue, length, map};
 ghost use Rattle.roam_book.specs.Carrying.{StandAsBefore};
 ghost use Rattle.roam_book.specs.RealmConfig.{link_count, link_place};
-ghost use Rattle.roam_book.specs.Reload.{cursors_then, rests_then};
+ghost use Rattle.roam_book.specs.Reload.{cursors_then, rest_then, server_links_of};
 ghost use Rattle.roam_book.specs.Rests.{all_awake};
 ghost use Rattle.roam_book.specs.Sound.{AreOwnLanes, cursors_of, marks_of};
 
@@ -13,7 +13,7 @@ use crate::state::realm_settings::RealmSettings;
 use crate::state::rest::Rest;
 use roam_conf::Link;
 use roam_ids::LazyLane;
-use roam_reload::{is_same_out, peer_keeps_coa, server_then};
+use roam_reload::{has_same_servers, is_same_out, peer_keeps_coa};
 use roam_wire::NoMemory;
 use std::alloc::Allocator;
 use std::mem;
@@ -26,19 +26,14 @@ pub struct FreshLanes<A: Allocator> {
     pub(crate) rests: Vec<Rest, A>,
 }
 
-/// Whether each server stands where it stood, and packets leave from the same `out`: then each lane stays where it is.
+/// Whether each server stands where it stood, packets leave from the same `out`, and no peer's place is gone: then each lane
+/// stays where it is.
 pub(crate) fn stand_as_before(old: &RealmSettings<'_>, new: &RealmSettings<'_>) -> bool
     ensures { IsTrue result ↔ StandAsBefore old.now new.now }
 {
-    if !is_same_out(old.realm(), new.realm()) || old.server_count() != new.server_count() {
-        return false;
-    }
-    for server in 0..old.server_count() {
-        if server_then(old.realm(), new.realm(), server as u8) != Some(server as u8) {
-            return false;
-        }
-    }
-    true
+    is_same_out(old.realm(), new.realm())
+        && has_same_servers(old.realm(), new.realm())
+        && old.peer_count() <= new.peer_count()
 }
 
 /// Lanes and rests of which nothing is in use.
@@ -108,7 +103,7 @@ fn move_rests<A: Allocator + Copy>(
     before: &[Rest],
     after: &mut Vec<Rest, A>,
 )
-    ensures { after.new.items ≡ rests_then old.now new.now before.now }
+    ensures { after.new.items ≡ map (rest_then old.now new.now before.now) (server_links_of new.now) }
 {
     for place in 0..after.len() {
         if let Some(link) = link_before(old, new, link_at(new, place)) {
@@ -156,9 +151,11 @@ impl<A: Allocator + Copy> RealmNumbers<A> {
                     mut rests,
                 } = fresh;
                 move_lanes(old, new, &mut self.lanes, &mut lanes);
-                move_rests(old, new, self.rests.as_slice(), &mut rests);
                 self.lanes = lanes;
-                self.rests = rests;
+                if !has_same_servers(old.realm(), new.realm()) {
+                    move_rests(old, new, self.rests.as_slice(), &mut rests);
+                    self.rests = rests;
+                }
             }
         }
     }

@@ -157,7 +157,7 @@ pub fn carry_over<A: Allocator + Copy, E: Entries<A>>(
     ensures sound { IsSound new.now (E.entries_of entries.new old.now.index) numbers.new }
     ensures others { OthersStay old.now.index (E.entries_of entries.old) (E.entries_of entries.new) }
 {
-    if is_untouched(old, new, changed) {
+    if fresh.is_none() && is_untouched(old, new, changed) {
         numbers.add_lanes(new);
         return;
     }
