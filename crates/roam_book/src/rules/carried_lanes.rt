@@ -65,7 +65,7 @@ fn link_at(settings: &RealmSettings<'_>, place: usize) -> Link
     }
 }
 
-/// The lane of a link goes to its place, with what is parked there, if the link was there.
+/// The lane of a link goes to its place, with what is parked there, if the link was there. A further peer's is fresh.
 fn move_lane<A: Allocator + Copy>(
     old: &RealmSettings<'_>,
     new: &RealmSettings<'_>,
@@ -76,6 +76,9 @@ fn move_lane<A: Allocator + Copy>(
     let Some(link) = way_before(old, new, link_at(new, place)) else {
         return;
     };
+    if !old.has_link(link) {
+        return;
+    }
     let from = old.place_of(link);
     mem::swap(&mut before[from], &mut after[place]);
     after[place].retag(tag_of(new, place));
