@@ -59,6 +59,7 @@ pub use rules::evict_done::only_done_due;
 pub use rules::losses::{Loss, all_of, losses_of};
 pub use rules::reload::{carried_takes_no_more, carry_over, changed_peers, untouched_realms_go_on};
 pub use rules::requests::LATEST;
+pub use rules::saving::save_realm;
 pub use state::gauges::{Gauges, SERVER_LINKS, waiting_at};
 pub use state::hash_key::{HASH_STREAM, hash_key};
 pub use state::realm_broker::RealmBroker;

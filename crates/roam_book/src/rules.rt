@@ -15,6 +15,7 @@ pub mod replaced;
 pub mod replies;
 pub mod reply_outcome;
 pub mod requests;
+pub mod saving;
 pub mod share;
 pub mod targets;
 pub mod ticks;

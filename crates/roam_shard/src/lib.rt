@@ -40,6 +40,7 @@ mod opening;
 mod paused;
 mod realm_numbers;
 mod rooms;
+mod saving;
 mod shard;
 mod shards;
 

@@ -1,0 +1,108 @@
+//! What of a realm's ledger is kept from one run of a server to the next, and what is taken up again.
+
+ghost use Rattle.std.specs.Prelude.{◌≡◌, ◌∷◌, [], OnErr, OnOk};
+ghost use Rattle.roam_ledgers.specs.Shown.{shown_session};
+ghost use Rattle.roam_book.specs.Saving.{taken_up};
+ghost use Rattle.roam_book.specs.Stays.{KeepsButSessions};
+
+use crate::state::realm_numbers::RealmNumbers;
+use crate::state::realm_settings::RealmSettings;
+use roam_conf::Peer;
+use roam_ledgers::{Item, SessionItem, Text, Writing};
+use roam_reverse::SessionParts;
+use roam_wire::NoMemory;
+use std::alloc::{AllocError, Allocator};
+
+/// The octets of a text, where there is one.
+fn octets_of<'a>(text: Option<Text<'a>>) -> Option<&'a [u8]> {
+    match text {
+        Some(text) => Some(text.octets),
+        None => None,
+    }
+}
+
+/// The first peer that is here and has a name.
+fn peer_named(peers: &[Peer], name: &[u8]) -> Option<u16> {
+    for (index, peer) in peers.iter().enumerate() {
+        if !peer.gone && peer.name.as_bytes() == name {
+            return Some(index as u16);
+        }
+    }
+    None
+}
+
+/// A text of these octets, where there are any; none of more than a file has room for.
+fn text_of(octets: Option<&[u8]>) -> Option<Text<'_>> {
+    Text::new(octets?)
+}
+
+/// What a file of ledgers has of a session, by the name of its peer.
+fn item_of<'a>(peers: &'a [Peer], parts: SessionParts<'a>) -> Option<Item<'a>> {
+    let peer = peers.get(usize::from(parts.peer))?;
+    Some(Item::Session(SessionItem {
+        peer: Text::new(peer.name.as_bytes())?,
+        address: text_of(parts.address),
+        identifier: text_of(parts.identifier),
+        id: Text::new(parts.id)?,
+    }))
+}
+
+impl<A: Allocator + Copy> RealmNumbers<A> {
+    /// Takes a session up again that was saved, where its peer's name is a peer's. `NoMemory` comes where a growth was
+    /// refused, and the ledger is then as it was.
+    pub fn restore(
+        &mut self,
+        settings: &RealmSettings<'_>,
+        saved: SessionItem<'_>,
+    ) -> Result<(), NoMemory>
+        requires { self.old.sessions.limit ≡ settings.now.realm.max_sessions }
+        ensures sessions { OnOk result (self.new.sessions.sessions
+            ≡ taken_up settings.now (shown_session saved.entry ∷ []) self.old.sessions.sessions) }
+        ensures err { OnErr result (self.new.sessions ≡ self.old.sessions) }
+        ensures keeps { KeepsButSessions self.old self.new }
+    {
+        let Some(peer) = peer_named(settings.peers(), saved.peer.octets) else {
+            return Ok(());
+        };
+        self.sessions.restore(SessionParts {
+            peer,
+            address: octets_of(saved.address),
+            identifier: octets_of(saved.identifier),
+            id: saved.id.octets,
+        })
+    }
+
+    /// Adds the tickets of all sessions, which rise in the order in which these were opened.
+    pub fn add_session_tickets(&self, tickets: &mut Vec<u64, A>) -> Result<(), NoMemory> {
+        self.sessions.add_tickets(tickets)
+    }
+
+    /// Writes the sessions of these tickets that are still open.
+    pub fn save(
+        &self,
+        settings: &RealmSettings<'_>,
+        tickets: &[u64],
+        writing: &mut Writing<A>,
+    ) -> Result<(), AllocError> {
+        for ticket in tickets {
+            if let Some(parts) = self.sessions.parts_of(*ticket) {
+                if let Some(item) = item_of(settings.peers(), parts) {
+                    writing.put(item)?;
+                }
+            }
+        }
+        Ok(())
+    }
+}
+
+/// Writes that the sessions of a realm follow.
+pub fn save_realm<A: Allocator + Copy>(
+    settings: &RealmSettings<'_>,
+    writing: &mut Writing<A>,
+) -> Result<(), AllocError> {
+    let realm = settings.realm();
+    match Text::new(realm.name.as_bytes()) {
+        Some(name) => writing.put(Item::Realm(name, realm.own_sessions)),
+        None => Ok(()),
+    }
+}
