@@ -8,7 +8,7 @@ use crate::look::numbers_at;
 use crate::paused::Paused;
 use crate::shard::Shard;
 use roam_book::{RealmSettings, save_realm};
-use roam_conf::Config;
+use roam_conf::{Config, is_same_name};
 use roam_ledgers::{Item, SessionItem, Text, Writing};
 use roam_wire::NoMemory;
 use std::alloc::{AllocError, Allocator};
@@ -53,13 +53,18 @@ impl<A: Allocator + Copy> Shard<'_, A> {
     }
 }
 
-/// The realm of a name that tells its sessions so.
+/// The realm that is here and has a name, and tells its sessions so.
 fn realm_named(config: &Config, name: Text<'_>, own_sessions: bool) -> Option<u16> {
-    let realm = config.realm_index(name.octets)?;
-    match config.realms.get(usize::from(realm)) {
-        Some(table) if table.own_sessions == own_sessions => Some(realm),
-        _ => None,
+    for (index, realm) in config.realms.iter().enumerate() {
+        if !realm.gone && is_same_name(realm.name.as_bytes(), name.octets) {
+            return if realm.own_sessions == own_sessions {
+                Some(index as u16)
+            } else {
+                None
+            };
+        }
     }
+    None
 }
 
 impl<A: Allocator + Copy> Paused<A> {
