@@ -7,7 +7,7 @@ use Rattle.std.proofs.lemmas.List.{take_at, drop_at, take-append-drop, length-ap
 use Rattle.std.proofs.lemmas.Slice.Eq.{bytes_eq-Decides}
 use Rattle.roam_ledgers.specs.declared.fault.LedgerFault.{LedgerFault}
 use Rattle.roam_ledgers.specs.declared.fault.LedgerFault.TheVariants.{Cut, Foreign, Version}
-use Rattle.roam_ledgers.specs.Ledgers.{SavedItem, SavedSession, family, flag, head, item_text, optional, realm, session, session_text, text, version}
+use Rattle.roam_ledgers.specs.Ledgers.{SavedItem, SavedSession, family, flag, head, item_text, optional, realm, session_text, text, version}
 use Rattle.roam_ledgers.specs.Reading.{◌>>=◌, flag_at, head_at, optional_at, realm_at, session_at, text_at}
 
 -- the value of a step that did not fail

@@ -7,7 +7,7 @@ use Rattle.std.proofs.lemmas.List.Concat.{flat_map-cons}
 use Rattle.roam_ledgers.specs.declared.fault.LedgerFault.{LedgerFault}
 use Rattle.roam_ledgers.specs.declared.fault.LedgerFault.TheVariants.{Trailing}
 use Rattle.roam_ledgers.specs.Ledgers.{SavedItem, end_text, head, item_text, ledgers_text, realm, session}
-use Rattle.roam_ledgers.specs.Reading.{◌>>=◌, ended, head_at, item_at, items_within, reading, realm_at, session_at, with_item}
+use Rattle.roam_ledgers.specs.Reading.{◌>>=◌, head_at, item_at, items_within, reading, realm_at, session_at, with_item}
 use Rattle.roam_ledgers.specs.LedgerLaws.{CutIsRefused, ReadWasWritten, WrittenIsRead}
 use Rattle.roam_ledgers.proofs.FieldLemmas.{bind_ok, head_again, head_takes, ok_is, realm_again, realm_takes, session_again, session_takes}
 

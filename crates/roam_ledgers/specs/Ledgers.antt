@@ -1,5 +1,5 @@
 -- Ledgers of sessions as octets, as a file keeps them from one run of a server to the next. Ours.
-use Rattle.std.specs.Prelude.{ℕ, ◌≤◌, Bool, true, false, List, [], ◌∷◌, ◌++◌, length, Option, Some, None, codes}
+use Rattle.std.specs.Prelude.{ℕ, Bool, true, false, List, [], ◌∷◌, ◌++◌, length, Option, Some, None, codes}
 use Rattle.std.specs.List.{flat_map}
 
 -- a session that was open, by names: of its peer, of its access server, where these are kept (RFC 2865, sections 5.4

@@ -1,6 +1,6 @@
 //! The fields of an item, each read at the front of octets.
 
-ghost use Rattle.std.specs.Prelude.{◌≡◌, option_map};
+ghost use Rattle.std.specs.Prelude.{option_map};
 ghost use Rattle.roam_ledgers.specs.Reading.{Gives, flag_at, head_at, item_at, optional_at, realm_at, session_at};
 ghost use Rattle.roam_ledgers.specs.Reading.{text_at};
 ghost use Rattle.roam_ledgers.specs.Shown.{shown_item, shown_session, shown_text};

@@ -1,6 +1,6 @@
 //! Ledgers written as octets.
 
-ghost use Rattle.std.specs.Prelude.{◌≡◌, ◌++◌, IfOk, OnErr, OnOk, option_map};
+ghost use Rattle.std.specs.Prelude.{◌≡◌, ◌++◌, IfOk, OnOk, option_map};
 ghost use Rattle.roam_ledgers.specs.Ledgers.{end_text, head, item_text, ledgers_text, optional, text};
 ghost use Rattle.roam_ledgers.specs.Shown.{shown_item, shown_items, shown_text};
 

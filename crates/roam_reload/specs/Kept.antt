@@ -8,7 +8,6 @@ use Rattle.roam_conf.specs.Config.{CoaClientView, PeerView, RealmView, ServerVie
 use Rattle.roam_conf.specs.Duplicates.{same_endpoint}
 use Rattle.roam_conf.specs.Lookup.{first_place, reverse_home}
 use Rattle.roam_conf.specs.Secrets.{home_secret}
-use Rattle.roam_conf.specs.declared.endpoint.Endpoint.{Endpoint}
 
 -- both are there and the same by a test, or neither is
 abbrev pub both_or_none : {X : Type 0} → (X → X → Bool) → Option X → Option X → Bool

@@ -1,6 +1,6 @@
 -- How tables are laid out, one old table after the other: words of private functions alone (ours).
-use Rattle.std.specs.Prelude.{◌≡◌, ◌≤◌, ℕ, Bool, List, [], ◌∷◌, map, not, Option, None, Some, option_map, if◌then◌else◌}
-use Rattle.std.specs.List.{filter_map, find, list_any}
+use Rattle.std.specs.Prelude.{Bool, List, [], ◌∷◌, map, Option, None, Some, option_map, if◌then◌else◌}
+use Rattle.std.specs.List.{filter_map, list_any}
 use Rattle.roam_conf.specs.Config.{PeerView, RealmView}
 use Rattle.roam_conf.specs.Parts.{shown_peer, shown_realm}
 use Rattle.roam_conf.specs.declared.peer.Peer.{Peer}

@@ -1,8 +1,7 @@
 -- When a configuration may follow another while the broker serves, and which realms go on then. Ours. Both are laid out
 -- by numbers (`Numbers.antt`): an index is one realm's, or one peer's, in both.
 use Rattle.std.specs.Prelude.{◌≡◌, ℕ, true, false, List, [], ◌∷◌, ◌++◌, filter, map, not, option_map, slice_get}
-use Rattle.std.specs.List.{filter_map, flat_map}
-use Rattle.std.specs.Option.{option_to_list}
+use Rattle.std.specs.List.{filter_map}
 use Rattle.roam_conf.specs.Config.{ConfigView, PeerView, RealmView}
 use Rattle.roam_conf.specs.Duplicates.{is_among}
 use Rattle.roam_conf.specs.declared.endpoint.Endpoint.{Endpoint}

@@ -5,7 +5,6 @@ ghost use Rattle.std.specs.Prelude.{◌≡◌, ◌++◌, Err, IfOk, OnOk, Some, 
 ghost use Rattle.std.specs.List.{find};
 ghost use Rattle.roam_conf.specs.Duplicates.{has_duplicate_peer, has_duplicate_realm};
 ghost use Rattle.roam_conf.specs.Parts.{shown_peer, shown_realm};
-ghost use Rattle.roam_conf.specs.Patterns.{shown_pattern};
 ghost use Rattle.roam_conf.specs.Shown.{shown, shown_parts};
 ghost use Rattle.roam_reload.specs.Laying.{left_in, peers_in, realms_in, without_first};
 ghost use Rattle.roam_reload.specs.Numbers.{TooMany, gone_peer, gone_realm, laid_by, laid_out, same_peer_name};

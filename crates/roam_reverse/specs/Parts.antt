@@ -1,6 +1,5 @@
 -- Sessions by the octets of their parts (ours).
-use Rattle.std.specs.Prelude.{◌≤◌, ℕ, List, length, option_map}
-use Rattle.std.specs.Borrow.{Bor}
+use Rattle.std.specs.Prelude.{◌≤◌, length, option_map}
 use Rattle.std.specs.Option.{ForSome}
 use Rattle.roam_reverse.specs.Sessions.{Session}
 use Rattle.roam_reverse.specs.Shown.{shown_octets}

@@ -1,10 +1,9 @@
 //! Sessions by the octets of their parts: what a file of ledgers has of them.
 
-ghost use Rattle.std.specs.Prelude.{◌≡◌, IfNone, IfSome, OnErr, OnOk, Some, None, option_map};
+ghost use Rattle.std.specs.Prelude.{◌≡◌, IfNone, IfSome, OnErr, OnOk, Some, None};
 ghost use Rattle.roam_reverse.specs.Kept.{kept_session, shown_session};
 ghost use Rattle.roam_reverse.specs.Parts.{AreShort, shown_parts};
 ghost use Rattle.roam_reverse.specs.Sessions.{with_session};
-ghost use Rattle.roam_reverse.specs.Short.{shown_short};
 
 use crate::asked::{NasRef, SessionRef};
 use crate::ledger::Sessions;
