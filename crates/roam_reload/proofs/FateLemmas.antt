@@ -5,7 +5,7 @@ use Rattle.roam_conf.specs.Config.{ConfigView, RealmView}
 use Rattle.roam_reload.specs.Differences.{RealmsDiffer}
 use Rattle.roam_reload.specs.Reload.{IsCarried, KeepsPeers, realm_part}
 use Rattle.roam_reload.specs.declared.keys.RealmKey.{RealmKey}
-use Rattle.roam_reload.specs.declared.keys.RealmKey.TheVariants.{Out, Reverse, Tries, Wait, Hold, MaxPending, MaxSessions, Rest, RestAfter, Servers, Peers, LoopPrevention, Accounting, RequestWithout, ReplyWithout, Share}
+use Rattle.roam_reload.specs.declared.keys.RealmKey.TheVariants.{Out, Reverse, Tries, Wait, Hold, MaxPending, MaxSessions, Rest, RestAfter, Servers, Peers, LoopPrevention, Accounting, RequestWithout, ReplyWithout, Share, PeerShare, OwnNames, Conversations, OwnSessions, CoaClients}
 
 -- some realm
 abbrev no_realm : RealmView
@@ -28,6 +28,11 @@ no_realm = record {
   request_without = [];
   reply_without = [];
   share = None;
+  peer_share = None;
+  own_names = false;
+  conversations = false;
+  own_sessions = false;
+  coa_clients = [];
 }
 
 -- realms that differ in a key have other parts
@@ -47,6 +52,11 @@ other_part a b Accounting d = λ e. d (ap (λ (x : RealmView). x.accounting) e)
 other_part a b RequestWithout d = λ e. d (ap (λ (x : RealmView). x.request_without) e)
 other_part a b ReplyWithout d = λ e. d (ap (λ (x : RealmView). x.reply_without) e)
 other_part a b Share d = λ e. d (ap (λ (x : RealmView). x.share) e)
+other_part a b PeerShare d = λ e. d (ap (λ (x : RealmView). x.peer_share) e)
+other_part a b OwnNames d = λ e. d (ap (λ (x : RealmView). x.own_names) e)
+other_part a b Conversations d = λ e. d (ap (λ (x : RealmView). x.conversations) e)
+other_part a b OwnSessions d = λ e. d (ap (λ (x : RealmView). x.own_sessions) e)
+other_part a b CoaClients d = λ e. d (ap (λ (x : RealmView). x.coa_clients) e)
 other_part a b Servers d = λ e. d (ap (λ (x : RealmView). x.servers) e)
 
 -- both tables are there, and the same in this part

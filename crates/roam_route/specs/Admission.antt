@@ -18,7 +18,6 @@ use Rattle.roam_conf.specs.Lookup.{peer_with_ip, link_in, home_in}
 use Rattle.roam_conf.specs.Secrets as secrets
 use Rattle.roam_conf.specs.declared.accounting.Accounting.{Accounting}
 use Rattle.roam_conf.specs.declared.accounting.Accounting.TheVariants.{Forwarded, Answered, Dropped}
-use Rattle.roam_conf.specs.declared.endpoint.Endpoint.{Endpoint}
 use Rattle.roam_conf.specs.declared.place.Link.{Link}
 use Rattle.roam_conf.specs.declared.place.Link.TheVariants as link
 use Rattle.roam_conf.specs.declared.place.Place.{Place}
@@ -123,9 +122,9 @@ seal_required config (side.Peer i) p = option_map_or (λ peer. wants_seal peer p
 seal_required config _ p = false
 
 -- ## Attributes
--- A request may have so many attributes as `max_attributes` says, where that is set: one with more is refused (28) before
--- a digest of it is looked at, whatever its code. What came is counted; what is forwarded may have five more. Replies
--- aren't counted.
+-- A request may have so many attributes as `max_attributes` says, where that is set: one with more is refused (28)
+-- before a digest of it is looked at, whatever its code. What came is counted; what is forwarded may have five
+-- more. Replies aren't counted.
 -- Source: ours
 -- Rules out: a request whose many attributes are gone through again and again before it is known to be anybody's
 -- Stands in: `roam_route` `Admission.antt`: `has_few_attributes`; `prepare`

@@ -95,26 +95,24 @@ abbrev pub IsForwarded : ConfigView → ℕ → Type 0
 IsForwarded config realm = accounting_in config realm ≡ Forwarded
 
 -- ## A right request
--- A request that a realm is given, by the side that sent it, a peer or a home server of the realm. Its code
--- belongs to its place and its sender: a peer's Access-Request where those are taken, its Accounting-Request
--- where those are, a home server's Disconnect-Request or CoA-Request at its realm's own place. Where there is a limit of
--- attributes, it has at most so many. It is signed
--- with the secret that the two share where its code has a signature, which is each but an Access-Request. It
--- has no Message-Authenticator, or just one, and that is over its own Authenticator in an Access-Request and
--- over sixteen zero octets in any other. An Access-Request has one where it has an EAP-Message, and where its
--- peer is required to seal. Where there is a limit of hops, it has at most so many Proxy-States. An
--- Access-Request's passwords can be carried: at most one User-Password, of 16 to 128 octets in whole blocks,
--- and none beside a CHAP-Password. It is for a realm: a home server's for the realm of its place, a peer's for
--- the one that its User-Name names, which takes that peer's requests and, of an Accounting-Request, has its accounting
--- forwarded. A home server's isn't stale, where the wall clock's seconds came with it. The packet that is forwarded for
--- it has at most 4096 octets: of a peer's request as the peer and the
--- realm have it shaped, of a home server's as it came. An arrival gives a realm a request just where it is one; what
--- isn't is refused for the first of these parts that fails, in this order: code, attributes, signature,
--- Message-Authenticator, that there is one where it must be, hops, realm, that it is fresh, that it may be asked, its
--- accounting, size. (An Access-Request
--- that fails in its realm, passwords or hops is answered by a local reject, whose size is then the last part; an
--- Accounting-Request without a name, or for a realm that has these answered, may be answered by the broker, and isn't
--- refused then.)
+-- A request that a realm is given, by the side that sent it, a peer or a home server of the realm. Its code belongs
+-- to its place and its sender: a peer's Access-Request where those are taken, its Accounting-Request where those
+-- are, a home server's Disconnect-Request or CoA-Request at its realm's own place. Where there is a limit of
+-- attributes, it has at most so many. It is signed with the secret that the two share where its code has a
+-- signature, which is each but an Access-Request. It has no Message-Authenticator, or just one, and that is over
+-- its own Authenticator in an Access-Request and over sixteen zero octets in any other. An Access-Request has one
+-- where it has an EAP-Message, and where its peer is required to seal. Where there is a limit of hops, it has at
+-- most so many Proxy-States. An Access-Request's passwords can be carried: at most one User-Password, of 16 to 128
+-- octets in whole blocks, and none beside a CHAP-Password. It is for a realm: a home server's for the realm of its
+-- place, a peer's for the one that its User-Name names, which takes that peer's requests and, of an
+-- Accounting-Request, has its accounting forwarded. A home server's isn't stale, where the wall clock's seconds
+-- came with it. The packet that is forwarded for it has at most 4096 octets: of a peer's request as the peer and
+-- the realm have it shaped, of a home server's as it came. An arrival gives a realm a request just where it is one;
+-- what isn't is refused for the first of these parts that fails, in this order: code, attributes, signature,
+-- Message-Authenticator, that there is one where it must be, hops, realm, that it is fresh, that it may be asked,
+-- its accounting, size. (An Access-Request that fails in its realm, passwords or hops is answered by a local
+-- reject, whose size is then the last part; an Accounting-Request without a name, or for a realm that has these
+-- answered, may be answered by the broker, and isn't refused then.)
 -- Source: RFC 2865 sections 3, 4.1, 5.2 and 5.33, RFC 2866 sections 3 and 4.1, RFC 3579 sections 3.1 and 3.2,
 -- RFC 5176 sections 2.3 and 3.4; the order, the limit of hops, the seal that is required and that a seal over
 -- zeros is wanted in accounting: ours

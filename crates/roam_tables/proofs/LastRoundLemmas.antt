@@ -1,12 +1,12 @@
 -- The last entry that keeps a peer's round of a State.
-use Rattle.std.proofs.Common.{◌≡◌, ◌≢◌, ◌⊎◌, ℕ, zero, suc, ◌<◌, ◌≤◌, Bool, true, false, List, [], ◌∷◌, length, get_or, Option, Some, None, refl, ap, sym, ◌∙◌, subst, inl, inr, arith, eqb}
+use Rattle.std.proofs.Common.{◌≡◌, ◌≢◌, ℕ, zero, suc, ◌<◌, ◌≤◌, Bool, true, false, List, [], ◌∷◌, length, get_or, Option, Some, None, refl, ap, sym, ◌∙◌, inl, inr, arith, eqb}
 use Rattle.std.specs.Prelude.{◌&&◌, nat_eq, option_and_then, option_map, if◌then◌else◌}
 use Rattle.std.specs.Option.{option_map_or}
 use Rattle.std.proofs.lemmas.List.{get_or_default}
 use Rattle.std.specs.Cmp.Lexicographic.{bytes_decides, pointwise}
 use Rattle.std.specs.Ordering.{nat_cmp}
 use Rattle.std.specs.declared.cmp.Ordering.TheVariants.{Less}
-use Rattle.std.proofs.lemmas.Bool.{cases_Bool, cases_eq, cases_lt}
+use Rattle.std.proofs.lemmas.Bool.{cases_eq, cases_lt}
 use Rattle.std.proofs.lemmas.Bool.Decides.{nat_tests}
 use Rattle.roam_hash.specs.Keyed.{hash_of}
 use Rattle.roam_hash.specs.declared.hash_key.HashKey.{HashKey}
@@ -17,7 +17,7 @@ use Rattle.roam_pending.specs.PlainEntry.{PlainEntry}
 use Rattle.roam_pending.proofs.OrderLemmas.{find-above}
 use Rattle.roam_pending.proofs.TestLemmas.{differs, same}
 use Rattle.roam_tables.specs.Private.Rising.{Rises}
-use Rattle.roam_tables.specs.Private.Rounds.{IsFoundAt, IsLastOf, kept_hash, round_hash}
+use Rattle.roam_tables.specs.Private.Rounds.{IsLastOf, kept_hash, round_hash}
 use Rattle.roam_tables.proofs.RisingLemmas.{All-at, at-in, nat_less}
 
 -- tickets in a row rise
@@ -27,6 +27,29 @@ rises_at (x ∷ xs) k zero d rises lt within = absurd (omega arith)
 rises_at (x ∷ xs) zero (suc i) d rises lt within =
     nat_less x (get_or xs i d) (All-at (λ (y : ℕ). nat_cmp x y ≡ Less) xs i d rises.0 (omega arith))
 rises_at (x ∷ xs) (suc k) (suc i) d rises lt within = rises_at xs k i d rises.1 (omega arith) (omega arith)
+
+module _ {X : Type 0} (P : ℕ → Option X) (ts : List ℕ) (i t : ℕ) (within : i < length ts) (at : t ≡ get_or ts i t)
+    (rest : (k d : ℕ) → suc i ≤ k → k < length ts → P (get_or ts k d) ≡ None) where
+  here_is : (d : ℕ) → get_or ts i d ≡ t
+  here_is d = get_or_default ts i d t within ∙ sym at
+
+  -- nothing at this place nor behind it
+  pub none_from : P t ≡ None → (k d : ℕ) → i ≤ k → k < length ts → P (get_or ts k d) ≡ None
+  none_from none k d le lt = elim (cases_eq i k) as (λ _. P (get_or ts k d) ≡ None) [
+    | inl is ↦ ap (λ (n : ℕ). P (get_or ts n d)) (sym is) ∙ ap P (here_is d) ∙ none
+    | inr ne ↦ rest k d (omega arith) lt
+  ]
+
+  -- something at this place, and nothing behind it
+  pub found_from : (x : X) → P t ≡ Some x → IsLastOf P ts (Some x)
+  found_from x found = (
+    i,
+    record {
+      within = within;
+      is = λ d. ap P (here_is d) ∙ found;
+      last = λ k d lt less. rest k d (omega arith) less;
+    },
+  )
 
 module _ (peer : ℕ) (state : List ℕ) where
   -- the entry of a ticket, where it keeps the round
@@ -109,7 +132,9 @@ module _ (peer : ℕ) (state : List ℕ) where
       where
         not_below : (k d u t i : ℕ) → get_or xs k d ≡ u → get_or xs i 0 < u → k ≤ i → i < length xs → ⊥
         not_below k d u t i is lt le within = elim (cases_eq k i) as (λ _. ⊥) [
-          | inl same ↦ (let here : get_or xs k d ≡ get_or xs i 0 = ap (λ (n : ℕ). get_or xs n d) same ∙ get_or_default xs i d 0 within in omega arith)
+          | inl same ↦ (let here : get_or xs k d ≡ get_or xs i 0 =
+              ap (λ (n : ℕ). get_or xs n d) same ∙ get_or_default xs i d 0 within in
+              omega arith)
           | inr ne ↦ (
               let less = rises_at xs k i 0 rises (omega arith) within in
               let here : get_or xs k d ≡ get_or xs k 0 = get_or_default xs k d 0 (omega arith) in

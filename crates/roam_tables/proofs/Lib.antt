@@ -13,7 +13,9 @@ pub mod RealmLemmas
 pub mod ViewLemmas
 pub mod TablesLemmas
 pub mod KeptLemmas
-pub mod UpdateLemmas
+pub mod InsertLemmas
+pub mod RemoveLemmas
+pub mod ExchangeLemmas
 pub mod GrowthLemmas
 pub mod OpeningLemmas
 pub mod MoreLemmas

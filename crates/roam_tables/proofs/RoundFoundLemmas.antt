@@ -1,5 +1,5 @@
 -- What the runs of rounds say of a realm's list.
-use Rattle.std.proofs.Common.{◌≡◌, ℕ, ◌<◌, List, [], length, get_or, Option, Some, None, refl, ap, sym, ◌∙◌, subst, arith}
+use Rattle.std.proofs.Common.{◌≡◌, ℕ, List, [], ◌∷◌, length, Option, Some, None, refl, ap, sym, ◌∙◌, subst, arith}
 use Rattle.std.specs.Prelude.{option_and_then}
 use Rattle.slab.specs.Slab.{Slab}
 use Rattle.indexmap.specs.IndexMap.{IndexMap}
@@ -17,7 +17,7 @@ use Rattle.roam_tables.specs.declared.round_runs.RoundKey.{RoundKey}
 use Rattle.roam_tables.specs.Private.Rounds.{IsLastOf, RoundsTell, kept_hash, round_key}
 use Rattle.roam_tables.specs.Stands.{RealmView, Sound, client_at, entries_in, entry_at, place, tables_view, ticket_at}
 use Rattle.roam_tables.proofs.LastRoundLemmas.{hash_of_round, round_at, run_last}
-use Rattle.roam_tables.proofs.LookLemmas.{list_at, ticket_found}
+use Rattle.roam_tables.proofs.LookLemmas.{ticket_found}
 use Rattle.roam_tables.proofs.TablesLemmas.{tables_list}
 use Rattle.roam_tables.proofs.ViewLemmas.{seen_at}
 
@@ -26,6 +26,11 @@ found_first : (f : PlainEntry → Option PlainEntry) (o : Option PlainEntry) (x 
     → option_and_then f o ≡ Some x → (e : PlainEntry) × (o ≡ Some e) × (f e ≡ Some x)
 found_first f None x h = absurd (let k : None ≡ Some x = h in cc)
 found_first f (Some e) x h = (e, refl, h)
+
+-- a run that has no length
+pub no_items : (xs : List ℕ) → length xs ≡ 0 → xs ≡ []
+no_items [] h = refl
+no_items (x ∷ xs) h = absurd (omega arith)
 
 module _ {A H : Type 0} (s : Slab (Slot A)) (t : IndexMap TicketKey ℕ H)
     (c : IndexMap ClientKey ℕ H) (rs : List (RealmQueues A))

@@ -6,10 +6,10 @@ use Rattle.std.proofs.lemmas.Bool.{cases_eq}
 use Rattle.roam_hash.specs.declared.hash_key.HashKey.{HashKey}
 use Rattle.roam_pending.specs.declared.key.Requester.{Requester}
 use Rattle.roam_pending.specs.declared.key.Requester.TheVariants as requester
-use Rattle.roam_pending.specs.Conversations.{Round, kept_state, round_with}
+use Rattle.roam_pending.specs.Conversations.{kept_state, round_with}
 use Rattle.roam_pending.specs.ListLaws.{IsIn}
 use Rattle.roam_pending.specs.PlainEntry.{PlainEntry, PlainStanding, done, waiting}
-use Rattle.roam_pending.specs.Realms.{sent_again, waits_on, with_standing}
+use Rattle.roam_pending.specs.Realms.{sent_again, waits_on}
 use Rattle.roam_tables.specs.declared.entry_index.TicketKey.{TicketKey}
 use Rattle.roam_tables.specs.declared.round_runs.RoundKey.{RoundKey}
 use Rattle.roam_tables.specs.Stands.{Stored, entry_at}
@@ -119,11 +119,6 @@ nothing_told hash E R nobody none = record {
   told = λ r t h e at has. absurd (let k : None ≡ Some e = sym (nobody r t) ∙ at in cc);
   only = λ r t h held. absurd (subst (IsIn t) (none (round_key r h)) held);
 }
-
--- the same runs
-pub told_same : (hash : PlainEntry → Option ℕ) (E : ℕ → ℕ → Option PlainEntry) (R S : RoundKey → List ℕ)
-    → S ≡ R → RoundsTell hash E R → RoundsTell hash E S
-told_same hash E R S is tells = subst (RoundsTell hash E) (sym is) tells
 
 -- the same entries, and the same runs
 pub told_over : (hash : PlainEntry → Option ℕ) (S S2 : ℕ → Option Stored) (T T2 : TicketKey → Option ℕ)

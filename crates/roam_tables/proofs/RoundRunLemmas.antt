@@ -1,6 +1,6 @@
 -- A ticket that comes into the run of a hash, or goes.
 use Rattle.std.proofs.Common.{◌≡◌, ◌≢◌, ◌⊎◌, ℕ, Bool, true, false, List, [], ◌∷◌, Option, Some, None, Result, Ok, Err, refl, ap, sym, ◌∙◌, subst, inl, inr}
-use Rattle.std.specs.Prelude.{if◌then◌else◌, OnOk}
+use Rattle.std.specs.Prelude.{if◌then◌else◌, OnErr, OnOk}
 use Rattle.indexmap.specs.IndexMap.{IndexMap}
 use Rattle.std.specs.Ordering.{nat_cmp}
 use Rattle.roam_pending.specs.ListLaws.{IsIn}
@@ -206,6 +206,17 @@ parts_put R S k t ys puts rises drops =
       others = λ q ne. puts q ∙ other_run k q ys (R q) ne;
     }
 
+-- what one run became is what it was
+pub same_runs : (R S : RoundKey → List ℕ) (k : RoundKey) (ys : List ℕ)
+    → ((q : RoundKey) → S q ≡ (if round_eq k q then ys else R q)) → ys ≡ R k → S ≡ R
+same_runs R S k ys puts is = λ j q. at q j
+  where
+    at : (q : RoundKey) → S q ≡ R q
+    at q = elim (same_or_other k q) as (λ _. S q ≡ R q) [
+      | inl e ↦ subst (λ (p : RoundKey). S p ≡ R p) e (puts k ∙ rw (round_equality.itself k) is)
+      | inr ne ↦ puts q ∙ other_run k q ys (R q) ne
+    ]
+
 -- and the run of no ticket goes
 pub parts_closed : (R M S : RoundKey → List ℕ) (k : RoundKey) (t : ℕ) → Parts k t R M → M k ≡ []
     → ((q : RoundKey) → S q ≡ (if round_eq k q then [] else M q)) → Parts k t R S
@@ -216,6 +227,11 @@ parts_closed R M S k t parts none puts =
       drops = subst (λ (xs : List ℕ). Drops (R k) xs t) (sym here) parts.drops;
       others = λ q ne. puts q ∙ other_run k q [] (M q) ne ∙ parts.others q ne;
     }
+
+-- what a clause says of a call that was refused
+pub on_refused : {X E : Type 0} (P Z : Type 0) (r : Result X E) → (P → Z) → OnErr r P → OnErr r Z
+on_refused P Z (Ok x) f p = tt
+on_refused P Z (Err e) f p = f p
 
 -- what two clauses say of a call that went well
 pub on_two : {X E : Type 0} (P Q Z : Type 0) (r : Result X E) → (P → Q → Z) → OnOk r P → OnOk r Q → OnOk r Z

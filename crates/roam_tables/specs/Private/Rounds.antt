@@ -62,7 +62,8 @@ pub record IsJustIn (r t : ℕ) (from : Option ℕ) (R : RoundKey → List ℕ) 
 abbrev pub AllRunsRise : (RoundKey → List ℕ) → Type 0
 AllRunsRise R = (k : RoundKey) → Rises nat_cmp (R k)
 
--- the ticket of a realm is in the run of this hash, if there is one, and in no other; every other ticket is where it was
+-- the ticket of a realm is in the run of this hash, if there is one, and in no other; every other ticket is where
+-- it was
 pub record Moved (r t : ℕ) (to : Option ℕ) (R S : RoundKey → List ℕ) : Type 0 where
   pub rise : AllRunsRise S
   pub here : IsJustIn r t to S

@@ -1,7 +1,10 @@
-use Rattle.std.proofs.Common.{rules, ◌≡◌, map, string_bytes}
+use Rattle.std.proofs.Common.{rules, ◌≡◌, false, map, option_map, string_bytes}
 use Rattle.std.specs.Cmp.Lexicographic.{pointwise}
 use Rattle.std.specs.String.{string_eq}
 use Rattle.roam_conf.proofs.EqualPartsLemmas.{list_decides, removed_eq, removed_decides, text_decides, whole_list_decides}
+use Rattle.roam_conf.specs.Config.{PeerView}
+use Rattle.roam_conf.specs.Parts.{shown_peer}
+use Rattle.roam_reload.specs.Reload.{peer_part}
 use Rattle.roam_reload.proofs.DifferenceLemmas.{agrees, differs}
 use Rattle.roam_reload.proofs.peers.peer_difference.Goals as goal
 
@@ -29,6 +32,27 @@ returns-then-ne-10-clause-some c =
     differs old new (pointwise removed_eq old new) c.ne-else-ne-9.result
     (whole_list_decides removed_eq removed_decides old new) c.ne-else-ne-9.ensures c.if-ne-10.true
 
+-- peers with equal keys have equal parts
+same_part : (a b : PeerView) → b.name ≡ a.name → b.ip ≡ a.ip → b.secret ≡ a.secret → b.coa ≡ a.coa →
+    b.nas_ip ≡ a.nas_ip → b.nas_id ≡ a.nas_id → b.nas_ids ≡ a.nas_ids → b.operator_name ≡ a.operator_name →
+    b.ask_cui ≡ a.ask_cui → b.request_without ≡ a.request_without → b.reply_without ≡ a.reply_without →
+    peer_part b ≡ peer_part a
+same_part a b name ip secret coa nas_ip nas_id nas_ids operator_name ask_cui requests replies = λ i. record {
+  name = name i;
+  ip = ip i;
+  secret = secret i;
+  coa = coa i;
+  nas_ip = nas_ip i;
+  nas_id = nas_id i;
+  nas_ids = nas_ids i;
+  require_seal = false;
+  limit_proxy_state = false;
+  operator_name = operator_name i;
+  ask_cui = ask_cui i;
+  request_without = requests i;
+  reply_without = replies i;
+}
+
 -- no key differs
 pub returns-else-ne-10-clause-none : goal.returns-else-ne-10-clause-none
 returns-else-ne-10-clause-none c =
@@ -49,4 +73,14 @@ returns-else-ne-10-clause-none c =
     (pointwise removed_eq old.reply_without.items new.reply_without.items) c.ne-else-ne-9.result
     (whole_list_decides removed_eq removed_decides old.reply_without.items new.reply_without.items)
     c.ne-else-ne-9.ensures c.if-ne-10.false in
-    search rules
+    let name : string_bytes new.name ≡ string_bytes old.name = search rules in
+    let ip : new.ip ≡ old.ip = search rules in
+    let secret : string_bytes new.secret ≡ string_bytes old.secret = search rules in
+    let coa : new.coa ≡ old.coa = search rules in
+    let nas_ip : new.nas_ip ≡ old.nas_ip = search rules in
+    let nas_id : option_map string_bytes new.nas_id ≡ option_map string_bytes old.nas_id = search rules in
+    let operator_name : option_map string_bytes new.operator_name ≡ option_map string_bytes old.operator_name =
+    search rules in
+    let ask_cui : new.ask_cui ≡ old.ask_cui = search rules in
+    same_part (shown_peer old) (shown_peer new) name ip secret coa nas_ip nas_id identifiers operator_name ask_cui
+    requests replies

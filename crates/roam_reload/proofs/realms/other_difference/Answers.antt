@@ -5,7 +5,8 @@ if_none : {K P Q : Type 0} (o : Option K) → (P → Q) → IfNone o P → IfNon
 if_none None f p = f p
 if_none (Some k) f p = tt
 
-pub returns-in-None-in-None-clause-none : goal.returns-in-None-in-None-clause-none
-returns-in-None-in-None-clause-none c =
-    if_none c.limit_difference.result (λ limits. (c.in-None.ensures.none, (c.in-None-2.ensures.none, limits)))
+pub returns-in-None-part_difference-clause-none : goal.returns-in-None-part_difference-clause-none
+returns-in-None-part_difference-clause-none c =
+    if_none c.limit_difference.result
+    (λ limits. (c.in-None.ensures.none, (c.in-None-part_difference.ensures.none, limits)))
     c.limit_difference.ensures.none

@@ -1,5 +1,5 @@
 -- A run of one ticket begins.
-use Rattle.std.proofs.Common.{◌≡◌, List, ℕ, [], ◌∷◌, Some, ap, sym, ◌∙◌, rules}
+use Rattle.std.proofs.Common.{◌≡◌, List, ℕ, Some, ap, ◌∙◌, rules}
 use Rattle.std.specs.Prelude.{if◌then◌else◌}
 use Rattle.roam_tables.specs.declared.round_runs.RoundKey.{RoundKey}
 use Rattle.roam_tables.specs.Private.Rounds.{round_eq, run_at, run_found, tickets_of}

@@ -5,7 +5,7 @@ use Rattle.std.specs.Ordering.{nat_cmp}
 use Rattle.roam_tables.specs.declared.round_runs.RoundKey.{RoundKey}
 use Rattle.roam_tables.specs.Private.Rising.{Adds, Rises}
 use Rattle.roam_tables.specs.Private.Rounds.{Joins, round_eq, run_at, run_found, tickets_of}
-use Rattle.roam_tables.proofs.RoundRunLemmas.{joins_put, on_two, runs_put}
+use Rattle.roam_tables.proofs.RoundRunLemmas.{joins_put, on_refused, on_two, runs_put, same_runs}
 use Rattle.roam_tables.proofs.round_runs.join_there.Goals as goal
 
 pub returns-clause-ok : goal.returns-clause-ok
@@ -24,4 +24,14 @@ returns-clause-ok g c =
     (sym (ap tickets_of was)) adds)) c.join_run.ensures.rises c.join_run.ensures.adds
 
 pub returns-clause-err : goal.returns-clause-err
-returns-clause-err g c = ?
+returns-clause-err g c =
+    let before = c.args.index.now in
+    let after = c.get_mut.follows.lender c.join_run.new.run in
+    let puts : (q : RoundKey) → run_found after q
+    ≡ (if round_eq c.args.key q then Some c.join_run.new.run else run_found before q) = search rules in
+    let was : run_found before c.args.key ≡ Some c.in-Some.run'.now = search rules in
+    on_refused (c.join_run.new.run.tickets.items ≡ c.in-Some.run'.now.tickets.items)
+    (run_at after ≡ run_at before) c.join_run.result
+    (λ same. same_runs (run_at before) (run_at after) c.args.key c.join_run.new.run.tickets.items
+    (runs_put before after c.args.key (Some c.join_run.new.run) puts) (same ∙ sym (ap tickets_of was)))
+    c.join_run.ensures.err

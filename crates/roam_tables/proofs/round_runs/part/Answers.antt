@@ -1,5 +1,5 @@
 -- The run of no ticket goes.
-use Rattle.std.proofs.Common.{◌≡◌, List, ℕ, [], None, rules}
+use Rattle.std.proofs.Common.{◌≡◌, None, rules}
 use Rattle.std.specs.Prelude.{if◌then◌else◌}
 use Rattle.roam_tables.specs.declared.round_runs.RoundKey.{RoundKey}
 use Rattle.roam_tables.specs.Private.Rounds.{round_eq, run_at, run_found}

@@ -1,7 +1,7 @@
 use Rattle.std.proofs.Common.{ap}
 use Rattle.roam_pending.specs.Shown.{shown}
 use Rattle.roam_tables.specs.declared.due_mark.DueMark.{DueMark}
-use Rattle.roam_tables.proofs.UpdateLemmas.{insert_becomes, insert_can, insert_realms, insert_room, insert_rounds, insert_sound, room_for_one, room_positive, within_realms}
+use Rattle.roam_tables.proofs.InsertLemmas.{insert_becomes, insert_can, insert_realms, insert_room, insert_rounds, insert_sound, room_for_one, room_positive, within_realms}
 use Rattle.roam_tables.specs.Private.Rounds.{kept_hash, run_at}
 use Rattle.roam_tables.proofs.RoundLemmas.{no_hash}
 use Rattle.roam_tables.proofs.tables.Tables.insert_reserved.Goals as goal

@@ -1,8 +1,8 @@
-use Rattle.std.proofs.Common.{◌∙◌, None, refl, sym}
+use Rattle.std.proofs.Common.{◌∙◌, refl, sym}
 use Rattle.roam_pending.specs.Realms.{with_standing}
 use Rattle.roam_pending.specs.Shown.{shown_standing}
-use Rattle.roam_tables.proofs.UpdateLemmas.{change_becomes, change_enters, change_keeps, change_leaves, change_nothing, change_room, change_rounds, change_sound, nothing_exchanged, one_exchanged, stood_just}
-use Rattle.roam_tables.specs.Private.Rounds.{IsJustIn, kept_hash, run_at}
+use Rattle.roam_tables.proofs.ExchangeLemmas.{change_becomes, change_enters, change_keeps, change_leaves, change_nothing, change_room, change_sound, gone_rounds, nothing_exchanged, one_exchanged, stood_just}
+use Rattle.roam_tables.specs.Private.Rounds.{kept_hash, run_at}
 use Rattle.roam_tables.proofs.RoundLemmas.{no_hash}
 use Rattle.roam_tables.proofs.RoundRunLemmas.{gone_moved}
 use Rattle.roam_tables.proofs.tables.TablesEntries.exchange_standing.Goals as goal
@@ -25,21 +25,16 @@ change_at-requires-clause-enters g c =
     (λ e. refl) (λ e. refl) c.exchange-marks.result.0 c.exchange-marks.result.1 c.exchange-marks.ensures.from
     c.exchange-marks.ensures.to
 
--- the ticket goes out of the run of what it kept
-just : (g : _) (c : goal.After-hashes_in g)
-    → IsJustIn c.args.realm c.args.ticket c.hashes_in.result.0 (run_at c.self.inside.rounds)
-just g c =
-    let i = c.self.inside in
-    stood_just i.slots i.by_ticket i.by_client i.realms.items c.self.invariant.tables c.args.self.now
-    c.self.view_is c.args.realm c.args.ticket c.in-Some.at
-    (sym c.ticket_slot.ensures ∙ c.in-Some.is) (kept_hash i.key) (run_at i.rounds)
-    c.hashes_in.result.0 c.self.invariant.rounds c.hashes_in.ensures.from
-
 pub go-requires-clause-rise : goal.go-requires-clause-rise
 go-requires-clause-rise g c = c.self.invariant.rounds.rise
 
 pub go-requires-clause-held : goal.go-requires-clause-held
-go-requires-clause-held g c = (just g c).there
+go-requires-clause-held g c =
+    let i = c.self.inside in
+    (stood_just i.slots i.by_ticket i.by_client i.realms.items c.self.invariant.tables c.args.self.now
+    c.self.view_is c.args.realm c.args.ticket c.in-Some.at
+    (sym c.ticket_slot.ensures ∙ c.in-Some.is) (kept_hash i.key) (run_at i.rounds)
+    c.hashes_in-from.result.0 c.self.invariant.rounds c.hashes_in-from.ensures.from).there
 
 pub invariant_of-self : goal.invariant_of-self
 invariant_of-self g c =
@@ -49,18 +44,22 @@ invariant_of-self g c =
           c.self.view_is c.args.realm c.args.ticket c.in-Some.at
           (sym c.ticket_slot.ensures ∙ c.in-Some.is) (with_standing (shown_standing c.args.standing.now))
           (λ e. refl) (λ e. refl) c.exchange-marks.result.0 c.exchange-marks.result.1 c.exchange-marks.ensures.from
-          c.exchange-marks.ensures.to c.exchange-marks.new.slots c.change_at.new.realms.items c.exchange-marks.ensures.puts
-          c.change_at.ensures;
-      rounds = change_rounds i.slots i.by_ticket i.by_client i.realms.items c.self.invariant.tables c.args.self.now
+          c.exchange-marks.ensures.to c.exchange-marks.new.slots c.change_at.new.realms.items
+          c.exchange-marks.ensures.puts c.change_at.ensures;
+      rounds = gone_rounds i.slots i.by_ticket i.by_client i.realms.items c.self.invariant.tables c.args.self.now
           c.self.view_is c.args.realm c.args.ticket c.in-Some.at
           (sym c.ticket_slot.ensures ∙ c.in-Some.is) (with_standing (shown_standing c.args.standing.now))
           (λ e. refl) (λ e. refl) c.exchange-marks.result.0 c.exchange-marks.result.1 c.exchange-marks.ensures.from
-          c.exchange-marks.ensures.to c.exchange-marks.new.slots c.change_at.new.realms.items c.exchange-marks.ensures.puts
-          c.change_at.ensures
-          (kept_hash i.key) (run_at i.rounds) (run_at c.go.new.rounds) None c.self.invariant.rounds
+          c.exchange-marks.ensures.to c.exchange-marks.new.slots c.change_at.new.realms.items
+          c.exchange-marks.ensures.puts c.change_at.ensures
+          (kept_hash i.key) (run_at i.rounds) (run_at c.go.new.rounds) c.self.invariant.rounds
           (gone_moved c.args.realm c.args.ticket (run_at i.rounds) (run_at c.go.new.rounds)
-          c.hashes_in.result.0 c.self.invariant.rounds.rise (just g c) c.go.ensures)
-          (sym (no_hash i.key _ c.requires));
+          c.hashes_in-from.result.0 c.self.invariant.rounds.rise
+          (stood_just i.slots i.by_ticket i.by_client i.realms.items c.self.invariant.tables c.args.self.now
+          c.self.view_is c.args.realm c.args.ticket c.in-Some.at
+          (sym c.ticket_slot.ensures ∙ c.in-Some.is) (kept_hash i.key) (run_at i.rounds)
+          c.hashes_in-from.result.0 c.self.invariant.rounds c.hashes_in-from.ensures.from) c.go.ensures)
+          (λ e. no_hash i.key (with_standing (shown_standing c.args.standing.now) e) c.requires.no_round);
     }
 
 pub returns-in-Some-clause-exchanged : goal.returns-in-Some-clause-exchanged

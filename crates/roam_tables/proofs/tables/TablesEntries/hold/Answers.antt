@@ -2,7 +2,7 @@ use Rattle.std.proofs.Common.{◌∙◌, refl, sym}
 use Rattle.roam_pending.specs.Realms.{with_standing}
 use Rattle.roam_pending.specs.Shown.{shown_standing}
 use Rattle.roam_tables.specs.Private.Rounds.{kept_hash, run_at}
-use Rattle.roam_tables.proofs.UpdateLemmas.{change_becomes, change_enters, change_keeps, change_leaves, change_nothing, change_room, change_rounds, change_sound, kept_there, nothing_exchanged, one_exchanged, stood_just}
+use Rattle.roam_tables.proofs.ExchangeLemmas.{change_becomes, change_enters, change_keeps, change_leaves, change_nothing, change_room, change_rounds, change_sound, kept_there, nothing_exchanged, one_exchanged, stood_just}
 use Rattle.roam_tables.proofs.tables.TablesEntries.hold.Goals as goal
 
 pub move_round-requires-clause-rise : goal.move_round-requires-clause-rise

@@ -1,7 +1,7 @@
 use Rattle.std.proofs.Common.{◌∙◌, ℕ, Option, None, refl, subst, sym}
 use Rattle.roam_pending.specs.Shown.{shown}
 use Rattle.roam_tables.proofs.TablesLemmas.{tables_ticket}
-use Rattle.roam_tables.proofs.UpdateLemmas.{remove_becomes, remove_can, remove_found, remove_nothing, remove_just, remove_keeps, remove_room, remove_rounds, remove_sound}
+use Rattle.roam_tables.proofs.RemoveLemmas.{remove_becomes, remove_can, remove_found, remove_nothing, remove_just, remove_keeps, remove_room, remove_rounds, remove_sound}
 use Rattle.roam_tables.specs.Private.Marks.{mark_of}
 use Rattle.roam_tables.specs.Private.Rounds.{Goes, IsJustIn, kept_hash, run_at}
 use Rattle.roam_tables.proofs.tables.TablesEntries.remove.Goals as goal

@@ -1,6 +1,6 @@
 use Rattle.std.proofs.Common.{◌∙◌, refl, sym}
 use Rattle.roam_pending.specs.Realms.{sent_again}
-use Rattle.roam_tables.proofs.UpdateLemmas.{change_becomes, change_enters, change_keeps, change_leaves, change_nothing, change_room, change_sound, still_rounds}
+use Rattle.roam_tables.proofs.ExchangeLemmas.{change_becomes, change_enters, change_keeps, change_leaves, change_nothing, change_room, change_sound, still_rounds}
 use Rattle.roam_tables.specs.Private.Rounds.{kept_hash, run_at}
 use Rattle.roam_tables.proofs.RoundLemmas.{same_hash}
 use Rattle.roam_tables.proofs.tables.TablesEntries.send_again.Goals as goal
@@ -30,17 +30,15 @@ invariant_of-self g c =
       tables = change_sound i.slots i.by_ticket i.by_client i.realms.items c.self.invariant.tables c.args.self.now
           c.self.view_is c.args.realm c.args.ticket c.in-Some.at
           (sym c.ticket_slot.ensures ∙ c.in-Some.is) (sent_again c.args.deadline)
-          (λ e. refl) (λ e. refl) c.send_again-marks.result.0 c.send_again-marks.result.1 c.send_again-marks.ensures.from
-          c.send_again-marks.ensures.to c.send_again-marks.new.slots c.change_at.new.realms.items
-          c.send_again-marks.ensures.puts
-          c.change_at.ensures;
+          (λ e. refl) (λ e. refl) c.send_again-marks.result.0 c.send_again-marks.result.1
+          c.send_again-marks.ensures.from c.send_again-marks.ensures.to c.send_again-marks.new.slots
+          c.change_at.new.realms.items c.send_again-marks.ensures.puts c.change_at.ensures;
       rounds = still_rounds i.slots i.by_ticket i.by_client i.realms.items c.self.invariant.tables c.args.self.now
           c.self.view_is c.args.realm c.args.ticket c.in-Some.at
           (sym c.ticket_slot.ensures ∙ c.in-Some.is) (sent_again c.args.deadline)
-          (λ e. refl) (λ e. refl) c.send_again-marks.result.0 c.send_again-marks.result.1 c.send_again-marks.ensures.from
-          c.send_again-marks.ensures.to c.send_again-marks.new.slots c.change_at.new.realms.items
-          c.send_again-marks.ensures.puts
-          c.change_at.ensures
+          (λ e. refl) (λ e. refl) c.send_again-marks.result.0 c.send_again-marks.result.1
+          c.send_again-marks.ensures.from c.send_again-marks.ensures.to c.send_again-marks.new.slots
+          c.change_at.new.realms.items c.send_again-marks.ensures.puts c.change_at.ensures
           (kept_hash i.key) (run_at i.rounds) c.self.invariant.rounds (same_hash i.key c.args.deadline);
     }
 
