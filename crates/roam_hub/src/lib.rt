@@ -39,10 +39,12 @@
 //!   histories begin where they stand, or they come back as they were (by the contract it may always be so:
 //!   tested that it opens) | `Hub::pause_room`, `pause`: `histories`, `paused`, `stand`, `causes`; `open_over`:
 //!   `seat`, `err`
-//! - over any number of such changes a realm that each of them carries over is sent, in order and byte for
-//!   byte, what its own written broker sends for its own events before and after them; it goes on in its state
-//!   under its part of the next configuration. Of a realm that isn't carried over, that it begins anew where it
-//!   stood | law `realms_over_changes`: `carried`, `others`
+//! - over any number of such changes a realm that goes on at each is sent, in order and byte for byte, what its own
+//!   written broker sends for its own events before and after them, which goes on in what is carried over of its state,
+//!   under its part of the next configuration; where no change touches it, what it would have been sent had nothing
+//!   changed. Of a realm that is new, or went, that it has nothing | law `realms_over_changes`: `carried`, `untouched`,
+//!   `others`
+//! - what goes of a realm by a change is told as its state is where a history of its own shard ends | `Hub::losses`
 //! - in a history that begins in any states each realm is isolated too, and ends where its own written broker
 //!   does | law `realms_from_any_states`
 //! - a look at a realm gives numbers of its entries and sessions where a history of its own shard ends, no

@@ -283,14 +283,16 @@ pub(crate) fn two_configurations_are_compared<
     R: Files + Env + AllocGlobal + Threads + Wait + Clock + Net + RandomSource + Log + Sync + Abort,
 >(rt: &R, process: u32) {
     let all =
-        "realm a.example: carried over\nrealm b.example: carried over\nrealm c.example: carried over\n";
+        "realm a.example: unchanged\nrealm b.example: unchanged\nrealm c.example: unchanged\n";
     let more = format!(in rt.alloc(); "{LARGER}{FOURTH}").expect(rt, "memory");
-    let added = format!(in rt.alloc(); "may follow\n{all}realm d.example: added\n").expect(
+    let added = format!(in rt.alloc(); "may follow\n{all}realm d.example: new\n").expect(
         rt, "memory",
     );
     expect_comparison(rt, process, LARGER, more.as_str(), 0, added.as_str());
-    let removed = "may not follow: fewer realms\n";
-    expect_comparison(rt, process, more.as_str(), LARGER, 1, removed);
+    let gone = format!(in rt.alloc(); "may follow\n{all}realm d.example: gone: loses all\n").expect(
+        rt, "memory",
+    );
+    expect_comparison(rt, process, more.as_str(), LARGER, 0, gone.as_str());
 }
 
 pub(crate) fn a_configuration_is_counted<
