@@ -70,6 +70,7 @@ mod notes;
 mod opening;
 mod pause_room;
 mod pausing;
+mod saving;
 mod writing;
 
 pub use answered::{Answered, Refused, Ticked};
@@ -92,3 +93,4 @@ pub use roam_follow::follow;
 pub use roam_history::{Blanks, Front, Opened};
 pub use roam_pending::Requester;
 pub use roam_shard::Paused;
+pub use saving::SESSIONS_AT_ONCE;

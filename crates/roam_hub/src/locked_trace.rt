@@ -18,6 +18,7 @@ ghost use Rattle.roam_hub.specs.Calls.{AreGone, Calls, IsCall, IsFull, Sees, ans
 ghost use Rattle.roam_hub.specs.Looks.{LosesIn, StandsIn};
 
 mod due;
+mod saving;
 
 use crate::answered::{Answered, Refused};
 use crate::call::Call;

@@ -1,0 +1,46 @@
+//! What lies under a shard's lock is written as ledgers.
+
+use crate::locked_trace::LockedTrace;
+use roam_audit::Seat;
+use roam_history::Opened;
+use roam_ledgers::Writing;
+use roam_wire::NoMemory;
+use std::alloc::{AllocError, Allocator};
+
+impl<A: Allocator + Copy, N: Opened> LockedTrace<'_, A, N> {
+    /// Writes that the sessions of a realm follow, and adds their tickets; nothing where this is another shard's trace.
+    pub(crate) fn begin_saving(
+        &self,
+        seat: &Seat<A, N>,
+        shard: u16,
+        realm: u16,
+        tickets: &mut Vec<u64, A>,
+        writing: &mut Writing<A>,
+    ) -> Result<(), NoMemory>
+        requires { shard < N.opening.config.shards }
+    {
+        if !self.goes_on(seat, shard) {
+            return Ok(());
+        }
+        let shard = self.traced.shard();
+        shard.add_session_tickets(realm, tickets)?;
+        shard.save_realm(realm, writing).map_err(|_| NoMemory)
+    }
+
+    /// Writes the sessions of a realm that have these tickets; nothing where this is another shard's trace.
+    pub(crate) fn save(
+        &self,
+        seat: &Seat<A, N>,
+        shard: u16,
+        realm: u16,
+        tickets: &[u64],
+        writing: &mut Writing<A>,
+    ) -> Result<(), AllocError>
+        requires { shard < N.opening.config.shards }
+    {
+        if !self.goes_on(seat, shard) {
+            return Ok(());
+        }
+        self.traced.shard().save(realm, tickets, writing)
+    }
+}
