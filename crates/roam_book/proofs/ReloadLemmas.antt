@@ -16,7 +16,7 @@ use Rattle.roam_ids.specs.declared.id_state.IdState.TheVariants.{Free}
 use Rattle.roam_pending.specs.declared.key.Requester.{Requester}
 use Rattle.roam_pending.specs.declared.key.Requester.TheVariants as requester
 use Rattle.roam_pending.specs.PlainEntry.{PlainEntry, PlainRequest, PlainStanding, waiting, done, has_ticket, same_link, stands_at}
-use Rattle.roam_reload.specs.Reload.{IsCarried, peer_part, realm_part}
+use Rattle.roam_reload.specs.Reload.{IsUntouched, peer_part, realm_part}
 use Rattle.roam_book.specs.RealmConfig.{RealmConfig, IsLink, IsRequester, link_count, link_place, no_realm, realm_config}
 use Rattle.roam_book.specs.Private.MoreLanes.{AreMoreLanes}
 use Rattle.roam_book.specs.Reload.{Carries}
@@ -274,7 +274,7 @@ part_of [] r = refl
 part_of (x ∷ xs) zero = refl
 part_of (x ∷ xs) (suc r) = part_of xs r
 
-pub go_on : (old new : ConfigView) (r : ℕ) → new.seed ≡ old.seed → IsCarried old new r →
+pub go_on : (old new : ConfigView) (r : ℕ) → new.seed ≡ old.seed → IsUntouched old new r →
     Carries (realm_config old r) (realm_config new r)
 go_on old new r seed is = record {
   seed = seed;
