@@ -33,3 +33,4 @@ pub mod TurnLemmas
 pub mod UsedLemmas
 pub mod WaitingLemmas
 pub mod WayLemmas
+pub mod UntouchedLemmas

@@ -2,3 +2,4 @@ pub mod PeerLemmas
 pub mod KindLemmas
 pub mod DifferenceLemmas
 pub mod FateLemmas
+pub mod KeptLemmas
