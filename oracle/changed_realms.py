@@ -6,6 +6,7 @@ changed_realms.py   plays them, and ends with 1 where one differs
 import sys
 from changes import ChangingBroker
 from broker import Config, spelled
+from packets import chacha_words
 from configurations import CONFIGURATIONS
 from formulas import *
 
@@ -56,10 +57,6 @@ class Row:
                 yield f"{self.name}: {line}\n  says {expected}\n  played {got}"
 
 
-def reverse(number, attributes, secret=H1):
-    return request(number, attributes, secret, 40)
-
-
 BOTH = file_of(PEER, REALM_A, REALM_B)
 TURNED = file_of(PEER, REALM_B, REALM_A)
 qa, qb = request(5), request(5, B)
@@ -90,7 +87,7 @@ row = Row("a-session-outlives-a-secret", BOTH)
 row.arrive(qa, [sent(fa)])
 row.reply(response(fa), [given_back(back(qa))])
 row.change(file_of(PEER.replace("xyzzy5461", "another"), REALM_A, REALM_B))
-asked = reverse(7, SESSION + b"\x20\x06nas1")
+asked = reverse(40, 7, SESSION + b"\x20\x06nas1")
 row.arrive(asked, [sent(request(0, asked[20:] + T(1), b"another", 40), COA)], "reverse:0", HOME)
 
 row = Row("a-peer-that-goes-takes-its-sessions", file_of(PEER, PEER_2, REALM_A))
@@ -98,8 +95,7 @@ row.arrive(qa, [sent(fa)])
 row.reply(response(fa), [given_back(back(qa))])
 row.change(file_of(PEER_2, REALM_A))
 row.change(file_of(PEER_2, PEER, REALM_A))
-row.arrive(asked, 0 or [f"0 reverse:0 {HOME} " + (lambda head: head + md5(head, asked[4:20], b"\x65\x06" + (503).to_bytes(4, "big"), H1)
-           + b"\x65\x06" + (503).to_bytes(4, "big"))(header(42, 7, b"\x65\x06" + bytes(4))).hex()], "reverse:0", HOME)
+row.arrive(asked, [given_back(refused_with(503, asked), HOME, place="reverse:0")], "reverse:0", HOME)
 
 row = Row("a-server-at-another-place", file_of(PEER, REALM_A + "\n" + SERVER_2))
 row.arrive(qa, [sent(fa)])
@@ -138,6 +134,71 @@ row.change(BOTH)
 row.arrive(qb, [given_back(back(qb), realm=1)])
 row.arrive(qa, [sent(fa)])
 row.arrive(request(6, B), [sent(forward(request(6, B), 1, 1), realm=1)])
+
+
+row = Row("words-go-on-by-number", BOTH)
+xa, xb = access(1, NAME), access(1, named("u@b.example"))
+row.arrive(xa, [sent(forward_access(NAME, 0, 0), S1_AUTH)], "auth")
+row.arrive(xb, [sent(forward_access(named("u@b.example"), 0, 0, realm=1), S1_AUTH, 1)], "auth")
+row.change(TURNED)
+row.arrive(access(2, NAME), [sent(forward_access(NAME, 1, 1), S1_AUTH, 1)], "auth")
+row.change(file_of(PEER, REALM_B))
+row.arrive(access(2, named("u@b.example")), [sent(forward_access(named("u@b.example"), 1, 1, K(1, 1)), S1_AUTH)], "auth")
+
+row.change(BOTH)
+row.arrive(access(3, NAME), [sent(forward_access(NAME, 0, 0, chacha_words(bytes(32), 2, 0)), S1_AUTH)], "auth")
+
+row = Row("peers-turned-about", file_of(PEER, PEER_2, REALM_A))
+row.arrive(qa, [sent(fa)])
+row.arrive(q6, [sent(forward(q6, 1, 1))], source="192.0.2.2:5000")
+row.change(file_of(PEER_2, PEER, REALM_A))
+row.reply(response(fa), [given_back(back(qa))])
+row.reply(response(forward(q6, 1, 1)), [given_back(back(q6), "192.0.2.2:5000")])
+row.arrive(asked, [sent(request(0, asked[20:] + T(2), P, 40), COA)], "reverse:0", HOME)
+row.change(file_of(PEER_2, REALM_A))
+row.arrive(q6, [given_back(back(q6), "192.0.2.2:5000")], source="192.0.2.2:5000")
+
+row = Row("fewer-sessions-are-kept", file_of(PEER, REALM_A))
+starts = [request(n, NAME + START + attribute(44, b"%d" % n)) for n in range(3)]
+for n, start in enumerate(starts):
+    row.arrive(start, [sent(forward(start, n, n))])
+    row.reply(response(forward(start, n, n)), [given_back(back(start))])
+row.change(file_of(PEER, REALM_A.replace("max_sessions = 100", "max_sessions = 2")))
+for n in range(3):
+    ended = reverse(40, 10 + n, attribute(44, b"%d" % n) + attribute(32, b"nas1"))
+    row.arrive(ended, [given_back(refused_with(503, ended), HOME, place="reverse:0")] if n == 0 else
+               [sent(request(n - 1, ended[20:] + T(2 + n), P, 40), COA)], "reverse:0", HOME)
+
+row = Row("sessions-told-otherwise", file_of(PEER, REALM_A))
+row.arrive(qa, [sent(fa)])
+row.reply(response(fa), [given_back(back(qa))])
+row.change(file_of(PEER, REALM_A.replace("max_sessions = 100", "max_sessions = 100\nown_sessions = true")))
+row.arrive(asked, [given_back(refused_with(503, asked), HOME, place="reverse:0")], "reverse:0", HOME)
+
+row = Row("another-coa", file_of(PEER, REALM_A))
+named_session = reverse(40, 7, NAME + attribute(32, b"nas1"))
+row.arrive(named_session, [sent(request(0, named_session[20:] + T(0), P, 40), COA)], "reverse:0", HOME)
+row.change(file_of(PEER.replace("192.0.2.1:3799", "192.0.2.1:3800"), REALM_A))
+row.arrive(named_session, [sent(request(0, named_session[20:] + T(1), P, 40), "192.0.2.1:3800")], "reverse:0", HOME)
+
+row = Row("a-home-server-with-another-secret-asks-again", file_of(PEER, REALM_A))
+row.arrive(named_session, [sent(request(0, named_session[20:] + T(0), P, 40), COA)], "reverse:0", HOME)
+row.change(file_of(PEER, REALM_A.replace('"h1"', '"h9"')))
+row.arrive(named_session, 6, "reverse:0", HOME)
+row.reply(response(request(0, named_session[20:] + T(0), P, 40), b"", P, 41), 14, source=COA)
+anew = reverse(40, 7, NAME + attribute(32, b"nas1"), b"h9")
+row.arrive(anew, [sent(request(1, anew[20:] + T(1), P, 40), COA)], "reverse:0", HOME)
+
+row = Row("a-rest-goes-with-its-server", file_of(PEER, REALM_A.replace("rest = 0", "rest = 10000\nrest_after = 1") + "\n" + SERVER_2))
+row.arrive(qa, [sent(fa)])
+row.tick(1000, [sent(fa)])
+row.tick(2000, [sent(forward(qa, 0, 0, H2), S2)])
+row.change(file_of(PEER, REALM_A.replace("rest = 0", "rest = 10000\nrest_after = 1").replace(
+    SERVER_1, SERVER_2 + "\n" + SERVER_1)))
+row.arrive(q6, [sent(forward(q6, 1, 1, H2), S2)], now=2100)
+row.change(file_of(PEER, REALM_A.replace("rest = 0", "rest = 10000\nrest_after = 1") + "\n" + SERVER_2))
+row.arrive(q7, [sent(forward(q7, 2, 2, H2), S2)], now=2200)
+row.reply(response(forward(qa, 0, 0, H2), b"", H2), [given_back(back(qa))], source=S2, now=2300)
 
 
 def main():
