@@ -1,5 +1,6 @@
 //! What a change takes of each realm: told where it is made; and why it isn't made, where nobody agreed to lose that.
 
+use log::Log;
 use roam_book::{Loss, changed_peers};
 use roam_conf::Config;
 use roam_hub::{Opened, Seat};
@@ -83,7 +84,7 @@ pub fn why_not(alloc: Global, config: &Config, losses: &[Loss]) -> Option<Vec<u8
 }
 
 /// Tells what goes of each realm.
-pub fn tell_losses<R: log::Log>(rt: &R, config: &Config, losses: &[Loss]) {
+pub fn tell_losses<R: Log>(rt: &R, config: &Config, losses: &[Loss]) {
     for (realm, loss) in config.realms.iter().zip(losses.iter()) {
         if loss.waiting > 0 || loss.sessions > 0 {
             tell_dropped(
