@@ -34,3 +34,5 @@ pub mod UsedLemmas
 pub mod WaitingLemmas
 pub mod WayLemmas
 pub mod UntouchedLemmas
+pub mod CursorLemmas
+pub mod TakesNothingLemmas

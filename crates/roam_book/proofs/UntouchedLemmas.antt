@@ -25,12 +25,12 @@ use Rattle.roam_book.specs.Reload.{Carries, entries_then, entry_then, few_enough
 use Rattle.roam_book.specs.declared.state.rest.Rest.{Rest}
 use Rattle.roam_book.proofs.ReloadLemmas.{shaping_stays}
 
-servers_are : (old new : RealmConfig) → Carries old new → new.realm.servers ≡ old.realm.servers
+pub servers_are : (old new : RealmConfig) → Carries old new → new.realm.servers ≡ old.realm.servers
 servers_are old new k = ap (λ (r : RealmView). r.servers) k.table
 
 -- ---- links
 
-out_stays : (old new : RealmConfig) → Carries old new → same_out old.realm new.realm ≡ true
+pub out_stays : (old new : RealmConfig) → Carries old new → same_out old.realm new.realm ≡ true
 out_stays old new k =
     ap (λ (r : RealmView). same_endpoint old.realm.out r.out) k.table ∙ same_itself old.realm.out
 
