@@ -64,11 +64,11 @@ accts c g k (s ∷ ss) =
 coas : (c : RealmConfig) (g : ℕ → ℕ) (k : ℕ) (ps : List PeerView)
     → map (λ l. g (link_place c l)) (peer_links k ps)
     ≡ from g (length c.realm.servers + length c.realm.servers + k) (length ps)
-unfolding from, peer_links
+unfolding from peer_links
 coas c g k [] = refl
 coas c g k (p ∷ ps) =
     let on : length c.realm.servers + length c.realm.servers + (k + 1)
-        ≡ length c.realm.servers + length c.realm.servers + k + 1 = omega arith in
+    ≡ length c.realm.servers + length c.realm.servers + k + 1 = omega arith in
     ap (λ (ns : List ℕ). g (length c.realm.servers + length c.realm.servers + k) ∷ ns)
     (coas c g (k + 1) ps ∙ ap (λ (q : ℕ). from g q (length ps)) on)
 
@@ -107,13 +107,13 @@ list_then_zeros : (xs : List ℕ) (count : ℕ) → length xs ≤ count
 list_then_zeros xs count few =
     let zeros = replicate (count - length xs) 0 in
     let size : length (from (slice_index xs) 0 count) ≡ length (xs ++ zeros) =
-        omega (
-          arith,
-          few,
-          from_length (slice_index xs) 0 count,
-          length-append xs zeros,
-          length-replicate (count - length xs) 0,
-        ) in
+    omega (
+      arith,
+      few,
+      from_length (slice_index xs) 0 count,
+      length-append xs zeros,
+      length-replicate (count - length xs) 0,
+    ) in
     same_number_lists (from (slice_index xs) 0 count) (xs ++ zeros) size (λ i below. at i below)
   where
     at : (i : ℕ) → i < length (from (slice_index xs) 0 count)
@@ -122,7 +122,7 @@ list_then_zeros xs count few =
         let within : i < count = omega (arith, below, from_length (slice_index xs) 0 count) in
         let here : 0 + i ≡ i = omega arith in
         let left : get_or (from (slice_index xs) 0 count) i 0 ≡ slice_index xs i =
-            from_at (slice_index xs) 0 count i within ∙ ap (slice_index xs) here in
+        from_at (slice_index xs) 0 count i within ∙ ap (slice_index xs) here in
         elim (cases_lt i (length xs)) [
           | inl inside ↦ left ∙ sym (get_or_append_left xs (replicate (count - length xs) 0) 0 i inside)
           | inr past ↦ left ∙ grind (arith, past)
@@ -143,17 +143,17 @@ cursors_are old new k cursors count =
     let p = peer_links 0 new.peers in
     let same : now ≡ n = servers old new k in
     let parts : map f (links_of new) ≡ (map f a ++ map f b) ++ map f p =
-        over_both f (a ++ b) p ∙ ap (λ (xs : List ℕ). xs ++ map f p) (over_both f a b) in
+    over_both f (a ++ b) p ∙ ap (λ (xs : List ℕ). xs ++ map f p) (over_both f a b) in
     let to_servers : map f a ++ map f b ≡ from g 0 (now + now) =
-        ap (λ (xs : List ℕ). xs ++ map f b) (auths old g 0 new.realm.servers)
-        ∙ ap (λ (xs : List ℕ). from g 0 now ++ xs) (accts old g 0 new.realm.servers)
-        ∙ ap (λ (q : ℕ). from g 0 now ++ from g q now) (omega (arith, same))
-        ∙ from_more g 0 now now in
+    ap (λ (xs : List ℕ). xs ++ map f b) (auths old g 0 new.realm.servers)
+    ∙ ap (λ (xs : List ℕ). from g 0 now ++ xs) (accts old g 0 new.realm.servers)
+    ∙ ap (λ (q : ℕ). from g 0 now ++ from g q now) (omega (arith, same))
+    ∙ from_more g 0 now now in
     let to_all : (map f a ++ map f b) ++ map f p ≡ from g 0 (link_count new) =
-        ap (λ (xs : List ℕ). xs ++ map f p) to_servers
-        ∙ ap (λ (xs : List ℕ). from g 0 (now + now) ++ xs) (coas old g 0 new.peers)
-        ∙ ap (λ (q : ℕ). from g 0 (now + now) ++ from g q m) (omega (arith, same))
-        ∙ from_more g 0 (now + now) m in
+    ap (λ (xs : List ℕ). xs ++ map f p) to_servers
+    ∙ ap (λ (xs : List ℕ). from g 0 (now + now) ++ xs) (coas old g 0 new.peers)
+    ∙ ap (λ (q : ℕ). from g 0 (now + now) ++ from g q m) (omega (arith, same))
+    ∙ from_more g 0 (now + now) m in
     each_same (cursor_then old new cursors) f (cursor_is old new k cursors) (links_of new)
     ∙ parts ∙ to_all
     ∙ list_then_zeros cursors (link_count new) (omega (arith, count, same, peers old new k))
