@@ -97,7 +97,8 @@ by_parts : (peer : Option PeerView) (realm : RealmView)
 by_parts None realm = refl
 by_parts (Some peer) realm = refl
 
-pub shaping_stays : (b c : RealmConfig) → Carries b c → (i : ℕ) → i < length b.peers → shaping_from c i ≡ shaping_from b i
+pub shaping_stays : (b c : RealmConfig) → Carries b c → (i : ℕ) → i < length b.peers →
+    shaping_from c i ≡ shaping_from b i
 shaping_stays b c k i there =
     let within : i < length (map peer_part b.peers) = omega (arith, there, length-map b.peers peer_part) in
     let part : slice_get (map peer_part c.peers) i ≡ slice_get (map peer_part b.peers) i =

@@ -5,7 +5,7 @@ use Rattle.roam_pending.specs.ListLaws.{IsIn}
 use Rattle.roam_reload.specs.Kept.{same_out, same_servers}
 use Rattle.roam_reload.specs.Reload.{peer_part}
 use Rattle.roam_book.specs.RealmConfig.{RealmConfig, link_count}
-use Rattle.roam_book.specs.Reload.{LossView}
+use Rattle.roam_book.specs.Losses.{LossView}
 use Rattle.roam_book.specs.Rests.{all_awake}
 use Rattle.roam_book.specs.Sound.{AreOwnLanes, marks_of}
 use Rattle.roam_book.specs.declared.rules.carried_lanes.FreshLanes.{FreshLanes}

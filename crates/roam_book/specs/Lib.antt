@@ -18,6 +18,7 @@ pub mod BookView
 pub mod LostTicks
 pub mod RealmTurn
 pub mod Reload
+pub mod Losses
 pub mod Carrying
 pub mod Saving
 pub mod Rooms

@@ -1,4 +1,5 @@
--- A realm that goes on when the configuration changes (ours): its state under its part of the new one, of what it had. A
+-- A realm that goes on when the configuration changes (ours): its state under its part of the new one, of what it
+-- had. A
 -- server or a peer of both is the same one; all else goes, and no more.
 use Rattle.std.specs.Prelude.{◌≡◌, ℕ, zero, suc, ◌+◌, ◌-◌, ◌&&◌, not, nat_le, nat_lt, Bool, false, List, [], ◌∷◌, ◌++◌, drop, filter, length, map, Option, Some, None, is_some, option_and_then, option_map, replicate, slice_get, slice_index, if◌then◌else◌}
 use Rattle.std.specs.List.{filter_map}
@@ -152,7 +153,8 @@ sessions_then old new ss =
 -- ## Carried over
 -- The state of a realm that goes on, under its part of the new configuration. Ticket and place in the stream of random
 -- words stand as they did. The entries stay, in order, but those of a peer that went or whose `ip` or `secret` changed,
--- those of reverse requests whose sender's address or secret is nobody's any more, and of those that wait the ones whose
+-- those of reverse requests whose sender's address or secret is nobody's any more, and of those that wait the ones
+-- whose
 -- link is gone or has another endpoint, secret or `out`; a held one whose link is so keeps no link. An entry stays with
 -- its server wherever that stands now. Of peers' requests those go as well that with what is added for their peer now
 -- would have more than 4096 octets. Cursors, rests and counts stay with their link. The ledger stays, without the
@@ -161,7 +163,8 @@ sessions_then old new ss =
 -- nothing here.
 -- Source: ours
 -- Rules out: one peer's new secret that takes all entries and sessions; a reply signed with another secret than the
--- request; an entry at a server that stands where its own stood; a session of a peer that came back under another number
+-- request; an entry at a server that stands where its own stood; a session of a peer that came back under another
+-- number
 -- Stands in: `roam_book` `Reload.antt`: `carried`, `entries_then`, `sessions_then`, `link_then`, `requester_then`;
 -- `Book::carry_over`, `RealmNumbers::carry_over`, the laws `untouched_realms_go_on`, `carried_takes_no_more`
 --
@@ -182,7 +185,8 @@ pub record HasPlaces (c : RealmConfig) (s : RealmState) : Type 0 where
 
 -- ## Realm that a change doesn't touch
 -- Where a realm's table is equal, `name` and `also` aside, and each peer's that was there, it is carried over as it
--- stands, with a cursor 0 for each further peer. Where no peer is new its written broker is the same one, so its packets
+-- stands, with a cursor 0 for each further peer. Where no peer is new its written broker is the same one, so its
+-- packets
 -- before the change and after it are those that it would have sent had nothing changed.
 -- Source: ours
 -- Rules out: entries, tickets, random words or sessions lost where a realm's part stays as it is
@@ -208,7 +212,8 @@ TakesNothing =
     (old new : RealmConfig) → Carries old new → (s : RealmState) → HasPlaces old s
     → carried old new s ≡ record s { cursors = s.cursors ++ replicate (link_count new - link_count old) 0 }
 
--- where no peer is new, its written broker is the same: in any state, whatever its events, it sends the same packets and
+-- where no peer is new, its written broker is the same: in any state, whatever its events, it sends the same
+-- packets and
 -- comes to the same state
 abbrev pub NothingChangesForThem : Type 0
 NothingChangesForThem =
@@ -267,7 +272,8 @@ CarriedAddsNothing =
     → slice_get (carried old new s).entries i ≡ Some after
     → (j : ℕ) × (before : PlainEntry) × (slice_get s.entries j ≡ Some before) × ComesOver old new before after
 
--- an entry stays whose sender stays, which isn't too large now, and which waits at a link that stays, if it waits, where
+-- an entry stays whose sender stays, which isn't too large now, and which waits at a link that stays, if it waits,
+-- where
 -- no fewer may be pending
 abbrev pub CarriedTakesNoMore : Type 0
 CarriedTakesNoMore =
@@ -275,36 +281,3 @@ CarriedTakesNoMore =
     → nat_lt new.realm.max_pending old.realm.max_pending ≡ false
     → slice_get s.entries j ≡ Some before → entry_then old new before ≡ Some after
     → (i : ℕ) × (slice_get (carried old new s).entries i ≡ Some after)
-
--- ## Losses of a change
--- How many waiting requests, held replies and sessions of a realm go by a change: as many as its state has more of them
--- before than after.
--- Source: ours
--- Rules out: a change that drops what isn't counted
--- Stands in: `roam_book` `Reload.antt`: `losses`; `losses_of`; `roam_hub` `Looks.antt`: `WouldLose`; `Hub::losses`
---
-pub record LossView : Type 0 where
-  pub waiting : ℕ
-  pub held : ℕ
-  pub sessions : ℕ
-
-abbrev pub count_waiting : List PlainEntry → ℕ
-count_waiting es = length (filter (λ e. not (is_done e)) es)
-
-abbrev pub count_held : List PlainEntry → ℕ
-count_held es = length (filter is_done es)
-
-abbrev pub losses : RealmConfig → RealmConfig → RealmState → LossView
-losses old new s = record {
-  waiting = count_waiting s.entries - count_waiting (entries_then old new s.entries);
-  held = count_held s.entries - count_held (entries_then old new s.entries);
-  sessions = length s.sessions - length (sessions_then old new s.sessions);
-}
-
--- all that a realm has is lost where it goes
-abbrev pub all_lost : RealmState → LossView
-all_lost s = record {
-  waiting = count_waiting s.entries;
-  held = count_held s.entries;
-  sessions = length s.sessions;
-}

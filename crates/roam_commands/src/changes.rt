@@ -1,5 +1,5 @@
-//! The lines that say what a configuration takes which follows another, by names: of the broker's own endpoints, of each peer
-//! that changes, and of each realm.
+//! The lines that say what a configuration takes which follows another, by names: of the broker's own endpoints, of
+//! each peer that changes, and of each realm.
 
 ghost use Rattle.std.specs.Prelude.{OnOk};
 ghost use Rattle.roam_commands.specs.CommandFaults.{IsPrinted};

@@ -12,7 +12,8 @@ use roam_wire::RemovedAttribute;
 /// An access server (NAS), or the proxy of a visited network, known by its IPv4 address.
 #[derive(Drop, PartialEq, Eq)]
 pub struct Peer {
-    /// Whether it went from the file while that was served: its index stays empty, and nothing means it. A file's never is.
+    /// Whether it went from the file while that was served: its index stays empty, and nothing means it. A file's
+    /// never is.
     pub gone: bool,
     /// 1 to 64 ASCII letters, digits, `.`, `-` and `_`.
     pub name: String,

@@ -15,8 +15,8 @@ use roam_wire::RemovedAttribute;
 /// A realm: its home servers, and the sockets that the broker keeps for it.
 #[derive(Drop, PartialEq, Eq)]
 pub struct Realm {
-    /// Whether it went from the file while that was served: its index stays empty, it has no sockets, and nothing is for
-    /// it. A file's never is.
+    /// Whether it went from the file while that was served: its index stays empty, it has no sockets, and nothing is
+    /// for it. A file's never is.
     pub gone: bool,
     /// 1 to 253 ASCII letters, digits, `.` and `-`.
     pub name: String,

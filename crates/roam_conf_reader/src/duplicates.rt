@@ -1,8 +1,8 @@
 //! What may not stand twice in a configuration.
 //!
 //! Names and patterns of realms, and NAS-Identifiers, which may be many, are found by an index. The other searches
-//! compare all pairs: of at most 1024 peers, 8 `coa_client`s of a realm, 2050 sockets of the broker, 16 endpoints of one realm's servers, and of
-//! 1024 endpoints of peers with 16384 of servers.
+//! compare all pairs: of at most 1024 peers, 8 `coa_client`s of a realm, 2050 sockets of the broker, 16 endpoints of
+//! one realm's servers, and of 1024 endpoints of peers with 16384 of servers.
 
 ghost use Rattle.std.specs.Prelude.{◌≡◌, ◌≤◌, ◌+◌, ◌||◌, Some, None, IfOk, false, length, map, drop};
 ghost use Rattle.std.specs.List.{list_any};

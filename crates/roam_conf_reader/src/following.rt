@@ -9,8 +9,8 @@ use roam_conf::Config;
 use roam_reload::{LayFault, lay_out};
 use std::alloc::Global;
 
-/// A configuration laid out by the one which it is to follow, and with that one's seed: each realm and each peer of both
-/// has the index that it had.
+/// A configuration laid out by the one which it is to follow, and with that one's seed: each realm and each peer of
+/// both has the index that it had.
 ///
 /// # Errors
 ///

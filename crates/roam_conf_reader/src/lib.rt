@@ -5,10 +5,10 @@
 //!
 //! # Proved
 //!
-//! - what the TOML document states, and then no fault of the list holds in it; or the first that holds; or it
-//!   is out of memory | `read_config`: `ok`, `faultless`, `err`
-//! - a configuration is laid out by the one which it is to follow: each realm and peer of both has the index that it had |
-//!   `following_config`
+//! - what the TOML document states, and then no fault of the list holds in it; or the first that holds; or it is out
+//!   of memory | `read_config`: `ok`, `faultless`, `err`
+//! - a configuration is laid out by the one which it is to follow: each realm and peer of both has the index that it
+//!   had | `following_config`
 //! - what is printed of each fault | the `Display` of `ConfFault`; of `SimFault` (`roam_sim`), `TraceFault`
 //!   (`roam_trace`), `AuditFault` (`roam_audit`) and `HubFault` (`roam_hub`)
 #![tactic(auto)]

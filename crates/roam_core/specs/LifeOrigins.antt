@@ -45,7 +45,8 @@ pub record IsHeldIn (b : Stage) (life : List Happening) (q : PlainRequest) (tick
   pub same_ticket : entry.ticket ≡ ticket
 
 -- a request is told as another one after this: as it is held then
-pub record IsToldIn (b : Stage) (life : List Happening) (q : PlainRequest) (ticket : ℕ) (request : IsRequestIn b life q ticket)
+pub record IsToldIn (b : Stage) (life : List Happening) (q : PlainRequest) (ticket : ℕ)
+    (request : IsRequestIn b life q ticket)
     (before : List Happening) (told : PlainRequest) : Type 0 where
   pub between : List Happening
   pub in_order : before ≡ request.first ++ event (request_came request.asked_at request.named q) ∷ between
@@ -97,7 +98,8 @@ IsTargetThen b life c q told position ticket target sent l =
 
 -- a packet is the returned one of a request of the life: the request was forwarded to a link; then a reply came from
 -- that link, as it is told by then, with the forwarded packet's Identifier; it is taken, for its code, its Response
--- Authenticator and its Message-Authenticator (RFC 2865, section 3; RFC 3579, section 3.2); and its turn sent this packet
+-- Authenticator and its Message-Authenticator (RFC 2865, section 3; RFC 3579, section 3.2); and its turn sent this
+-- packet
 -- to the sender of the request. Between the two the configuration may have changed
 pub record IsReturnedIn (b : Stage) (life : List Happening) (q : PlainRequest) (ticket : ℕ)
     (out : PlainOut) : Type 0 where
@@ -198,8 +200,10 @@ pub record IsNakPacketIn (b : Stage) (life : List Happening) (out : PlainOut) : 
 -- ## Provenance over changes
 -- Over a realm's life each packet is one of the three of *Provenance*: forwarded, returned or a NAK, of a
 -- request of the life, before or after a change, each step under the configuration of its time; a request and a link
--- are told as they are called then. A packet that is sent again after a change has the octets that were forwarded before
--- it, and goes to the endpoint of the same link. It holds of what is sent after any part of a life from which all held entries come, and what is
+-- are told as they are called then. A packet that is sent again after a change has the octets that were forwarded
+-- before
+-- it, and goes to the endpoint of the same link. It holds of what is sent after any part of a life from which all
+-- held entries come, and what is
 -- held then comes from the life again; so from an opening on, for ever. A ticket is given to one event of a
 -- life.
 -- Source: RFC 2865 section 3, RFC 5176 section 2.3, ours
@@ -233,7 +237,8 @@ pub record WaitsForIn (b : Stage) (life : List Happening) (q : PlainRequest) (ti
   pub identifier : id ≡ target.id
 
 abbrev pub StandsFromIn : Stage → List Happening → PlainRequest → ℕ → PlainStanding → Type 0
-StandsFromIn b life q ticket (waiting l id forwarded sends_left deadline signs) = WaitsForIn b life q ticket l id forwarded
+StandsFromIn b life q ticket (waiting l id forwarded sends_left deadline signs) =
+    WaitsForIn b life q ticket l id forwarded
 StandsFromIn b life q ticket (done reply deadline from) =
     IsReturnedIn b life q ticket (back_to b.config.index q.key reply)
     ⊎ IsNakIn b life q (back_to b.config.index q.key reply)

@@ -1,4 +1,5 @@
--- What a request, and a link, of a realm are called while its configuration changes (ours): a home server has the number
+-- What a request, and a link, of a realm are called while its configuration changes (ours): a home server has the
+-- number
 -- of its place then, and a link too.
 use Rattle.std.specs.Prelude.{List, [], ◌∷◌, Option, Some, None, option_and_then}
 use Rattle.roam_conf.specs.declared.place.Link.{Link}
@@ -9,7 +10,8 @@ use Rattle.roam_core.specs.Lives.{Happening, Stage, begins_anew, event, goes_on,
 -- ## Told as
 -- A request of a realm's life is told as it is held: with the number that its home server has then, where one sent it;
 -- else as it came. Its key and its octets stay. A link is told by the place where its server stands then. Both are none
--- from a change on after which they don't stay: where what goes back to the sender, or the link, isn't the same any more.
+-- from a change on after which they don't stay: where what goes back to the sender, or the link, isn't the same any
+-- more.
 -- Source: ours
 -- Rules out: a reply of one server taken for another's, since that one stands at its place after a change
 -- Stands in: `roam_core` `Told.antt`: `request_over`, `link_over`

@@ -115,7 +115,8 @@ EachGoesAlone =
     (b : Beginning) (steps : List PlainStep) (realm : ℕ)
     → 1 ≤ b.config.shards → realm < length b.states → IsHistory b steps → GoesAlone b steps realm
 
--- where no change touches it, and none brings a peer, these are what it sends for all its events under the configuration
+-- where no change touches it, and none brings a peer, these are what it sends for all its events under the
+-- configuration
 -- of the first span, from the state in which it begins there: as if nothing had changed
 abbrev pub IsUntouchedInto : ℕ → Span → List Span → Type 0
 IsUntouchedInto realm s [] = Unit {0}

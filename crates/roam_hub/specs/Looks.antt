@@ -23,7 +23,8 @@ pub record StandsIn (o : HubOpening) (shard realm : ℕ) (seat : SeatView) (g : 
 abbrev pub StandsThen : HubOpening → ℕ → SeatView → Gauges → Type 0
 StandsThen o realm seat g = StandsIn o (realm % o.config.shards) realm seat g
 
--- what would go of a realm by a change is what goes of its state where the history of a shard ended when it was looked at
+-- what would go of a realm by a change is what goes of its state where the history of a shard ended when it was
+-- looked at
 pub record LosesIn (o : HubOpening) (next : ConfigView) (shard realm : ℕ) (seat : SeatView) (loss : Loss) : Type 0 where
   pub entries : List HistoryEntry
   pub begins : IsPrefix (front_of seat shard) entries

@@ -26,8 +26,8 @@ pub fn realms_from_any_states()
 
 /// While the configuration changes, any number of times, the packets that were sent for a realm which goes on at each
 /// change are those of its own written broker over all its events, before and after: in what is carried over of its
-/// state. Where no change touches it, they are what it would have sent had nothing changed. A realm that is new, or went,
-/// has nothing.
+/// state. Where no change touches it, they are what it would have sent had nothing changed. A realm that is new, or
+/// went, has nothing.
 pub fn realms_over_changes()
     ensures carried { CarriedOverChanges }
     ensures untouched { UntouchedOverChanges }

@@ -25,9 +25,9 @@ impl<A: Allocator + Copy, N: Opened> Hub<'_, A, N> {
         wait_for(rt, &self.locks[usize::from(shard)]).gauges(seat, shard, realm)
     }
 
-    /// What goes of a realm where another configuration is followed, in which these peers have other tables: as it stands
-    /// where its shard's history ends now. None as for `look`. Waits for the shard's lock, records nothing, and takes no
-    /// memory.
+    /// What goes of a realm where another configuration is followed, in which these peers have other tables: as it
+    /// stands where its shard's history ends now. None as for `look`. Waits for the shard's lock, records nothing,
+    /// and takes no memory.
     pub fn losses<R: Wait>(
         &self,
         rt: &R,

@@ -28,8 +28,8 @@ impl<A: Allocator + Copy, N: Opened> Hub<'_, A, N> {
         lock.begin_saving(seat, shard, realm, tickets, writing)
     }
 
-    /// Writes those sessions of a realm that have these tickets and are still open. Waits for the shard's lock, and records
-    /// nothing.
+    /// Writes those sessions of a realm that have these tickets and are still open. Waits for the shard's lock, and
+    /// records nothing.
     pub fn save<R: Wait>(
         &self,
         rt: &R,

@@ -18,7 +18,8 @@ pub(crate) struct Named<'c> {
     server: Option<String>,
 }
 
-/// The subjects of a configuration that are here, by their indexes: realms, each with its home servers behind it, and peers.
+/// The subjects of a configuration that are here, by their indexes: realms, each with its home servers behind it, and
+/// peers.
 pub(crate) fn all_named(alloc: Global, config: &Config) -> Result<Vec<Named<'_>>, AllocError> {
     let mut all = Vec::new(alloc);
     for (number, realm) in config.realms.iter().enumerate() {

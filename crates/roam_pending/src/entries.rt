@@ -128,9 +128,9 @@ pub trait Entries<A: Allocator> {
         ensures room { room_for self.old realm ≤ room_for self.new realm }
         ensures keeps { keeps self.new ≡ keeps self.old };
 
-    /// Gives the entry of a ticket other numbers of its ends: of the home server that sent it, where one did, and of the
-    /// link where it waits, or from which its held reply came, if it keeps one. Where none is given it waits where it
-    /// does, and a held reply keeps no link. Takes no memory, and no room.
+    /// Gives the entry of a ticket other numbers of its ends: of the home server that sent it, where one did, and of
+    /// the link where it waits, or from which its held reply came, if it keeps one. Where none is given it waits
+    /// where it does, and a held reply keeps no link. Takes no memory, and no room.
     fn set_ends(&mut self, realm: u16, ticket: u64, home: Option<u8>, link: Option<Link>)
         ensures entries { PutsChanged (with_ends home link) realm ticket (entries_of self.old) (entries_of self.new) }
         ensures room { room_for self.old realm ≤ room_for self.new realm }

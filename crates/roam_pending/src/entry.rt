@@ -82,7 +82,8 @@ impl<A: Allocator> Standing<A> {
         }
     }
 
-    /// What waits does so at this link, if one is given; of what is done the reply came from this one, if it came from one.
+    /// What waits does so at this link, if one is given; of what is done the reply came from this one, if it came
+    /// from one.
     pub fn set_link(&mut self, link: Option<Link>)
         ensures { shown_standing self.new ≡ with_link link (shown_standing self.old) }
     {

@@ -1,4 +1,5 @@
--- What stays the same between two configurations, as far as what waits in a realm, what is held there and what its ledger
+-- What stays the same between two configurations, as far as what waits in a realm, what is held there and what its
+-- ledger
 -- has depend on it: tests of the tables that stand at one number in both. Each is true of equal tables. Ours.
 use Rattle.std.specs.Prelude.{ℕ, ◌-◌, ◌&&◌, ◌||◌, not, nat_lt, Bool, true, false, List, [], ◌∷◌, length, Option, Some, None, is_some, option_and_then, option_map, slice_get, if◌then◌else◌}
 use Rattle.std.specs.Cmp.Lexicographic.{pointwise}
@@ -96,7 +97,8 @@ closes_reverse old new = is_some old.reverse && not (is_some new.reverse)
 -- the source at an address, if the secret shared with it is this
 abbrev pub home_at : RealmView → List ℕ → List ℕ → Option ℕ
 home_at realm ip secret =
-    option_and_then (λ home. if bytes_eq (home_secret realm home) secret then Some home else None) (reverse_home realm ip)
+    option_and_then (λ home. if bytes_eq (home_secret realm home) secret then Some home else None)
+    (reverse_home realm ip)
 
 -- ## Same source of reverse requests
 -- The reverse requests of a source stay where under the new table its address and its secret are a source's: the one of

@@ -1,7 +1,8 @@
 //! A configuration is laid out by the one which it follows, so that an index is one realm's, or one peer's, for as long
 //! as a server runs.
 
-ghost use Rattle.std.specs.Prelude.{◌≡◌, ◌++◌, Err, IfOk, OnOk, Some, [], false, map, option_map};
+ghost use Rattle.std.specs.Prelude.{◌≡◌, ◌⊎◌, ◌≤◌, ◌<◌, ◌++◌, Err, IfOk, OnErr, OnOk, Some, [], false, map};
+ghost use Rattle.std.specs.Prelude.{option_map};
 ghost use Rattle.std.specs.List.{find};
 ghost use Rattle.roam_conf.specs.Duplicates.{has_duplicate_peer, has_duplicate_realm};
 ghost use Rattle.roam_conf.specs.Parts.{shown_peer, shown_realm};
@@ -152,6 +153,18 @@ fn laid_realms(alloc: Global, old: &[Realm], new: Vec<Realm>) -> Result<Vec<Real
     Ok(laid)
 }
 
+/// `Numbers` where there are more peers or realms than have a number.
+fn have_numbers(peers: usize, realms: usize) -> Result<(), LayFault>
+    ensures ok { OnOk result ((peers ≤ 1024) × (realms ≤ 1024)) }
+    ensures err { OnErr result ((1024 < peers) ⊎ (1024 < realms)) }
+{
+    if peers > MOST || realms > MOST {
+        Err(LayFault::Numbers)
+    } else {
+        Ok(())
+    }
+}
+
 /// A configuration laid out by the one which it is to follow, and with that one's seed.
 ///
 /// # Errors
@@ -181,9 +194,7 @@ pub fn lay_out(alloc: Global, old: &Config, new: Config) -> Result<ConfigParts, 
     } = new.into_parts();
     let peers = laid_peers(alloc, old.peers.as_slice(), peers)?;
     let realms = laid_realms(alloc, old.realms.as_slice(), realms)?;
-    if peers.len() > MOST || realms.len() > MOST {
-        return Err(LayFault::Numbers);
-    }
+    have_numbers(peers.len(), realms.len())?;
     Ok(ConfigParts {
         shards,
         seed: old.seed,

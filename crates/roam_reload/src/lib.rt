@@ -1,18 +1,19 @@
-//! When a configuration may follow another while the broker serves, by which numbers its realms and peers are told then,
-//! and what stays of each.
+//! When a configuration may follow another while the broker serves, by which numbers its realms and peers are told
+//! then, and what stays of each.
 //!
 //! Nothing here reads a document or changes a broker: two configurations are looked at. Only laying one out by another
 //! takes memory.
 //!
 //! # Proved
 //!
-//! - a configuration that is laid out by the one which it follows has each realm and each peer of both at the index where
-//!   it stood, leaves the place of one that went empty, and has new ones behind | `lay_out`, law
+//! - a configuration that is laid out by the one which it follows has each realm and each peer of both at the index
+//!   where it stood, leaves the place of one that went empty, and has new ones behind | `lay_out`, law
 //!   `laid_out_keeps_numbers`
-//! - which realms go on, which of them are untouched, which begin and which went; whether it may follow, and if not, why |
-//!   `fate_of`, `is_carried`, `is_untouched`, `hindrance_of`
-//! - whether a peer's requests, what waits at its `coa` and its sessions stay; where a server stands then, and a source
-//!   of reverse requests | `peer_keeps_requests`, `peer_keeps_coa`, `peer_keeps_sessions`, `server_then`, `home_then`
+//! - which realms go on, which of them are untouched, which begin and which went; whether it may follow, and if not,
+//!   why | `fate_of`, `is_carried`, `is_untouched`, `hindrance_of`
+//! - whether a peer's requests, what waits at its `coa` and its sessions stay; where a server stands then, and a
+//!   source of reverse requests | `peer_keeps_requests`, `peer_keeps_coa`, `peer_keeps_sessions`, `server_then`,
+//!   `home_then`
 #![tactic(auto)]
 
 mod fate;

@@ -25,7 +25,7 @@ use std::marker::Model;
 pub struct Sessions<A: Allocator> {
     alloc: A,
     limit: u32,
-    chain: Chain<A>,
+    pub(crate) chain: Chain<A>,
 }
 
 impl<A: Allocator> Model for Sessions<A> {

@@ -12,8 +12,8 @@ use crate::short::{KeptShort, Short};
 use roam_wire::NoMemory;
 use std::alloc::Allocator;
 
-/// A session: its peer, the names of its access server, where these are kept, and its Acct-Session-Id, where their octets
-/// lie.
+/// A session: its peer, the names of its access server, where these are kept, and its Acct-Session-Id, where their
+/// octets lie.
 #[derive(Clone, Copy)]
 pub struct SessionParts<'a> {
     pub peer: u16,
@@ -83,8 +83,8 @@ impl<A: Allocator> OpenSession<A> {
 }
 
 impl<A: Allocator + Copy> Sessions<A> {
-    /// Opens a session of these parts, as an accounting request does, if an attribute has room for each of them. `NoMemory`
-    /// comes where a growth was refused, and the ledger is then as it was.
+    /// Opens a session of these parts, as an accounting request does, if an attribute has room for each of them.
+    /// `NoMemory` comes where a growth was refused, and the ledger is then as it was.
     pub fn restore(&mut self, parts: SessionParts<'_>) -> Result<(), NoMemory>
         ensures ok { OnOk result (AreShort (shown_parts parts.entry)
             → self.new.sessions ≡ with_session self.old.limit (shown_parts parts.entry) self.old.sessions) }

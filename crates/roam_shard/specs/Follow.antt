@@ -11,7 +11,8 @@ use Rattle.roam_core.specs.Openings.{next_start}
 
 -- ## State after a change
 -- Of a realm of the new configuration that is one of the shard's, where the configuration changes: where it goes on,
--- what is carried over of the state in which it stood. Where it is new, or went, it stands as at an opening: no entries,
+-- what is carried over of the state in which it stood. Where it is new, or went, it stands as at an opening: no
+-- entries,
 -- no sessions, cursors 0 and no rests, at the place in its random words and the next ticket where the realm of its
 -- index stood. Where none stood there, as of each new one, both are 0.
 -- Source: ours

@@ -5,7 +5,7 @@ use Rattle.roam_reload.specs.Reload.{IsCarried}
 use Rattle.roam_book.specs.Carrying.{shown_loss}
 use Rattle.roam_book.specs.RealmConfig.{realm_config}
 use Rattle.roam_book.specs.RealmState.{RealmState}
-use Rattle.roam_book.specs.Reload.{all_lost, losses}
+use Rattle.roam_book.specs.Losses.{all_lost, losses}
 use Rattle.roam_book.specs.declared.rules.losses.Loss.{Loss}
 use Rattle.roam_book.specs.declared.state.gauges.Gauges.{Gauges}
 use Rattle.roam_book.specs.declared.state.realm_numbers.RealmNumbers.{RealmNumbers}

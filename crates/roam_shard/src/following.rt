@@ -30,8 +30,8 @@ struct FreshRealm<A: Allocator> {
     lanes: Option<FreshLanes<A>>,
 }
 
-/// The memory with which a shard follows another configuration, by the index of the realm; and the peers whose tables are
-/// other ones there, which are looked for once.
+/// The memory with which a shard follows another configuration, by the index of the realm; and the peers whose tables
+/// are other ones there, which are looked for once.
 #[derive(Drop)]
 pub struct FreshNumbers<A: Allocator> {
     realms: Vec<FreshRealm<A>, A>,
@@ -188,8 +188,8 @@ impl<A: Allocator + Copy> Paused<A> {
         numbers.reserve_carry(&before, &after)
     }
 
-    /// Takes the memory with which a realm follows a configuration: of lanes where it goes on, else of numbers that nothing
-    /// uses.
+    /// Takes the memory with which a realm follows a configuration: of lanes where it goes on, else of numbers that
+    /// nothing uses.
     fn reserve_one(
         &mut self,
         old: &Config,

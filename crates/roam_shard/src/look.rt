@@ -91,8 +91,8 @@ impl<A: Allocator + Copy> Shard<'_, A> {
         Some(numbers.gauges(self.entries.len(realm)))
     }
 
-    /// What goes of a realm where another configuration is followed, in which these peers have other tables; none where it
-    /// isn't one of the shard's own.
+    /// What goes of a realm where another configuration is followed, in which these peers have other tables; none
+    /// where it isn't one of the shard's own.
     pub fn losses(&self, realm: u16, next: &Config, changed: &[u16]) -> Option<Loss>
         requires { AreChanged self.now.opening.config.peers (shown next.now).peers changed.now }
         ensures { IfSome result (IsLoss self.now.opening.config (shown next.now) realm

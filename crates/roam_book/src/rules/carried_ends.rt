@@ -1,4 +1,5 @@
-//! What the ends of an entry are when its realm goes on under another part of a configuration: its sender, and its link.
+//! What the ends of an entry are when its realm goes on under another part of a configuration: its sender, and its
+//! link.
 
 ghost use Rattle.std.specs.Prelude.{◌≡◌, ◌<◌, IfSome, IfNone, Some, None, length};
 ghost use Rattle.roam_pending.specs.Realms.{with_ends, with_home};

@@ -26,8 +26,8 @@ pub struct FreshLanes<A: Allocator> {
     pub(crate) rests: Vec<Rest, A>,
 }
 
-/// Whether each server stands where it stood, packets leave from the same `out`, and no peer's place is gone: then each lane
-/// stays where it is.
+/// Whether each server stands where it stood, packets leave from the same `out`, and no peer's place is gone: then
+/// each lane stays where it is.
 pub(crate) fn stand_as_before(old: &RealmSettings<'_>, new: &RealmSettings<'_>) -> bool
     ensures { IsTrue result ↔ StandAsBefore old.now new.now }
 {

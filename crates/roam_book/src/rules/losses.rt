@@ -2,7 +2,7 @@
 
 ghost use Rattle.std.specs.Prelude.{◌≡◌};
 ghost use Rattle.roam_book.specs.Carrying.{AreChanged, shown_loss};
-ghost use Rattle.roam_book.specs.Reload.{all_lost, losses};
+ghost use Rattle.roam_book.specs.Losses.{all_lost, losses};
 ghost use Rattle.roam_book.specs.Sound.{IsSound, state_of};
 
 use crate::rules::carried_ends::ends_then;

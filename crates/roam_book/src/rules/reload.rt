@@ -44,8 +44,8 @@ fn add_lanes<A: Allocator + Copy>(
     }
 }
 
-/// The peers whose tables aren't what they were, but for which of their Access-Requests need a Message-Authenticator: few
-/// at most changes.
+/// The peers whose tables aren't what they were, but for which of their Access-Requests need a Message-Authenticator:
+/// few at most changes.
 pub fn changed_peers<A: Allocator + Copy>(
     alloc: A,
     old: &[Peer],
@@ -90,8 +90,9 @@ impl<A: Allocator + Copy> RealmNumbers<A> {
         Ok(())
     }
 
-    /// Takes the memory with which the realm goes on under other settings: of further lanes, or of all, where its servers
-    /// stand at other places or its packets leave from another `out`. What the numbers stand for stays, refused or not.
+    /// Takes the memory with which the realm goes on under other settings: of further lanes, or of all, where its
+    /// servers stand at other places or its packets leave from another `out`. What the numbers stand for stays,
+    /// refused or not.
     pub fn reserve_carry(
         &mut self,
         old: &RealmSettings<'_>,
@@ -137,8 +138,8 @@ pub(crate) fn is_untouched(
     changed.is_empty() && realm_difference(old.realm(), new.realm()).is_none()
 }
 
-/// A realm goes on under other settings, with the memory that was taken: entries, lanes, rests and sessions stay or go, as
-/// `carried` says. `changed` are the peers whose tables are other ones. Takes no memory.
+/// A realm goes on under other settings, with the memory that was taken: entries, lanes, rests and sessions stay or
+/// go, as `carried` says. `changed` are the peers whose tables are other ones. Takes no memory.
 pub fn carry_over<A: Allocator + Copy, E: Entries<A>>(
     old: &RealmSettings<'_>,
     new: &RealmSettings<'_>,
@@ -166,8 +167,8 @@ pub fn carry_over<A: Allocator + Copy, E: Entries<A>>(
     numbers.carry_sessions(old, new, changed);
 }
 
-/// A realm that a change doesn't touch goes on as it stands, and where no peer is new it is sent what it would have been
-/// sent had nothing changed. This function does nothing.
+/// A realm that a change doesn't touch goes on as it stands, and where no peer is new it is sent what it would have
+/// been sent had nothing changed. This function does nothing.
 pub fn untouched_realms_go_on()
     ensures parts { UntouchedRealmsGoOn }
     ensures state { TakesNothing }

@@ -9,10 +9,11 @@ ghost use Rattle.roam_conf.specs.Parts.{shown_realm, shown_peer, shown_server};
 ghost use Rattle.roam_reverse.specs.Causes.{cause};
 ghost use Rattle.roam_reverse.specs.Target.{target};
 ghost use Rattle.roam_book.specs.RealmConfig.{realm_config, server_secret, peer_secret, link_secret, requester_secret};
-ghost use Rattle.roam_book.specs.RealmConfig.{seal_required, link_endpoint, link_place, link_count, nowhere, IsLink};
-ghost use Rattle.roam_book.specs.RealmConfig.{IsRequester};
+ghost use Rattle.roam_book.specs.RealmConfig.{seal_required, link_endpoint, link_place, link_count, nowhere};
+ghost use Rattle.roam_book.specs.RealmConfig.{IsLink, IsRequester};
 
 use crate::state::hash_key::hash_key;
+use crate::state::nowhere::NOWHERE;
 use roam_conf::{Config, Endpoint, Link, Peer, Realm, Server};
 use roam_hash::HashKey;
 use roam_pending::Requester;
@@ -299,9 +300,3 @@ impl<'c> RealmSettings<'c> {
         }
     }
 }
-
-/// The endpoint of a peer that takes no reverse requests.
-const NOWHERE: Endpoint = Endpoint {
-    ip: [0; 4],
-    port: 0,
-};

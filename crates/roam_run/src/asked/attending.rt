@@ -4,9 +4,9 @@ ghost use Rattle.std.specs.Prelude.{IfOk, IfSome};
 ghost use Rattle.roam_conf.specs.Shown.{shown};
 ghost use Rattle.roam_reload.specs.Reload.{MayFollow};
 
-use crate::asked::losing::{all_losses, tell_losses, why_not};
+use crate::asked::losing::objection;
 use crate::asked::overview::Overview;
-use crate::change::next::{Next, out_of_memory, prepare_next};
+use crate::change::next::{Next, prepare_next};
 use crate::change::source::Source;
 use log::Log;
 use roam_conf::Config;
@@ -203,29 +203,13 @@ impl<R: Threads + Wait + Clock + Net + Log + Sync, G, N: Opened> Attendant<'_, '
         }
     }
 
-    /// Why a configuration isn't followed by which something would be lost, unless that is agreed to: then it is told what
-    /// goes.
-    fn objection_to(&self, next: &Config, is_agreed: bool) -> Option<Reply> {
-        let shared = self.shared;
-        let Ok(losses) = all_losses(self.rt, shared, &self.seat, next) else {
-            return Some(out_of_memory(shared.alloc));
-        };
-        if is_agreed {
-            tell_losses(self.rt, shared.config, losses.as_slice());
-            return None;
-        }
-        match why_not(shared.alloc, shared.config, losses.as_slice()) {
-            Some(text) => Some(plain_reply(Course::Declined, text)),
-            None => None,
-        }
-    }
-
     /// The configuration that is to follow, with all that the server needs for it; or why none follows.
     fn next_of<S: Source>(&self, source: &mut S, is_agreed: bool) -> Result<Next, Reply>
         ensures { IfOk result (λ next. MayFollow N.opening.config (shown next.configured.config)) }
     {
         let next = prepare_next(self.rt, self.shared, self.sockets, source)?;
-        match self.objection_to(&next.configured.config, is_agreed) {
+        let config = &next.configured.config;
+        match objection(self.rt, self.shared, &self.seat, config, is_agreed) {
             Some(reply) => Err(reply),
             None => Ok(next),
         }

@@ -1,8 +1,10 @@
 //! What a change takes of each realm: told where it is made; and why it isn't made, where nobody agreed to lose that.
 
+use crate::change::next::out_of_memory;
 use log::Log;
 use roam_book::{Loss, changed_peers};
 use roam_conf::Config;
+use roam_control::{Course, Reply, plain_reply};
 use roam_hub::{Opened, Seat};
 use roam_notices::{DropCause, DroppedText};
 use roam_telling::tell_dropped;
@@ -31,7 +33,7 @@ fn loss_at<R: Wait, G, N: Opened>(
 }
 
 /// What goes of each realm where a configuration follows.
-pub fn all_losses<R: Wait, G, N: Opened>(
+fn all_losses<R: Wait, G, N: Opened>(
     rt: &R,
     shared: &Shared<'_, '_, G, N>,
     seat: &Seat<Global, N>,
@@ -68,7 +70,7 @@ fn push_line(text: &mut Vec<u8>, name: &str, loss: &Loss) -> bool {
 }
 
 /// The lines of what would go; none where nothing would.
-pub fn why_not(alloc: Global, config: &Config, losses: &[Loss]) -> Option<Vec<u8>> {
+fn why_not(alloc: Global, config: &Config, losses: &[Loss]) -> Option<Vec<u8>> {
     let mut text = Vec::new(alloc);
     for (realm, loss) in config.realms.iter().zip(losses.iter()) {
         if !is_nothing(loss) {
@@ -84,7 +86,7 @@ pub fn why_not(alloc: Global, config: &Config, losses: &[Loss]) -> Option<Vec<u8
 }
 
 /// Tells what goes of each realm.
-pub fn tell_losses<R: Log>(rt: &R, config: &Config, losses: &[Loss]) {
+fn tell_losses<R: Log>(rt: &R, config: &Config, losses: &[Loss]) {
     for (realm, loss) in config.realms.iter().zip(losses.iter()) {
         if loss.waiting > 0 || loss.sessions > 0 {
             tell_dropped(
@@ -97,5 +99,27 @@ pub fn tell_losses<R: Log>(rt: &R, config: &Config, losses: &[Loss]) {
                 },
             );
         }
+    }
+}
+
+/// Why a configuration isn't followed by which something would be lost, unless that is agreed to: then it is told
+/// what goes.
+pub fn objection<R: Wait + Log, G, N: Opened>(
+    rt: &R,
+    shared: &Shared<'_, '_, G, N>,
+    seat: &Seat<Global, N>,
+    next: &Config,
+    is_agreed: bool,
+) -> Option<Reply> {
+    let Ok(losses) = all_losses(rt, shared, seat, next) else {
+        return Some(out_of_memory(shared.alloc));
+    };
+    if is_agreed {
+        tell_losses(rt, shared.config, losses.as_slice());
+        return None;
+    }
+    match why_not(shared.alloc, shared.config, losses.as_slice()) {
+        Some(text) => Some(plain_reply(Course::Declined, text)),
+        None => None,
     }
 }

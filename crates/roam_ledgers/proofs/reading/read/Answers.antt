@@ -10,4 +10,5 @@ returns-clause-found c = is_found c.args.octets.now c.all.result c.all.ensures
 
 pub returns-clause-only : goal.returns-clause-only
 returns-clause-only c =
-    λ items e. subst (λ f. Gives (λ v. shown_items v.items) c.all.result f) (ap reading e ∙ written_is_read items) c.all.ensures
+    λ items e. subst (λ f. Gives (λ v. shown_items v.items) c.all.result f) (ap reading e
+    ∙ written_is_read items) c.all.ensures
