@@ -88,7 +88,8 @@ impl<A: Allocator + Copy> Sessions<A> {
     pub fn restore(&mut self, parts: SessionParts<'_>) -> Result<(), NoMemory>
         ensures ok { OnOk result (AreShort (shown_parts parts.entry)
             → self.new.sessions ≡ with_session self.old.limit (shown_parts parts.entry) self.old.sessions) }
-        ensures others { OnOk result ((AreShort (shown_parts parts.entry) → ⊥) → self.new.sessions ≡ self.old.sessions) }
+        ensures others { OnOk result ((AreShort (shown_parts parts.entry) → ⊥)
+            → self.new.sessions ≡ self.old.sessions) }
         ensures err { OnErr result (self.new ≡ self.old) }
         ensures limit { self.new.limit ≡ self.old.limit }
     {

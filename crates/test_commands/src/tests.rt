@@ -285,10 +285,10 @@ pub(crate) fn two_configurations_are_compared<
     let all =
         "realm a.example: unchanged\nrealm b.example: unchanged\nrealm c.example: unchanged\n";
     let more = format!(in rt.alloc(); "{LARGER}{FOURTH}").expect(rt, "memory");
-    let added = format!(in rt.alloc(); "may follow\n{all}realm d.example: new\n").expect(
+    let new = format!(in rt.alloc(); "may follow\n{all}realm d.example: new\n").expect(
         rt, "memory",
     );
-    expect_comparison(rt, process, LARGER, more.as_str(), 0, added.as_str());
+    expect_comparison(rt, process, LARGER, more.as_str(), 0, new.as_str());
     let gone = format!(in rt.alloc(); "may follow\n{all}realm d.example: gone: loses all\n").expect(
         rt, "memory",
     );

@@ -9,8 +9,7 @@ ghost use Rattle.roam_conf.specs.Parts.{shown_realm, shown_peer, shown_server};
 ghost use Rattle.roam_reverse.specs.Causes.{cause};
 ghost use Rattle.roam_reverse.specs.Target.{target};
 ghost use Rattle.roam_book.specs.RealmConfig.{realm_config, server_secret, peer_secret, link_secret, requester_secret};
-ghost use Rattle.roam_book.specs.RealmConfig.{seal_required, link_endpoint, link_place, link_count, nowhere};
-ghost use Rattle.roam_book.specs.RealmConfig.{IsLink, IsRequester};
+ghost use Rattle.roam_book.specs.RealmConfig.{seal_required, link_endpoint, link_place, link_count, nowhere, IsLink, IsRequester};
 
 use crate::state::hash_key::hash_key;
 use crate::state::nowhere::NOWHERE;
@@ -248,8 +247,7 @@ impl<'c> RealmSettings<'c> {
     ) -> Result<u16, u32>
         ensures cause { result_err result ≡ cause (Some self.now.realm) self.now.peers self.now.index named
             request.now.attributes sessions.now.sessions }
-        ensures target { IfOk result (λ peer. Some peer
-            ≡ target self.now.peers request.now.attributes) }
+        ensures target { IfOk result (λ peer. Some peer ≡ target self.now.peers request.now.attributes) }
         ensures there { IfOk result (λ peer. peer < length self.now.peers) }
     {
         route_of(self.config, self.realm, named, request, sessions)
