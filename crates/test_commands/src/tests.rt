@@ -282,17 +282,13 @@ fn expect_comparison<
 pub(crate) fn two_configurations_are_compared<
     R: Files + Env + AllocGlobal + Threads + Wait + Clock + Net + RandomSource + Log + Sync + Abort,
 >(rt: &R, process: u32) {
-    let all =
-        "realm a.example: unchanged\nrealm b.example: unchanged\nrealm c.example: unchanged\n";
     let more = format!(in rt.alloc(); "{LARGER}{FOURTH}").expect(rt, "memory");
-    let new = format!(in rt.alloc(); "may follow\n{all}realm d.example: new\n").expect(
-        rt, "memory",
-    );
-    expect_comparison(rt, process, LARGER, more.as_str(), 0, new.as_str());
-    let gone = format!(in rt.alloc(); "may follow\n{all}realm d.example: gone: loses all\n").expect(
-        rt, "memory",
-    );
-    expect_comparison(rt, process, more.as_str(), LARGER, 0, gone.as_str());
+    let new =
+        "may follow\nrealm a.example: unchanged\nrealm b.example: unchanged\nrealm c.example: unchanged\nrealm d.example: new\n";
+    expect_comparison(rt, process, LARGER, more.as_str(), 0, new);
+    let gone =
+        "may follow\nrealm a.example: unchanged\nrealm b.example: unchanged\nrealm c.example: unchanged\nrealm d.example: gone: loses all\n";
+    expect_comparison(rt, process, more.as_str(), LARGER, 0, gone);
 }
 
 pub(crate) fn a_configuration_is_counted<
