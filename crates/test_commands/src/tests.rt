@@ -283,11 +283,11 @@ pub(crate) fn two_configurations_are_compared<
     R: Files + Env + AllocGlobal + Threads + Wait + Clock + Net + RandomSource + Log + Sync + Abort,
 >(rt: &R, process: u32) {
     let more = format!(in rt.alloc(); "{LARGER}{FOURTH}").expect(rt, "memory");
-    let new =
-        "may follow\nrealm a.example: unchanged\nrealm b.example: unchanged\nrealm c.example: unchanged\nrealm d.example: new\n";
+    let (new, gone) = (
+        "may follow\nrealm a.example: unchanged\nrealm b.example: unchanged\nrealm c.example: unchanged\nrealm d.example: new\n",
+        "may follow\nrealm a.example: unchanged\nrealm b.example: unchanged\nrealm c.example: unchanged\nrealm d.example: gone: loses all\n",
+    );
     expect_comparison(rt, process, LARGER, more.as_str(), 0, new);
-    let gone =
-        "may follow\nrealm a.example: unchanged\nrealm b.example: unchanged\nrealm c.example: unchanged\nrealm d.example: gone: loses all\n";
     expect_comparison(rt, process, more.as_str(), LARGER, 0, gone);
 }
 
