@@ -1,6 +1,5 @@
--- A realm that goes on when the configuration changes (ours): its state under its part of the new one, of what it
--- had. A
--- server or a peer of both is the same one; all else goes, and no more.
+-- A realm that goes on when the configuration changes (ours): its state under its part of the new one, of what it had.
+-- A server or a peer of both is the same one; all else goes, and no more.
 use Rattle.std.specs.Prelude.{◌≡◌, ℕ, zero, suc, ◌+◌, ◌-◌, ◌&&◌, not, nat_le, nat_lt, Bool, false, List, [], ◌∷◌, ◌++◌, drop, filter, length, map, Option, Some, None, is_some, option_and_then, option_map, replicate, slice_get, slice_index, if◌then◌else◌}
 use Rattle.std.specs.List.{filter_map}
 use Rattle.std.specs.Option.{option_map_or}
@@ -154,19 +153,18 @@ sessions_then old new ss =
 -- The state of a realm that goes on, under its part of the new configuration. Ticket and place in the stream of random
 -- words stand as they did. The entries stay, in order, but those of a peer that went or whose `ip` or `secret` changed,
 -- those of reverse requests whose sender's address or secret is nobody's any more, and of those that wait the ones
--- whose
--- link is gone or has another endpoint, secret or `out`; a held one whose link is so keeps no link. An entry stays with
--- its server wherever that stands now. Of peers' requests those go as well that with what is added for their peer now
--- would have more than 4096 octets. Cursors, rests and counts stay with their link. The ledger stays, without the
--- sessions of peers that went; it is empty where `own_sessions` changed. Where `max_sessions` fell, the oldest sessions
--- go; where `max_pending` fell, held replies go in order of ticket. All other keys count from then on, and change
--- nothing here.
+-- whose link is gone or has another endpoint, secret or `out`; a held one whose link is so keeps no link. An entry
+-- stays with its server wherever that stands now. Of peers' requests those go as well that with what is added for their
+-- peer now would have more than 4096 octets. Cursors, rests and counts stay with their link. The ledger stays, without
+-- the sessions of peers that went; it is empty where `own_sessions` changed. Where `max_sessions` fell, the oldest
+-- sessions go; where `max_pending` fell, held replies go in order of ticket. All other keys count from then on, and
+-- change nothing here.
 -- Source: ours
 -- Rules out: one peer's new secret that takes all entries and sessions; a reply signed with another secret than the
 -- request; an entry at a server that stands where its own stood; a session of a peer that came back under another
 -- number
 -- Stands in: `roam_book` `Reload.antt`: `carried`, `entries_then`, `sessions_then`, `link_then`, `requester_then`;
--- `Book::carry_over`, `RealmNumbers::carry_over`, the laws `untouched_realms_go_on`, `carried_takes_no_more`
+-- `Book::carry_over`, `carry_over`, the laws `untouched_realms_go_on`, `carried_takes_no_more`
 --
 abbrev pub carried : RealmConfig → RealmConfig → RealmState → RealmState
 carried old new s = record {
@@ -186,8 +184,7 @@ pub record HasPlaces (c : RealmConfig) (s : RealmState) : Type 0 where
 -- ## Realm that a change doesn't touch
 -- Where a realm's table is equal, `name` and `also` aside, and each peer's that was there, it is carried over as it
 -- stands, with a cursor 0 for each further peer. Where no peer is new its written broker is the same one, so its
--- packets
--- before the change and after it are those that it would have sent had nothing changed.
+-- packets before the change and after it are those that it would have sent had nothing changed.
 -- Source: ours
 -- Rules out: entries, tickets, random words or sessions lost where a realm's part stays as it is
 -- Stands in: `roam_book` `Reload.antt`: `Carries`, `TakesNothing`, `AsIfNothingChanged`; the law
@@ -212,9 +209,8 @@ TakesNothing =
     (old new : RealmConfig) → Carries old new → (s : RealmState) → HasPlaces old s
     → carried old new s ≡ record s { cursors = s.cursors ++ replicate (link_count new - link_count old) 0 }
 
--- where no peer is new, its written broker is the same: in any state, whatever its events, it sends the same
--- packets and
--- comes to the same state
+-- where no peer is new, its written broker is the same: in any state, whatever its events, it sends the same packets
+-- and comes to the same state
 abbrev pub NothingChangesForThem : Type 0
 NothingChangesForThem =
     (old new : RealmConfig) → Carries old new → length new.peers ≡ length old.peers
@@ -273,8 +269,7 @@ CarriedAddsNothing =
     → (j : ℕ) × (before : PlainEntry) × (slice_get s.entries j ≡ Some before) × ComesOver old new before after
 
 -- an entry stays whose sender stays, which isn't too large now, and which waits at a link that stays, if it waits,
--- where
--- no fewer may be pending
+-- where no fewer may be pending
 abbrev pub CarriedTakesNoMore : Type 0
 CarriedTakesNoMore =
     (old new : RealmConfig) (s : RealmState) (j : ℕ) (before after : PlainEntry)

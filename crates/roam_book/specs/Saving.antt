@@ -55,8 +55,7 @@ taken_up c (s ∷ more) ss =
 -- ## Sessions over a restart
 -- What a file of ledgers has of a realm by its name is taken up at a start: in their order those sessions whose peer's
 -- name is a peer's, as by an accounting request each; none where the realm tells its sessions otherwise now. Of the
--- same
--- configuration the ledger is then the one that was saved.
+-- same configuration the ledger is then the one that was saved.
 -- Source: ours
 -- Rules out: a session under a peer that stands at the number of another; a ledger that holds more than it may
 -- Stands in: `roam_book` `Saving.antt`: `restored`, `saved`, `RestoredIsSaved`; `RealmNumbers::restore`; the law

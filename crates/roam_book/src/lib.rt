@@ -38,6 +38,8 @@
 //! - nothing comes by a change, and nothing goes whose sender and link stay | law `carried_takes_no_more`
 //! - where a change doesn't touch it, it goes on as it stands, and where no peer is new it sends over both
 //!   configurations what it would have sent under the first | law `untouched_realms_go_on`
+//! - the ledger that is taken up from a file is the one that was saved, where the configuration is the same | law
+//!   `restored_is_saved`
 //! - what admission gives to a realm is what its rules take: a request that can be forwarded, from one with whom a
 //!   secret is shared, or a packet from a link | law `events`
 #![tactic(auto)]
@@ -49,7 +51,7 @@ mod rules;
 mod state;
 
 pub use book::{Book, request_of_job};
-pub use laws::{events, silent_servers, ticks_take_the_least_due_first};
+pub use laws::{events, restored_is_saved, silent_servers, ticks_take_the_least_due_first};
 pub use packets::answer::{Answer, Twin, refused};
 pub use packets::forwarding::RequestRef;
 pub use packets::tick_memory::{Room, room_for};

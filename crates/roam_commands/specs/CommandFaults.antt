@@ -205,9 +205,8 @@ IsHindered before after =
     TooMany (laid_out before after) ⊎ ((hindrance : Hindrance) × Hinders before (laid_out before after) hindrance)
 
 -- ## Compared
--- Both texts are accepted, and the second configuration, laid out by the first, may follow it; or it may not, which
--- is a
--- fault.
+-- Both texts are accepted, and the second configuration, laid out by the first, may follow it; or it may not, which is
+-- a fault.
 -- Source: ours
 -- Rules out: a success where a reload would be declined
 -- Stands in: `roam_commands` `CommandFaults.antt`: `Follows`, `DoesNotFollow`, `CompareFails`; `compare`

@@ -99,8 +99,7 @@ IsTargetThen b life c q told position ticket target sent l =
 -- a packet is the returned one of a request of the life: the request was forwarded to a link; then a reply came from
 -- that link, as it is told by then, with the forwarded packet's Identifier; it is taken, for its code, its Response
 -- Authenticator and its Message-Authenticator (RFC 2865, section 3; RFC 3579, section 3.2); and its turn sent this
--- packet
--- to the sender of the request. Between the two the configuration may have changed
+-- packet to the sender of the request. Between the two the configuration may have changed
 pub record IsReturnedIn (b : Stage) (life : List Happening) (q : PlainRequest) (ticket : ℕ)
     (out : PlainOut) : Type 0 where
   pub before : List Happening
@@ -198,14 +197,12 @@ pub record IsNakPacketIn (b : Stage) (life : List Happening) (out : PlainOut) : 
   pub nak : IsNakIn b life request out
 
 -- ## Provenance over changes
--- Over a realm's life each packet is one of the three of *Provenance*: forwarded, returned or a NAK, of a
--- request of the life, before or after a change, each step under the configuration of its time; a request and a link
--- are told as they are called then. A packet that is sent again after a change has the octets that were forwarded
--- before
--- it, and goes to the endpoint of the same link. It holds of what is sent after any part of a life from which all
--- held entries come, and what is
--- held then comes from the life again; so from an opening on, for ever. A ticket is given to one event of a
--- life.
+-- Over a realm's life each packet is one of the three of *Provenance*: forwarded, returned or a NAK, of a request of
+-- the life, before or after a change, each step under the configuration of its time; a request and a link are told as
+-- they are called then. A packet that is sent again after a change has the octets that were forwarded before it, and
+-- goes to the endpoint of the same link. It holds of what is sent after any part of a life from which all held entries
+-- come, and what is held then comes from the life again; so from an opening on, for ever. A ticket is given to one
+-- event of a life.
 -- Source: RFC 2865 section 3, RFC 5176 section 2.3, ours
 -- Rules out: a reply, after a reload, to a request that never came, or given to another request; a ticket given
 -- again by a reload

@@ -1,6 +1,5 @@
 -- What a request, and a link, of a realm are called while its configuration changes (ours): a home server has the
--- number
--- of its place then, and a link too.
+-- number of its place then, and a link too.
 use Rattle.std.specs.Prelude.{List, [], ◌∷◌, Option, Some, None, option_and_then}
 use Rattle.roam_conf.specs.declared.place.Link.{Link}
 use Rattle.roam_pending.specs.PlainEntry.{PlainRequest}

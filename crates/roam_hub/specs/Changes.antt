@@ -1,6 +1,5 @@
--- The realms of a shard while its configuration changes (ours): from one change to the next there is a history,
--- which begins
--- in the states that follow where the one before it ended.
+-- The realms of a shard while its configuration changes (ours): from one change to the next there is a history, which
+-- begins in the states that follow where the one before it ended.
 use Rattle.std.specs.Prelude.{◌≡◌, ℕ, ◌<◌, ◌≤◌, true, List, [], ◌∷◌, ◌++◌, length}
 use Rattle.roam_reload.specs.Reload.{IsCarried, IsUntouched}
 use Rattle.roam_route.specs.Admission.{PlainOut}
@@ -99,9 +98,8 @@ CarriedOverChanges =
     (realm : ℕ) (s : Span) (ss : List Span) → AreSpans (s ∷ ss) → StaysThere realm (s ∷ ss)
     → packets_for realm (sent_over (s ∷ ss)) ≡ (run_over realm (state_at s.begins.states realm) (s ∷ ss)).packets
 
--- in one history each realm's packets are those of its own written broker from the state in which it begins there,
--- and where
--- the history ends it stands as that one does
+-- in one history each realm's packets are those of its own written broker from the state in which it begins there, and
+-- where the history ends it stands as that one does
 pub record GoesAlone (b : Beginning) (steps : List PlainStep) (realm : ℕ) : Type 0 where
   pub packets : packets_for realm (packets_in steps)
       ≡ (one_realm_run (realm_config b.config realm) (state_at b.states realm)
@@ -116,8 +114,7 @@ EachGoesAlone =
     → 1 ≤ b.config.shards → realm < length b.states → IsHistory b steps → GoesAlone b steps realm
 
 -- where no change touches it, and none brings a peer, these are what it sends for all its events under the
--- configuration
--- of the first span, from the state in which it begins there: as if nothing had changed
+-- configuration of the first span, from the state in which it begins there: as if nothing had changed
 abbrev pub IsUntouchedInto : ℕ → Span → List Span → Type 0
 IsUntouchedInto realm s [] = Unit {0}
 IsUntouchedInto realm s (t ∷ ts) =

@@ -50,11 +50,9 @@ abbrev pub sent_again : ℕ → PlainEntry → PlainEntry
 sent_again deadline e = with_standing (waits_on deadline e.standing) e
 
 -- ## Ends of an entry
--- Where a realm's servers stand at other places, an entry has other numbers for the home server that sent it, and
--- for the
--- link where it waits or from which its held reply came; it may keep no link. All else of it stays, and a peer's
--- stays a
--- peer's.
+-- Where a realm's servers stand at other places, an entry has other numbers for the home server that sent it, and for
+-- the link where it waits or from which its held reply came; it may keep no link. All else of it stays, and a peer's
+-- stays a peer's.
 -- Source: ours
 -- Rules out: an entry with another key, ticket or deadline
 -- Stands in: `roam_pending` `Realms.antt`: `with_ends`; `Entries::set_ends`

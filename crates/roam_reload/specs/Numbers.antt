@@ -48,15 +48,14 @@ laid_by same gone old new =
 -- ## Numbers of realms and peers
 -- A realm has its number, and a peer has its, for as long as a server runs: a realm of both files, by its name without
 -- ASCII case, and a peer of both, by its name, stand at the index where they stood; one that went leaves its index
--- empty
--- for good; new ones stand behind all that ever were, in the order of the file. So the order of tables in a file
--- decides
--- nothing, no index is used again, and a realm keeps its random words, its tickets and its shard. The seed stays.
+-- empty for good; new ones stand behind all that ever were, in the order of the file. So the order of tables in a file
+-- decides nothing, no index is used again, and a realm keeps its random words, its tickets and its shard. The seed
+-- stays.
 -- Source: ours
 -- Rules out: a realm taken for another since one in front of it went; a number used again, with its random words and
 -- tickets; the ledger of a peer that came back under another address
 -- Stands in: `roam_reload` `Numbers.antt`: `laid_out`, `KeepsNumbers`; `lay_out`; `roam_conf_reader`
--- `follow_config`
+-- `following_config`
 --
 abbrev pub laid_out : ConfigView → ConfigView → ConfigView
 laid_out old new = record new {

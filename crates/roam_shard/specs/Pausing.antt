@@ -63,9 +63,8 @@ module _ {A : Type 0} where
   abbrev pub begin_at : List (Option (RealmNumbers A)) → ℕ → Start
   begin_at numbers realm = start_in (slice_get numbers realm)
 
-  -- the memory of a realm is there: of lanes where it goes on; else of numbers that nothing uses, where it is one
-  -- of the
-  -- shard's
+  -- the memory of a realm is there: of lanes where it goes on; else of numbers that nothing uses, where it is one of
+  -- the shard's
   pub record IsReadyAt (old new : ConfigView) (shard realm : ℕ) (numbers : List (Option (RealmNumbers A)))
       (fresh : FreshRealm A) : Type 0 where
     pub lanes : GoesOn old new shard realm → (n : RealmNumbers A) → slice_get numbers realm ≡ Some (Some n)

@@ -48,11 +48,10 @@ AsksOrder words path (order.Trace shard) =
 -- ## Words of a command
 -- `check CONF`, `check OLD NEW`, `check --all CONF`, `ctl PATH` with `status` (and `--json` or `--watch` behind it),
 -- `metrics`, `stop`, `reload` (and `--lose` behind it) or `trace N`, `sim CONF SCRIPT`, `serve CONF`, `serve CONF MS`,
--- these two with
--- `--seed-of-file` before CONF or without it; `help`, `--help` or `-h`; `version`, `--version` or `-V`. MS is a
--- decimal number from 1 to 86400000 without leading zeros, a CONF after `serve` isn't `--seed-of-file`, and a CONF or
--- OLD after `check` isn't `--all`. They are the words after the program's name, as many and no others. Other words
--- ask for nothing.
+-- these two with `--seed-of-file` before CONF or without it; `help`, `--help` or `-h`; `version`, `--version` or `-V`.
+-- MS is a decimal number from 1 to 86400000 without leading zeros, a CONF after `serve` isn't `--seed-of-file`, and a
+-- CONF or OLD after `check` isn't `--all`. They are the words after the program's name, as many and no others. Other
+-- words ask for nothing.
 -- Source: ours
 -- Rules out: a word too many that is overlooked; a number that is read in part
 -- Stands in: `roam_words` `CommandLine.antt`: `Asks`, `AsksToServe`, `AsksNothing`; `Command::from_words`, `command`
