@@ -1,15 +1,15 @@
 -- A change that doesn't touch a realm leaves its cursors, with 0 for each further peer.
-use Rattle.std.proofs.Common.{◌≡◌, inl, inr, ℕ, zero, suc, ◌+◌, ◌-◌, ◌<◌, ◌≤◌, List, [], ◌∷◌, ◌++◌, length, map, replicate, Option, Some, get_or, option_map, refl, sym, ap, ◌∙◌, arith, slice_index}
+use Rattle.std.proofs.Common.{◌≡◌, inl, inr, ℕ, zero, suc, ◌+◌, ◌-◌, ◌<◌, ◌≤◌, List, [], ◌∷◌, ◌++◌, length, map, replicate, Some, get_or, option_map, refl, sym, ap, ◌∙◌, arith, slice_index}
 use Rattle.std.proofs.lemmas.Bool.{cases_lt}
 use Rattle.std.proofs.lemmas.Grind.{same_number_lists}
-use Rattle.std.proofs.lemmas.List.{get_or_append_left, get_or_append_right, get_or-replicate, length-append, length-replicate}
-use Rattle.roam_conf.specs.Config.{PeerView, RealmView, ServerView}
+use Rattle.std.proofs.lemmas.List.{get_or_append_left, length-append, length-replicate}
+use Rattle.roam_conf.specs.Config.{PeerView, ServerView}
 use Rattle.roam_conf.specs.declared.place.Link.{Link}
 use Rattle.roam_conf.specs.declared.place.Link.TheVariants as link
 use Rattle.roam_reload.specs.Kept.{server_then}
 use Rattle.roam_reload.proofs.KeptLemmas.{coa_stays, server_stays}
 use Rattle.roam_book.specs.RealmConfig.{RealmConfig, link_count, link_place, server_links}
-use Rattle.roam_book.specs.Reload.{Carries, cursor_then, cursors_then, link_before, links_of, peer_links, way_before}
+use Rattle.roam_book.specs.Reload.{Carries, cursor_then, cursors_then, link_before, links_of, peer_links}
 use Rattle.roam_book.specs.declared.state.service.Service.TheVariants as service
 use Rattle.roam_book.proofs.ReloadLemmas.{peers, servers}
 use Rattle.roam_book.proofs.UntouchedLemmas.{out_stays, servers_are}

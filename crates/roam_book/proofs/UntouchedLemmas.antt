@@ -1,5 +1,5 @@
 -- A change that doesn't touch a realm takes nothing of it.
-use Rattle.std.proofs.Common.{◌≡◌, inl, inr, ℕ, ◌-◌, ◌&&◌, ◌<◌, ◌≤◌, nat_lt, Bool, true, false, not, List, [], ◌∷◌, length, Option, Some, None, is_some, option_map, refl, sym, ap, ◌∙◌, arith, slice_get, if◌then◌else◌, drop}
+use Rattle.std.proofs.Common.{◌≡◌, inl, inr, ℕ, ◌-◌, ◌&&◌, nat_lt, Bool, true, false, not, List, [], ◌∷◌, length, Some, None, is_some, option_map, refl, ap, ◌∙◌, arith, slice_get, if◌then◌else◌, drop}
 use Rattle.std.specs.List.{filter, filter_map}
 use Rattle.std.specs.Prelude.{nat_le}
 use Rattle.std.proofs.lemmas.Bool.{cases_lt, le-ltb}
