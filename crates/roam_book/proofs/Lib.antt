@@ -36,3 +36,5 @@ pub mod WayLemmas
 pub mod UntouchedLemmas
 pub mod CursorLemmas
 pub mod TakesNothingLemmas
+pub mod CarriedPlacesLemmas
+pub mod CarriedEntriesLemmas

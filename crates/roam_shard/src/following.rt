@@ -104,7 +104,7 @@ fn carried<A: Allocator + Copy>(
     requires sound { IsSound (realm_config (shown change.from.now) realm) (entries_in entries.old realm) numbers }
     requires ready { IsReadyToCarry (realm_config (shown change.from.now) realm)
         (realm_config (shown change.to.now) realm) numbers lanes }
-    ensures { HasGoneOver (realm_config (shown change.entry.from.now) realm)
+    ensures over { HasGoneOver (realm_config (shown change.entry.from.now) realm)
         (realm_config (shown change.entry.to.now) realm) (entries_in entries.old realm) numbers
         (entries_in entries.new realm) result }
     ensures others { (r : ℕ) → r ≢ realm → entries_in entries.new r ≡ entries_in entries.old r }
