@@ -1,11 +1,11 @@
 -- What becomes of a realm.
-use Rattle.std.proofs.Common.{◌≡◌, ◌≢◌, ℕ, false, ◌<◌, [], Some, None, option_map, length, slice_get, ap, sym, ◌∙◌}
+use Rattle.std.proofs.Common.{◌≡◌, ◌≢◌, ℕ, false, [], Option, Some, None, option_map, unwrap_or, slice_get, ap, sym, ◌∙◌}
 use Rattle.roam_conf.specs.declared.accounting.Accounting.TheVariants.{Forwarded}
 use Rattle.roam_conf.specs.Config.{ConfigView, RealmView}
 use Rattle.roam_reload.specs.Differences.{RealmsDiffer}
-use Rattle.roam_reload.specs.Reload.{IsCarried, KeepsPeers, realm_part}
+use Rattle.roam_reload.specs.Reload.{IsCarried, IsUntouched, KeepsPeers, realm_part}
 use Rattle.roam_reload.specs.declared.keys.RealmKey.{RealmKey}
-use Rattle.roam_reload.specs.declared.keys.RealmKey.TheVariants.{Out, Reverse, Tries, Wait, Hold, MaxPending, MaxSessions, Rest, RestAfter, Servers, Peers, LoopPrevention, Accounting, RequestWithout, ReplyWithout, Share, PeerShare, OwnNames, Conversations, OwnSessions, CoaClients}
+use Rattle.roam_reload.specs.declared.keys.RealmKey.TheVariants.{Gone, Out, Reverse, Tries, Wait, Hold, MaxPending, MaxSessions, Rest, RestAfter, Servers, Peers, LoopPrevention, Accounting, RequestWithout, ReplyWithout, Share, PeerShare, OwnNames, Conversations, OwnSessions, CoaClients}
 
 -- some realm
 abbrev no_realm : RealmView
@@ -33,10 +33,12 @@ no_realm = record {
   conversations = false;
   own_sessions = false;
   coa_clients = [];
+  gone = false;
 }
 
 -- realms that differ in a key have other parts
 other_part : (a b : RealmView) (key : RealmKey) → RealmsDiffer a b key → realm_part b ≢ realm_part a
+other_part a b Gone d = λ e. d (ap (λ (x : RealmView). x.gone) e)
 other_part a b Out d = λ e. d (ap (λ (x : RealmView). x.out) e)
 other_part a b Reverse d = λ e. d (ap (λ (x : RealmView). x.reverse) e)
 other_part a b Tries d = λ e. d (ap (λ (x : RealmView). x.tries) e)
@@ -60,12 +62,20 @@ other_part a b CoaClients d = λ e. d (ap (λ (x : RealmView). x.coa_clients) e)
 other_part a b Servers d = λ e. d (ap (λ (x : RealmView). x.servers) e)
 
 -- both tables are there, and the same in this part
-pub carried : (old new : ConfigView) (r : ℕ) (before after : RealmView) → slice_get old.realms r ≡ Some before →
-    slice_get new.realms r ≡ Some after
-    → r < length old.realms → realm_part after ≡ realm_part before → KeepsPeers old.peers new.peers →
-    IsCarried old new r
-carried old new r before after was is lt same peers = record {
-  there = lt;
+pub untouched : (old new : ConfigView) (r : ℕ) (before after : RealmView) → IsCarried old new r →
+    slice_get old.realms r ≡ Some before → slice_get new.realms r ≡ Some after
+    → realm_part after ≡ realm_part before → KeepsPeers old.peers new.peers → IsUntouched old new r
+untouched old new r before after on was is same peers = record {
+  carried = on;
   table = ap (option_map realm_part) is ∙ ap (λ x. Some x) same ∙ sym (ap (option_map realm_part) was);
   peers = peers;
 }
+
+-- both are there, and differ in a key
+pub touched : (old new : ConfigView) (r : ℕ) (before after : RealmView) (key : RealmKey) →
+    slice_get old.realms r ≡ Some before → slice_get new.realms r ≡ Some after → RealmsDiffer before after key
+    → ¬ IsUntouched old new r
+touched old new r before after key was is differ k =
+    let both : Some (realm_part after) ≡ Some (realm_part before) =
+    sym (ap (option_map realm_part) is) ∙ k.table ∙ ap (option_map realm_part) was in
+    other_part before after key differ (ap (λ (o : Option RealmView). unwrap_or o (realm_part before)) both)

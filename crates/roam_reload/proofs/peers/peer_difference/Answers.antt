@@ -33,11 +33,12 @@ returns-then-ne-10-clause-some c =
     (whole_list_decides removed_eq removed_decides old new) c.ne-else-ne-9.ensures c.if-ne-10.true
 
 -- peers with equal keys have equal parts
-same_part : (a b : PeerView) → b.name ≡ a.name → b.ip ≡ a.ip → b.secret ≡ a.secret → b.coa ≡ a.coa →
+same_part : (a b : PeerView) → b.gone ≡ a.gone → b.name ≡ a.name → b.ip ≡ a.ip → b.secret ≡ a.secret → b.coa ≡ a.coa →
     b.nas_ip ≡ a.nas_ip → b.nas_id ≡ a.nas_id → b.nas_ids ≡ a.nas_ids → b.operator_name ≡ a.operator_name →
     b.ask_cui ≡ a.ask_cui → b.request_without ≡ a.request_without → b.reply_without ≡ a.reply_without →
     peer_part b ≡ peer_part a
-same_part a b name ip secret coa nas_ip nas_id nas_ids operator_name ask_cui requests replies = λ i. record {
+same_part a b gone name ip secret coa nas_ip nas_id nas_ids operator_name ask_cui requests replies = λ i. record {
+  gone = gone i;
   name = name i;
   ip = ip i;
   secret = secret i;
@@ -73,6 +74,7 @@ returns-else-ne-10-clause-none c =
     (pointwise removed_eq old.reply_without.items new.reply_without.items) c.ne-else-ne-9.result
     (whole_list_decides removed_eq removed_decides old.reply_without.items new.reply_without.items)
     c.ne-else-ne-9.ensures c.if-ne-10.false in
+    let gone : new.gone ≡ old.gone = search rules in
     let name : string_bytes new.name ≡ string_bytes old.name = search rules in
     let ip : new.ip ≡ old.ip = search rules in
     let secret : string_bytes new.secret ≡ string_bytes old.secret = search rules in
@@ -82,5 +84,5 @@ returns-else-ne-10-clause-none c =
     let operator_name : option_map string_bytes new.operator_name ≡ option_map string_bytes old.operator_name =
     search rules in
     let ask_cui : new.ask_cui ≡ old.ask_cui = search rules in
-    same_part (shown_peer old) (shown_peer new) name ip secret coa nas_ip nas_id identifiers operator_name ask_cui
+    same_part (shown_peer old) (shown_peer new) gone name ip secret coa nas_ip nas_id identifiers operator_name ask_cui
     requests replies
