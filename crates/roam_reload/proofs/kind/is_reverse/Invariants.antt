@@ -8,5 +8,6 @@ use Rattle.roam_reload.proofs.kind.is_reverse.Given as goal
 
 abbrev pub invariant-loop-realm : goal.invariant-loop-realm
 invariant-loop-realm l =
-    is_among (filter_map (λ (x : RealmView). x.reverse) (here (map shown_realm (drop l.realm-index l.realms)))) l.endpoint
+    is_among (filter_map (λ (x : RealmView). x.reverse) (here (map shown_realm (drop l.realm-index l.realms))))
+    l.endpoint
     ≡ is_among (filter_map (λ (x : RealmView). x.reverse) (here (map shown_realm l.fn.realms))) l.fn.endpoint
