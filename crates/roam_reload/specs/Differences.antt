@@ -1,10 +1,10 @@
 -- Why a configuration may not follow another, and in which keys the tables at a number differ. Ours.
-use Rattle.std.specs.Prelude.{◌≡◌, ◌≢◌, ℕ, false, true}
+use Rattle.std.specs.Prelude.{◌≡◌, ◌≢◌, ℕ, ◌<◌, false, true, List, length, map, slice_get}
 use Rattle.roam_conf.specs.Config.{ConfigView, PeerView, RealmView}
 use Rattle.roam_conf.specs.Duplicates.{is_among}
 use Rattle.roam_conf.specs.declared.endpoint.Endpoint.{Endpoint}
 use Rattle.roam_reload.specs.Numbers.{KeepsNumbers, is_here}
-use Rattle.roam_reload.specs.Reload.{IsCarried, IsUntouched, endpoints_of}
+use Rattle.roam_reload.specs.Reload.{IsCarried, IsUntouched, endpoints_of, peer_part}
 use Rattle.roam_reload.specs.declared.fate.Fate.{Fate}
 use Rattle.roam_reload.specs.declared.fate.Fate.TheVariants as fate
 use Rattle.roam_reload.specs.declared.hindrance.Hindrance.{Hindrance}
@@ -53,6 +53,11 @@ PeersDiffer old new peer_key.OperatorName = new.operator_name ≢ old.operator_n
 PeersDiffer old new peer_key.AskCui = new.ask_cui ≢ old.ask_cui
 PeersDiffer old new peer_key.RequestWithout = new.request_without ≢ old.request_without
 PeersDiffer old new peer_key.ReplyWithout = new.reply_without ≢ old.reply_without
+
+-- the old peer of an index isn't the new one
+pub record IsOtherPeer (old new : List PeerView) (peer : ℕ) : Type 0 where
+  pub there : peer < length old
+  pub differs : slice_get (map peer_part new) peer ≢ slice_get (map peer_part old) peer
 
 -- what becomes of the realm of a number: it goes on, untouched or not; it begins; it went; or there is none in either
 abbrev pub IsFate : ConfigView → ConfigView → ℕ → Fate → Type 0
