@@ -202,33 +202,47 @@ impl<A: Allocator + Copy> Chain<A> {
         }
     }
 
-    /// The least ticket of a session, or a greater one where there is no session.
-    fn first_ticket(&self) -> u64
-        ensures { (t : ℕ) → t < result → session_at self.now t ≡ None }
+    /// How many sessions were opened before a ticket.
+    fn count_before(&self, ticket: u64) -> usize
+        ensures { result ≤ session_count self.now }
     {
-        let mut first = u64::MAX;
-        for ticket in self.by_ticket.keys().as_slice() {
-            if *ticket < first {
-                first = *ticket;
+        let mut count = 0usize;
+        for other in self.by_ticket.keys().as_slice() {
+            if *other < ticket {
+                count += 1;
             }
         }
-        first
+        count
     }
 
-    /// Takes the session of a ticket out, where there is one.
-    fn remove_if_there(&mut self, ticket: u64)
-        requires { IsSound self.old }
-        ensures sound { IsSound self.new }
-        ensures sessions { PutsAt (session_at self.old) (session_at self.new) ticket None }
-        ensures count { session_count self.new ≤ session_count self.old }
-        ensures room { self.new.spare ≡ self.old.spare }
+    /// The least ticket before which so many sessions were opened, or all. Looks at each some 64 times, whatever tickets
+    /// are no session's any more.
+    fn ticket_after(&self, count: usize) -> u64
+        ensures { result ≤ self.now.next }
     {
-        if self.by_ticket.contains_key(&ticket) {
-            self.remove(ticket);
+        let mut least = 0u64;
+        let mut most = self.next;
+        while least < most {
+            let middle = least + (most - least) / 2;
+            if self.count_before(middle) < count {
+                least = middle + 1;
+            } else {
+                most = middle;
+            }
         }
+        least
     }
 
-    /// Where there are more sessions than may be, the oldest go.
+    /// The ticket at a place of the table.
+    fn ticket_at(&self, index: usize) -> u64
+        requires { index < session_count self.now }
+        ensures { IsSome (session_at self.now result) }
+    {
+        self.by_ticket.keys().as_slice()[index]
+    }
+
+    /// Where there are more sessions than may be, the oldest go: one pass from the end, as the last one takes the place
+    /// of each that goes.
     pub(crate) fn keep_newest(&mut self, limit: usize)
         requires { IsSound self.old }
         ensures sound { IsSound self.new }
@@ -237,10 +251,17 @@ impl<A: Allocator + Copy> Chain<A> {
         ensures count { session_count self.new ≤ limit }
         ensures room { self.new.spare ≡ self.old.spare }
     {
-        let mut ticket = self.first_ticket();
-        while self.len() > limit && ticket < self.next {
-            self.remove_if_there(ticket);
-            ticket += 1;
+        let mut index = self.len();
+        if index <= limit {
+            return;
+        }
+        let end = self.ticket_after(index - limit);
+        while index > 0 {
+            index -= 1;
+            let ticket = self.ticket_at(index);
+            if ticket < end {
+                self.remove(ticket);
+            }
         }
     }
 
