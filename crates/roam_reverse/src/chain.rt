@@ -215,8 +215,8 @@ impl<A: Allocator + Copy> Chain<A> {
         count
     }
 
-    /// The least ticket before which so many sessions were opened, or all. Looks at each some 64 times, whatever tickets
-    /// are no session's any more.
+    /// The least ticket before which so many sessions were opened, or all. Looks at each session some 64 times, however
+    /// many tickets are no session's any more.
     fn ticket_after(&self, count: usize) -> u64
         ensures { result ≤ self.now.next }
     {
