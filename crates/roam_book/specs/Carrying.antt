@@ -1,6 +1,7 @@
 -- What is at hand when a realm goes on under another part of a configuration: words of private functions alone (ours).
-use Rattle.std.specs.Prelude.{◌≡◌, ◌⊎◌, true, ℕ, ◌<◌, ◌≤◌, List, length, map, Option, Some, None, slice_get, vec_capacity}
+use Rattle.std.specs.Prelude.{◌≡◌, ◌⊎◌, true, false, ℕ, ◌<◌, ◌≤◌, List, length, map, Option, Some, None, slice_get, vec_capacity}
 use Rattle.roam_conf.specs.Config.{PeerView}
+use Rattle.roam_conf.specs.Duplicates.{has_pair_of_servers}
 use Rattle.roam_pending.specs.ListLaws.{IsIn}
 use Rattle.roam_reload.specs.Kept.{same_out, same_servers}
 use Rattle.roam_reload.specs.Reload.{peer_part}
@@ -17,6 +18,10 @@ abbrev pub AreChanged : List PeerView → List PeerView → List ℕ → Type 0
 AreChanged old new changed =
     (peer : ℕ) → peer < length old
     → IsIn peer changed ⊎ (slice_get (map peer_part new) peer ≡ slice_get (map peer_part old) peer)
+
+-- in neither part two servers are at one endpoint: so each has one place in the other part, if any
+abbrev pub HaveDistinctServers : RealmConfig → RealmConfig → Type 0
+HaveDistinctServers old new = (has_pair_of_servers old.realm ≡ false) × (has_pair_of_servers new.realm ≡ false)
 
 -- each server stands where it stood, what is forwarded leaves from the same `out`, and no peer's place is gone
 pub record StandAsBefore (old new : RealmConfig) : Type 0 where

@@ -6,7 +6,7 @@ ghost use Rattle.roam_conf.specs.Shown.{shown};
 ghost use Rattle.roam_pending.specs.PlainEntry.{PlainEntry};
 ghost use Rattle.roam_reload.specs.Reload.{IsCarried};
 ghost use Rattle.roam_book.specs.BookView.{settings_of};
-ghost use Rattle.roam_book.specs.Carrying.{AreChanged, IsReadyToCarry};
+ghost use Rattle.roam_book.specs.Carrying.{AreChanged, HaveDistinctServers, IsReadyToCarry};
 ghost use Rattle.roam_book.specs.Private.MoreLanes.{AreMoreLanes};
 ghost use Rattle.roam_book.specs.RealmConfig.{RealmConfig, link_count};
 ghost use Rattle.roam_book.specs.Reload.{AsIfNothingChanged, CarriedAddsNothing, CarriedHasPlaces, CarriedTakesNoMore};
@@ -150,6 +150,7 @@ pub fn carry_over<A: Allocator + Copy, E: Entries<A>>(
 )
     requires index { new.now.index ≡ old.now.index }
     requires seed { new.now.seed ≡ old.now.seed }
+    requires servers { HaveDistinctServers old.now new.now }
     requires changed { AreChanged old.now.peers new.now.peers changed.now }
     requires sound { IsSound old.now (E.entries_of entries.old old.now.index) numbers.old }
     requires ready { IsReadyToCarry old.now new.now numbers.old fresh }
