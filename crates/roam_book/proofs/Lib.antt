@@ -38,3 +38,4 @@ pub mod CursorLemmas
 pub mod TakesNothingLemmas
 pub mod CarriedPlacesLemmas
 pub mod CarriedEntriesLemmas
+pub mod PlacesLemmas
