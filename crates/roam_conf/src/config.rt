@@ -183,8 +183,9 @@ impl Config {
             fresh,
             peers,
             realms,
-            ..
+            found_by,
         } = self;
+        drop(found_by);
         ConfigParts {
             shards,
             seed,
