@@ -39,3 +39,4 @@ pub mod TakesNothingLemmas
 pub mod CarriedPlacesLemmas
 pub mod CarriedEntriesLemmas
 pub mod PlacesLemmas
+pub mod SavingLemmas
