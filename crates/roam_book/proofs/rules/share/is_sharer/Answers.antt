@@ -1,4 +1,4 @@
-use Rattle.std.proofs.Common.{◌≡◌, ◌∙◌, Option, List, ℕ, option_map, ap}
+use Rattle.std.proofs.Common.{◌≡◌, ◌∙◌, Option, List, ℕ, option_map, ap, sym}
 use Rattle.roam_pending.specs.PlainEntry.{PlainEntry}
 use Rattle.roam_pending.specs.Shown.{shown}
 use Rattle.roam_book.specs.Private.Sharing.{is_sharer}
@@ -19,4 +19,4 @@ returns-in-Name g c =
     c.name_part.ensures ∙ ap name_part c.as_slice.ensures in
     let same : c.is_same_part.result ≡ same_part (name_part e.request.octets) part =
     c.is_same_part.ensures ∙ ap (λ (x : Option (List ℕ)). same_part x part) name in
-    same ∙ ap (λ (s : Sharer). is_sharer s e) c.in-Name.is
+    same ∙ sym (ap (λ (s : Sharer). is_sharer s e) c.in-Name.is)
