@@ -19,4 +19,4 @@ returns-in-Name g c =
     c.name_part.ensures ∙ ap name_part c.as_slice.ensures in
     let same : c.is_same_part.result ≡ same_part (name_part e.request.octets) part =
     c.is_same_part.ensures ∙ ap (λ (x : Option (List ℕ)). same_part x part) name in
-    same ∙ ap (λ (s : Sharer). is_sharer s e) (sym c.in-Name.is)
+    same ∙ sym (ap (λ (s : Sharer). is_sharer s e) c.in-Name.is)
