@@ -53,7 +53,8 @@ server_text sender from realm = who_text sender ++ codes " " ++ endpoint_text fr
 -- Which home server answers, of which realm, by what its replies are refused, and what to do.
 -- Source: ours
 -- Rules out: a server that answers said to be silent
--- Stands in: `roam_notices` `TurnedAway.antt`: `turned_away`, `turned_away_text`; what the `Display` of `TurnedAwayText`
+-- Stands in: `roam_notices` `TurnedAway.antt`: `turned_away`, `turned_away_text`; what the `Display` of
+-- `TurnedAwayText`
 -- writes
 --
 -- the line

@@ -87,7 +87,8 @@ fn who(sender: Sender<'_>) -> &'static str
     }
 }
 
-/// Replies that are refused as a line: `home server ADDRESS:PORT of REALM answers and is refused (NUMBER NAME): ADVICE`.
+/// Replies that are refused as a line: `home server ADDRESS:PORT of REALM answers and is refused (NUMBER NAME):
+/// ADVICE`.
 #[derive(Clone, Copy)]
 pub struct TurnedAwayText<'n> {
     pub sender: Sender<'n>,
