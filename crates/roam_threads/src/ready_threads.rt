@@ -118,8 +118,10 @@ impl<'s, 'c, G, N: Opened> Builder<'s, 'c, G, N> {
                 None => None,
             },
         };
-        let poll = polls.room;
-        let room = RoomEvents { poll, events };
+        let room = RoomEvents {
+            poll: polls.room,
+            events,
+        };
         let outgoing = Outgoing::new(shared.alloc, outbox, ports, shared.losses, counting, room)?;
         let context = WorkerContext {
             shared,
