@@ -1,5 +1,5 @@
 -- In a realm with `own_sessions` each reverse request that is sent was of one session of the realm's own.
-use Rattle.std.proofs.Common.{◌≡◌, ◌+◌, ℕ, Bool, true, false, List, [], ◌∷◌, ◌++◌, Option, Some, None, refl, sym, ap, subst, ◌∙◌, inl, inr, arith}
+use Rattle.std.proofs.Common.{◌≡◌, ◌+◌, ℕ, Bool, true, false, List, [], Option, Some, None, refl, sym, ap, subst, ◌∙◌, inl, inr, arith}
 use Rattle.std.specs.Prelude.{◌==◌, not, nat_eq, nat_lt, if◌then◌else◌}
 use Rattle.std.specs.Cmp.Lexicographic.{pointwise}
 use Rattle.std.proofs.lemmas.Bool.Decides.{nat_tests}
@@ -32,7 +32,7 @@ use Rattle.roam_book.specs.OneRealm.{RealmEvent, request_came, on_event}
 use Rattle.roam_book.specs.declared.state.start.Start.{Start}
 use Rattle.roam_core.specs.LifeLaws.{AdmittedIsOfOwnSessionIn}
 use Rattle.roam_core.specs.Lives.{Stage, event, stage_then}
-use Rattle.roam_core.specs.Openings.{one_realm_packets, state_then}
+use Rattle.roam_core.specs.Openings.{state_then}
 use Rattle.roam_core.specs.OwnSessions.{AdmittedIsOfOwnSession, EachSentIsOfOwnSession, IsForOwnSession, SentIsOfOwnSession}
 use Rattle.roam_core.specs.Provenance.{IsForwardedPacket, IsNakPacket, IsReturnedPacket}
 use Rattle.roam_core.proofs.IsolationLemmas.{isolated_from_start}

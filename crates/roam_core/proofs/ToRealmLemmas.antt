@@ -1,6 +1,5 @@
 -- What an arrival gives to a realm, as the realm looks at it: nothing where it is another's, and by what a request
--- names
--- where it is the realm's.
+-- names where it is the realm's.
 use Rattle.std.proofs.Common.{◌≡◌, ℕ, Bool, true, false, List, [], Option, Some, None, map, option_map, refl, sym, ap, ◌∙◌, inl, inr, arith}
 use Rattle.std.specs.Prelude.{◌==◌, ◌&&◌, ◌||◌, not, is_some, nat_le, if◌then◌else◌}
 use Rattle.std.specs.Option.{option_and_then}

@@ -46,8 +46,7 @@ OneRequestHasTicketIn =
     → IsRequestIn b life q ticket → IsRequestIn b life r ticket → q ≡ r
 
 -- in a realm with `own_sessions` a reverse request of the life that is given a ticket, and so isn't answered by a
--- NAK, is
--- of one session of the realm's ledger when it comes, under the configuration of that time
+-- NAK, is of one session of the realm's ledger when it comes, under the configuration of that time
 abbrev pub AdmittedIsOfOwnSessionIn : Type 0
 AdmittedIsOfOwnSessionIn =
     (b : Stage) (life : List Happening) (q : PlainRequest) (ticket : ℕ) (given : IsRequestIn b life q ticket)

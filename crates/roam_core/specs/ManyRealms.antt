@@ -13,8 +13,7 @@ use Rattle.roam_book.specs.OneRealm.{event_of, on_event}
 use Rattle.roam_core.specs.Events.{PlainEvent, arrives, ticks, is_in_shard}
 
 -- a refusal sends nothing and leaves all states as they were; that of a reply which is a sign of life leaves all
--- but its
--- realm's, which notes it
+-- but its realm's, which notes it
 pub data BrokerTurn : Type 0 where
   refuses_it : Refusal → BrokerTurn
   hears_it : Refusal → List RealmState → BrokerTurn

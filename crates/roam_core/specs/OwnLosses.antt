@@ -1,7 +1,6 @@
 -- Want of memory stays with whom it hits (ours): of the events that a run lost, which ones a realm misses. An
--- arrival is
--- missed by the realm that it is given to, and a shard's tick by those of its realms that have an entry due. For any
--- other realm it is as if nothing was lost.
+-- arrival is missed by the realm that it is given to, and a shard's tick by those of its realms that have an entry
+-- due. For any other realm it is as if nothing was lost.
 use Rattle.std.specs.Prelude.{◌≡◌, ℕ, ◌+◌, ◌<◌, ◌≤◌, Bool, true, false, not, List, [], ◌∷◌, ◌++◌, length}
 use Rattle.std.specs.List.{filter}
 use Rattle.roam_conf.specs.Config.{ConfigView}

@@ -1,13 +1,12 @@
 -- Sessions are in the groups of their rows, and what agrees is counted and found there.
-use Rattle.std.proofs.Common.{◌≡◌, ◌≢◌, ℕ, zero, suc, ◌+◌, ◌<◌, ◌≤◌, ◌==◌, Bool, true, false, List, [], ◌∷◌, length, Option, Some, None, refl, sym, ap, ◌∙◌, subst, inl, inr, arith}
-use Rattle.std.specs.Prelude.{IsSome, count_by, filter, is_some, option_and_then, option_map, if◌then◌else◌}
+use Rattle.std.proofs.Common.{◌≡◌, ℕ, zero, suc, ◌+◌, Bool, true, false, List, [], length, Option, Some, None, refl, sym, ap, ◌∙◌, subst, inl, inr, arith}
+use Rattle.std.specs.Prelude.{IsSome, filter, is_some, option_and_then, if◌then◌else◌}
 use Rattle.std.specs.List.{cons_option}
-use Rattle.std.specs.Option.{option_map_or}
 use Rattle.std.proofs.lemmas.Bool.{cases_Bool}
 use Rattle.roam_wire.specs.Numbered.{PutsAt, listed, tickets_end}
 use Rattle.roam_reverse.specs.Facets.{AreFaceted, ComesIn, facet_by, facet_of, masked, rows_under}
 use Rattle.roam_reverse.specs.Maps.{groups_of}
-use Rattle.roam_reverse.specs.Private.Groups.{AreEnds, AreEndsOf, Comes, Goes, IsGrouped, PlainGroups, count_of, if_row, in_group, oldest_of}
+use Rattle.roam_reverse.specs.Private.Groups.{AreEndsOf, Comes, Goes, IsGrouped, PlainGroups, count_of, if_row, in_group, oldest_of}
 use Rattle.roam_reverse.specs.Private.Masks.{mask_of}
 use Rattle.roam_reverse.specs.Private.Row.{row_text, row_under}
 use Rattle.roam_reverse.specs.Private.Tickets.{IsOneOf, all_listed}

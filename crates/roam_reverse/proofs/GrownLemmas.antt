@@ -1,5 +1,5 @@
 -- A chain stays one while its tables grow.
-use Rattle.std.proofs.Common.{◌≡◌, ℕ, ◌+◌, ◌<◌, List, length, Option, refl, sym, ap, ◌∙◌, subst, arith}
+use Rattle.std.proofs.Common.{◌≡◌, ℕ, ◌+◌, ◌<◌, List, length, Option, sym, ap, ◌∙◌, subst}
 use Rattle.std.specs.Prelude.{nat_eq, option_map}
 use Rattle.std.specs.Map.{lookup}
 use Rattle.indexmap.specs.IndexMap.{IndexMap}
@@ -45,8 +45,3 @@ grown-sound c d sound entries whole peers peers_id ids ids_id next room tickets 
   room = room;
   ticket_room = tickets;
 }
-
--- the sessions stay
-pub grown-sessions : {A H : Type 0} (m n : IndexMap ℕ (OpenSession A) H) → n.entries ≡ m.entries
-    → all_listed (session_of n) ≡ all_listed (session_of m)
-grown-sessions m n same = same-sessions m n (λ F. all_listed F ≡ all_listed (session_of m)) same refl

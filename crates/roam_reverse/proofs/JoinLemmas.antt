@@ -1,9 +1,9 @@
 -- Groups stay groups, where a number comes in behind all others.
-use Rattle.std.proofs.Common.{◌≡◌, ◌≢◌, ℕ, ◌+◌, ◌-◌, ◌^◌, ◌<◌, ◌≤◌, true, false, List, [], ◌∷◌, ◌++◌, length, Option, Some, None, refl, sym, ap, ◌∙◌, subst, inl, inr, arith, length-append}
-use Rattle.std.specs.Prelude.{IsSome, min, option_map, if◌then◌else◌}
+use Rattle.std.proofs.Common.{◌≡◌, ◌≢◌, ℕ, ◌+◌, ◌-◌, ◌<◌, ◌≤◌, true, false, List, [], ◌∷◌, ◌++◌, length, Option, Some, None, refl, sym, ap, ◌∙◌, subst, inl, inr, arith, length-append}
+use Rattle.std.specs.Prelude.{IsSome, option_map}
 use Rattle.std.specs.Str.{bytes_eq}
 use Rattle.std.proofs.lemmas.Bool.{cases_Bool, cases_eq, cases_lt}
-use Rattle.roam_reverse.specs.Private.Groups.{AreEnds, AreEndsOf, Comes, IsBeside, IsBesideOf, IsGrouped, PlainGroups, PutsRow, ends_behind, if_row, in_group, is_at, newest_of, with_newer_at}
+use Rattle.roam_reverse.specs.Private.Groups.{AreEndsOf, Comes, IsBeside, IsBesideOf, IsGrouped, PlainGroups, PutsRow, ends_behind, if_row, in_group, is_at, newest_of, with_newer_at}
 use Rattle.roam_reverse.specs.Private.Tickets.{IsFirst, IsFirstFrom, IsLast, IsLastBelow, all_listed}
 use Rattle.roam_reverse.specs.declared.ends.Ends.{Ends}
 use Rattle.roam_reverse.specs.declared.neighbours.Beside.{Beside}
@@ -12,7 +12,7 @@ use Rattle.roam_reverse.proofs.GroupLemmas.{beside-stays, ends-stay, from-group,
 use Rattle.roam_reverse.proofs.ListedLemmas.{listed-last, listed-none}
 use Rattle.roam_reverse.proofs.NeighbourLemmas.{first-new, first-stays, has-newer, held-below, held-some, last-stays, none-above, none-between}
 use Rattle.roam_reverse.proofs.SameLemmas.{octets-are, octets-same}
-use Rattle.roam_reverse.proofs.UnlinkLemmas.{at-is, at-isnt, newer-not-at, older-by-newer}
+use Rattle.roam_reverse.proofs.GivenLemmas.{at-is, at-isnt, newer-not-at, older-by-newer}
 
 -- the number n comes into a group, behind what was its newest one
 pub record Joins (p r : PlainGroups) (n : ℕ) (row : List ℕ) (older : Option ℕ) : Type 0 where

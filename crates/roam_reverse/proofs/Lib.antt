@@ -3,10 +3,13 @@ pub mod RowLemmas
 pub mod NeighbourLemmas
 pub mod ListedLemmas
 pub mod ListLemmas
+pub mod MostLemmas
 pub mod GroupLemmas
+pub mod GivenLemmas
 pub mod UnlinkLemmas
 pub mod JoinLemmas
 pub mod FacetLemmas
+pub mod ListedTestLemmas
 pub mod WholeLemmas
 pub mod SoundLemmas
 pub mod SessionLemmas
@@ -18,4 +21,3 @@ pub mod GrownLemmas
 pub mod OneSessionLemmas
 pub mod MapLemmas
 pub mod ShortLemmas
-pub mod MeantLemmas

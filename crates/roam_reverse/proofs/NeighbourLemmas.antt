@@ -223,13 +223,6 @@ module _ {X : Type 0} (f g : ℕ → Option X) (n : ℕ) (x : X) (comes : PutsAt
     none_behind = λ u above lt. before-new u (omega arith) ∙ last.none_behind u above lt;
   }
 
-  pub last-new : IsLast g (n + 1) n
-  last-new = record {
-    below = omega arith;
-    held = held-some (g n) x comes.changed;
-    none_behind = λ u above lt. absurd (omega arith);
-  }
-
   pub none-above : (u : ℕ) → n + 1 ≤ u → g u ≡ None
   none-above u le = comes.others u (λ e. absurd (omega arith)) ∙ free u (omega arith)
 
@@ -249,8 +242,3 @@ module _ {X : Type 0} (f g : ℕ → Option X) (n : ℕ) (x : X) (comes : PutsAt
       | inr ne ↦ held-none (f w) last.held (first w (omega arith))
     ]
   ])
-
-  -- the first of all
-  pub has-oldest : (w : ℕ) (o : Option ℕ) → IsSome (f w) → IsFirstFrom f 0 o → IsFirstFrom g 0 o
-  has-oldest w None held first = absurd (held-none (f w) held (first w (omega arith)))
-  has-oldest w (Some v) held first = first-stays 0 v first

@@ -1,12 +1,12 @@
 -- What is asked is told apart by its row.
-use Rattle.std.proofs.Common.{◌≡◌, ◌≢◌, ℕ, ◌/◌, ◌%◌, ◌==◌, ◌+◌, ◌-◌, ◌≤◌, Bool, true, false, List, [], ◌∷◌, ◌++◌, length, take, Option, Some, None, refl, sym, ap, ◌∙◌, subst, inl, inr, arith}
-use Rattle.std.specs.Prelude.{◌&&◌, ◌||◌, is_none, is_some, option_map, if◌then◌else◌}
+use Rattle.std.proofs.Common.{◌≡◌, ℕ, ◌/◌, ◌%◌, ◌==◌, ◌+◌, ◌-◌, true, false, List, [], ◌∷◌, ◌++◌, length, Option, Some, None, refl, sym, ap, ◌∙◌, inl, inr, arith}
+use Rattle.std.specs.Prelude.{◌&&◌, is_none, is_some, if◌then◌else◌}
 use Rattle.std.specs.Str.{bytes_eq}
 use Rattle.std.proofs.lemmas.Bool.{and_from, and_left, and_parts, and_right, cases_Bool, or_cases}
 use Rattle.roam_reverse.specs.Private.Groups.{if_row}
-use Rattle.roam_reverse.specs.Private.Masks.{asked_by, asked_for, lacks, mask_of, narrow}
+use Rattle.roam_reverse.specs.Private.Masks.{asked_by, asked_for, lacks, mask_of}
 use Rattle.roam_reverse.specs.Private.Row.{part_text, row_text, row_under, whole_row}
-use Rattle.roam_reverse.specs.Sessions.{Asked, Nas, Session, agrees, agrees_in}
+use Rattle.roam_reverse.specs.Sessions.{Asked, Session, agrees, agrees_in}
 use Rattle.roam_reverse.proofs.SameLemmas.{number-is, octets-are, octets-same, same-number}
 
 -- the first of a list, and what is behind it

@@ -5,8 +5,9 @@ use Rattle.std.specs.List.{list_any}
 use Rattle.std.proofs.lemmas.Bool.{cases_Bool, or_from, or_left, or_parts}
 use Rattle.std.proofs.lemmas.Bool.Decides.{nat_tests}
 use Rattle.std.proofs.lemmas.List.Folds.{list_any-append}
-use Rattle.roam_reverse.specs.Sessions.{Asked, Session, LedgerChange, opens, closes, closes_all, nothing, agrees, changed, count_of_peer, has_most, has_session, same_session, with_session, within, without_agreeing, without_first, without_session, AreDistinct, IsLedger}
-use Rattle.roam_reverse.proofs.ListLemmas.{distinct-filter, distinct-first, distinct-last, former-has-most, gone-passes, has-more, last-stays, length-filter-le, length-first, one-has-most, there-last}
+use Rattle.roam_reverse.specs.Sessions.{Asked, Session, LedgerChange, opens, closes, closes_all, nothing, agrees, changed, count_of_peer, has_most, has_session, same_session, with_session, within, without_agreeing, without_first, without_session, IsLedger}
+use Rattle.roam_reverse.proofs.ListLemmas.{distinct-filter, distinct-first, distinct-last, gone-passes, last-stays, length-filter-le, length-first, there-last}
+use Rattle.roam_reverse.proofs.MostLemmas.{former-has-most, has-more, one-has-most}
 use Rattle.roam_reverse.proofs.SameLemmas.{peers-disagree, same-is, same-itself}
 
 -- ---- a ledger stays one

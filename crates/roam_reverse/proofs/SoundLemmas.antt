@@ -1,13 +1,13 @@
 -- A chain's tickets, where a session comes in or goes.
-use Rattle.std.proofs.Common.{◌≡◌, ◌≢◌, ℕ, ◌+◌, ◌<◌, ◌≤◌, Bool, true, false, List, [], ◌∷◌, length, Option, Some, None, refl, sym, ap, ◌∙◌, subst, inl, inr, arith}
-use Rattle.std.specs.Prelude.{IsSome, filter, is_some, not}
-use Rattle.std.proofs.lemmas.Bool.{cases_Bool, cases_eq, cases_lt}
-use Rattle.roam_wire.specs.Numbered.{PutsAt, listed, tickets_end}
-use Rattle.roam_reverse.specs.Private.Tickets.{IsOneOf, IsTicketOf, all_listed}
-use Rattle.roam_reverse.specs.Sessions.{AreDistinct, IsLedger, Session, has_session, same_session, without_session}
+use Rattle.std.proofs.Common.{◌≡◌, ◌≢◌, ℕ, ◌+◌, ◌<◌, ◌≤◌, false, [], length, Option, Some, None, refl, sym, ap, ◌∙◌, inl, inr, arith}
+use Rattle.std.specs.Prelude.{is_some, not}
+use Rattle.std.proofs.lemmas.Bool.{cases_eq, cases_lt}
+use Rattle.roam_wire.specs.Numbered.{PutsAt, tickets_end}
+use Rattle.roam_reverse.specs.Private.Tickets.{IsTicketOf, all_listed}
+use Rattle.roam_reverse.specs.Sessions.{IsLedger, Session, has_session, same_session, without_session}
 use Rattle.roam_reverse.specs.Stands.{AreTickets}
 use Rattle.roam_reverse.proofs.ListedLemmas.{any-none, any-one, kept_of, listed-filter}
-use Rattle.roam_reverse.proofs.SameLemmas.{apart-differ, differ-apart, same-is, same-itself}
+use Rattle.roam_reverse.proofs.SameLemmas.{differ-apart, same-is, same-itself}
 use Rattle.roam_reverse.proofs.ListLemmas.{listed-distinct}
 
 module _ (F G : ℕ → Option Session) where

@@ -1,59 +1,18 @@
 -- Groups stay groups, where a number goes.
-use Rattle.std.proofs.Common.{◌≡◌, ◌≢◌, ℕ, ◌+◌, ◌-◌, ◌<◌, ◌≤◌, true, false, List, length, Option, Some, None, refl, sym, ap, ◌∙◌, subst, inl, inr, arith}
+use Rattle.std.proofs.Common.{◌≡◌, ◌≢◌, ℕ, ◌+◌, ◌-◌, ◌<◌, ◌≤◌, false, List, length, Option, Some, None, refl, sym, ap, ◌∙◌, subst, inl, inr, arith}
 use Rattle.std.specs.Prelude.{IsSome, option_map, if◌then◌else◌}
 use Rattle.std.specs.Str.{bytes_eq}
-use Rattle.std.proofs.lemmas.Bool.{cases_Bool, cases_eq, cases_lt}
-use Rattle.std.proofs.lemmas.Bool.Decides.{nat_tests}
+use Rattle.std.proofs.lemmas.Bool.{cases_Bool, cases_eq}
 use Rattle.roam_reverse.specs.Private.Groups.{AreEnds, AreEndsOf, IsBeside, IsBesideOf, IsGrouped, PlainGroups, PutsRow, ends_between, ends_left, if_row, in_group, is_at, with_newer_at, with_older_at}
 use Rattle.roam_reverse.specs.Private.Tickets.{IsFirst, IsFirstFrom, IsLast, IsLastBelow, all_listed}
 use Rattle.roam_reverse.specs.declared.ends.Ends.{Ends}
 use Rattle.roam_reverse.specs.declared.neighbours.Beside.{Beside}
 use Rattle.roam_wire.specs.Numbered.{PutsAt, tickets_end}
+use Rattle.roam_reverse.proofs.GivenLemmas.{apart-way, at-is, at-isnt, newer-by-older, newer-not-at, newer-of, none-left, older-by-newer, older-not-at, older-of}
 use Rattle.roam_reverse.proofs.GroupLemmas.{beside-stays, beside-there, ends-stay, ends-there, from-group, in-other, in-own, one-row}
 use Rattle.roam_reverse.proofs.ListedLemmas.{length-gone}
 use Rattle.roam_reverse.proofs.NeighbourLemmas.{first-kept, first-through, former-is, former-only, held-some, last-kept, last-through, newest-is, newest-isnt, next-is, next-only, oldest-is, oldest-isnt}
-use Rattle.roam_reverse.proofs.SameLemmas.{octets-are, octets-same}
-
--- what a number is given as
-at-itself : (t : ℕ) → is_at (Some t) t ≡ true
-at-itself t = grind (arith, nat_tests)
-
-pub at-is : (o : Option ℕ) (u : ℕ) → is_at o u ≡ true → o ≡ Some u
-at-is None u h = absurd (cc h)
-at-is (Some t) u h = (let e : t ≡ u = grind (arith, nat_tests) in ap Some e)
-
-pub at-isnt : (o : Option ℕ) (u : ℕ) → is_at o u ≡ false → o ≢ Some u
-at-isnt o u h e = absurd (let k : is_at (Some u) u ≡ false =
-    subst (λ (p : Option ℕ). is_at p u ≡ false) e h in cc (k, at-itself u))
-
-pub newer-of : (at newer : Option ℕ) (u : ℕ) (x : Beside)
-    → (with_newer_at at newer u x).newer ≡ (if is_at at u then newer else x.newer)
-newer-of at newer u x = elim (cases_Bool (is_at at u))
-    [ inl is ↦ rw is refl | inr isnt ↦ rw isnt refl ]
-
-pub older-by-newer : (at newer : Option ℕ) (u : ℕ) (x : Beside)
-    → (with_newer_at at newer u x).older ≡ x.older
-older-by-newer at newer u x = elim (cases_Bool (is_at at u))
-    [ inl is ↦ rw is refl | inr isnt ↦ rw isnt refl ]
-
-older-of : (at older : Option ℕ) (u : ℕ) (x : Beside)
-    → (with_older_at at older u x).older ≡ (if is_at at u then older else x.older)
-older-of at older u x = elim (cases_Bool (is_at at u))
-    [ inl is ↦ rw is refl | inr isnt ↦ rw isnt refl ]
-
-newer-by-older : (at older : Option ℕ) (u : ℕ) (x : Beside)
-    → (with_older_at at older u x).newer ≡ x.newer
-newer-by-older at older u x = elim (cases_Bool (is_at at u))
-    [ inl is ↦ rw is refl | inr isnt ↦ rw isnt refl ]
-
--- where no neighbour is given to a number, it keeps those that it has
-pub newer-not-at : (at newer : Option ℕ) (u : ℕ) (x : Beside) → is_at at u ≡ false
-    → with_newer_at at newer u x ≡ x
-newer-not-at at newer u x isnt = rw isnt refl
-
-older-not-at : (at older : Option ℕ) (u : ℕ) (x : Beside) → is_at at u ≡ false
-    → with_older_at at older u x ≡ x
-older-not-at at older u x isnt = rw isnt refl
+use Rattle.roam_reverse.proofs.SameLemmas.{octets-are}
 
 -- the number t of a group goes, and its neighbours are each other's
 pub record Unlinks (p r : PlainGroups) (t : ℕ) (row : List ℕ) (e : Ends) (b : Beside) : Type 0 where
@@ -276,26 +235,14 @@ module _ (f g : ℕ → Option (List ℕ)) (p r : PlainGroups) (t : ℕ) (row : 
         (subst (λ (o : Option ℕ). IsLastBelow F tickets_end o) same ends-are.newest))
         ends-are.newest)
 
-    none-left : b.older ≡ None → b.newer ≡ None → (u : ℕ) → G u ≡ None
-    none-left older newer u = (
-        let below : (v : ℕ) → v < t → F v ≡ None =
-        subst (λ (o : Option ℕ). IsLastBelow F t o) older older-t in
-        let above : (v : ℕ) → t + 1 ≤ v → F v ≡ None =
-        subst (λ (o : Option ℕ). IsFirstFrom F (t + 1) o) newer newer-t in
-        elim (cases_eq u t) [
-          | inl same ↦ ap G same ∙ group-goes.changed
-          | inr ne ↦ group-goes.others u ne ∙ elim (cases_lt u t) [
-            | inl lt ↦ below u lt
-            | inr ge ↦ above u (omega arith)
-          ]
-        ])
-
     own-ends : AreEndsOf g row (ends_left b e)
     unfolding G
     own-ends = by b.older b.newer refl refl
       where
         by : (o n : Option ℕ) → b.older ≡ o → b.newer ≡ n → AreEndsOf g row (ends_between o n e)
-        by None None older newer = none-left older newer
+        by None None older newer = none-left F G t group-goes
+            (subst (λ (k : Option ℕ). IsLastBelow F t k) older older-t)
+            (subst (λ (k : Option ℕ). IsFirstFrom F (t + 1) k) newer newer-t)
         by None (Some n) older newer = record {
           oldest = first-through F G t group-goes 0 (Some n) (oldest-here older)
               (subst (λ (o : Option ℕ). IsFirstFrom F (t + 1) o) newer newer-t);
@@ -313,13 +260,6 @@ module _ (f g : ℕ → Option (List ℕ)) (p r : PlainGroups) (t : ℕ) (row : 
           newest = newest-kept n newer;
           count = count-after;
         }
-
-    apart-way : (a c : List ℕ) → bytes_eq a c ≡ false → bytes_eq c a ≡ false
-    apart-way a c apart = elim (cases_Bool (bytes_eq c a)) [
-      | inl same ↦ absurd (let k : bytes_eq a c ≡ true = octets-same a c (sym (octets-are c a same)) in
-          cc (k, apart))
-      | inr way ↦ way
-    ]
 
     ends-after : (other : List ℕ) → AreEndsOf g other (r.ends other)
     ends-after other = elim (cases_Bool (bytes_eq row other)) [

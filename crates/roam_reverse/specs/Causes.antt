@@ -91,9 +91,9 @@ cause_at_target own realm named attributes sessions (Some peer) =
 -- session of the ledger with it is of that peer and of the access server that is named; 508 where several are. So what
 -- is forwarded names one session of the realm's own. Without `own_sessions`: 502 with a User-Name of no realm or of
 -- another one, or with neither User-Name nor Acct-Session-Id; 503 without User-Name where the session of that peer
--- isn't in the ledger. With a User-Name of the realm the ledger isn't looked at, and only the first of each type counts:
--- so a home server may name another realm's session beside a user of its own, and which session that ends is the
--- access server's to decide.
+-- isn't in the ledger. With a User-Name of the realm the ledger isn't looked at, and only the first of each type
+-- counts: so a home server may name another realm's session beside a user of its own, and which session that ends
+-- is the access server's to decide.
 -- Source: RFC 5176 section 3.5 for the numbers; when each comes is ours
 -- Rules out: causes in another order; with `own_sessions` a session of another realm, or one of several
 -- Stands in: `roam_reverse` `Causes.antt`: `cause`; `verdict`, `route_of`, the laws `forwarded_has_target`,

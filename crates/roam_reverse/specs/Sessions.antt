@@ -82,7 +82,8 @@ count_of_peer peer sessions = length (filter (λ s. s.peer == peer) sessions)
 
 -- no other peer has more sessions in a list than this session's
 abbrev pub has_most : List Session → Session → Bool
-has_most sessions s = list_all (λ other. nat_le (count_of_peer other.peer sessions) (count_of_peer s.peer sessions)) sessions
+has_most sessions s =
+    list_all (λ other. nat_le (count_of_peer other.peer sessions) (count_of_peer s.peer sessions)) sessions
 
 -- a list without the first one that passes a test
 abbrev pub without_first : {X : Type 0} → (X → Bool) → List X → List X

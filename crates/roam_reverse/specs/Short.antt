@@ -1,4 +1,4 @@
--- Octets that an attribute has room for, as contracts see them: where they lie, with memory of their own, without (ours).
+-- Octets that an attribute has room for, as contracts see them: where they lie, with memory of their own, without.
 use Rattle.std.specs.Prelude.{ℕ, List, take}
 use Rattle.roam_reverse.specs.declared.short.Short.{Short}
 use Rattle.roam_reverse.specs.declared.short.KeptShort.{KeptShort}

@@ -16,3 +16,5 @@ mod own_tests;
 mod requests;
 #[cfg(test)]
 mod share_tests;
+#[cfg(test)]
+mod target_rows;

@@ -2,8 +2,8 @@
 //! configurations and the expected answers are those of worked exchanges that were computed apart from the
 //! program.
 
-use crate::own_rows::ROWS;
 use crate::requests::octets;
+use crate::{own_rows, target_rows};
 use roam_conf::Config;
 use roam_conf_reader::read_config;
 use roam_hash::HashKey;
@@ -14,19 +14,13 @@ use std::alloc::Global;
 use std::process::Abort;
 use std::test::Fail;
 
-/// What happens: a peer's Accounting-Request for the first realm is answered, or a request comes to a realm and is
-/// forwarded to a peer, or gets a cause.
-pub enum Step {
-    Answered(u16, &'static str),
-    Forwarded(u16, &'static str, u16),
-    Refused(u16, &'static str, u32),
-}
-
-/// A configuration, and what happens one after the other.
+/// A configuration in parts, and what happens one after the other, in words: `answered PEER REQUEST`, where a peer's
+/// Accounting-Request for the first realm is answered; `forwarded REALM REQUEST PEER` and
+/// `refused REALM REQUEST CAUSE`, where a request comes to a realm and is forwarded to a peer, or gets a cause.
 pub struct Row {
     pub what: &'static str,
-    pub config: &'static str,
-    pub steps: &'static [Step],
+    pub parts: &'static [&'static str],
+    pub steps: &'static [&'static str],
 }
 
 /// Whether the names of access servers count in the first realm.
@@ -57,28 +51,36 @@ fn told(
     route_of(config, realm, named, &view, &none)
 }
 
+/// A number that a step's next word says.
+fn number(rt: &impl Abort, word: Option<&str>) -> u16 {
+    word.expect(rt, "a number").parse().expect(rt, "a number")
+}
+
 /// Whether a step goes as it should.
 fn goes(
     rt: &impl Abort,
     alloc: Global,
     config: &Config,
     sessions: &mut Sessions<Global>,
-    step: &Step,
+    step: &str,
 ) -> Result<bool, NoMemory> {
-    match step {
-        Step::Answered(peer, request) => {
-            let octets = octets(rt, alloc, request);
-            let view = View::read(&octets).expect(rt, "a packet");
-            sessions.apply(counts(config), *peer, &view)?;
-            Ok(true)
-        }
-        Step::Forwarded(realm, request, peer) => {
-            Ok(told(rt, alloc, config, sessions, *realm, request) == Ok(*peer))
-        }
-        Step::Refused(realm, request, cause) => {
-            Ok(told(rt, alloc, config, sessions, *realm, request) == Err(*cause))
-        }
+    let mut words = step.split_whitespace();
+    let what = words.next().expect(rt, "what happens");
+    let place = number(rt, words.next());
+    let request = words.next().expect(rt, "a request");
+    if what == "answered" {
+        let octets = octets(rt, alloc, request);
+        let view = View::read(&octets).expect(rt, "a packet");
+        sessions.apply(counts(config), place, &view)?;
+        return Ok(true);
     }
+    let expected = number(rt, words.next());
+    let told = told(rt, alloc, config, sessions, place, request);
+    Ok(match what {
+        "forwarded" => told == Ok(expected),
+        "refused" => told == Err(u32::from(expected)),
+        _ => false,
+    })
 }
 
 /// The limit of the first realm's ledger.
@@ -91,7 +93,8 @@ fn limit(config: &Config) -> u32 {
 
 /// Each step of a row goes as it should.
 fn check_row(rt: &impl Abort, alloc: Global, row: &Row) -> Result<(), Fail> {
-    let config = read_config(alloc, row.config).expect(rt, "a configuration");
+    let text = row.parts.concat(alloc).expect(rt, "memory");
+    let config = read_config(alloc, &text).expect(rt, "a configuration");
     let mut sessions = Sessions::new(alloc, limit(&config), HashKey::new([7; 16]));
     for (i, step) in row.steps.iter().enumerate() {
         let goes = goes(rt, alloc, &config, &mut sessions, step)?;
@@ -101,7 +104,10 @@ fn check_row(rt: &impl Abort, alloc: Global, row: &Row) -> Result<(), Fail> {
 }
 
 pub(crate) fn requests_of_own_sessions<R: Abort + AllocGlobal>(rt: &R) -> Result<(), Fail> {
-    for row in &ROWS {
+    for row in &target_rows::ROWS {
+        check_row(rt, rt.alloc(), row)?;
+    }
+    for row in &own_rows::ROWS {
         check_row(rt, rt.alloc(), row)?;
     }
     Ok(())

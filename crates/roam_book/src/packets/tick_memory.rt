@@ -1,16 +1,14 @@
 //! The memory of a tick, taken before anything changes.
 
-ghost use Rattle.std.specs.Prelude.{◌≡◌, ◌≤◌, [], true, length, IfOk, IsOk, is_some};
+ghost use Rattle.std.specs.Prelude.{◌≡◌, ◌≤◌, [], length, IfOk, IsOk, is_some};
 ghost use Rattle.roam_pending.specs.DueOrder.{due_list};
 ghost use Rattle.roam_pending.specs.EntryList.{find_ticket};
 ghost use Rattle.roam_pending.specs.Shown.{seen};
 ghost use Rattle.roam_book.specs.Rooms.{IsRoomFor, EachHasBuffers, dues_of, size_of};
 ghost use Rattle.roam_book.specs.Private.Memory.{HasBuffers};
-ghost use Rattle.roam_book.specs.RealmTurn.{entries};
 
 use crate::packets::answer_builder::AnswerBuilder;
 use crate::packets::buffers::Buffers;
-use crate::state::realm_broker::RealmBroker;
 use roam_pending::{Due, Entries, Entry};
 use roam_wire::NoMemory;
 use std::alloc::Allocator;
@@ -112,35 +110,4 @@ pub fn room_for<A: Allocator + Copy, E: Entries<A>>(
     let slots = slots_for(alloc, realm, entries, now, twice)?;
     let outs = AnswerBuilder::new(alloc, slots.len(), twice)?;
     Ok(Room { slots, outs })
-}
-
-impl<A: Allocator + Copy, E: Entries<A>> RealmBroker<'_, '_, '_, '_, A, E> {
-    /// All the memory of a tick. No memory is wanted where nothing is due.
-    pub fn tick_room(&self, now: u64) -> Result<Room<A>, NoMemory>
-        ensures room { IfOk result (λ room. IsRoomFor now (entries E.Entries self.now) room) }
-        ensures succeeds { due_list now (entries E.Entries self.now) ≡ [] → IsOk result }
-    {
-        room_for(
-            self.numbers.alloc,
-            self.settings.index(),
-            self.entries,
-            now,
-            false,
-        )
-    }
-
-    /// The same, for a tick whose answer is wanted twice.
-    pub fn tick_room_for_two(&self, now: u64) -> Result<Room<A>, NoMemory>
-        ensures room { IfOk result (λ room. IsRoomFor now (entries E.Entries self.now) room) }
-        ensures twice { IfOk result (λ room. room.outs.twice ≡ true) }
-        ensures succeeds { due_list now (entries E.Entries self.now) ≡ [] → IsOk result }
-    {
-        room_for(
-            self.numbers.alloc,
-            self.settings.index(),
-            self.entries,
-            now,
-            true,
-        )
-    }
 }

@@ -1,8 +1,4 @@
 use Rattle.roam_reverse.proofs.SessionLemmas.{opened-is-there, opened-twice}
-use Rattle.roam_reverse.proofs.WholeLemmas.{found-whole}
-use Rattle.roam_reverse.proofs.SoundLemmas.{tickets-come}
-use Rattle.roam_reverse.proofs.GrownLemmas.{grown-sound}
-use Rattle.roam_reverse.proofs.LargestLemmas.{lookup-at}
 use Rattle.roam_reverse.proofs.laws.opened_sessions.Goals as goal
 
 pub returns-clause-is_there : goal.returns-clause-is_there

@@ -1,7 +1,6 @@
-use Rattle.std.proofs.Common.{◌≡◌, ℕ, Bool, List, Option, Some, None, refl, sym, ap, ◌∙◌, subst}
+use Rattle.std.proofs.Common.{◌≡◌, ℕ, List, Option, Some, ap, ◌∙◌, subst}
 use Rattle.roam_wire.specs.Attributes.{first_value}
 use Rattle.roam_wire.specs.declared.attribute_type.TheConstants.{NAS_IDENTIFIER, NAS_IP_ADDRESS, OPERATOR_NAME}
-use Rattle.roam_conf.specs.Targets.{some_operator}
 use Rattle.roam_route.specs.UserName.{nas_of}
 use Rattle.roam_reverse.specs.Target.{peer_named, peer_of_nas, peer_of_operator, target, with_coa}
 use Rattle.roam_reverse.proofs.TargetLemmas.{nas-names, operator-names, takes-requests, with-coa-is}

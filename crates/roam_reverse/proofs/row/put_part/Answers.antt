@@ -1,10 +1,11 @@
-use Rattle.std.proofs.Common.{◌≡◌, ◌+◌, length, arith}
+use Rattle.std.proofs.Common.{◌+◌, length, arith}
 use Rattle.std.proofs.lemmas.List.{take_more_set}
 use Rattle.roam_reverse.proofs.BufferLemmas.{put-part}
 use Rattle.roam_reverse.proofs.row.put_part.Goals as goal
 
 pub returns-in_default-clause-text : goal.returns-in_default-clause-text
-returns-in_default-clause-text c = rw c.in_default.is (take_more_set c.args.buffer.now c.args.at 0 (omega (arith, c.requires)))
+returns-in_default-clause-text c =
+    rw c.in_default.is (take_more_set c.args.buffer.now c.args.at 0 (omega (arith, c.requires)))
 
 pub returns-clause-text : goal.returns-clause-text
 returns-clause-text c =

@@ -59,6 +59,6 @@ returns-clause-fate g c =
     (c.of_packet-request.ensures ∙ ap packet_of c.as_slice.ensures) in
     let out = ap shown_out c.new.ensures.out ∙ c.packet_to_requester-out.ensures
     ∙ ap (packet_to_requester config e.request.key) (c.from_vec.ensures ∙ is) in
-    let held = c.held_for-held.ensures
+    let held = c.held_for-held.ensures.held
     ∙ ap (held_for config c.args.now) (c.copied_into.ensures ∙ c.as_slice-2.ensures.value ∙ is) in
     gives-up config c.args.now e c.new.result c.held_for-held.result c.requires.reverse out held

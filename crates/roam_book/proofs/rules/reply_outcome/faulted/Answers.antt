@@ -7,6 +7,7 @@ pub returns-then-shows_life : goal.returns-then-shows_life
 returns-then-shows_life g c = λ k e l s. same-verdict k c.only_heard.result e l s _ _ (c.only_heard.ensures k e l s)
     (faulted-heard k s l c.args.why (sym c.shows_life.ensures ∙ c.if-shows_life.true))
 
-pub returns : goal.returns
-returns g c = λ k e l s. same-verdict k c.not_taken.result e l s _ _ (c.not_taken.ensures k e l s)
+-- something else is wrong
+pub returns-else-shows_life : goal.returns-else-shows_life
+returns-else-shows_life g c = λ k e l s. same-verdict k c.not_taken.result e l s _ _ (c.not_taken.ensures k e l s)
     (faulted-only k s l c.args.why (sym c.shows_life.ensures ∙ c.if-shows_life.false))

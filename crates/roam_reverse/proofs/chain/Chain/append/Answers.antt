@@ -1,5 +1,5 @@
-use Rattle.std.proofs.Common.{◌≡◌, ◌≢◌, ℕ, ◌+◌, ◌-◌, ◌<◌, ◌≤◌, Bool, true, false, List, [], ◌∷◌, ◌++◌, length, Option, Some, None, refl, sym, ap, ◌∙◌, subst, arith, length-append}
-use Rattle.roam_wire.specs.Numbered.{PutsAt, tickets_end}
+use Rattle.std.proofs.Common.{◌≡◌, ℕ, ◌+◌, ◌-◌, ◌<◌, Bool, List, [], ◌∷◌, length, sym, ap, ◌∙◌, subst, arith, length-append}
+use Rattle.roam_wire.specs.Numbered.{tickets_end}
 use Rattle.roam_reverse.specs.Facets.{ComesIn, FacetsHaveRoom, HasFacetRows}
 use Rattle.roam_reverse.specs.Kept.{kept_session}
 use Rattle.roam_reverse.specs.Maps.{HasRoom, session_of}
@@ -81,7 +81,10 @@ append-requires-2 g c =
     let room = c.requires.sound.room.of_peer in
     let some = c.requires.room in
     record {
-      by_peer = record { ends = omega (arith, room.by_peer.ends, some); beside = omega (arith, room.by_peer.beside, some) };
+      by_peer = record {
+        ends = omega (arith, room.by_peer.ends, some);
+        beside = omega (arith, room.by_peer.beside, some);
+      };
       by_address = record {
         ends = omega (arith, room.by_address.ends, some);
         beside = omega (arith, room.by_address.beside, some);
@@ -90,7 +93,10 @@ append-requires-2 g c =
         ends = omega (arith, room.by_identifier.ends, some);
         beside = omega (arith, room.by_identifier.beside, some);
       };
-      by_both = record { ends = omega (arith, room.by_both.ends, some); beside = omega (arith, room.by_both.beside, some) };
+      by_both = record {
+        ends = omega (arith, room.by_both.ends, some);
+        beside = omega (arith, room.by_both.beside, some);
+      };
     }
 
 pub append-requires-3 : goal.append-requires-3
@@ -98,7 +104,10 @@ append-requires-3 g c =
     let room = c.requires.sound.room.of_id in
     let some = c.requires.room in
     record {
-      by_peer = record { ends = omega (arith, room.by_peer.ends, some); beside = omega (arith, room.by_peer.beside, some) };
+      by_peer = record {
+        ends = omega (arith, room.by_peer.ends, some);
+        beside = omega (arith, room.by_peer.beside, some);
+      };
       by_address = record {
         ends = omega (arith, room.by_address.ends, some);
         beside = omega (arith, room.by_address.beside, some);
@@ -107,5 +116,8 @@ append-requires-3 g c =
         ends = omega (arith, room.by_identifier.ends, some);
         beside = omega (arith, room.by_identifier.beside, some);
       };
-      by_both = record { ends = omega (arith, room.by_both.ends, some); beside = omega (arith, room.by_both.beside, some) };
+      by_both = record {
+        ends = omega (arith, room.by_both.ends, some);
+        beside = omega (arith, room.by_both.beside, some);
+      };
     }

@@ -1,4 +1,4 @@
-use Rattle.std.proofs.Common.{◌≡◌, ℕ, List, Option, sym, ap, ◌∙◌, subst}
+use Rattle.std.proofs.Common.{ℕ, Option, sym, ap, ◌∙◌, subst}
 use Rattle.roam_reverse.specs.Kept.{shown_session}
 use Rattle.roam_reverse.specs.Maps.{groups_of}
 use Rattle.roam_reverse.specs.Private.Groups.{oldest_of}

@@ -1,4 +1,4 @@
-use Rattle.std.proofs.Common.{◌≡◌, ℕ, Bool, true, false, List, length, Option, Some, None, refl, sym, ap, ◌∙◌, subst, arith}
+use Rattle.std.proofs.Common.{ℕ, Bool, false, List, length, Option, sym, ap, ◌∙◌, subst, arith}
 use Rattle.roam_wire.specs.Numbered.{tickets_end}
 use Rattle.roam_reverse.specs.Facets.{masked, rows_under}
 use Rattle.roam_reverse.specs.Maps.{groups_of}

@@ -1,4 +1,4 @@
-use Rattle.std.proofs.Common.{◌≡◌, refl, sym, ap, ◌∙◌, arith}
+use Rattle.std.proofs.Common.{refl, arith}
 use Rattle.roam_wire.specs.Numbered.{tickets_end}
 use Rattle.roam_reverse.proofs.GrownLemmas.{grown-sound}
 use Rattle.roam_reverse.proofs.chain.Chain.reserve.Goals as goal

@@ -1,4 +1,3 @@
-use Rattle.std.proofs.Common.{◌≡◌, ap, ◌∙◌}
 use Rattle.roam_reverse.specs.Facets.{facet_of}
 use Rattle.roam_reverse.specs.Kept.{shown_asked}
 use Rattle.roam_reverse.specs.Maps.{groups_of}

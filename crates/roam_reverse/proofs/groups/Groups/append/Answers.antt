@@ -1,4 +1,4 @@
-use Rattle.std.proofs.Common.{◌≡◌, ℕ, List, Option, Some, None, refl, sym, ap, ◌∙◌, subst, arith}
+use Rattle.std.proofs.Common.{◌≡◌, Some, ap, ◌∙◌, subst, arith}
 use Rattle.roam_reverse.specs.Maps.{beside_at, ends_at, groups_of}
 use Rattle.roam_reverse.specs.Private.Groups.{PutsRow, ends_behind, newest_of}
 use Rattle.roam_reverse.specs.declared.ends.Ends.{Ends}

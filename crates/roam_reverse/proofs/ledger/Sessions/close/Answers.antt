@@ -1,5 +1,4 @@
-use Rattle.std.proofs.Common.{◌≡◌, ℕ, false, Option, Some, None, ap, sym, ◌∙◌, subst, arith}
-use Rattle.std.specs.Prelude.{IsSome}
+use Rattle.std.proofs.Common.{◌≡◌, ℕ, false, Option, ap, sym, ◌∙◌, subst, arith}
 use Rattle.roam_reverse.specs.Kept.{shown_session}
 use Rattle.roam_reverse.specs.Private.Tickets.{IsTicketOf}
 use Rattle.roam_reverse.specs.Sessions.{has_session, without_session}

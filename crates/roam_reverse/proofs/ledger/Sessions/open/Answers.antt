@@ -1,4 +1,4 @@
-use Rattle.std.proofs.Common.{◌≡◌, ◌+◌, false, List, [], ◌∷◌, ◌++◌, refl, ap, sym, ◌∙◌, inl, inr, arith}
+use Rattle.std.proofs.Common.{◌≡◌, ◌+◌, false, List, [], ap, sym, ◌∙◌, inl, inr}
 use Rattle.roam_reverse.specs.Kept.{kept_session}
 use Rattle.roam_reverse.specs.Sessions.{Session, has_session, with_session, within}
 use Rattle.roam_reverse.specs.Shown.{Ledger}

@@ -1,4 +1,4 @@
-use Rattle.std.proofs.Common.{◌≡◌, ℕ, Option, List, None, refl, ap, ◌∙◌}
+use Rattle.std.proofs.Common.{None, ap, ◌∙◌}
 use Rattle.roam_reverse.specs.Sessions.{LedgerChange, Nas, Session, changed, closes, closes_all}
 use Rattle.roam_reverse.specs.Shown.{shown_change}
 use Rattle.roam_reverse.proofs.ledger.Sessions.prepare.Goals as goal

@@ -1,4 +1,4 @@
-use Rattle.std.proofs.Common.{◌≡◌, ◌/◌, ◌%◌, List, ℕ, length, arith}
+use Rattle.std.proofs.Common.{◌/◌, ◌%◌, ℕ, arith}
 use Rattle.std.specs.Prelude.{replicate}
 use Rattle.std.proofs.lemmas.List.{length-replicate}
 use Rattle.roam_reverse.specs.Kept.{shown_asked}

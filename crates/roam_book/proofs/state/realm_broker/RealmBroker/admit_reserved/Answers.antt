@@ -1,5 +1,6 @@
-use Rattle.std.proofs.Common.{◌≡◌, false, [], ◌∷◌, ap, ◌∙◌, refl, subst, sym}
+use Rattle.std.proofs.Common.{◌≡◌, true, false, List, [], ◌∷◌, ap, ◌∙◌, refl, subst, sym}
 use Rattle.roam_route.specs.Shown.{shown_out}
+use Rattle.roam_ids.specs.LaneState.{LaneState}
 use Rattle.roam_book.specs.Conversing.{rests_chosen}
 use Rattle.roam_book.specs.RealmConfig.{RealmConfig, IsLink}
 use Rattle.roam_book.specs.RealmState.{RealmState, with_rests}
@@ -7,7 +8,7 @@ use Rattle.roam_book.specs.RealmTurn.{state}
 use Rattle.roam_book.specs.Turn.{packets_of, state_after}
 use Rattle.roam_book.specs.Private.NewEntry.{IsWay, admits, cleared, forwards, straight_to}
 use Rattle.roam_book.specs.Private.Memory.{IsCopied}
-use Rattle.roam_book.specs.Sound.{shown_request}
+use Rattle.roam_book.specs.Sound.{lane_of, shown_request}
 use Rattle.roam_book.proofs.LinkLaneLemmas.{made-same}
 use Rattle.roam_book.proofs.MemoryLemmas.{has-place, told-tells}
 use Rattle.roam_book.proofs.RealmLemmas.{keeps-both}
@@ -20,11 +21,6 @@ choose-requires-clause-link g c =
     subst (λ (k : RealmConfig). IsLink k c.args.way.link) (sym c.make_way.ensures.keeps.loans.settings)
     c.requires.way.link
 
--- the settings are the same
-settings-same : (g : _) (c : goal.After-choose g)
-    → c.choose.new.self.settings.now ≡ c.args.self.now.settings.now
-settings-same g c = c.choose.ensures.keeps.loans.settings ∙ c.make_way.ensures.keeps.loans.settings
-
 -- the way is clear
 pub forward_new-sent-requires-clause-way : goal.forward_new-sent-requires-clause-way
 forward_new-sent-requires-clause-way g c =
@@ -32,12 +28,16 @@ forward_new-sent-requires-clause-way g c =
     let mid = c.make_way.new.self in
     let last = c.choose.new.self in
     let q = shown_request c.args.asked in
-    let chosen = way-chosen config (state g.E.Entries mid) q c.args.way _ (c.make_way.ensures.way q c.requires.way) in
+    let rests = rests_chosen mid.settings.now c.args.now (state g.E.Entries mid).rests c.args.way.bound c.args.way.link in
+    let chosen : IsWay config (with_rests (state g.E.Entries mid) rests) q (straight_to c.args.way.link false) =
+    way-chosen config (state g.E.Entries mid) q c.args.way rests (c.make_way.ensures.way q c.requires.way) in
     let way : IsWay config (state g.E.Entries last) q (straight_to c.args.way.link false) =
     subst (λ (s : RealmState). IsWay config s q (straight_to c.args.way.link false)) (sym c.choose.ensures.state)
     chosen in
+    let settings : c.choose.new.self.settings.now ≡ c.args.self.now.settings.now =
+    c.choose.ensures.keeps.loans.settings ∙ c.make_way.ensures.keeps.loans.settings in
     subst (λ (k : RealmConfig). IsWay k (state g.E.Entries last) q (straight_to c.args.way.link false))
-    (sym (settings-same g c)) way
+    (sym settings) way
 
 -- the memory of the link's lane is there
 pub forward_new-sent-requires-clause-made : goal.forward_new-sent-requires-clause-made
@@ -45,7 +45,12 @@ forward_new-sent-requires-clause-made g c =
     let mid = c.make_way.new.self.numbers.now.lanes.items in
     let made = made-same c.args.self.now.settings.now c.args.self.now.numbers.now.lanes.items mid
     c.args.way.link c.make_way.ensures.marks c.requires.made in
-    rw (settings-same g c, c.choose.ensures.lanes) made
+    let settings : c.choose.new.self.settings.now ≡ c.args.self.now.settings.now =
+    c.choose.ensures.keeps.loans.settings ∙ c.make_way.ensures.keeps.loans.settings in
+    let last = c.choose.new.self.numbers.now.lanes.items in
+    let chosen = subst (λ (ls : List LaneState). (lane_of c.args.self.now.settings.now ls c.args.way.link).made ≡ true)
+    (sym c.choose.ensures.lanes) made in
+    subst (λ (k : RealmConfig). (lane_of k last c.args.way.link).made ≡ true) (sym settings) chosen
 
 -- there is a place for the one packet, and it has its copy
 pub push-requires-clause-place : goal.push-requires-clause-place
@@ -66,7 +71,8 @@ returns-clause-turn g c =
     let last = state g.E.Entries c.choose.new.self in
     let new = state g.E.Entries c.forward_new-sent.new.self in
     let q = shown_request c.args.asked in
-    let at = settings-same g c in
+    let at : c.choose.new.self.settings.now ≡ c.args.self.now.settings.now =
+    c.choose.ensures.keeps.loans.settings ∙ c.make_way.ensures.keeps.loans.settings in
     let cleared_way = cleared c.args.way in
     let same = c.make_way.ensures.turn c.args.now q c.requires.way in
     let chosen : last ≡ with_rests mid

@@ -14,7 +14,7 @@ is_sharer-requires g c =
     let r = c.args.self.now in
     let e = kept-link r.settings.now r.numbers.now.ticket c.args.link c.args.id _ (entries g.E.Entries r)
     (sym c.in-Some.ensures.found) c.requires.realm.sound.each in
-    e.request.packet
+    record { packet = e.request.packet }
 
 -- none waits there
 pub returns-in-None : goal.returns-in-None
