@@ -46,7 +46,7 @@ pub newer-not-at : (at newer : Option ℕ) (u : ℕ) (x : Beside) → is_at at u
     → with_newer_at at newer u x ≡ x
 newer-not-at at newer u x isnt = rw isnt refl
 
-older-not-at : (at older : Option ℕ) (u : ℕ) (x : Beside) → is_at at u ≡ false
+pub older-not-at : (at older : Option ℕ) (u : ℕ) (x : Beside) → is_at at u ≡ false
     → with_older_at at older u x ≡ x
 older-not-at at older u x isnt = rw isnt refl
 
