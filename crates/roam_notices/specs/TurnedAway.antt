@@ -45,15 +45,20 @@ advice_text fault.NoSeal = codes "its replies have no Message-Authenticator: upd
 advice_text fault.WrongSeal = codes "the Message-Authenticator of its replies is wrong: update it, or what lies between"
 advice_text fault.TooLong = codes "its replies are too long: have it send less"
 
+-- which home server of which realm
+abbrev pub server_text : Sender → Endpoint → List ℕ → List ℕ
+server_text sender from realm = who_text sender ++ codes " " ++ endpoint_text from ++ codes " of " ++ realm
+
 -- ## Line of a home server that is refused
 -- Which home server answers, of which realm, by what its replies are refused, and what to do.
 -- Source: ours
 -- Rules out: a server that answers said to be silent
--- Stands in: `roam_notices` `TurnedAway.antt`: `turned_away`, `turned_away_text`; what the `Display` of `TurnedAwayText`
+-- Stands in: `roam_notices` `TurnedAway.antt`: `turned_away`, `turned_away_text`; what the `Display` of
+-- `TurnedAwayText`
 -- writes
 --
 -- the line
 abbrev pub turned_away_text : Sender → Endpoint → List ℕ → ReplyFault → List ℕ
 turned_away_text sender from realm fault =
-    who_text sender ++ codes " " ++ endpoint_text from ++ codes " of " ++ realm ++ codes " answers and is refused (" ++
-    fault_text fault ++ codes "): " ++ advice_text fault
+    server_text sender from realm ++ codes " answers and is refused (" ++ fault_text fault ++ codes "): " ++
+    advice_text fault

@@ -87,7 +87,8 @@ fn who(sender: Sender<'_>) -> &'static str
     }
 }
 
-/// Replies that are refused as a line: `home server ADDRESS:PORT of REALM answers and is refused (NUMBER NAME): ADVICE`.
+/// Replies that are refused as a line: `home server ADDRESS:PORT of REALM answers and is refused (NUMBER NAME):
+/// ADVICE`.
 #[derive(Clone, Copy)]
 pub struct TurnedAwayText<'n> {
     pub sender: Sender<'n>,
@@ -116,18 +117,36 @@ impl<'n> TurnedAwayText<'n> {
     }
 }
 
-impl Display for TurnedAwayText<'_> {
-    ghost output = { λ text. Some (spec.turned_away_text text.sender text.from text.realm.now text.fault) };
+/// Which home server of which realm.
+#[derive(Clone, Copy)]
+struct ServerText<'n> {
+    sender: Sender<'n>,
+    from: Endpoint,
+    realm: &'n str,
+}
+
+impl Display for ServerText<'_> {
+    ghost output = { λ text. Some (spec.server_text text.sender text.from text.realm.now) };
 
     fn fmt<W: Write>(&self, f: &mut Formatter<W>) -> fmt::Result {
         let who = who(self.sender);
         let from = self.from;
         let realm = self.realm;
+        write!(f, "{who} {from} of {realm}")
+    }
+}
+
+impl Display for TurnedAwayText<'_> {
+    ghost output = { λ text. Some (spec.turned_away_text text.sender text.from text.realm.now text.fault) };
+
+    fn fmt<W: Write>(&self, f: &mut Formatter<W>) -> fmt::Result {
+        let server = ServerText {
+            sender: self.sender,
+            from: self.from,
+            realm: self.realm,
+        };
         let fault = fault_text(self.fault);
         let advice = advice(self.fault);
-        write!(
-            f,
-            "{who} {from} of {realm} answers and is refused ({fault}): {advice}"
-        )
+        write!(f, "{server} answers and is refused ({fault}): {advice}")
     }
 }

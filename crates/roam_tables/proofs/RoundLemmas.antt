@@ -120,11 +120,6 @@ nothing_told hash E R nobody none = record {
   only = λ r t h held. absurd (subst (IsIn t) (none (round_key r h)) held);
 }
 
--- the same runs
-pub told_same : (hash : PlainEntry → Option ℕ) (E : ℕ → ℕ → Option PlainEntry) (R S : RoundKey → List ℕ)
-    → S ≡ R → RoundsTell hash E R → RoundsTell hash E S
-told_same hash E R S is tells = subst (RoundsTell hash E) (sym is) tells
-
 -- the same entries, and the same runs
 pub told_over : (hash : PlainEntry → Option ℕ) (S S2 : ℕ → Option Stored) (T T2 : TicketKey → Option ℕ)
     (R : RoundKey → List ℕ) → S2 ≡ S → T2 ≡ T → RoundsTell hash (entry_at S T) R

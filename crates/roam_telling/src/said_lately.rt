@@ -75,7 +75,8 @@ impl SaidLately {
         None
     }
 
-    /// Whether it is to be said now of a server: it wasn't within the last minute, and of fewer than so many others it was.
+    /// Whether it is to be said now of a server: it wasn't within the last minute, and of fewer than so many others it
+    /// was.
     /// It is noted then.
     pub fn take_turn(&mut self, replies: &TurnedAway, now: u64) -> bool
         ensures again { IsTrue (list_any (is_recent replies.now now) self.old.rows) → IsFalse result }

@@ -61,6 +61,20 @@ impl Queues<'_> {
     }
 }
 
+/// What the thread of a number counts by.
+fn counting_of<'s, 'c, G, N: Opened>(
+    shared: &'s Shared<'s, 'c, G, N>,
+    number: usize,
+) -> Counting<'s> {
+    Counting {
+        config: shared.config,
+        counts: match shared.counters {
+            Some(counters) => counters.of_thread(number),
+            None => None,
+        },
+    }
+}
+
 /// Makes the threads of a configuration.
 #[derive(Drop)]
 struct Builder<'s, 'c, G, N: Opened> {
@@ -111,13 +125,7 @@ impl<'s, 'c, G, N: Opened> Builder<'s, 'c, G, N> {
             buffer,
         } = kit;
         self.queues.take(queue, lines)?;
-        let counting = Counting {
-            config: shared.config,
-            counts: match shared.counters {
-                Some(counters) => counters.of_thread(number),
-                None => None,
-            },
-        };
+        let counting = counting_of(shared, number);
         let poll = polls.room;
         let room = RoomEvents { poll, events };
         let outgoing = Outgoing::new(shared.alloc, outbox, ports, shared.losses, counting, room)?;
