@@ -15,14 +15,14 @@ use Rattle.roam_book.specs.OnTick.{on_tick}
 use Rattle.roam_book.specs.RealmConfig.{realm_config}
 use Rattle.roam_book.specs.RealmState.{RealmState}
 use Rattle.roam_book.specs.Rooms.{only_done_due}
-use Rattle.roam_book.specs.Turn.{Turn, hears, refuses, sends, packets_of, refusal_of, state_after}
+use Rattle.roam_book.specs.Turn.{Turn, sends, packets_of, refusal_of, state_after}
 use Rattle.roam_book.specs.declared.packets.answer.Answer.{Answer}
 use Rattle.roam_book.specs.declared.packets.answer.Twin.{Twin}
 use Rattle.roam_book.specs.declared.state.start.Start.{Start}
 use Rattle.roam_core.specs.BrokerView.{BrokerView}
 use Rattle.roam_core.specs.Events.{is_in_shard, ticks}
 use Rattle.roam_core.specs.ShardRooms.{only_done_from}
-use Rattle.roam_core.specs.ManyRealms.{BrokerTurn, no_state, refusal_given, refuses_it, state_at, states_after, tick_all, tick_from, tick_of, to_arrival, to_tick, turn_of_one}
+use Rattle.roam_core.specs.ManyRealms.{BrokerTurn, no_state, refuses_it, state_at, states_after, tick_all, tick_from, tick_of, to_arrival, to_tick, turn_of_one}
 use Rattle.roam_core.specs.Openings.{openings, openings_from}
 use Rattle.roam_core.specs.Steps.{GivesAnswer, IsAnswer}
 use Rattle.roam_core.proofs.EventLemmas.{event-length}
@@ -32,7 +32,7 @@ use Rattle.roam_shard.specs.Across.{IsSharded, IsShardOf, all_states, no_shard, 
 use Rattle.roam_shard.specs.ShardView.{OpeningView, ShardView}
 use Rattle.roam_shard.specs.Private.Lost.{IsFirst}
 use Rattle.roam_shard.specs.Twins.{GivesTwin}
-use Rattle.roam_shard.proofs.ShardLemmas.{packets_one, states_one}
+use Rattle.roam_shard.proofs.TurnLemmas.{packets_one, states_one, refusal_one}
 
 -- lists with the same state at each place are the same
 pub same_everywhere : (one two : List RealmState) → length one ≡ length two
@@ -99,12 +99,6 @@ own-elsewhere config shards r k s ne =
     same (x ∷ xs) zero (suc q) ne = refl
     same (x ∷ xs) (suc i) zero ne = refl
     same (x ∷ xs) (suc i) (suc q) ne = same xs i q (λ is. ne (ap suc is))
-
-refusal_one : (ss : List RealmState) (k : ℕ) (turn : Turn)
-    → refusal_given (turn_of_one ss k turn) ≡ refusal_of turn
-refusal_one ss k (refuses why) = refl
-refusal_one ss k (hears why state) = refl
-refusal_one ss k (sends packets state) = refl
 
 -- there are as many states after a turn
 twin_length : {A : Type 0}

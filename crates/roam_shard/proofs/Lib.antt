@@ -1,3 +1,4 @@
+pub mod TurnLemmas
 pub mod ShardLemmas
 pub mod DueLemmas
 pub mod LettingGoLemmas

@@ -1,10 +1,10 @@
 -- One realm's turn, among all realms of a shard.
-use Rattle.std.proofs.Common.{◌≡◌, ◌≢◌, ℕ, zero, suc, ◌+◌, ◌<◌, ◌≤◌, Bool, true, false, List, [], ◌∷◌, length, set, Option, Some, None, is_some, Result, Ok, Err, IsTrue, refl, ap, sym, ◌∙◌, subst, inl, inr, arith}
+use Rattle.std.proofs.Common.{◌≡◌, ◌≢◌, ℕ, zero, suc, ◌+◌, ◌<◌, ◌≤◌, Bool, true, false, List, [], ◌∷◌, length, set, Option, Some, None, is_some, Result, Ok, IsTrue, refl, ap, sym, ◌∙◌, subst, inl, inr, arith}
 use Rattle.std.specs.Prelude.{nat_lt, slice_get}
 use Rattle.std.proofs.Math.ListN.{length-set}
 use Rattle.std.proofs.lemmas.Bool.{cases_eq, cases_lt}
 use Rattle.std.proofs.lemmas.Bool.Decides.{nat_tests}
-use Rattle.std.proofs.lemmas.List.{get_or-set_same, set-get_or}
+use Rattle.std.proofs.lemmas.List.{get_or-set_same}
 use Rattle.roam_wire.specs.declared.refusal.NoMemory.{NoMemory}
 use Rattle.roam_pending.specs.EntryList.{IsEntryList}
 use Rattle.roam_pending.specs.PlainEntry.{PlainEntry}
@@ -15,15 +15,14 @@ use Rattle.roam_book.specs.RealmConfig.{RealmConfig, realm_config}
 use Rattle.roam_book.specs.RealmState.{RealmState}
 use Rattle.roam_book.specs.RealmTurn.{GivesTwice}
 use Rattle.roam_book.specs.Sound.{IsSound, OthersStay, state_of}
-use Rattle.roam_book.specs.Turn.{Turn, hears, refuses, sends, packets_of, shown_outs, state_after, Answers}
-use Rattle.roam_book.specs.declared.packets.answer.Answer.{Answer}
+use Rattle.roam_book.specs.Turn.{Turn, sends, packets_of, shown_outs, state_after}
 use Rattle.roam_book.specs.declared.packets.answer.Twin.{Twin}
 use Rattle.roam_book.specs.declared.state.realm_numbers.RealmNumbers.{RealmNumbers}
 use Rattle.roam_core.specs.Events.{is_in_shard}
-use Rattle.roam_core.specs.ManyRealms.{no_state, packets_in_turn, state_at, states_after, turn_of_one}
-use Rattle.roam_core.specs.Steps.{IsAnswer}
+use Rattle.roam_core.specs.ManyRealms.{no_state, state_at, turn_of_one}
 use Rattle.roam_shard.specs.ShardView.{IsShard, OpeningView, ShardView, state_seen, states_from, states_in}
 use Rattle.roam_shard.specs.Twins.{GivesTwin}
+use Rattle.roam_shard.proofs.TurnLemmas.{packets_one, states_one, twin_one}
 
 -- tables that keep the same realms keep as many
 less_same : (a b : ℕ) → ((r : ℕ) → nat_lt r a ≡ nat_lt r b) → b ≤ a
@@ -39,51 +38,6 @@ as_many v w same =
     let one = less_same (length v) (length w) (λ r. sym (ap (λ (k : ℕ → Bool). k r) same)) in
     let two = less_same (length w) (length v) (λ r. ap (λ (k : ℕ → Bool). k r) same) in
     omega arith
-
--- what is sent, and the states that follow, where one realm has its turn
-pub packets_one : (ss : List RealmState) (k : ℕ) (turn : Turn)
-    → packets_in_turn (turn_of_one ss k turn) ≡ packets_of turn
-packets_one ss k (refuses why) = refl
-packets_one ss k (hears why state) = refl
-packets_one ss k (sends packets state) = refl
-
-pub states_one : (ss : List RealmState) (k : ℕ) (turn : Turn)
-    → states_after ss (turn_of_one ss k turn) ≡ set ss k (state_after (state_at ss k) turn)
-states_one ss k (refuses why) = sym (set-get_or ss k no_state)
-states_one ss k (hears why state) = refl
-states_one ss k (sends packets state) = refl
-
--- the turn of one realm, among all states
-pub answer_one : {A : Type 0}
-    → (answer : Answer A) (states : List RealmState) (k : ℕ) (new : RealmState) (turn : Turn)
-    → Answers answer (state_at states k) new turn
-    → IsAnswer answer states (set states k new) (turn_of_one states k turn)
-answer_one answer states k new (refuses why) gives = record {
-  packets = gives.packets;
-  refusal = gives.refusal;
-  states = ap (λ (s : RealmState). set states k s) gives.state ∙ set-get_or states k no_state;
-}
-answer_one answer states k new (hears why state) gives = record {
-  packets = gives.packets;
-  refusal = gives.refusal;
-  states = ap (λ (s : RealmState). set states k s) gives.state;
-}
-answer_one answer states k new (sends packets state) gives = record {
-  packets = gives.packets;
-  refusal = gives.refusal;
-  states = ap (λ (s : RealmState). set states k s) gives.state;
-}
-
-twin_one : {A : Type 0} → (result : Result (Twin A) NoMemory) (states : List RealmState) (k : ℕ)
-    (new : RealmState) (turn : Turn) → GivesTwice result (state_at states k) new turn
-    → GivesTwin result states (set states k new) (turn_of_one states k turn)
-twin_one (Err e) states k new turn same =
-    ap (λ (s : RealmState). set states k s) same ∙ set-get_or states k no_state
-twin_one (Ok twin) states k new turn gives = (
-  answer_one twin.answer states k new turn gives.0,
-  answer_one twin.copy states k new turn
-      gives.1,
-)
 
 module _ {A : Type 0} (o : OpeningView) where
   -- the states of many realms

@@ -3,6 +3,10 @@
 //!
 //! Which entry is expected is read off the tickets, peers and States written here.
 
+ghost use Rattle.std.specs.Prelude.{◌≡◌, None};
+ghost use Rattle.roam_pending.specs.Conversations.{kept_state};
+ghost use Rattle.roam_pending.specs.Shown.{shown_standing};
+
 use roam_conf::{Endpoint, Link, Place};
 use roam_hash::HashKey;
 use roam_pending::{Done, Entries, Entry, Key, Request, Requester, Standing, Waiting};
@@ -45,7 +49,9 @@ fn key(ticket: u16) -> Key {
 }
 
 /// A request of a peer that waits.
-fn waiting<A: Allocator + Copy>(alloc: A, ticket: u16, peer: u16) -> Entry<A> {
+fn waiting<A: Allocator + Copy>(alloc: A, ticket: u16, peer: u16) -> Entry<A>
+    ensures { kept_state (shown_standing result.standing) ≡ None }
+{
     Entry {
         request: Request {
             key: key(ticket),
@@ -110,7 +116,8 @@ fn found<A: Allocator + Copy>(tables: &Tables<A>, peer: u16, number: u16) -> u64
 /// that of its ticket.
 fn held<A: Allocator + Copy>(alloc: A, count: u16) -> Result<Tables<A>, NoMemory> {
     let mut tables = Tables::new(alloc, HashKey::new([7; 16]), 2)?;
-    for ticket in 1..count + 1 {
+    for before in 0..count {
+        let ticket = before + 1;
         admit(alloc, &mut tables, ticket, 3)?;
         hold(alloc, &mut tables, ticket, ticket)?;
     }
