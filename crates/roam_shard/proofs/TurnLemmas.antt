@@ -1,5 +1,5 @@
 -- One realm's turn, as a turn of all.
-use Rattle.std.proofs.Common.{◌≡◌, ℕ, List, [], set, Result, Ok, Err, refl, ap, sym, ◌∙◌}
+use Rattle.std.proofs.Common.{◌≡◌, ℕ, List, set, Result, Ok, Err, refl, ap, sym, ◌∙◌}
 use Rattle.std.proofs.lemmas.List.{set-get_or}
 use Rattle.roam_wire.specs.declared.refusal.NoMemory.{NoMemory}
 use Rattle.roam_book.specs.RealmState.{RealmState}
