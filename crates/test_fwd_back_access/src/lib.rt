@@ -12,3 +12,7 @@ mod exchanges;
 mod fwd_tests;
 #[cfg(test)]
 mod passing_tests;
+#[cfg(test)]
+mod shaped_rows;
+#[cfg(test)]
+mod shaped_tests;
