@@ -36,11 +36,13 @@ no_opening = record {
     trace_limit = 0;
     trace_octets = 0;
     max_hops = None;
+    max_attributes = None;
     status_server = false;
     spread = false;
     reject = [];
     well_formed = false;
     answer_unnamed = false;
+    fresh = None;
     peers = [];
     realms = [];
   };

@@ -2,11 +2,13 @@
 
 ghost use Rattle.std.specs.Prelude.{◌≡◌, IfErr, IfOk};
 ghost use Rattle.roam_audit.specs.Shown.{recorded};
-ghost use Rattle.roam_run.specs.Closed.{EndsOf};
+ghost use Rattle.roam_run.specs.Closed.{EndsOf, MayGoOn};
 ghost use Rattle.roam_sockets.specs.Faults.{IsAfterBinding};
 
+use crate::parts::{HubEnd, Left};
 use roam_hub::{Audited, Hub, Opened, PauseRoom, Paused, PausedHub, Seat};
 use roam_sockets::ServeFault;
+use roam_workers::Ended;
 use std::alloc::Global;
 use std::sync::Wait;
 
@@ -40,5 +42,47 @@ pub fn close_and_audit<'c, R: Wait, N: Opened>(
             Err(_) => Err(ServeFault::Audit),
         },
         Err(_) => Err(ServeFault::Audit),
+    }
+}
+
+/// A hub whose threads have ended, until it is closed and audited.
+///
+/// # Errors
+///
+/// `Audit`.
+pub fn close_ended<'c, N: Opened, R: Wait>(
+    rt: &R,
+    hub: Hub<'c, Global, N>,
+    pause: PauseRoom<'c, Global, N>,
+    end: HubEnd,
+    ended: Ended<N>,
+) -> Result<Left<N>, ServeFault>
+    requires { MayGoOn N.opening.config end }
+    ensures ends { IfOk result (λ left.
+        EndsOf N.opening (recorded left.closed.audited.report) left.closed.shards.items) }
+    ensures may { IfOk result (λ left. MayGoOn N.opening.config left.end) }
+    ensures err { IfErr result IsAfterBinding }
+{
+    let Ended {
+        datagrams,
+        seats,
+        outboxes,
+        rests,
+        ..
+    } = ended;
+    match close_and_audit(rt, hub, pause, seats) {
+        Ok(closed) => Ok(Left {
+            end,
+            datagrams,
+            outboxes,
+            rests,
+            closed,
+        }),
+        Err(fault) => {
+            drop(end);
+            drop(outboxes);
+            drop(rests);
+            Err(fault)
+        }
     }
 }

@@ -13,6 +13,7 @@
 mod asked;
 mod audit;
 mod change;
+mod given_back;
 mod open_hub;
 mod opening;
 mod parts;

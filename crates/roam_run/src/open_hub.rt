@@ -1,6 +1,6 @@
 //! One configuration is served: its hub is opened, its threads run, and it is closed and audited.
 
-ghost use Rattle.std.specs.Prelude.{◌≡◌, ◌↔◌, IsTrue, IfOk, IfErr, Contains};
+ghost use Rattle.std.specs.Prelude.{◌≡◌, IfOk, IfErr};
 ghost use Rattle.roam_conf.specs.Shown.{shown};
 ghost use Rattle.roam_history.specs.HubOpening.{fresh_opening};
 ghost use Rattle.roam_history.specs.Books.{books_of, count_of};
@@ -8,27 +8,23 @@ ghost use Rattle.roam_shard.specs.ShardView.{AreStarts};
 ghost use Rattle.roam_audit.specs.Shown.{recorded};
 ghost use Rattle.roam_hub.specs.Pausing.{ArePaused, opening_over};
 ghost use Rattle.roam_run.specs.Closed.{EndSomewhere, EndsOf, IsUnserved, MayGoOn};
-ghost use Rattle.roam_counters.specs.Datagrams.{all_of};
-ghost use Rattle.roam_workers.specs.Endings.{datagrams_of, endings_of};
-ghost use Rattle.roam_workers.specs.declared.ending.Ending.TheVariants as ending;
 ghost use Rattle.roam_sockets.specs.Faults.{IsAfterBinding};
 
 use crate::asked::attending::Attendant;
-use crate::audit::close_and_audit;
+use crate::audit::close_ended;
 use crate::change::configured::Configured;
 use crate::change::source::Source;
+use crate::given_back::given_back;
 use crate::opening::{HubRoom, OpenHub, ThreadRoom};
 use crate::parts::{HubEnd, Left, Means, Served, ServerParts, Unserved, counters_of};
 use crate::start::{ResultRoom, RunResult, run_threads};
 use log::Log;
 use roam_book::Start;
-use roam_counters::Datagrams;
 use roam_hub::{Blanks, Gate, Hub, Opened, Seat};
-use roam_port::Outbox;
 use roam_shard::Paused;
 use roam_sockets::ServeFault;
 use roam_threads::{Kits, prepare_threads};
-use roam_workers::{Ended, Rests, Shared, TimerRest, WorkerEnd, has_given_up_after};
+use roam_workers::{Ended, Shared, TimerRest};
 use std::alloc::Global;
 use std::net::Net;
 use std::random::RandomSource;
@@ -36,44 +32,6 @@ use std::sync::Wait;
 use std::sync::atomic::AtomicBool;
 use std::thread::{Parker, Threads};
 use std::time::Clock;
-
-/// The first of two, or the other one where it is missing.
-fn first_of(one: Option<Rests>, other: Option<Rests>) -> Option<Rests> {
-    match one {
-        Some(rests) => Some(rests),
-        None => other,
-    }
-}
-
-/// What the workers gave back, in lists in which there is room for it.
-fn gather<N: Opened>(
-    ends: Vec<WorkerEnd<N>>,
-    mut seats: Vec<Seat<Global, N>>,
-    mut outboxes: Vec<Outbox<Global>>,
-) -> Result<Ended<N>, ServeFault>
-    ensures gave_up { IfOk result (λ e. IsTrue e.has_given_up
-        ↔ Contains (endings_of ends.items) ending.GaveUp) }
-    ensures datagrams { IfOk result (λ e. e.datagrams.counts ≡ all_of (datagrams_of ends.items)) }
-    ensures err { IfErr result IsAfterBinding }
-{
-    let mut has_given_up = false;
-    let mut datagrams = Datagrams::none();
-    let mut rests = None;
-    for end in ends {
-        has_given_up = has_given_up_after(has_given_up, end.ending);
-        datagrams = datagrams.and(end.datagrams);
-        seats.push(end.seat)?;
-        outboxes.push(end.outbox)?;
-        rests = first_of(end.rests, rests);
-    }
-    Ok(Ended {
-        has_given_up,
-        datagrams,
-        seats,
-        outboxes,
-        rests,
-    })
-}
 
 /// The threads of one configuration, from their start to their end, and how that came.
 fn run<
@@ -135,18 +93,14 @@ fn run<
     }
 }
 
-/// What a hub's threads gave back, and how its time ended.
+/// How the time of a hub's threads ended, and what they gave back, where no socket was given up.
 #[derive(Drop)]
 struct RunEnd<N: Opened> {
     end: HubEnd,
-    ended: Ended<N>,
+    ended: Result<Ended<N>, ServeFault>,
 }
 
 /// The threads of one configuration, until they gave back what they had.
-///
-/// # Errors
-///
-/// `Receive`, where a socket was given up.
 fn run_to_end<
     'c,
     N: Opened + Send + Sync,
@@ -160,22 +114,16 @@ fn run_to_end<
     seat: Seat<Global, N>,
     room: ThreadRoom<N>,
     means: Means,
-) -> Result<RunEnd<N>, ServeFault>
+) -> RunEnd<N>
     requires { shown configured.now.config ≡ N.opening.config }
-    ensures may { IfOk result (λ run. MayGoOn N.opening.config run.end) }
-    ensures err { IfErr result IsAfterBinding }
+    ensures may { MayGoOn N.opening.config result.end }
+    ensures err { IfErr result.ended IsAfterBinding }
 {
     let ThreadRoom { results, outboxes } = room;
     let RunResult { ends, seats, end } = run(parts, configured, hub, seat, results, means);
-    match gather(ends, seats, outboxes) {
-        Ok(ended) => {
-            if ended.has_given_up {
-                Err(ServeFault::Receive)
-            } else {
-                Ok(RunEnd { end, ended })
-            }
-        }
-        Err(fault) => Err(fault),
+    RunEnd {
+        end,
+        ended: given_back(ends, seats, outboxes),
     }
 }
 
@@ -207,26 +155,15 @@ fn run_hub<
         seat,
         room: HubRoom { pause, threads },
     } = open;
-    let RunEnd { end, ended } = match run_to_end(parts, configured, &hub, seat, threads, means) {
-        Ok(run) => run,
-        Err(fault) => return Err(fault),
-    };
-    let Ended {
-        datagrams,
-        seats,
-        outboxes,
-        rests,
-        ..
-    } = ended;
-    match close_and_audit(parts.rt, hub, pause, seats) {
-        Ok(closed) => Ok(Left {
-            end,
-            datagrams,
-            outboxes,
-            rests,
-            closed,
-        }),
-        Err(fault) => Err(fault),
+    let RunEnd { end, ended } = run_to_end(parts, configured, &hub, seat, threads, means);
+    match ended {
+        Ok(ended) => close_ended(parts.rt, hub, pause, end, ended),
+        Err(fault) => {
+            drop(end);
+            drop(hub);
+            drop(pause);
+            Err(fault)
+        }
     }
 }
 
@@ -256,7 +193,10 @@ pub fn serve_first<
             Ok(left) => Ok(left.served()),
             Err(fault) => Err(fault),
         },
-        Err(fault) => Err(fault),
+        Err(fault) => {
+            drop(means);
+            Err(fault)
+        }
     }
 }
 

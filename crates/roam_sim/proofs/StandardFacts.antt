@@ -1,12 +1,12 @@
 -- Lines as the format's description has them.
-use Rattle.std.proofs.Common.{◌≡◌, [], ◌∷◌, Some, Err, refl}
+use Rattle.std.proofs.Common.{◌≡◌, [], ◌∷◌, None, Some, Err, refl}
 use Rattle.std.specs.Prelude.{codes}
 use Rattle.std.specs.Fmt.{digits}
 use Rattle.hex.specs.Hex.{decode_pairs, encode_with}
 use Rattle.roam_conf.specs.Texts.{is_decimal, decimal_in, parts, address_in, endpoint_in}
 use Rattle.roam_conf.specs.declared.place.Place.TheVariants as place
 use Rattle.roam_core.specs.Events.{arrives, ticks}
-use Rattle.roam_sim.specs.Script.{states, faulty, place_in, datagram_in, line_states, script_states}
+use Rattle.roam_sim.specs.Script.{states, faulty, times_in, place_in, datagram_in, line_states, script_states}
 use Rattle.roam_sim.specs.Lines.{packet_line}
 
 -- a tick of shard 2
@@ -14,15 +14,26 @@ tick_line : line_states (codes "T 1000 2") ≡ states (ticks 1000 2)
 unfolding line_states parts decimal_in is_decimal
 tick_line = refl
 
--- a datagram of two octets, at the outgoing socket of realm 1
+-- a datagram of two octets, at the outgoing socket of realm 1, without and with the wall clock's seconds
 arrival_line : line_states (codes "A 0 out:1 192.0.2.1:5000 0aFF")
     ≡ states (arrives 0 (record {
       at = place.Out 1;
       from = record { ip = 192 ∷ 0 ∷ 2 ∷ 1 ∷ []; port = 5000 };
       octets = 10 ∷ 255 ∷ [];
+      seconds = None;
     }))
-unfolding line_states parts decimal_in is_decimal place_in address_in endpoint_in datagram_in decode_pairs
+unfolding line_states parts decimal_in is_decimal times_in place_in address_in endpoint_in datagram_in decode_pairs
 arrival_line = refl
+
+timed_line : line_states (codes "A 0/1700000000 out:1 192.0.2.1:5000 0aFF")
+    ≡ states (arrives 0 (record {
+      at = place.Out 1;
+      from = record { ip = 192 ∷ 0 ∷ 2 ∷ 1 ∷ []; port = 5000 };
+      octets = 10 ∷ 255 ∷ [];
+      seconds = Some 1700000000;
+    }))
+unfolding line_states parts decimal_in is_decimal times_in place_in address_in endpoint_in datagram_in decode_pairs
+timed_line = refl
 
 -- a carriage return is part of the last field
 carriage_return : line_states (codes "T 0 0\r") ≡ faulty

@@ -4,7 +4,7 @@ use Rattle.std.specs.Prelude.{Contains}
 use Rattle.roam_workers.specs.declared.ending.Ending.TheVariants as ending
 use Rattle.roam_counters.specs.Datagrams.{all_of, with_all}
 use Rattle.roam_workers.specs.Endings.{datagrams_of, endings_of}
-use Rattle.roam_run.proofs.open_hub.gather.Given as goal
+use Rattle.roam_run.proofs.given_back.gather.Given as goal
 
 -- whether one of the workers so far gave up a socket, and that the others are left
 abbrev pub invariant-loop-end : goal.invariant-loop-end

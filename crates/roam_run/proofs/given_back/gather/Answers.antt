@@ -8,7 +8,7 @@ use Rattle.std.proofs.lemmas.List.{nil_from_length}
 use Rattle.roam_counters.specs.Datagrams.{all_of, with_all}
 use Rattle.roam_workers.specs.Endings.{datagrams_of, endings_of}
 use Rattle.roam_workers.proofs.EndingLemmas.{all-seen, given-up-after, none-gave-up}
-use Rattle.roam_run.proofs.open_hub.gather.Goals as goal
+use Rattle.roam_run.proofs.given_back.gather.Goals as goal
 
 pub loop-end-init : goal.loop-end-init
 loop-end-init g c =
