@@ -1,20 +1,15 @@
-//! The peer that a reverse request is for, and the cause for which it can't be forwarded. The
-//! requests of the worked exchanges are signed; the others have an Authenticator of zeros, since
-//! nothing here looks at one. What is expected was worked out by hand.
+//! The peer that a reverse request is for, and the cause for which it can't be forwarded.
 
-use crate::requests::{START_01, START_EMPTY, apply, key, octets};
+use crate::cause_rows::{OF_THREE, Row, TO_PEERS_AMONG};
+use crate::requests::{START_01, START_EMPTY, config_of, is_applied, key};
 use roam_conf::Config;
-use roam_conf_reader::read_config;
-use roam_reverse::error_cause::{
-    REQUEST_NOT_ROUTABLE, SESSION_CONTEXT_NOT_FOUND, UNSUPPORTED_ATTRIBUTE,
-};
 use roam_reverse::{Sessions, route_of, target, verdict};
 use roam_route::realm_of;
-use roam_wire::{NoMemory, View};
+use roam_wire::View;
 use std::alloc::Global;
 use std::process::Abort;
-use std::test::Fail;
 use test_fixtures::configuration::{PEER, REALM, SECOND_REALM, SERVER, TOP};
+use test_fixtures::octets;
 
 /// A second peer, which takes no reverse requests, and a third one, which has no identifier.
 const OTHER_PEERS: &str = "
@@ -48,323 +43,72 @@ const AMONG: [&str; 8] = [
     SERVER,
 ];
 
-/// What a request holds, its octets, the peer that it is for, and its cause in the first realm.
-type Row = (&'static str, &'static str, Option<u16>, Option<u32>);
-
-/// Requests of the worked exchanges.
-const OF_THE_EXCHANGES: [Row; 8] = [
-    (
-        "a session of the access server",
-        "2822001e98737cc5f650778d9e25e78d8098ea9320066e6173312c043031",
-        Some(0),
-        None,
-    ),
-    (
-        "a session that was never started",
-        "2822001ec14bbd7bedba6db103a00ec93e466dae20066e6173312c043032",
-        Some(0),
-        Some(SESSION_CONTEXT_NOT_FOUND),
-    ),
-    (
-        "neither a user nor a session",
-        "2822001aba71857b865c8df463d627887df8008420066e617331",
-        Some(0),
-        Some(REQUEST_NOT_ROUTABLE),
-    ),
-    (
-        "a user of the realm",
-        "2b21002702f04b3afa42d5ab0ec18a343fd6ca9d20066e617331010d7540612e6578616d706c65",
-        Some(0),
-        None,
-    ),
-    (
-        "no such access server",
-        "2b210027742f7fd9c0f0cbfd53c589a0114006a720066e617339010d7540612e6578616d706c65",
-        None,
-        Some(REQUEST_NOT_ROUTABLE),
-    ),
-    (
-        "a user of another realm",
-        "2b2100274109f627674787ddaf888f4fed0a7d9f20066e617331010d7540622e6578616d706c65",
-        Some(0),
-        Some(REQUEST_NOT_ROUTABLE),
-    ),
-    (
-        "a Tunnel-Password",
-        "2b21002c0321c53b5ddf21d51a3a7fe00dd72ebe20066e617331010d7540612e6578616d706c65450501800a",
-        Some(0),
-        Some(UNSUPPORTED_ATTRIBUTE),
-    ),
-    (
-        "a Tunnel-Password of no octets",
-        "2b2100291135e4a4af30360383476f129756899120066e617331010d7540612e6578616d706c654502",
-        Some(0),
-        Some(UNSUPPORTED_ATTRIBUTE),
-    ),
-];
-
-/// Users and sessions: the first attribute of each type alone decides.
-const WHAT_IS_NAMED: [Row; 8] = [
-    (
-        "a user of the realm in other letters, and no open session",
-        "2822002b0000000000000000000000000000000020066e617331010d7540412e6578416d506c452c043032",
-        Some(0),
-        None,
-    ),
-    (
-        "a user without a realm, and an open session",
-        "282200210000000000000000000000000000000020066e6173310103752c043031",
-        Some(0),
-        Some(REQUEST_NOT_ROUTABLE),
-    ),
-    (
-        "a user of another realm, and an open session",
-        "2822002b0000000000000000000000000000000020066e617331010d7540622e6578616d706c652c043031",
-        Some(0),
-        Some(REQUEST_NOT_ROUTABLE),
-    ),
-    (
-        "an open session without octets",
-        "2822001c0000000000000000000000000000000020066e6173312c02",
-        Some(0),
-        None,
-    ),
-    (
-        "an open session, and one that isn't",
-        "282200220000000000000000000000000000000020066e6173312c0430312c043032",
-        Some(0),
-        None,
-    ),
-    (
-        "a session that isn't open, and one that is",
-        "282200220000000000000000000000000000000020066e6173312c0430322c043031",
-        Some(0),
-        Some(SESSION_CONTEXT_NOT_FOUND),
-    ),
-    (
-        "a session that is open at another access server",
-        "2822001e000000000000000000000000000000000406c00002032c043031",
-        Some(2),
-        Some(SESSION_CONTEXT_NOT_FOUND),
-    ),
-    (
-        "a session that is open at both",
-        "2822001c000000000000000000000000000000000406c00002032c02",
-        Some(2),
-        None,
-    ),
-];
-
-/// Access servers.
-const ACCESS_SERVERS: [Row; 13] = [
-    (
-        "an address alone",
-        "2822001e000000000000000000000000000000000406c00002012c043031",
-        Some(0),
-        None,
-    ),
-    (
-        "an address and an identifier",
-        "282200240000000000000000000000000000000020066e6173310406c00002012c043031",
-        Some(0),
-        None,
-    ),
-    (
-        "an address, and another server's identifier",
-        "282200240000000000000000000000000000000020066e6173320406c00002012c043031",
-        None,
-        Some(REQUEST_NOT_ROUTABLE),
-    ),
-    (
-        "an identifier, and another server's address",
-        "282200240000000000000000000000000000000020066e6173310406c00002032c043031",
-        None,
-        Some(REQUEST_NOT_ROUTABLE),
-    ),
-    (
-        "an identifier that the server of the address doesn't have",
-        "2822002d000000000000000000000000000000000406c000020320066e617331010d7540612e6578616d706c65",
-        None,
-        Some(REQUEST_NOT_ROUTABLE),
-    ),
-    (
-        "an address of three octets",
-        "2822001d000000000000000000000000000000000405c000022c043031",
-        None,
-        Some(REQUEST_NOT_ROUTABLE),
-    ),
-    (
-        "an address of five octets",
-        "2822001f000000000000000000000000000000000407c0000201002c043031",
-        None,
-        Some(REQUEST_NOT_ROUTABLE),
-    ),
-    (
-        "an address that isn't one, and an identifier",
-        "2822002000000000000000000000000000000000040220066e6173312c043031",
-        None,
-        Some(REQUEST_NOT_ROUTABLE),
-    ),
-    (
-        "an identifier that begins with one that is there",
-        "2822001f0000000000000000000000000000000020076e617331312c043031",
-        None,
-        Some(REQUEST_NOT_ROUTABLE),
-    ),
-    (
-        "another identifier before the right one",
-        "282200240000000000000000000000000000000020066e61733920066e6173312c043031",
-        None,
-        Some(REQUEST_NOT_ROUTABLE),
-    ),
-    (
-        "the right identifier before another one",
-        "282200240000000000000000000000000000000020066e61733120066e6173392c043031",
-        Some(0),
-        None,
-    ),
-    (
-        "a server that takes no such requests",
-        "282200270000000000000000000000000000000020066e617332010d7540612e6578616d706c65",
-        None,
-        Some(REQUEST_NOT_ROUTABLE),
-    ),
-    (
-        "no access server at all",
-        "2822002500000000000000000000000000000000010d7540612e6578616d706c652c043031",
-        None,
-        Some(REQUEST_NOT_ROUTABLE),
-    ),
-];
-
-/// The first cause that holds, and salted strings.
-const IN_ORDER: [Row; 9] = [
-    (
-        "no access server, and no open session",
-        "2822001e0000000000000000000000000000000020066e6173392c043032",
-        None,
-        Some(REQUEST_NOT_ROUTABLE),
-    ),
-    (
-        "a session that isn't open, and a salted string",
-        "282200200000000000000000000000000000000020066e6173312c0430324502",
-        Some(0),
-        Some(SESSION_CONTEXT_NOT_FOUND),
-    ),
-    (
-        "an open session, and a salted string",
-        "282200200000000000000000000000000000000020066e6173312c0430314502",
-        Some(0),
-        Some(UNSUPPORTED_ATTRIBUTE),
-    ),
-    (
-        "another realm, and a salted string",
-        "282200290000000000000000000000000000000020066e617331010d7540622e6578616d706c654502",
-        Some(0),
-        Some(REQUEST_NOT_ROUTABLE),
-    ),
-    (
-        "an MS-MPPE-Send-Key",
-        "282200280000000000000000000000000000000020066e6173312c0430311a0a0000013710048001",
-        Some(0),
-        Some(UNSUPPORTED_ATTRIBUTE),
-    ),
-    (
-        "an MS-MPPE-Recv-Key behind another sub-attribute",
-        "282200290000000000000000000000000000000020066e6173312c0430311a0b000001370103ff1102",
-        Some(0),
-        Some(UNSUPPORTED_ATTRIBUTE),
-    ),
-    (
-        "an MS-CHAP-MPPE-Keys",
-        "282200280000000000000000000000000000000020066e6173312c0430311a0a000001370c048001",
-        Some(0),
-        None,
-    ),
-    (
-        "a key with a wrong length behind it",
-        "2822002a0000000000000000000000000000000020066e6173312c0430311a0c00000137100480011101",
-        Some(0),
-        None,
-    ),
-    (
-        "sub-type 16 of another vendor",
-        "282200280000000000000000000000000000000020066e6173312c0430311a0a0000013810048001",
-        Some(0),
-        None,
-    ),
-];
-
-/// Requests to a realm that has but one of the peers.
-const TO_PEERS_AMONG: [Row; 3] = [
-    (
-        "a session of a peer that isn't among the realm's",
-        "2822001e98737cc5f650778d9e25e78d8098ea9320066e6173312c043031",
-        Some(0),
-        Some(REQUEST_NOT_ROUTABLE),
-    ),
-    (
-        "a user at a peer that isn't",
-        "2b21002702f04b3afa42d5ab0ec18a343fd6ca9d20066e617331010d7540612e6578616d706c65",
-        Some(0),
-        Some(REQUEST_NOT_ROUTABLE),
-    ),
-    (
-        "a user at the realm's peer",
-        "2b210027000000000000000000000000000000000406c0000203010d7540612e6578616d706c65",
-        Some(2),
-        None,
-    ),
-];
-
-/// The first realm's ledger: the first peer's session `01`, and one of no octets of the first and
-/// of the third.
-fn ledger(rt: &impl Abort, alloc: Global) -> Result<Sessions<Global>, NoMemory> {
-    let mut sessions = Sessions::new(alloc, 100, key());
-    apply(rt, alloc, &mut sessions, 0, START_01)?;
-    apply(rt, alloc, &mut sessions, 0, START_EMPTY)?;
-    apply(rt, alloc, &mut sessions, 2, START_EMPTY)?;
-    Ok(sessions)
+/// Opens in the first realm the first peer's session `01`, and one of no octets of the first and of the third. Whether
+/// memory was there.
+fn opens_three(sessions: &mut Sessions<Global>) -> bool {
+    is_applied(sessions, false, 0, START_01)
+        && is_applied(sessions, false, 0, START_EMPTY)
+        && is_applied(sessions, false, 2, START_EMPTY)
 }
 
 /// Target and cause of a request to the first realm, and the peer that it is forwarded to.
 fn judged(
-    rt: &impl Abort,
-    alloc: Global,
     config: &Config,
+    sessions: &Sessions<Global>,
     request: &str,
-) -> (Option<u16>, Option<u32>, Option<u16>) {
-    let sessions = ledger(rt, alloc).expect(rt, "memory");
-    let octets = octets(rt, alloc, request);
-    let view = View::read(&octets).expect(rt, "a packet");
+) -> Option<(Option<u16>, Option<u32>, Option<u16>)> {
+    let mut room = [0; 160];
+    let view = View::read(octets(request, &mut room)).ok()?;
     let named = realm_of(config, &view);
-    (
+    Some((
         target(config, &view),
-        verdict(config, 0, named, &view, &sessions),
-        route_of(config, 0, named, &view, &sessions).ok(),
-    )
+        verdict(config, 0, named, &view, sessions),
+        route_of(config, 0, named, &view, sessions).ok(),
+    ))
 }
 
-/// Each request has this target and this cause, and without a cause it is forwarded to its target.
-fn check_rows(rt: &impl Abort, alloc: Global, parts: &[&str], rows: &[Row]) -> Result<(), Fail> {
-    let text = parts.concat(alloc).expect(rt, "memory");
-    let config = read_config(alloc, &text).expect(rt, "a configuration");
+/// The first request that has another target or another cause than it should, or that isn't forwarded to its target
+/// just where it has no cause.
+fn first_wrong(config: &Config, sessions: &Sessions<Global>, rows: &[Row]) -> Option<&'static str> {
     for (what, request, peer, cause) in rows {
         let route = if cause.is_none() { *peer } else { None };
-        assert!(rt;
-            judged(rt, alloc, &config, request) == (*peer, *cause, route),
-            "{what}"
-        );
+        if judged(config, sessions, request) != Some((*peer, *cause, route)) {
+            return Some(what);
+        }
     }
-    Ok(())
+    None
 }
 
-pub(crate) fn a_request_that_cannot_be_forwarded_has_a_cause<R: Abort + AllocGlobal>(
-    rt: &R,
-) -> Result<(), Fail> {
-    check_rows(rt, rt.alloc(), &PARTS, &OF_THE_EXCHANGES)?;
-    check_rows(rt, rt.alloc(), &PARTS, &WHAT_IS_NAMED)?;
-    check_rows(rt, rt.alloc(), &PARTS, &ACCESS_SERVERS)?;
-    check_rows(rt, rt.alloc(), &PARTS, &IN_ORDER)?;
-    check_rows(rt, rt.alloc(), &AMONG, &TO_PEERS_AMONG)
+/// The same with the ledger of the three sessions.
+fn wrong_with_three(alloc: Global, config: &Config, rows: &[Row]) -> Option<&'static str> {
+    let mut sessions = Sessions::new(alloc, 100, key());
+    if opens_three(&mut sessions) {
+        first_wrong(config, &sessions, rows)
+    } else {
+        Some("no memory")
+    }
+}
+
+/// The same over each of some tables.
+fn wrong_in(
+    rt: &impl Abort,
+    alloc: Global,
+    parts: &[&str],
+    tables: &[&[Row]],
+) -> Option<&'static str> {
+    let config = config_of(rt, alloc, parts);
+    for rows in tables {
+        let wrong = wrong_with_three(alloc, &config, rows);
+        if wrong.is_some() {
+            return wrong;
+        }
+    }
+    None
+}
+
+pub(crate) fn a_request_that_cannot_be_forwarded_has_a_cause<R: Abort + AllocGlobal>(rt: &R) {
+    let wrong = wrong_in(rt, rt.alloc(), &PARTS, &OF_THREE);
+    assert!(rt; wrong.is_none(), "{wrong:?}");
+    let wrong = wrong_in(rt, rt.alloc(), &AMONG, &[&TO_PEERS_AMONG]);
+    assert!(rt; wrong.is_none(), "{wrong:?}");
 }

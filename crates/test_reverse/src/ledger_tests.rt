@@ -3,28 +3,18 @@
 
 use crate::requests::{
     INTERIM_01, NO_ID, NO_STATUS, OFF, ON, START_01, START_02, START_03, START_EMPTY, STATUS_9,
-    STOP_01, STOP_02, STOP_EMPTY, STOP_THEN_START, THREE_OCTETS, TWO_IDS, apply, is_open, key,
-    octets,
+    STOP_01, STOP_02, STOP_EMPTY, STOP_THEN_START, Step, THREE_OCTETS, TWO_IDS, is_applied, key,
+    open, wrong_in_ledger,
 };
 use roam_reverse::Sessions;
 use roam_wire::View;
 use std::alloc::{Allocator, Global};
 use std::process::Abort;
-use std::test::Fail;
 use test_allocator::Refusing;
+use test_fixtures::octets;
 
-/// Which of these sessions are open, one bit each: of peer 0 no octets, `01`, `02` and `03`; of
+/// Each session that a row looks at, one bit each: of peer 0 no octets, `01`, `02` and `03`; of
 /// peer 1 `01` and `02`.
-fn open<A: Allocator + Copy>(rt: &impl Abort, alloc: Global, sessions: &Sessions<A>) -> u32 {
-    let mut bits = 0;
-    for (bit, (peer, start)) in OPENED.iter().enumerate() {
-        if is_open(rt, alloc, sessions, *peer, start) {
-            bits |= 1 << bit;
-        }
-    }
-    bits
-}
-
 const OPENED: [(u16, &str); 6] = [
     (0, START_EMPTY),
     (0, START_01),
@@ -33,9 +23,6 @@ const OPENED: [(u16, &str); 6] = [
     (1, START_01),
     (1, START_02),
 ];
-
-/// What happens, the peer, its request, and the sessions that are open then.
-type Step = (&'static str, u16, &'static str, u32);
 
 const OF_TWO_AT_MOST: [Step; 15] = [
     ("a Stop of none", 0, STOP_01, 0b000000),
@@ -93,24 +80,19 @@ const OF_MANY: [Step; 11] = [
     ("Accounting-Off with an id", 0, OFF, 0b000000),
 ];
 
-/// Each request of a row leaves these sessions open.
-fn check_steps(rt: &impl Abort, alloc: Global, limit: u32, steps: &[Step]) -> Result<(), Fail> {
-    let mut sessions = Sessions::new(alloc, limit, key());
-    for (what, peer, request, expected) in steps {
-        apply(rt, alloc, &mut sessions, *peer, request)?;
-        assert!(rt;
-            open(rt, alloc, &sessions) == *expected,
-            "{what}, of at most {limit}"
-        );
-    }
-    Ok(())
-}
+/// Ledgers of so many sessions at most, and what happens there.
+const LEDGERS: [(u32, &[Step]); 4] = [
+    (2, &OF_TWO_AT_MOST),
+    (1, &OF_ONE_AT_MOST),
+    (0, &OF_NONE),
+    (100, &OF_MANY),
+];
 
-pub(crate) fn requests_change_the_ledger<R: Abort + AllocGlobal>(rt: &R) -> Result<(), Fail> {
-    check_steps(rt, rt.alloc(), 2, &OF_TWO_AT_MOST)?;
-    check_steps(rt, rt.alloc(), 1, &OF_ONE_AT_MOST)?;
-    check_steps(rt, rt.alloc(), 0, &OF_NONE)?;
-    check_steps(rt, rt.alloc(), 100, &OF_MANY)
+pub(crate) fn requests_change_the_ledger<R: Abort + AllocGlobal>(rt: &R) {
+    for (limit, steps) in LEDGERS {
+        let wrong = wrong_in_ledger(rt.alloc(), limit, &OPENED, steps);
+        assert!(rt; wrong.is_none(), "{wrong:?}, of at most {limit}");
+    }
 }
 
 /// A request of peer 0 to a ledger of `01` and `02` at most, the sessions that are open then, and
@@ -125,72 +107,84 @@ const GROWTHS: [(&str, u32, u64); 7] = [
     (STATUS_9, 0b000110, 0),
 ];
 
-/// A ledger of the sessions `01` and `02` of peer 0, and of two at most.
-fn two_sessions<'a>(
-    rt: &impl Abort,
-    alloc: Global,
-    refusing: &'a Refusing<Global>,
-) -> Sessions<&'a Refusing<Global>> {
-    let mut sessions = Sessions::new(refusing, 2, key());
-    apply(rt, alloc, &mut sessions, 0, START_01).expect(rt, "memory");
-    apply(rt, alloc, &mut sessions, 0, START_02).expect(rt, "memory");
-    sessions
+/// Opens the sessions `01` and `02` of peer 0. Whether memory was there.
+fn opens_two<A: Allocator + Copy>(sessions: &mut Sessions<A>) -> bool {
+    is_applied(sessions, false, 0, START_01) && is_applied(sessions, false, 0, START_02)
 }
 
-/// Each growth of a request refused in turn: nothing changes, and the request made again does what
-/// it does with memory.
-fn check_growths(
-    rt: &impl Abort,
-    alloc: Global,
-    request: &str,
-    expected: u32,
-    at_most: u64,
-) -> Result<(), Fail> {
+/// Whether a request changes nothing where its growth of a number is refused, asks for so many at most, and made again
+/// does what it does with memory.
+fn goes_with<'a>(
+    sessions: &mut Sessions<&'a Refusing<Global>>,
+    refusing: &Refusing<Global>,
+    n: u64,
+    (request, expected, at_most): (&str, u32, u64),
+) -> bool {
+    if !opens_two(sessions) {
+        return false;
+    }
+    refusing.refuse_nth(n);
+    let was_applied = is_applied(sessions, false, 0, request);
+    if was_applied == refusing.was_refused() || refusing.growths() > at_most {
+        return false;
+    }
+    if !was_applied
+        && (open(sessions, &OPENED) != 0b000110 || !is_applied(sessions, false, 0, request))
+    {
+        return false;
+    }
+    open(sessions, &OPENED) == expected
+}
+
+/// The same in a ledger of two at most.
+fn goes(refusing: &Refusing<Global>, n: u64, row: (&str, u32, u64)) -> bool {
+    let mut sessions = Sessions::new(refusing, 2, key());
+    goes_with(&mut sessions, refusing, n, row)
+}
+
+/// Whether it goes so with each growth refused in turn.
+fn goes_with_each(alloc: Global, row: (&str, u32, u64)) -> bool {
     let refusing = Refusing::new(alloc);
     for n in refusing.each_growth() {
-        let mut sessions = two_sessions(rt, alloc, &refusing);
-        refusing.refuse_nth(n);
-        let refused = apply(rt, alloc, &mut sessions, 0, request).is_err();
-        assert!(rt;
-            refused == refusing.was_refused(),
-            "growth {n} of {request}"
-        );
-        assert!(rt; refusing.growths() <= at_most, "growth {n} of {request}");
-        if refused {
-            assert!(rt;
-                open(rt, alloc, &sessions) == 0b000110,
-                "growth {n} of {request}"
-            );
-            apply(rt, alloc, &mut sessions, 0, request)?;
+        if !goes(&refusing, n, row) {
+            return false;
         }
-        assert!(rt;
-            open(rt, alloc, &sessions) == expected,
-            "growth {n} of {request}"
-        );
     }
-    Ok(())
+    true
 }
 
-pub(crate) fn a_refused_growth_changes_nothing<R: Abort + AllocGlobal>(rt: &R) -> Result<(), Fail> {
-    for (request, expected, at_most) in GROWTHS {
-        check_growths(rt, rt.alloc(), request, expected, at_most)?;
+pub(crate) fn a_refused_growth_changes_nothing<R: Abort + AllocGlobal>(rt: &R) {
+    for row in GROWTHS {
+        assert!(rt; goes_with_each(rt.alloc(), row), "{}", row.0);
     }
-    Ok(())
+}
+
+/// The sessions that are open once a change is prepared, and once it is made; and how often that asked for memory.
+fn prepared_with<'a>(
+    sessions: &mut Sessions<&'a Refusing<Global>>,
+    refusing: &Refusing<Global>,
+) -> Option<(u32, u32, u64)> {
+    let mut room = [0; 160];
+    let view = View::read(octets(START_03, &mut room)).ok()?;
+    let prepared = sessions.prepare(false, 0, &view).ok()?;
+    let before = open(sessions, &OPENED);
+    refusing.refuse_nth(1);
+    sessions.apply_prepared(prepared);
+    Some((before, open(sessions, &OPENED), refusing.growths()))
+}
+
+/// The same in a ledger of the sessions `01` and `02` of peer 0, and of two at most.
+fn prepared(alloc: Global) -> Option<(u32, u32, u64)> {
+    let refusing = Refusing::new(alloc);
+    let mut sessions = Sessions::new(&refusing, 2, key());
+    if opens_two(&mut sessions) {
+        prepared_with(&mut sessions, &refusing)
+    } else {
+        None
+    }
 }
 
 /// A change that was prepared is made without memory.
-pub(crate) fn a_prepared_change_wants_no_memory<R: Abort + AllocGlobal>(
-    rt: &R,
-) -> Result<(), Fail> {
-    let alloc = rt.alloc();
-    let refusing = Refusing::new(alloc);
-    let mut sessions = two_sessions(rt, alloc, &refusing);
-    let start = octets(rt, alloc, START_03);
-    let prepared = sessions.prepare(false, 0, &View::read(&start)?)?;
-    assert!(rt; open(rt, alloc, &sessions) == 0b000110, "prepared");
-    refusing.refuse_nth(1);
-    sessions.apply_prepared(prepared);
-    assert!(rt; refusing.growths() == 0, "applied");
-    assert!(rt; open(rt, alloc, &sessions) == 0b001100, "applied");
-    Ok(())
+pub(crate) fn a_prepared_change_wants_no_memory<R: Abort + AllocGlobal>(rt: &R) {
+    assert!(rt; prepared(rt.alloc()) == Some((0b000110, 0b001100, 0)));
 }

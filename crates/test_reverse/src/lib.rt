@@ -3,6 +3,8 @@
 #![tactic(auto)]
 
 #[cfg(test)]
+mod cause_rows;
+#[cfg(test)]
 mod cause_tests;
 #[cfg(test)]
 mod examples;

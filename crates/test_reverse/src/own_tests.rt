@@ -2,17 +2,15 @@
 //! configurations and the expected answers are those of worked exchanges that were computed apart from the
 //! program.
 
-use crate::requests::octets;
+use crate::requests::{config_of, is_applied, key};
 use crate::{own_rows, target_rows};
 use roam_conf::Config;
-use roam_conf_reader::read_config;
-use roam_hash::HashKey;
 use roam_reverse::{Sessions, route_of};
 use roam_route::realm_of;
-use roam_wire::{NoMemory, View};
+use roam_wire::View;
 use std::alloc::Global;
 use std::process::Abort;
-use std::test::Fail;
+use test_fixtures::octets;
 
 /// A configuration in parts, and what happens one after the other, in words: `answered PEER REQUEST`, where a peer's
 /// Accounting-Request for the first realm is answered; `forwarded REALM REQUEST PEER` and
@@ -23,92 +21,83 @@ pub struct Row {
     pub steps: &'static [&'static str],
 }
 
-/// Whether the names of access servers count in the first realm.
-fn counts(config: &Config) -> bool {
-    match config.realms.first() {
-        Some(realm) => realm.own_sessions,
-        None => false,
-    }
-}
-
-/// What a request to a realm is told: the peer that it is forwarded to, or the cause why it isn't. Only the first
-/// realm has a ledger.
+/// What a request to a realm is told: the peer that it is forwarded to, or the cause why it isn't.
 fn told(
-    rt: &impl Abort,
-    alloc: Global,
     config: &Config,
     sessions: &Sessions<Global>,
     realm: u16,
     request: &str,
-) -> Result<u16, u32> {
-    let octets = octets(rt, alloc, request);
-    let view = View::read(&octets).expect(rt, "a packet");
-    let named = realm_of(config, &view);
-    if realm == 0 {
-        return route_of(config, realm, named, &view, sessions);
-    }
-    let none = Sessions::new(alloc, 0, HashKey::new([0; 16]));
-    route_of(config, realm, named, &view, &none)
+) -> Option<Result<u16, u32>> {
+    let mut room = [0; 160];
+    let view = View::read(octets(request, &mut room)).ok()?;
+    Some(route_of(config, realm, realm_of(config, &view), &view, sessions))
 }
 
-/// A number that a step's next word says.
-fn number(rt: &impl Abort, word: Option<&str>) -> u16 {
-    word.expect(rt, "a number").parse().expect(rt, "a number")
-}
-
-/// Whether a step goes as it should.
+/// Whether a step goes as it should; none where its words are others. With the first realm's ledger, whether the names
+/// of access servers count there, and that of the others, which have none.
 fn goes(
-    rt: &impl Abort,
-    alloc: Global,
     config: &Config,
-    sessions: &mut Sessions<Global>,
+    first: &mut Sessions<Global>,
+    own: bool,
+    others: &Sessions<Global>,
     step: &str,
-) -> Result<bool, NoMemory> {
+) -> Option<bool> {
     let mut words = step.split_whitespace();
-    let what = words.next().expect(rt, "what happens");
-    let place = number(rt, words.next());
-    let request = words.next().expect(rt, "a request");
+    let what = words.next()?;
+    let place: u16 = words.next()?.parse().ok()?;
+    let request = words.next()?;
     if what == "answered" {
-        let octets = octets(rt, alloc, request);
-        let view = View::read(&octets).expect(rt, "a packet");
-        sessions.apply(counts(config), place, &view)?;
-        return Ok(true);
+        return Some(is_applied(first, own, place, request));
     }
-    let expected = number(rt, words.next());
-    let told = told(rt, alloc, config, sessions, place, request);
-    Ok(match what {
-        "forwarded" => told == Ok(expected),
-        "refused" => told == Err(u32::from(expected)),
-        _ => false,
-    })
-}
-
-/// The limit of the first realm's ledger.
-fn limit(config: &Config) -> u32 {
-    match config.realms.first() {
-        Some(realm) => realm.max_sessions,
-        None => 0,
+    let expected: u16 = words.next()?.parse().ok()?;
+    let told = if place == 0 {
+        told(config, first, place, request)?
+    } else {
+        told(config, others, place, request)?
+    };
+    match what {
+        "forwarded" => Some(told == Ok(expected)),
+        "refused" => Some(told == Err(u32::from(expected))),
+        _ => None,
     }
 }
 
-/// Each step of a row goes as it should.
-fn check_row(rt: &impl Abort, alloc: Global, row: &Row) -> Result<(), Fail> {
-    let text = row.parts.concat(alloc).expect(rt, "memory");
-    let config = read_config(alloc, &text).expect(rt, "a configuration");
-    let mut sessions = Sessions::new(alloc, limit(&config), HashKey::new([7; 16]));
-    for (i, step) in row.steps.iter().enumerate() {
-        let goes = goes(rt, alloc, &config, &mut sessions, step)?;
-        assert!(rt; goes, "{}, step {i}", row.what);
+/// The first step that doesn't go as it should.
+fn first_wrong(
+    config: &Config,
+    first: &mut Sessions<Global>,
+    own: bool,
+    others: &Sessions<Global>,
+    steps: &[&str],
+) -> Option<usize> {
+    for (i, step) in steps.iter().enumerate() {
+        if goes(config, first, own, others, step) != Some(true) {
+            return Some(i);
+        }
     }
-    Ok(())
+    None
 }
 
-pub(crate) fn requests_of_own_sessions<R: Abort + AllocGlobal>(rt: &R) -> Result<(), Fail> {
-    for row in &target_rows::ROWS {
-        check_row(rt, rt.alloc(), row)?;
+/// The same with ledgers that have no sessions yet.
+fn wrong_from_start(alloc: Global, config: &Config, steps: &[&str]) -> Option<usize> {
+    let (own, limit) = match config.realms.first() {
+        Some(realm) => (realm.own_sessions, realm.max_sessions),
+        None => (false, 0),
+    };
+    let mut first = Sessions::new(alloc, limit, key());
+    let others = Sessions::new(alloc, 0, key());
+    first_wrong(config, &mut first, own, &others, steps)
+}
+
+/// The first step of a row that doesn't go as it should.
+fn wrong_in(rt: &impl Abort, alloc: Global, row: &Row) -> Option<usize> {
+    let config = config_of(rt, alloc, row.parts);
+    wrong_from_start(alloc, &config, row.steps)
+}
+
+pub(crate) fn requests_of_own_sessions<R: Abort + AllocGlobal>(rt: &R) {
+    for row in target_rows::ROWS.iter().chain(own_rows::ROWS.iter()) {
+        let wrong = wrong_in(rt, rt.alloc(), row);
+        assert!(rt; wrong.is_none(), "{}, step {wrong:?}", row.what);
     }
-    for row in &own_rows::ROWS {
-        check_row(rt, rt.alloc(), row)?;
-    }
-    Ok(())
 }

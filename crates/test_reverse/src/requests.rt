@@ -1,12 +1,14 @@
 //! Accounting-Requests, and a ledger that they make. Their Authenticators are zeros, since nothing
 //! here looks at one. What each holds is said above it.
 
-use hex::decode;
+use roam_conf::Config;
+use roam_conf_reader::read_config;
 use roam_hash::HashKey;
 use roam_reverse::Sessions;
-use roam_wire::{NoMemory, View};
+use roam_wire::View;
 use std::alloc::{Allocator, Global};
 use std::process::Abort;
+use test_fixtures::octets;
 
 /// Start (1), Interim-Update (3) and Stop (2) of the session `01`, `02`, `03`, or of no octets.
 pub const START_01: &str = "0405001e000000000000000000000000000000002806000000012c043031";
@@ -48,9 +50,10 @@ pub const NO_STATUS: &str = "04050018000000000000000000000000000000002c043031";
 
 pub const NO_ID: &str = "0405001a00000000000000000000000000000000280600000001";
 
-/// The octets of hexadecimal digits.
-pub fn octets(rt: &impl Abort, alloc: Global, digits: &str) -> Vec<u8> {
-    decode(alloc, digits).expect(rt, "digits")
+/// What parts of a configuration say.
+pub fn config_of(rt: &impl Abort, alloc: Global, parts: &[&str]) -> Config {
+    let text = parts.concat(alloc).expect(rt, "memory");
+    read_config(alloc, &text).expect(rt, "a configuration")
 }
 
 /// A key for the hashes of a ledger: what it answers doesn't depend on that.
@@ -58,27 +61,64 @@ pub fn key() -> HashKey {
     HashKey::new([5; 16])
 }
 
-/// Whether the session is open that an Accounting-Request of a peer names.
-pub fn is_open<A: Allocator + Copy>(
-    rt: &impl Abort,
-    alloc: Global,
-    sessions: &Sessions<A>,
+/// Whether the session is open that an Accounting-Request of a peer names, in a realm without sessions of its own.
+pub fn is_open<A: Allocator + Copy>(sessions: &Sessions<A>, peer: u16, request: &str) -> bool {
+    let mut room = [0; 160];
+    match View::read(octets(request, &mut room)) {
+        Ok(view) => sessions.is_open(false, peer, &view),
+        Err(_) => false,
+    }
+}
+
+/// Applies an answered request of a peer. Whether it is a packet, and memory was there.
+pub fn is_applied<A: Allocator + Copy>(
+    sessions: &mut Sessions<A>,
+    own: bool,
     peer: u16,
     request: &str,
 ) -> bool {
-    let octets = octets(rt, alloc, request);
-    sessions.is_open(false, peer, &View::read(&octets).expect(rt, "a packet"))
+    let mut room = [0; 160];
+    match View::read(octets(request, &mut room)) {
+        Ok(view) => sessions.apply(own, peer, &view).is_ok(),
+        Err(_) => false,
+    }
 }
 
-/// Applies an answered request of a peer, in a realm without sessions of its own.
-pub fn apply<A: Allocator + Copy>(
-    rt: &impl Abort,
+/// Which of some peers' sessions are open, one bit each.
+pub fn open<A: Allocator + Copy>(sessions: &Sessions<A>, named: &[(u16, &str)]) -> u32 {
+    let mut bits = 0;
+    for (bit, (peer, start)) in named.iter().enumerate() {
+        if is_open(sessions, *peer, start) {
+            bits |= 1 << bit;
+        }
+    }
+    bits
+}
+
+/// What happens, the peer, its request, and the sessions that are open then.
+pub type Step = (&'static str, u16, &'static str, u32);
+
+/// The first step behind which other sessions are open than should.
+fn first_wrong(
+    sessions: &mut Sessions<Global>,
+    named: &[(u16, &str)],
+    steps: &[Step],
+) -> Option<&'static str> {
+    for (what, peer, request, expected) in steps {
+        if !is_applied(sessions, false, *peer, request) || open(sessions, named) != *expected {
+            return Some(what);
+        }
+    }
+    None
+}
+
+/// The same in a ledger of so many sessions at most.
+pub fn wrong_in_ledger(
     alloc: Global,
-    sessions: &mut Sessions<A>,
-    peer: u16,
-    request: &str,
-) -> Result<(), NoMemory> {
-    let octets = octets(rt, alloc, request);
-    let view = View::read(&octets).expect(rt, "a packet");
-    sessions.apply(false, peer, &view)
+    limit: u32,
+    named: &[(u16, &str)],
+    steps: &[Step],
+) -> Option<&'static str> {
+    let mut sessions = Sessions::new(alloc, limit, key());
+    first_wrong(&mut sessions, named, steps)
 }

@@ -3,12 +3,9 @@
 //! all theirs.
 
 use crate::requests::{
-    INTERIM_01, ON, START_01, START_02, START_03, START_EMPTY, apply, is_open, key,
+    INTERIM_01, ON, START_01, START_02, START_03, START_EMPTY, Step, wrong_in_ledger,
 };
-use roam_reverse::Sessions;
-use std::alloc::Global;
 use std::process::Abort;
-use std::test::Fail;
 
 /// Each session that a row looks at, one bit each.
 const OPENED: [(u16, &str); 8] = [
@@ -21,9 +18,6 @@ const OPENED: [(u16, &str); 8] = [
     (1, START_02),
     (1, START_03),
 ];
-
-/// What happens, the peer, its request, and the sessions that are open then.
-type Step = (&'static str, u16, &'static str, u32);
 
 /// A peer that takes all places, and one that comes then.
 const ONE_AND_ANOTHER: [Step; 12] = [
@@ -66,28 +60,9 @@ const AS_MANY: [Step; 6] = [
     ("of peer 5", 5, START_01, 0b0000_0000),
 ];
 
-/// Which of these sessions are open.
-fn open(rt: &impl Abort, alloc: Global, sessions: &Sessions<Global>) -> u32 {
-    let mut bits = 0;
-    for (bit, (peer, start)) in OPENED.iter().enumerate() {
-        if is_open(rt, alloc, sessions, *peer, start) {
-            bits |= 1 << bit;
-        }
-    }
-    bits
-}
-
-/// Each request of a row leaves these sessions open.
-fn check_steps(rt: &impl Abort, alloc: Global, steps: &[Step]) -> Result<(), Fail> {
-    let mut sessions = Sessions::new(alloc, 4, key());
-    for (what, peer, request, expected) in steps {
-        apply(rt, alloc, &mut sessions, *peer, request)?;
-        assert!(rt; open(rt, alloc, &sessions) == *expected, "{what}");
-    }
-    Ok(())
-}
-
-pub(crate) fn a_peer_keeps_its_share<R: Abort + AllocGlobal>(rt: &R) -> Result<(), Fail> {
-    check_steps(rt, rt.alloc(), &ONE_AND_ANOTHER)?;
-    check_steps(rt, rt.alloc(), &AS_MANY)
+pub(crate) fn a_peer_keeps_its_share<R: Abort + AllocGlobal>(rt: &R) {
+    let wrong = wrong_in_ledger(rt.alloc(), 4, &OPENED, &ONE_AND_ANOTHER);
+    assert!(rt; wrong.is_none(), "{wrong:?}");
+    let wrong = wrong_in_ledger(rt.alloc(), 4, &OPENED, &AS_MANY);
+    assert!(rt; wrong.is_none(), "{wrong:?}");
 }

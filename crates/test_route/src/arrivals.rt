@@ -1,11 +1,10 @@
 //! The configuration, and the packets that arrive.
 
+use crate::policies;
 use roam_conf::{Config, Endpoint, Link, Place};
-use roam_conf_reader::read_config;
 use roam_route::Side;
 use std::alloc::Global;
 use std::process::Abort;
-use std::test::Fail;
 use test_fixtures::configuration::{PEER, REALM, SECOND_REALM, SERVER, TOP};
 
 /// A second peer, which must seal its Access-Requests.
@@ -279,7 +278,7 @@ pub fn spelled(rt: &impl Abort, alloc: Global, digits: &str) -> Vec<u8> {
 }
 
 /// The configuration, with these keys before the others: two realms share one home server.
-pub fn config(alloc: Global, keys: &str) -> Result<Config, Fail> {
+pub fn config(rt: &impl Abort, alloc: Global, keys: &str) -> Config {
     let parts = [
         keys,
         TOP,
@@ -290,6 +289,5 @@ pub fn config(alloc: Global, keys: &str) -> Result<Config, Fail> {
         SECOND_REALM,
         SERVER,
     ];
-    let text = parts.concat(alloc)?;
-    Ok(read_config(alloc, &text).map_err(|_| "the configuration isn't accepted")?)
+    policies::config(rt, alloc, &parts)
 }

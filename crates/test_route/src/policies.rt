@@ -13,7 +13,7 @@ use crate::sizes::{ADDED, AS_IT_CAME, TAKEN_OUT};
 use roam_conf::Config;
 use roam_conf_reader::read_config;
 use std::alloc::Global;
-use std::test::Fail;
+use std::process::Abort;
 use test_fixtures::configuration::{PEER, REALM, SECOND_REALM, SERVER, TOP};
 
 const SECOND_PEER: &str = "
@@ -175,7 +175,7 @@ pub const CASES: [Case; 17] = [
 ];
 
 /// The configuration of these parts.
-pub fn config(alloc: Global, parts: &[&str]) -> Result<Config, Fail> {
-    let text = parts.concat(alloc)?;
-    Ok(read_config(alloc, &text).map_err(|_| "the configuration isn't accepted")?)
+pub fn config(rt: &impl Abort, alloc: Global, parts: &[&str]) -> Config {
+    let text = parts.concat(alloc).expect(rt, "memory");
+    read_config(alloc, &text).expect(rt, "a configuration")
 }
