@@ -20,7 +20,7 @@ use std::alloc::{AllocError, Global};
 ///
 /// The fields are the keys of the document; `peers` are its tables `peer`, `realms` its tables
 /// `realm`, in the order of the file. The index of a peer or realm is its place there, from 0.
-#[derive(Drop, PartialEq, Eq)]
+#[derive(PartialEq, Eq)]
 pub struct Config {
     /// How many shards the realms are spread over: 1 to 64.
     pub shards: u16,
@@ -80,6 +80,35 @@ pub struct Config {
     ghost distinct_servers: { has_duplicate_server (map shown_realm realms.items) ≡ false },
     ghost distinct_links: { has_duplicate_link (map shown_peer peers.items) (map shown_realm realms.items) ≡ false },
     ghost known_peers: { has_unknown_peer (map shown_peer peers.items) (map shown_realm realms.items) ≡ false },
+}
+
+// By hand, so that a proof sees one call wherever a configuration ends, and not each of its fields and maps.
+impl Drop for Config {
+    fn drop(self) {
+        let Self {
+            shards: _,
+            seed: _,
+            auth: _,
+            acct: _,
+            trace_limit: _,
+            trace_octets: _,
+            max_hops: _,
+            max_attributes: _,
+            status_server: _,
+            spread: _,
+            reject,
+            well_formed: _,
+            answer_unnamed: _,
+            fresh: _,
+            peers,
+            realms,
+            found_by,
+        } = self;
+        drop(reject);
+        drop(peers);
+        drop(realms);
+        drop(found_by);
+    }
 }
 
 impl Config {
