@@ -12,9 +12,9 @@ use std::alloc::Global;
 use std::process::Abort;
 use test_fixtures::octets;
 
-/// A configuration in parts, and what happens one after the other in its first realm, in words: `answered PEER REQUEST`,
-/// where a peer's Accounting-Request is answered; `forwarded PEER REQUEST` and `refused CAUSE REQUEST`, where a request
-/// comes and is forwarded to a peer, or gets a cause.
+/// A configuration in parts, and what happens one after the other in its first realm, in words:
+/// `answered PEER REQUEST`, where a peer's Accounting-Request is answered; `forwarded PEER REQUEST` and
+/// `refused CAUSE REQUEST`, where a request comes and is forwarded to a peer, or gets a cause.
 pub struct Row {
     pub what: &'static str,
     pub parts: &'static [&'static str],

@@ -104,8 +104,8 @@ pub trait Play<A: Allocator> {
     fn first_wrong(&self, sessions: &mut Sessions<A>) -> Option<&'static str>;
 }
 
-/// The same on a ledger of so many sessions at most, with none open. The one owner of a ledger in these tests: what owns
-/// one is long to prove.
+/// The same on a ledger of so many sessions at most, with none open. The one owner of a ledger in these tests: what
+/// owns one is long to prove.
 pub fn wrong_in_ledger<A: Allocator + Copy, P: Play<A>>(
     alloc: A,
     limit: u32,
