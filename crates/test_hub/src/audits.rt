@@ -38,7 +38,7 @@ fn equal<N: Opened>(
                 octets: Octets::copy_of(alloc, datagram.octets.as_slice())
                     .ok()
                     .expect(rt, "memory"),
-                seconds: None,
+                seconds: datagram.seconds,
             },
         },
         answer: Answer {
