@@ -3,7 +3,7 @@
 use crate::documents::{
     AS_IT_IS, Change, Document, SECOND_PEER, config_of, expect_changes, expect_documents,
 };
-use roam_conf::{Config, Realm};
+use roam_conf::{Config, Peer, Realm};
 use roam_conf_reader::ConfFault;
 use std::process::Abort;
 use std::test::Fail;
@@ -195,6 +195,11 @@ const ALL: [&str; 9] = [
     OTHER_CLIENT,
 ];
 
+/// What the top says by them.
+fn limits(config: &Config) -> (Option<u16>, Option<u16>) {
+    (config.max_attributes, config.fresh)
+}
+
 /// What a realm says by them.
 fn said(realm: &Realm) -> (Option<u16>, [bool; 3], usize) {
     (
@@ -204,21 +209,45 @@ fn said(realm: &Realm) -> (Option<u16>, [bool; 3], usize) {
     )
 }
 
-/// What the top says by them.
-fn limits(config: &Config) -> (Option<u16>, Option<u16>) {
-    (config.max_attributes, config.fresh)
+/// Whether a realm has the two sources.
+fn has_clients(realm: &Realm) -> bool {
+    let [first, second] = realm.coa_clients.as_slice() else {
+        return false;
+    };
+    first.secret() == b"pc".as_slice() && second.ip == [1, 2, 3, 4]
+}
+
+/// Whether a peer has the two texts.
+fn has_texts(peer: &Peer) -> bool {
+    let [first, second] = peer.nas_ids.as_slice() else {
+        return false;
+    };
+    first.as_str() == "wlc-1" && second.as_str() == "ap-*"
+}
+
+/// Whether what is written is there.
+fn has_all(config: &Config) -> bool {
+    limits(config) == (Some(195), Some(300))
+        && config.peers.first().is_some_and(|peer| has_texts(peer))
+        && config.realms.first().is_some_and(|realm| {
+            said(realm) == (Some(7), [true, true, true], 2) && has_clients(realm)
+        })
+}
+
+/// Whether what isn't written isn't there.
+fn has_none(config: &Config) -> bool {
+    limits(config) == (None, None)
+        && config
+            .peers
+            .first()
+            .is_some_and(|peer| peer.nas_ids.is_empty())
+        && config.realms.first().is_some_and(|realm| {
+            said(realm) == (None, [false, false, false], 0)
+        })
 }
 
 pub(crate) fn the_further_keys_are_read<R: Abort + AllocGlobal>(rt: &R) -> Result<(), Fail> {
-    let config = config_of(rt.alloc(), &ALL)?;
-    assert!(rt; limits(&config) == (Some(195), Some(300)));
-    assert!(rt; said(&config.realms[0]) == (Some(7), [true, true, true], 2));
-    assert!(rt; config.realms[0].coa_clients[1].ip == [1, 2, 3, 4]);
-    assert!(rt; config.realms[0].coa_clients[0].secret() == b"pc".as_slice());
-    assert!(rt; config.peers[0].nas_ids[1].as_str() == "ap-*");
-    let config = config_of(rt.alloc(), &[TOP, PEER, REALM, SERVER])?;
-    assert!(rt; limits(&config) == (None, None));
-    assert!(rt; said(&config.realms[0]) == (None, [false, false, false], 0));
-    assert!(rt; config.peers[0].nas_ids.is_empty());
+    assert!(rt; has_all(&config_of(rt.alloc(), &ALL)?));
+    assert!(rt; has_none(&config_of(rt.alloc(), &[TOP, PEER, REALM, SERVER])?));
     Ok(())
 }

@@ -103,10 +103,13 @@ fn others(config: &Config) -> [Option<u16>; 7] {
     ]
 }
 
+/// Whether these are found, and no others.
+fn are_found(config: &Config) -> bool {
+    others(config) == [Some(0), Some(1), None, None, Some(1), None, None] && config.has_operators()
+}
+
 pub(crate) fn the_peer_of_another_name<R: Abort + AllocGlobal>(rt: &R) -> Result<(), Fail> {
-    let config = config_of(rt.alloc(), &STARRED)?;
-    assert!(rt; others(&config) == [Some(0), Some(1), None, None, Some(1), None, None]);
-    assert!(rt; config.has_operators());
+    assert!(rt; are_found(&config_of(rt.alloc(), &STARRED)?));
     assert!(rt; !config_of(rt.alloc(), &STARS)?.has_operators());
     Ok(())
 }
@@ -141,12 +144,25 @@ fn sources(config: &Config) -> [Option<u8>; 5] {
     ]
 }
 
+/// Whether the second realm shares this secret with the source of this number.
+fn is_secret_of(config: &Config, home: u8, secret: &[u8]) -> bool {
+    let Some(realm) = config.realms.get(1) else {
+        return false;
+    };
+    usize::from(home) < realm.servers.len() + realm.coa_clients.len()
+        && realm.secret_of_home(home) == secret
+}
+
+/// Whether each source is found, and has its own secret.
+fn have_sources(config: &Config) -> bool {
+    sources(config) == [Some(0), None, Some(0), Some(2), None]
+        && is_secret_of(config, 0, b"h1")
+        && is_secret_of(config, 1, b"pc")
+        && is_secret_of(config, 2, b"p2")
+        && !is_secret_of(config, 2, b"pc")
+}
+
 pub(crate) fn the_sources_of_reverse_requests<R: Abort + AllocGlobal>(rt: &R) -> Result<(), Fail> {
-    let config = config_of(rt.alloc(), &SOURCES)?;
-    assert!(rt; sources(&config) == [Some(0), None, Some(0), Some(2), None]);
-    let realm = &config.realms[1];
-    assert!(rt; realm.secret_of_home(0) == b"h1".as_slice());
-    assert!(rt; realm.secret_of_home(1) == b"pc".as_slice());
-    assert!(rt; realm.secret_of_home(2) == b"p2".as_slice());
+    assert!(rt; have_sources(&config_of(rt.alloc(), &SOURCES)?));
     Ok(())
 }

@@ -1,7 +1,7 @@
 //! The peer that a reverse request is for, and the cause for which it can't be forwarded.
 
 use crate::cause_rows::{OF_THREE, Row, TO_PEERS_AMONG};
-use crate::requests::{START_01, START_EMPTY, config_of, is_applied, key};
+use crate::requests::{Play, START_01, START_EMPTY, config_of, is_applied, wrong_in_ledger};
 use roam_conf::Config;
 use roam_reverse::{Sessions, route_of, target, verdict};
 use roam_route::realm_of;
@@ -67,43 +67,49 @@ fn judged(
     ))
 }
 
-/// The first request that has another target or another cause than it should, or that isn't forwarded to its target
-/// just where it has no cause.
-fn first_wrong(config: &Config, sessions: &Sessions<Global>, rows: &[Row]) -> Option<&'static str> {
-    for (what, request, peer, cause) in rows {
-        let route = if cause.is_none() { *peer } else { None };
-        if judged(config, sessions, request) != Some((*peer, *cause, route)) {
-            return Some(what);
+/// Requests over a configuration, beside a ledger of three sessions.
+#[derive(Clone, Copy)]
+struct Judging<'a> {
+    config: &'a Config,
+    rows: &'static [Row],
+}
+
+impl Play<Global> for Judging<'_> {
+    /// Each has the target and the cause that it should, and is forwarded to its target just where it has no cause.
+    fn first_wrong(&self, sessions: &mut Sessions<Global>) -> Option<&'static str> {
+        if !opens_three(sessions) {
+            return Some("no memory");
         }
-    }
-    None
-}
-
-/// The same with the ledger of the three sessions.
-fn wrong_with_three(alloc: Global, config: &Config, rows: &[Row]) -> Option<&'static str> {
-    let mut sessions = Sessions::new(alloc, 100, key());
-    if opens_three(&mut sessions) {
-        first_wrong(config, &sessions, rows)
-    } else {
-        Some("no memory")
+        for (what, request, peer, cause) in self.rows {
+            let route = if cause.is_none() { *peer } else { None };
+            if judged(self.config, sessions, request) != Some((*peer, *cause, route)) {
+                return Some(what);
+            }
+        }
+        None
     }
 }
 
-/// The same over each of some tables.
-fn wrong_in(
-    rt: &impl Abort,
-    alloc: Global,
-    parts: &[&str],
-    tables: &[&[Row]],
-) -> Option<&'static str> {
-    let config = config_of(rt, alloc, parts);
+/// The first request of some tables that is judged otherwise than it should.
+fn wrong_of(alloc: Global, config: &Config, tables: &[&'static [Row]]) -> Option<&'static str> {
     for rows in tables {
-        let wrong = wrong_with_three(alloc, &config, rows);
+        let wrong = wrong_in_ledger(alloc, 100, &Judging { config, rows });
         if wrong.is_some() {
             return wrong;
         }
     }
     None
+}
+
+/// The same with the configuration of these parts.
+fn wrong_in(
+    rt: &impl Abort,
+    alloc: Global,
+    parts: &[&str],
+    tables: &[&'static [Row]],
+) -> Option<&'static str> {
+    let config = config_of(rt, alloc, parts);
+    wrong_of(alloc, &config, tables)
 }
 
 pub(crate) fn a_request_that_cannot_be_forwarded_has_a_cause<R: Abort + AllocGlobal>(rt: &R) {

@@ -2,9 +2,9 @@
 //! hand from RFC 2866, sections 5.1 and 5.5, and from the rule that the oldest session makes way.
 
 use crate::requests::{
-    INTERIM_01, NO_ID, NO_STATUS, OFF, ON, START_01, START_02, START_03, START_EMPTY, STATUS_9,
-    STOP_01, STOP_02, STOP_EMPTY, STOP_THEN_START, Step, THREE_OCTETS, TWO_IDS, is_applied, key,
-    open, wrong_in_ledger,
+    INTERIM_01, NO_ID, NO_STATUS, OFF, ON, Play, Requests, START_01, START_02, START_03,
+    START_EMPTY, STATUS_9, STOP_01, STOP_02, STOP_EMPTY, STOP_THEN_START, Step, THREE_OCTETS,
+    TWO_IDS, is_applied, open, wrong_in_ledger,
 };
 use roam_reverse::Sessions;
 use roam_wire::View;
@@ -90,14 +90,20 @@ const LEDGERS: [(u32, &[Step]); 4] = [
 
 pub(crate) fn requests_change_the_ledger<R: Abort + AllocGlobal>(rt: &R) {
     for (limit, steps) in LEDGERS {
-        let wrong = wrong_in_ledger(rt.alloc(), limit, &OPENED, steps);
+        let requests = Requests {
+            named: &OPENED,
+            steps,
+        };
+        let wrong = wrong_in_ledger(rt.alloc(), limit, &requests);
         assert!(rt; wrong.is_none(), "{wrong:?}, of at most {limit}");
     }
 }
 
 /// A request of peer 0 to a ledger of `01` and `02` at most, the sessions that are open then, and
 /// how often it asks for memory at most.
-const GROWTHS: [(&str, u32, u64); 7] = [
+type Growing = (&'static str, u32, u64);
+
+const GROWTHS: [Growing; 7] = [
     (START_03, 0b001100, 4),
     (STOP_01, 0b000100, 0),
     (STOP_EMPTY, 0b000110, 0),
@@ -112,79 +118,96 @@ fn opens_two<A: Allocator + Copy>(sessions: &mut Sessions<A>) -> bool {
     is_applied(sessions, false, 0, START_01) && is_applied(sessions, false, 0, START_02)
 }
 
-/// Whether a request changes nothing where its growth of a number is refused, asks for so many at most, and made again
-/// does what it does with memory.
-fn goes_with<'a>(
-    sessions: &mut Sessions<&'a Refusing<Global>>,
-    refusing: &Refusing<Global>,
+/// A request whose growth of a number is refused.
+#[derive(Clone, Copy)]
+struct Refused<'a> {
+    refusing: &'a Refusing<Global>,
     n: u64,
-    (request, expected, at_most): (&str, u32, u64),
-) -> bool {
-    if !opens_two(sessions) {
-        return false;
-    }
-    refusing.refuse_nth(n);
-    let was_applied = is_applied(sessions, false, 0, request);
-    if was_applied == refusing.was_refused() || refusing.growths() > at_most {
-        return false;
-    }
-    if !was_applied
-        && (open(sessions, &OPENED) != 0b000110 || !is_applied(sessions, false, 0, request))
-    {
-        return false;
-    }
-    open(sessions, &OPENED) == expected
+    row: Growing,
 }
 
-/// The same in a ledger of two at most.
-fn goes(refusing: &Refusing<Global>, n: u64, row: (&str, u32, u64)) -> bool {
-    let mut sessions = Sessions::new(refusing, 2, key());
-    goes_with(&mut sessions, refusing, n, row)
-}
-
-/// Whether it goes so with each growth refused in turn.
-fn goes_with_each(alloc: Global, row: (&str, u32, u64)) -> bool {
-    let refusing = Refusing::new(alloc);
-    for n in refusing.each_growth() {
-        if !goes(&refusing, n, row) {
-            return false;
+impl<'a> Play<&'a Refusing<Global>> for Refused<'a> {
+    /// It changes nothing then, asks for so many growths at most, and made again does what it does with memory.
+    fn first_wrong(&self, sessions: &mut Sessions<&'a Refusing<Global>>) -> Option<&'static str> {
+        let (request, expected, at_most) = self.row;
+        if !opens_two(sessions) {
+            return Some("no memory");
+        }
+        self.refusing.refuse_nth(self.n);
+        let was_applied = is_applied(sessions, false, 0, request);
+        if was_applied == self.refusing.was_refused() || self.refusing.growths() > at_most {
+            return Some(request);
+        }
+        if !was_applied
+            && (open(sessions, &OPENED) != 0b000110 || !is_applied(sessions, false, 0, request))
+        {
+            return Some(request);
+        }
+        if open(sessions, &OPENED) == expected {
+            None
+        } else {
+            Some(request)
         }
     }
-    true
+}
+
+/// The first request of which a refused growth does something else.
+fn wrong_without(refusing: &Refusing<Global>, row: Growing) -> Option<&'static str> {
+    for n in refusing.each_growth() {
+        let refused = Refused { refusing, n, row };
+        let wrong = wrong_in_ledger(refusing, 2, &refused);
+        if wrong.is_some() {
+            return wrong;
+        }
+    }
+    None
 }
 
 pub(crate) fn a_refused_growth_changes_nothing<R: Abort + AllocGlobal>(rt: &R) {
     for row in GROWTHS {
-        assert!(rt; goes_with_each(rt.alloc(), row), "{}", row.0);
+        let refusing = Refusing::new(rt.alloc());
+        let wrong = wrong_without(&refusing, row);
+        assert!(rt; wrong.is_none(), "{wrong:?}");
     }
 }
 
-/// The sessions that are open once a change is prepared, and once it is made; and how often that asked for memory.
-fn prepared_with<'a>(
-    sessions: &mut Sessions<&'a Refusing<Global>>,
-    refusing: &Refusing<Global>,
-) -> Option<(u32, u32, u64)> {
-    let mut room = [0; 160];
-    let view = View::read(octets(START_03, &mut room)).ok()?;
-    let prepared = sessions.prepare(false, 0, &view).ok()?;
-    let before = open(sessions, &OPENED);
-    refusing.refuse_nth(1);
-    sessions.apply_prepared(prepared);
-    Some((before, open(sessions, &OPENED), refusing.growths()))
+/// A change that is prepared, and made where each growth would be refused.
+#[derive(Clone, Copy)]
+struct Prepared<'a> {
+    refusing: &'a Refusing<Global>,
 }
 
-/// The same in a ledger of the sessions `01` and `02` of peer 0, and of two at most.
-fn prepared(alloc: Global) -> Option<(u32, u32, u64)> {
-    let refusing = Refusing::new(alloc);
-    let mut sessions = Sessions::new(&refusing, 2, key());
-    if opens_two(&mut sessions) {
-        prepared_with(&mut sessions, &refusing)
-    } else {
-        None
+impl<'a> Play<&'a Refusing<Global>> for Prepared<'a> {
+    /// The sessions that are open are those of before it is made, and then those of after; and it asks for no memory.
+    fn first_wrong(&self, sessions: &mut Sessions<&'a Refusing<Global>>) -> Option<&'static str> {
+        let mut room = [0; 160];
+        let Ok(view) = View::read(octets(START_03, &mut room)) else {
+            return Some("no packet");
+        };
+        if !opens_two(sessions) {
+            return Some("no memory");
+        }
+        let Ok(prepared) = sessions.prepare(false, 0, &view) else {
+            return Some("no memory");
+        };
+        let before = open(sessions, &OPENED);
+        self.refusing.refuse_nth(1);
+        sessions.apply_prepared(prepared);
+        let after = (open(sessions, &OPENED), self.refusing.growths());
+        if before == 0b000110 && after == (0b001100, 0) {
+            None
+        } else {
+            Some("a change")
+        }
     }
 }
 
 /// A change that was prepared is made without memory.
 pub(crate) fn a_prepared_change_wants_no_memory<R: Abort + AllocGlobal>(rt: &R) {
-    assert!(rt; prepared(rt.alloc()) == Some((0b000110, 0b001100, 0)));
+    let refusing = Refusing::new(rt.alloc());
+    let prepared = Prepared {
+        refusing: &refusing,
+    };
+    let wrong = wrong_in_ledger(&refusing, 2, &prepared);
+    assert!(rt; wrong.is_none(), "{wrong:?}");
 }

@@ -57,7 +57,7 @@ pub fn config_of(rt: &impl Abort, alloc: Global, parts: &[&str]) -> Config {
 }
 
 /// A key for the hashes of a ledger: what it answers doesn't depend on that.
-pub fn key() -> HashKey {
+fn key() -> HashKey {
     HashKey::new([5; 16])
 }
 
@@ -98,27 +98,38 @@ pub fn open<A: Allocator + Copy>(sessions: &Sessions<A>, named: &[(u16, &str)]) 
 /// What happens, the peer, its request, and the sessions that are open then.
 pub type Step = (&'static str, u16, &'static str, u32);
 
-/// The first step behind which other sessions are open than should.
-fn first_wrong(
-    sessions: &mut Sessions<Global>,
-    named: &[(u16, &str)],
-    steps: &[Step],
-) -> Option<&'static str> {
-    for (what, peer, request, expected) in steps {
-        if !is_applied(sessions, false, *peer, request) || open(sessions, named) != *expected {
-            return Some(what);
-        }
-    }
-    None
+/// What is played on a ledger.
+pub trait Play<A: Allocator> {
+    /// What of it goes wrong first, if anything does.
+    fn first_wrong(&self, sessions: &mut Sessions<A>) -> Option<&'static str>;
 }
 
-/// The same in a ledger of so many sessions at most.
-pub fn wrong_in_ledger(
-    alloc: Global,
+/// The same on a ledger of so many sessions at most, with none open. The one owner of a ledger in these tests: what
+/// owns one is long to prove.
+pub fn wrong_in_ledger<A: Allocator + Copy, P: Play<A>>(
+    alloc: A,
     limit: u32,
-    named: &[(u16, &str)],
-    steps: &[Step],
+    play: &P,
 ) -> Option<&'static str> {
     let mut sessions = Sessions::new(alloc, limit, key());
-    first_wrong(&mut sessions, named, steps)
+    play.first_wrong(&mut sessions)
+}
+
+/// Requests, and which of some sessions are open behind each.
+#[derive(Clone, Copy)]
+pub struct Requests {
+    pub named: &'static [(u16, &'static str)],
+    pub steps: &'static [Step],
+}
+
+impl<A: Allocator + Copy> Play<A> for Requests {
+    fn first_wrong(&self, sessions: &mut Sessions<A>) -> Option<&'static str> {
+        for (what, peer, request, expected) in self.steps {
+            let is_applied = is_applied(sessions, false, *peer, request);
+            if !is_applied || open(sessions, self.named) != *expected {
+                return Some(what);
+            }
+        }
+        None
+    }
 }

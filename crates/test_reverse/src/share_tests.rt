@@ -3,7 +3,7 @@
 //! all theirs.
 
 use crate::requests::{
-    INTERIM_01, ON, START_01, START_02, START_03, START_EMPTY, Step, wrong_in_ledger,
+    INTERIM_01, ON, Requests, START_01, START_02, START_03, START_EMPTY, Step, wrong_in_ledger,
 };
 use std::process::Abort;
 
@@ -60,9 +60,21 @@ const AS_MANY: [Step; 6] = [
     ("of peer 5", 5, START_01, 0b0000_0000),
 ];
 
+/// The rows in ledgers of four at most.
+const ROWS: [Requests; 2] = [
+    Requests {
+        named: &OPENED,
+        steps: &ONE_AND_ANOTHER,
+    },
+    Requests {
+        named: &OPENED,
+        steps: &AS_MANY,
+    },
+];
+
 pub(crate) fn a_peer_keeps_its_share<R: Abort + AllocGlobal>(rt: &R) {
-    let wrong = wrong_in_ledger(rt.alloc(), 4, &OPENED, &ONE_AND_ANOTHER);
-    assert!(rt; wrong.is_none(), "{wrong:?}");
-    let wrong = wrong_in_ledger(rt.alloc(), 4, &OPENED, &AS_MANY);
-    assert!(rt; wrong.is_none(), "{wrong:?}");
+    for row in &ROWS {
+        let wrong = wrong_in_ledger(rt.alloc(), 4, row);
+        assert!(rt; wrong.is_none(), "{wrong:?}");
+    }
 }
