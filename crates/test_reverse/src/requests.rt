@@ -86,11 +86,13 @@ pub fn is_applied<A: Allocator + Copy>(
 
 /// Which of some peers' sessions are open, one bit each.
 pub fn open<A: Allocator + Copy>(sessions: &Sessions<A>, named: &[(u16, &str)]) -> u32 {
-    let mut bits = 0;
-    for (bit, (peer, start)) in named.iter().enumerate() {
+    let mut bits: u32 = 0;
+    let mut bit: u32 = 1;
+    for (peer, start) in named {
         if is_open(sessions, *peer, start) {
-            bits |= 1 << bit;
+            bits |= bit;
         }
+        bit <<= 1;
     }
     bits
 }
