@@ -17,7 +17,7 @@ are_starts {X} c (Ok v) o x items starts good is some same =
 are_starts c (Err e) o x items starts good is some same = absurd (let none : None ≡ Some x = sym is ∙ some in cc)
 
 pub pause_is_refused-of_pause-requires-clause-starts : goal.pause_is_refused-of_pause-requires-clause-starts
-pause_is_refused-of_pause-requires-clause-starts g c = λ lifetimes.
+pause_is_refused-of_pause-requires-clause-starts g c = λ lifetimes outlive.
     are_starts (shown c.two_configurations-old.result.0) c.first_starts.result c.ok.result c.expect-starts.result
     (λ v. v.items) c.deref.result.now c.first_starts.ensures.good c.ok.ensures.value c.expect-starts.ensures
     c.deref.ensures.value
