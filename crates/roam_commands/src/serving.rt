@@ -1,7 +1,8 @@
 //! Serving a configuration.
 
-ghost use Rattle.std.specs.Prelude.{ℕ, List, Option, OnOk, IfErr};
+ghost use Rattle.std.specs.Prelude.{◌≡◌, ℕ, List, Option, OnOk, IfErr, IfOk};
 ghost use Rattle.roam_conf.specs.Shown.{shown};
+ghost use Rattle.roam_port.specs.Sockets.{socket_endpoints};
 ghost use Rattle.roam_sockets.specs.Faults.{IsFaultOf};
 ghost use Rattle.roam_sim.specs.Simulation.{IsAccepted};
 ghost use Rattle.roam_words.specs.CommandLine.{AsksToServeIt};
@@ -102,6 +103,22 @@ fn serve_watched<R: Files + AllocGlobal + Threads + Wait + Clock + Net + RandomS
     ended
 }
 
+/// The configuration with the seed that it is served with: its own, or one that is drawn.
+fn to_serve<R: RandomSource>(
+    rt: &R,
+    config: Config,
+    has_seed_of_file: bool,
+) -> Result<Config, ServeFault>
+    ensures ok { IfOk result (λ c. socket_endpoints (shown c) ≡ socket_endpoints (shown config)) }
+    ensures err { IfErr result (IsFaultOf (shown config)) }
+{
+    if has_seed_of_file {
+        Ok(config)
+    } else {
+        with_drawn_seed(rt, config)
+    }
+}
+
 /// Serves a configuration as its text states that it is served, with its own seed or with one that is drawn.
 fn serve_stated<R: Files + AllocGlobal + Threads + Wait + Clock + Net + RandomSource + Log + Sync>(
     rt: &R,
@@ -113,15 +130,13 @@ fn serve_stated<R: Files + AllocGlobal + Threads + Wait + Clock + Net + RandomSo
     ensures { IfErr result (IsFaultOf (shown config)) }
 {
     // Where there is a configuration there are settings too, unless memory is wanting.
-    let Ok(settings) = read_settings(rt.alloc(), file.text.as_str()) else {
-        return Err(ServeFault::Memory);
-    };
-    let config = if has_seed_of_file {
-        config
-    } else {
-        with_drawn_seed(rt, config)?
-    };
-    serve_watched(rt, file.path, config, &settings, milliseconds)
+    match read_settings(rt.alloc(), file.text.as_str()) {
+        Ok(settings) => match to_serve(rt, config, has_seed_of_file) {
+            Ok(config) => serve_watched(rt, file.path, config, &settings, milliseconds),
+            Err(fault) => Err(fault),
+        },
+        Err(_) => Err(ServeFault::Memory),
+    }
 }
 
 /// Reads a configuration, and serves it for so many milliseconds, or without end. Where it is refused, `lines` are

@@ -27,7 +27,6 @@ pub(crate) type ByTicket<A> = IndexMap<u64, OpenSession<A>, BuildHasherDefault<F
 
 /// Sessions in the order in which they were opened. Each has a ticket, and these rise. They are found by all that they
 /// are, by the names of their access servers, and by these and the id.
-#[derive(Drop)]
 pub(crate) struct Chain<A: Allocator> {
     pub(crate) by_ticket: ByTicket<A>,
     pub(crate) whole: Groups<A>,
@@ -37,6 +36,23 @@ pub(crate) struct Chain<A: Allocator> {
     pub(crate) next: u64,
     /// For how many sessions more room was made.
     pub(crate) spare: usize,
+}
+
+impl<A: Allocator> Drop for Chain<A> {
+    fn drop(self) {
+        let Self {
+            by_ticket,
+            whole,
+            of_peer,
+            of_id,
+            next: _,
+            spare: _,
+        } = self;
+        drop(by_ticket);
+        drop(whole);
+        drop(of_peer);
+        drop(of_id);
+    }
 }
 
 /// Puts a session at a ticket that none has, where there is room. Takes no memory.

@@ -18,13 +18,28 @@ use std::alloc::Allocator;
 
 /// Tickets of sessions in groups: by the peer, and by the peer and one or both of the access server's names, where a
 /// session has them; and where `with_id` says it, by the id besides.
-#[derive(Drop)]
 pub(crate) struct Facets<A: Allocator> {
     pub(crate) with_id: bool,
     pub(crate) by_peer: Groups<A>,
     pub(crate) by_address: Groups<A>,
     pub(crate) by_identifier: Groups<A>,
     pub(crate) by_both: Groups<A>,
+}
+
+impl<A: Allocator> Drop for Facets<A> {
+    fn drop(self) {
+        let Self {
+            with_id: _,
+            by_peer,
+            by_address,
+            by_identifier,
+            by_both,
+        } = self;
+        drop(by_peer);
+        drop(by_address);
+        drop(by_identifier);
+        drop(by_both);
+    }
 }
 
 /// The rows of a session by which it is found so.

@@ -21,11 +21,22 @@ use std::marker::Model;
 
 /// The ledger of a realm's open sessions (RFC 2866, section 5.5). Contracts see its limit, the
 /// sessions with the oldest first, and for how many more there is room.
-#[derive(Drop)]
 pub struct Sessions<A: Allocator> {
     alloc: A,
     limit: u32,
     pub(crate) chain: Chain<A>,
+}
+
+impl<A: Allocator> Drop for Sessions<A> {
+    fn drop(self) {
+        let Self {
+            alloc,
+            limit: _,
+            chain,
+        } = self;
+        drop(chain);
+        drop(alloc);
+    }
 }
 
 impl<A: Allocator> Model for Sessions<A> {

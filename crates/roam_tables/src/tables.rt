@@ -34,7 +34,6 @@ use std::marker::Model;
 ///
 /// No call costs more because other entries are pending: an entry is found by an index, and its due
 /// and its ticket find their places in runs of its realm near an end.
-#[derive(Drop)]
 pub struct Tables<A: Allocator> {
     /// Whence the memory of rounds comes.
     alloc: A,
@@ -48,6 +47,27 @@ pub struct Tables<A: Allocator> {
     /// The tickets of the entries that keep a round, by its hash.
     rounds: RoundIndex<A>,
     realms: Vec<RealmQueues<A>, A>,
+}
+
+// By hand, so that a proof sees one call wherever tables end, and not each of their maps.
+impl<A: Allocator> Drop for Tables<A> {
+    fn drop(self) {
+        let Self {
+            alloc,
+            key: _,
+            slots,
+            by_ticket,
+            by_client,
+            rounds,
+            realms,
+        } = self;
+        drop(slots);
+        drop(by_ticket);
+        drop(by_client);
+        drop(rounds);
+        drop(realms);
+        drop(alloc);
+    }
 }
 
 impl<A: Allocator> Model for Tables<A> {

@@ -27,7 +27,6 @@ use std::alloc::Allocator;
 /// What a realm keeps besides its entries: the numbers that it hands out (Identifiers toward its
 /// links, tickets, and random words), the ledger of the sessions that are open, and how its servers'
 /// links rest.
-#[derive(Drop)]
 pub struct RealmNumbers<A: Allocator> {
     /// Whence the memory of entries and packets comes.
     pub(crate) alloc: A,
@@ -42,6 +41,24 @@ pub struct RealmNumbers<A: Allocator> {
     pub(crate) sessions: Sessions<A>,
     /// How the servers' links rest that keep silent, in the order of their places.
     pub(crate) rests: Vec<Rest, A>,
+}
+
+// By hand, so that a proof sees one call wherever a realm's numbers end.
+impl<A: Allocator> Drop for RealmNumbers<A> {
+    fn drop(self) {
+        let Self {
+            alloc,
+            lanes,
+            ticket: _,
+            stream_position: _,
+            sessions,
+            rests,
+        } = self;
+        drop(lanes);
+        drop(sessions);
+        drop(rests);
+        drop(alloc);
+    }
 }
 
 /// The tag of a lane: its realm's index, and the place of its link.

@@ -16,6 +16,12 @@ are_starts {X} c (Ok v) o x items starts good is some same =
     subst (λ (l : List Start). AreStarts c l) (sym same) (subst (λ (y : X). AreStarts c (items y)) one good)
 are_starts c (Err e) o x items starts good is some same = absurd (let none : None ≡ Some x = sym is ∙ some in cc)
 
+pub pause_is_refused-of_pause-requires-clause-starts : goal.pause_is_refused-of_pause-requires-clause-starts
+pause_is_refused-of_pause-requires-clause-starts g c = λ lifetimes outlive.
+    are_starts (shown c.two_configurations-old.result.0) c.first_starts.result c.ok.result c.expect-starts.result
+    (λ v. v.items) c.deref.result.now c.first_starts.ensures.good c.ok.ensures.value c.expect-starts.ensures
+    c.deref.ensures.value
+
 pub follow_is_refused-of_follow-requires-clause-starts : goal.follow_is_refused-of_follow-requires-clause-starts
 follow_is_refused-of_follow-requires-clause-starts g c =
     are_starts (shown c.two_configurations-old.result.0) c.first_starts.result c.ok.result c.expect-starts.result
