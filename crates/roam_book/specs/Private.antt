@@ -4,6 +4,7 @@ pub mod Judged
 pub mod Looking
 pub mod Memory
 pub mod MoreLanes
+pub mod Moving
 pub mod NewEntry
 pub mod ReplyPlans
 pub mod Sharing
