@@ -13,7 +13,7 @@ use Rattle.roam_pending.proofs.TestLemmas.{same, differs, compared}
 pub first_found : (e : PlainEntry) (es : List PlainEntry) → find_ticket e.ticket (e ∷ es) ≡ Some e
 first_found e es = rw (same e.ticket e.ticket refl) refl
 
-later_found : (t : ℕ) (e : PlainEntry) (es : List PlainEntry) → t ≢ e.ticket
+pub later_found : (t : ℕ) (e : PlainEntry) (es : List PlainEntry) → t ≢ e.ticket
     → find_ticket t (e ∷ es) ≡ find_ticket t es
 later_found t e es ne = rw (differs e.ticket t (λ is. ne (sym is))) refl
 
@@ -31,7 +31,7 @@ found_in t (x ∷ xs) e at =
       | inr n ↦ inr (found_in t xs e (rw n at at))
     ]
 
-all_in : (s : ℕ) (es : List PlainEntry) (e : PlainEntry) → IsAbove s es → IsIn e es → s < e.ticket
+pub all_in : (s : ℕ) (es : List PlainEntry) (e : PlainEntry) → IsAbove s es → IsIn e es → s < e.ticket
 all_in s [] e h held = absurd held
 all_in s (x ∷ xs) e h held =
     elim held [

@@ -40,3 +40,13 @@ pub mod CarriedPlacesLemmas
 pub mod CarriedEntriesLemmas
 pub mod PlacesLemmas
 pub mod SavingLemmas
+pub mod ByTicketLemmas
+pub mod WalkLemmas
+pub mod LinkThenLemmas
+pub mod EntryThenLemmas
+pub mod LinkPlaceLemmas
+pub mod MovedLaneLemmas
+pub mod MovingLemmas
+pub mod RenewLemmas
+pub mod FewLemmas
+pub mod CarriedSessionLemmas

@@ -1,9 +1,9 @@
 -- A link of both parts is one in each: what it is then, and what it was, are one relation read from its two ends.
-use Rattle.std.proofs.Common.{◌≡◌, ℕ, zero, suc, ◌+◌, ◌<◌, ◌≤◌, ◌&&◌, Bool, true, false, List, [], ◌∷◌, length, Option, Some, None, option_map, refl, sym, ap, subst, ◌∙◌, arith, inl, inr, slice_get, if◌then◌else◌}
+use Rattle.std.proofs.Common.{◌≡◌, ◌⊎◌, ℕ, zero, suc, ◌+◌, ◌*◌, ◌<◌, ◌≤◌, ◌&&◌, Bool, true, false, List, [], ◌∷◌, length, Option, Some, None, option_map, refl, sym, ap, subst, ◌∙◌, arith, inl, inr, slice_get, if◌then◌else◌}
 use Rattle.std.specs.List.{position_from}
 use Rattle.std.specs.Option.{option_and_then, option_map_or}
 use Rattle.std.specs.Str.{bytes_eq}
-use Rattle.std.proofs.lemmas.Bool.{cases_Bool, or_parts}
+use Rattle.std.proofs.lemmas.Bool.{cases_Bool, cases_lt, or_parts}
 use Rattle.std.proofs.lemmas.Option.{same_Some, slice_get_past}
 use Rattle.std.proofs.lemmas.Slice.Eq.{bytes_eq-Decides}
 use Rattle.roam_conf.specs.Config.{PeerView, RealmView, ServerView}
@@ -16,7 +16,7 @@ use Rattle.roam_conf.proofs.EqualPartsLemmas.{endpoint_decides}
 use Rattle.roam_conf.proofs.OneServerLemmas.{one_server, part_of}
 use Rattle.roam_reload.specs.Kept.{both_or_none, keeps_coa, of_peer, same_out, same_server, server_then}
 use Rattle.roam_book.specs.Carrying.{HaveDistinctServers}
-use Rattle.roam_book.specs.RealmConfig.{IsLink, RealmConfig}
+use Rattle.roam_book.specs.RealmConfig.{IsLink, RealmConfig, link_count, link_place}
 use Rattle.roam_book.specs.Reload.{link_before, link_then, way_before, way_then}
 
 -- ---- which servers are the same
@@ -56,7 +56,7 @@ same_again a b h =
     rw (h.auth, h.acct, h.secret)
     (rw ((endpoint_decides b.auth b.auth).1 refl, if_any_itself b.acct, (bytes_eq-Decides b.secret b.secret).1 refl) refl)
 
-other_way : (a b : ServerView) → same_server a b ≡ true → same_server b a ≡ true
+pub other_way : (a b : ServerView) → same_server a b ≡ true → same_server b a ≡ true
 other_way a b h = same_again a b (are_same a b h)
 
 -- ---- where a server stands then
@@ -280,17 +280,72 @@ pub one_way : (old new : RealmConfig) (l m n : Link) → HaveDistinctServers old
 one_way old new l m n once is is' h k =
     same_Some m n (sym (way_forth old new l m once is h) ∙ way_forth old new l n once is' k)
 
+-- a link was there, or stands behind all that were
+abbrev pub WasThere : RealmConfig → Link → Type 0
+WasThere old l = IsLink old l ⊎ ((IsLink old l → ⊥) × (link_count old ≤ link_place old l))
+
 -- a server's link was a server's, if any
 pub server_was : (old new : RealmConfig) (s : ℕ) (l : Link) → HaveDistinctServers old new → s < length new.realm.servers
-    → link_before old new (link.Auth s) ≡ Some l → (t : ℕ) × (l ≡ link.Auth t) × (t < length old.realm.servers)
+    → link_before old new (link.Auth s) ≡ Some l → IsLink old l
 server_was old new s l once is h =
     let k = server_link_by new.realm.servers old.realm.servers (once_of new.realm once.1) (λ t. link.Auth t) s l
     (server_then new.realm.servers old.realm.servers s) refl is h in
-    (k.0, k.1, k.2)
+    subst (IsLink old) (sym k.1) k.2
 
 pub account_was : (old new : RealmConfig) (s : ℕ) (l : Link) → HaveDistinctServers old new → s < length new.realm.servers
-    → link_before old new (link.Acct s) ≡ Some l → (t : ℕ) × (l ≡ link.Acct t) × (t < length old.realm.servers)
+    → link_before old new (link.Acct s) ≡ Some l → IsLink old l
 account_was old new s l once is h =
     let k = server_link_by new.realm.servers old.realm.servers (once_of new.realm once.1) (λ t. link.Acct t) s l
     (server_then new.realm.servers old.realm.servers s) refl is h in
-    (k.0, k.1, k.2)
+    subst (IsLink old) (sym k.1) k.2
+
+coa_was : (old : RealmConfig) (p : ℕ) → WasThere old (link.Coa p)
+coa_was old p =
+    elim (cases_lt p (length old.peers)) as (λ _. WasThere old (link.Coa p)) [
+      | inl here ↦ inl here
+      | inr past ↦ inr ((λ was. let never : ⊥ = omega (arith, was, past) in never), omega (arith, past))
+    ]
+
+link_was : (old new : RealmConfig) (m l : Link) → HaveDistinctServers old new → IsLink new m
+    → link_before old new m ≡ Some l → WasThere old l
+link_was old new (link.Auth s) l once is h = inl (server_was old new s l once is h)
+link_was old new (link.Acct s) l once is h = inl (account_was old new s l once is h)
+link_was old new (link.Coa p) l once is h =
+    let k = coa_by (of_peer keeps_coa old.peers new.peers p) p l h in
+    subst (WasThere old) (sym k.1) (coa_was old p)
+
+pub was_there : (old new : RealmConfig) (m l : Link) → HaveDistinctServers old new → IsLink new m
+    → way_before old new m ≡ Some l → WasThere old l
+was_there old new m l once is h =
+    elim (cases_Bool (same_out old.realm new.realm)) as (λ _. WasThere old l) [
+      | inl y ↦ link_was old new m l once is (rw y at h)
+      | inr n ↦ absurd (let k : None ≡ Some l = rw n at h in cc)
+    ]
+
+-- where a server's link stands then, a server's stood
+pub server_place : (old new : RealmConfig) (m l : Link) → HaveDistinctServers old new → IsLink new m
+    → link_place new m < 2 * length new.realm.servers → link_before old new m ≡ Some l
+    → link_place old l < 2 * length old.realm.servers
+server_place old new (link.Auth s) l once is below h =
+    let k = server_link_by new.realm.servers old.realm.servers (once_of new.realm once.1) (λ t. link.Auth t) s l
+    (server_then new.realm.servers old.realm.servers s) refl is h in
+    subst (λ (x : Link). link_place old x < 2 * length old.realm.servers) (sym k.1) (omega (arith, k.2))
+server_place old new (link.Acct s) l once is below h =
+    let k = server_link_by new.realm.servers old.realm.servers (once_of new.realm once.1) (λ t. link.Acct t) s l
+    (server_then new.realm.servers old.realm.servers s) refl is h in
+    subst (λ (x : Link). link_place old x < 2 * length old.realm.servers) (sym k.1) (omega (arith, k.2))
+server_place old new (link.Coa p) l once is below h = absurd (omega (arith, below))
+
+-- and it was there
+pub server_there : (old new : RealmConfig) (m l : Link) → HaveDistinctServers old new → IsLink new m
+    → link_place new m < 2 * length new.realm.servers → link_before old new m ≡ Some l → IsLink old l
+server_there old new (link.Auth s) l once is below h = server_was old new s l once is h
+server_there old new (link.Acct s) l once is below h = account_was old new s l once is h
+server_there old new (link.Coa p) l once is below h = absurd (omega (arith, below))
+
+pub link_of_way : (old new : RealmConfig) (m l : Link) → way_before old new m ≡ Some l → link_before old new m ≡ Some l
+link_of_way old new m l h =
+    elim (cases_Bool (same_out old.realm new.realm)) as (λ _. link_before old new m ≡ Some l) [
+      | inl y ↦ rw y at h
+      | inr n ↦ absurd (let k : None ≡ Some l = rw n at h in cc)
+    ]

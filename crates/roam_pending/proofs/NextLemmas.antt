@@ -1,5 +1,5 @@
 -- The first of all entries after the last one, found one entry after the other.
-use Rattle.std.proofs.Common.{◌≡◌, ◌⊎◌, ℕ, zero, suc, ◌+◌, ◌<◌, ◌≤◌, true, false, List, [], ◌∷◌, ◌++◌, Option, Some, None, refl, ap, sym, subst, ◌∙◌, arith, inl, inr, length, get_or, map}
+use Rattle.std.proofs.Common.{◌≡◌, ◌⊎◌, ℕ, zero, suc, ◌+◌, ◌<◌, ◌≤◌, true, false, List, [], ◌∷◌, ◌++◌, Option, Some, None, refl, ap, sym, subst, ◌∙◌, arith, inl, inr, length, get_or, map, add-one}
 use Rattle.std.specs.Prelude.{take}
 use Rattle.std.proofs.lemmas.Bool.{cases_Bool}
 use Rattle.std.proofs.lemmas.Bool.Decides.{nat_tests}
@@ -17,7 +17,7 @@ in-more : (x : PlainEntry) (xs : List PlainEntry) (e : PlainEntry) → IsIn x (x
 in-more x [] e h =
     elim h [
       | inl is ↦ inr is
-      | inr no ↦ absurd no
+      | inr none ↦ absurd none
     ]
 in-more x (y ∷ ys) e h =
     elim h [
@@ -139,7 +139,7 @@ one-more last (Some d) xs e h =
 -- ---- over entries that stand in a row
 
 taken-one : {A : Type 0} (es : List (Entry A)) (i : ℕ) (e : Entry A) → i < length es → e ≡ get_or es i e
-    → shown_all (take (i + 1) es) ≡ shown_all (take i es) ++ shown e ∷ []
+    → shown_all (take (suc i) es) ≡ shown_all (take i es) ++ shown e ∷ []
 taken-one [] i e lt at = absurd (omega arith)
 taken-one (x ∷ xs) zero e lt at = rw at refl
 taken-one (x ∷ xs) (suc i) e lt at =
@@ -151,10 +151,11 @@ pub next-turn : {A : Type 0} (last best : Option Due) (es : List (Entry A)) (i :
     → IsNextAfter last (shown_all (take (i + 1) es)) (earlier best (due_past last (shown e)))
 next-turn last best es i e lt at h =
     subst (λ (l : List PlainEntry). IsNextAfter last l (earlier best (due_past last (shown e))))
-    (sym (taken-one es i e lt at)) (one-more last best (shown_all (take i es)) (shown e) h)
+    (sym (ap (λ (n : ℕ). shown_all (take n es)) (add-one i) ∙ taken-one es i e lt at)) (one-more last best (shown_all (take i es)) (shown e) h)
 
 taken-all : {A : Type 0} (es : List (Entry A)) (i : ℕ) → length es ≤ i → take i es ≡ es
-taken-all [] i past = refl
+taken-all [] zero past = refl
+taken-all [] (suc i) past = refl
 taken-all (x ∷ xs) zero past = absurd (omega arith)
 taken-all {A} (x ∷ xs) (suc i) past = ap (λ (l : List (Entry A)). x ∷ l) (taken-all xs i (omega arith))
 
