@@ -33,8 +33,8 @@ pub position_over : (test : PeerView → Bool) (peers : List Peer) (i : ℕ) (pe
     peer ≡ get_or peers i peer → test (shown_peer peer) ≡ false →
     position_from test (i + 1) (map shown_peer (drop (i + 1) peers))
     ≡ position_from test i (map shown_peer (drop i peers))
-position_over test peers i peer within is no =
-    ap (λ b. cond b (Some i) (position_from test (i + 1) (map shown_peer (drop (i + 1) peers)))) (sym no)
+position_over test peers i peer within is other =
+    ap (λ b. cond b (Some i) (position_from test (i + 1) (map shown_peer (drop (i + 1) peers)))) (sym other)
     ∙ position_at test peers i peer within is
 
 pub here_alone : (gone test : Bool) → gone ≡ false → test ≡ (not gone && test)
