@@ -50,3 +50,6 @@ pub mod MovingLemmas
 pub mod RenewLemmas
 pub mod FewLemmas
 pub mod CarriedSessionLemmas
+pub mod CarryingLemmas
+pub mod MovedRestLemmas
+pub mod CarriedOverLemmas

@@ -73,8 +73,7 @@ auths_stand : (c : RealmConfig) (k : ℕ) (ss : List ServerView) → k + length 
 auths_stand c k [] all = tt
 auths_stand c k (s ∷ ss) all =
     let is : k < length c.realm.servers = omega (arith, all) in
-    let more : k + 1 ≡ suc k = omega arith in
-    (
+    let more : k + 1 ≡ suc k = omega arith in (
       is,
       refl,
       subst (λ (n : ℕ). StandFrom c n (server_links service.Authentication (k + 1) ss)) more

@@ -16,7 +16,7 @@ use Rattle.roam_conf.proofs.EqualPartsLemmas.{endpoint_decides}
 use Rattle.roam_conf.proofs.OneServerLemmas.{one_server, part_of}
 use Rattle.roam_reload.specs.Kept.{both_or_none, keeps_coa, of_peer, same_out, same_server, server_then}
 use Rattle.roam_book.specs.Carrying.{HaveDistinctServers}
-use Rattle.roam_book.specs.RealmConfig.{IsLink, RealmConfig, link_count, link_place}
+use Rattle.roam_book.specs.RealmConfig.{IsLink, RealmConfig, link_count, link_place, server_link_count}
 use Rattle.roam_book.specs.Reload.{link_before, link_then, way_before, way_then}
 
 -- ---- which servers are the same
@@ -349,3 +349,23 @@ link_of_way old new m l h =
       | inl y ↦ rw y at h
       | inr n ↦ absurd (let k : None ≡ Some l = rw n at h in cc)
     ]
+
+-- the same where servers may stand twice
+stood_by : (ss ts : List ServerView) (make : ℕ → Link) (s : ℕ) (l : Link) (o : Option ℕ) → server_then ss ts s ≡ o
+    → s < length ss → option_map make o ≡ Some l → (t : ℕ) × (make t ≡ l) × (t < length ts)
+stood_by ss ts make s l None at below h = absurd (cc h)
+stood_by ss ts make s l (Some t) at below h =
+    let stands = stands_then ss ts s t at below in
+    (t, same_Some (make t) l h, below_of ts t stands.after stands.is)
+
+pub rest_there : (old new : RealmConfig) (m l : Link) → IsLink new m → link_place new m < server_link_count new
+    → link_before old new m ≡ Some l → IsLink old l
+rest_there old new (link.Auth s) l is below h =
+    let k = stood_by new.realm.servers old.realm.servers (λ t. link.Auth t) s l
+    (server_then new.realm.servers old.realm.servers s) refl is h in
+    subst (IsLink old) k.1 k.2
+rest_there old new (link.Acct s) l is below h =
+    let k = stood_by new.realm.servers old.realm.servers (λ t. link.Acct t) s l
+    (server_then new.realm.servers old.realm.servers s) refl is h in
+    subst (IsLink old) k.1 k.2
+rest_there old new (link.Coa p) l is below h = absurd (omega (arith, below))

@@ -144,9 +144,9 @@ module _ (old new : RealmConfig) (first before after : List LaneState) (once : H
             (h.fresh p (omega (arith, past)) below);
         left = λ l isl away.
             let apart : link_place old l ≢ from = λ same. (
-                let one : place.before ≡ l = one_place old place.before l place.link isl (place.at ∙ sym same) in
-                let later = away m is (place.was ∙ ap (λ (x : Link). Some x) one) in
-                let never : ⊥ = omega (arith, later, at) in never) in
+            let one : place.before ≡ l = one_place old place.before l place.link isl (place.at ∙ sym same) in
+            let later = away m is (place.was ∙ ap (λ (x : Link). Some x) one) in
+            let never : ⊥ = omega (arith, later, at) in never) in
             get_or-set_other before from (link_place old l) other no_lane apart
             ∙ h.left l isl (λ n isn was. let later = away n isn was in omega (arith, later));
       }
