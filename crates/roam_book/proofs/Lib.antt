@@ -53,3 +53,10 @@ pub mod CarriedSessionLemmas
 pub mod CarryingLemmas
 pub mod MovedRestLemmas
 pub mod CarriedOverLemmas
+pub mod LossLemmas
+pub mod LostLemmas
+pub mod LostSessionLemmas
+pub mod ChangedLemmas
+pub mod RestoredLemmas
+pub mod NothingLostLemmas
+pub mod BookCarryLemmas
