@@ -53,3 +53,4 @@ pub mod CarriedSessionLemmas
 pub mod CarryingLemmas
 pub mod MovedRestLemmas
 pub mod CarriedOverLemmas
+pub mod EndsLemmas
