@@ -220,7 +220,7 @@ three true true false h k is = absurd (cc is)
 three true false c h k is = absurd (cc k)
 three false b c h k is = absurd (cc h)
 
-does_fit : (c : RealmConfig) (i : ℕ) (q : PlainRequest) → CanBeShaped (shaping_from c i) (packet_of q.octets)
+pub does_fit : (c : RealmConfig) (i : ℕ) (q : PlainRequest) → CanBeShaped (shaping_from c i) (packet_of q.octets)
     → fits c i q ≡ true
 does_fit c i q h =
     let size = h.size in
@@ -230,7 +230,7 @@ has_size : (c : RealmConfig) (i : ℕ) (q : PlainRequest) → fits c i q ≡ tru
     → forwarded_length (shaped (shaping_from c i) (packet_of q.octets)) ≤ MAX_PACKET_LENGTH
 has_size c i q h = grind (arith, nat_tests, h)
 
-peer_there : (old : List PeerView) (i : ℕ) → i < length old → is_some (slice_get old i) ≡ true
+pub peer_there : (old : List PeerView) (i : ℕ) → i < length old → is_some (slice_get old i) ≡ true
 peer_there old i below = let k = there_by old i below in rw k.1 refl
 
 peer_goes : (old new : RealmConfig) (i : ℕ) (q : PlainRequest) → i < length old.peers

@@ -1,17 +1,34 @@
 -- Lanes go to their places one after the other: each is taken once, since no two links were one.
-use Rattle.std.proofs.Common.{◌≡◌, ◌≢◌, inl, inr, ℕ, ◌+◌, ◌*◌, ◌<◌, ◌≤◌, true, List, length, get_or, set, Option, Some, None, refl, sym, ap, subst, ◌∙◌, arith}
+use Rattle.std.proofs.Common.{◌≡◌, ◌≢◌, inl, inr, ℕ, ◌+◌, ◌*◌, ◌<◌, ◌≤◌, true, List, length, get_or, replicate, set, Option, Some, None, refl, sym, ap, subst, ◌∙◌, arith}
 use Rattle.std.specs.Option.{option_map_or}
 use Rattle.std.proofs.lemmas.Bool.{cases_lt}
-use Rattle.std.proofs.lemmas.List.{get_or-set_other, get_or-set_same, get_or_past, length-set}
+use Rattle.std.proofs.lemmas.List.{get_or-replicate, get_or-set_other, get_or-set_same, get_or_past, length-set}
 use Rattle.roam_conf.specs.declared.place.Link.{Link}
 use Rattle.roam_ids.specs.LaneState.{LaneState, place_at, with_tag}
+use Rattle.roam_ids.specs.declared.id_state.IdState.TheVariants.{Free}
 use Rattle.roam_book.specs.Carrying.{HaveDistinctServers}
 use Rattle.roam_book.specs.Private.Moving.{AreFresh, AreMoved, IsLeft, IsPlaceBefore, StandsFor, lane_before}
 use Rattle.roam_book.specs.RealmConfig.{IsLink, RealmConfig, link_count, link_place}
 use Rattle.roam_book.specs.Reload.{way_before}
-use Rattle.roam_book.specs.Sound.{AreOwnLanes, lane_of, marks_of, no_lane}
-use Rattle.roam_book.proofs.LinkPlaceLemmas.{made_at, one_place, place_below}
+use Rattle.roam_book.specs.Sound.{AreOwnLanes, cursors_of, lane_of, marks_of, no_lane}
+use Rattle.roam_book.proofs.LinkPlaceLemmas.{cursor_at, made_at, one_place, place_below, tag_of_lane}
 use Rattle.roam_book.proofs.LinkThenLemmas.{link_of_way, one_way, server_place, was_there}
+
+-- lanes of which nothing is in use
+pub fresh_by : (c : RealmConfig) (lanes : List LaneState) → length lanes ≡ link_count c
+    → cursors_of lanes ≡ replicate (link_count c) 0
+    → ((place id : ℕ) → place_at (get_or lanes place no_lane) id ≡ Free) → AreOwnLanes c (marks_of lanes)
+    → AreFresh c lanes
+fresh_by c lanes count cursors free own = record {
+  count = count;
+  each = λ place below. record {
+    cursor = sym (cursor_at lanes place) ∙ ap (λ (ns : List ℕ). get_or ns place 0) cursors
+        ∙ get_or-replicate (link_count c) place 0 0 below;
+    places = λ id. free place id;
+    tag = tag_of_lane c.index (link_count c) place lanes own.tags below;
+    made = λ server. sym (made_at lanes place) ∙ own.servers place server;
+  };
+}
 
 -- the places before this one have their lanes, the others fresh ones, and what wasn't taken is where it was
 pub record IsMoving (old new : RealmConfig) (first before after : List LaneState) (k : ℕ) : Type 0 where

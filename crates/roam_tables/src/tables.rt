@@ -220,7 +220,10 @@ impl<A: Allocator + Copy> Entries<A> for Tables<A> {
     }
 
     fn next_after(&self, realm: u16, last: Option<Due>) -> Option<Due> {
-        runs_of(&self.realms, realm)?.next(last)
+        match runs_of(&self.realms, realm) {
+            None => None,
+            Some(runs) => runs.next(last),
+        }
     }
 
     fn reserve(&mut self, realm: u16) -> Result<(), NoMemory> {

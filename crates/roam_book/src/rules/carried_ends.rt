@@ -1,7 +1,7 @@
 //! What the ends of an entry are when its realm goes on under another part of a configuration: its sender, and its
 //! link.
 
-ghost use Rattle.std.specs.Prelude.{◌≡◌, ◌<◌, IfSome, IfNone, Some, None, if◌then◌else◌, length, option_map};
+ghost use Rattle.std.specs.Prelude.{◌≡◌, ◌<◌, IfSome, IfNone, Some, None, if◌then◌else◌, length, option_and_then, option_map};
 ghost use Rattle.roam_wire.specs.Reading.{IsPacketText, packet_of};
 ghost use Rattle.roam_pending.specs.Realms.{with_ends, with_home};
 ghost use Rattle.roam_pending.specs.Shown.{shown, shown_request};
@@ -155,6 +155,16 @@ fn sender_then<A: Allocator>(
     }
 }
 
+/// The link that a held reply keeps then, of the one from which it came.
+fn held_link(old: &RealmSettings<'_>, new: &RealmSettings<'_>, from: Option<Link>) -> Option<Link>
+    ensures { result ≡ option_and_then (way_then old.now new.now) from }
+{
+    match from {
+        Some(link) => way_then(old, new, link),
+        None => None,
+    }
+}
+
 /// The ends of an entry then; none where it doesn't stay.
 pub(crate) fn ends_then<A: Allocator>(
     old: &RealmSettings<'_>,
@@ -176,10 +186,7 @@ pub(crate) fn ends_then<A: Allocator>(
             })
         }
         Standing::Done(done) => {
-            let link = match done.from {
-                Some(link) => way_then(old, new, link),
-                None => None,
-            };
+            let link = held_link(old, new, done.from);
             Some(Ends { home, link })
         }
     }
