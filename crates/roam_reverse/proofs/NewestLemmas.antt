@@ -11,13 +11,19 @@ use Rattle.roam_reverse.proofs.ListedLemmas.{length-gone, listed-same}
 
 module _ {X : Type 0} where
   -- what numbers have up to one, and from it on
-  pub listed-parts : (f : ℕ → Option X) (t m n : ℕ) → listed f t (m + n) ≡ listed f t m ++ listed f (t + m) n
+  pub listed-parts : (f : ℕ → Option X) (t m n k : ℕ) → k ≡ m + n
+      → listed f t k ≡ listed f t m ++ listed f (t + m) n
   unfolding listed
-  listed-parts f t zero n = ap (λ (k : ℕ). listed f k n) (let e : t ≡ t + 0 = omega arith in e)
-  listed-parts f t (suc m) n =
-      let next : listed f (t + 1) (m + n) ≡ listed f (t + 1) m ++ listed f (t + suc m) n =
-      listed-parts f (t + 1) m n
-      ∙ ap (λ (k : ℕ). listed f (t + 1) m ++ listed f k n) (let e : t + 1 + m ≡ t + suc m = omega arith in e) in
+  listed-parts f t zero n k is =
+      let all : k ≡ n = omega (arith, is) in
+      let first : t ≡ t + 0 = omega arith in
+      ap (λ (j : ℕ). listed f t j) all ∙ ap (λ (j : ℕ). listed f j n) first
+  listed-parts f t (suc m) n zero is = absurd (omega (arith, is))
+  listed-parts f t (suc m) n (suc k) is =
+      let behind : t + 1 + m ≡ t + suc m = omega arith in
+      let next : listed f (t + 1) k ≡ listed f (t + 1) m ++ listed f (t + suc m) n =
+      listed-parts f (t + 1) m n k (omega (arith, is))
+      ∙ ap (λ (j : ℕ). listed f (t + 1) m ++ listed f j n) behind in
       ap (cons_option (f t)) next ∙ sym (append-cons (f t) (listed f (t + 1) m) (listed f (t + suc m) n))
     where
       append-cons : (o : Option X) (xs ys : List X) → cons_option o xs ++ ys ≡ cons_option o (xs ++ ys)
@@ -51,7 +57,7 @@ module _ {X : Type 0} where
 
   pub length-more : (f : ℕ → Option X) (m : ℕ) → length (listed f 0 (m + 1)) ≤ length (listed f 0 m) + 1
   length-more f m =
-      let parts = listed-parts f 0 m 1 in
+      let parts = listed-parts f 0 m 1 (m + 1) refl in
       let one = one-more f (0 + m) in
       rw parts (omega (arith, length-append (listed f 0 m) (listed f (0 + m) 1), one))
 
@@ -64,7 +70,7 @@ module _ {X : Type 0} where
       → listed f 0 end ≡ listed f 0 next
   length-all f next end none le =
       let whole : end ≡ next + (end - next) = omega (arith, le) in
-      ap (listed f 0) whole ∙ listed-parts f 0 next (end - next)
+      listed-parts f 0 next (end - next) end whole
       ∙ ap (λ (l : List X). listed f 0 next ++ l) (listed-empty f (0 + next) (end - next)
       (λ u ge lt. none u (omega (arith, ge)))) ∙ append-nil (listed f 0 next)
 
@@ -77,10 +83,10 @@ module _ {X : Type 0} where
       listed-same f g (0 + end) (last - end) (λ u ge. same u (omega (arith, ge))) in
       let front : listed g 0 end ≡ [] = listed-empty g 0 end (λ u ge lt. gone u (omega (arith, lt))) in
       let new : listed g 0 last ≡ listed f (0 + end) (last - end) =
-      ap (listed g 0) whole ∙ listed-parts g 0 end (last - end)
+      listed-parts g 0 end (last - end) last whole
       ∙ ap (λ (l : List X). l ++ listed g (0 + end) (last - end)) front ∙ behind in
       let old : listed f 0 last ≡ listed f 0 end ++ listed f (0 + end) (last - end) =
-      ap (listed f 0) whole ∙ listed-parts f 0 end (last - end) in
+      listed-parts f 0 end (last - end) last whole in
       new
       ∙ sym (ap (drop (length (listed f 0 end))) old
       ∙ drop_at (listed f 0 end) (listed f (0 + end) (last - end)) (length (listed f 0 end)) refl)
