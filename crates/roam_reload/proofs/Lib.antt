@@ -6,3 +6,4 @@ pub mod KeptLemmas
 pub mod LayingLemmas
 pub mod SameTableLemmas
 pub mod SlotLemmas
+pub mod NumberLemmas

@@ -63,7 +63,11 @@ fn take_table(slots: &mut Vec<Option<Realm>>, realm: &Realm) -> Option<Realm>
 }
 
 /// What stands at the index of an older realm: its new table, or nothing any more.
-fn table_then(alloc: Global, slots: &mut Vec<Option<Realm>>, realm: &Realm) -> Result<Realm, AllocError>
+fn table_then(
+    alloc: Global,
+    slots: &mut Vec<Option<Realm>>,
+    realm: &Realm,
+) -> Result<Realm, AllocError>
     ensures table { IfOk result (λ next. shown_realm next
         ≡ unwrap_or (find (same_realm_name (shown_realm realm.now)) (left_in (realms_in slots.old.items)))
         (gone_realm (shown_realm realm.now))) }

@@ -10,7 +10,7 @@ use Rattle.roam_reload.proofs.laying_peers.laid_peers.Goals as goal
 pub loop-peer-init : goal.loop-peer-init
 loop-peer-init c =
     let none : c.new-laid.result.items ≡ [] = c.new-laid.ensures.items in
-    record { laid = ap (map shown_peer) none; slots = c.in_ok-slots.ensures; }
+    record { laid = ap (map shown_peer) none; slots = c.in_ok-slots.ensures }
 
 -- the table of one more
 pub loop-peer-preserved : goal.loop-peer-preserved
