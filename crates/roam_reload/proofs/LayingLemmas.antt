@@ -180,10 +180,8 @@ pub keeps_each : {X : Type 0} (same : X → X → Bool) (gone : X → X) (is_gon
 keeps_each {X} same gone is_gone gone_is old new = λ number before is.
     let next : X → X = λ x. unwrap_or (find (same x) new) (gone x) in (
       next before,
-      (
-        laid_at next old (filter (λ y. not (list_any (λ t. same t y) old)) new) number before is,
-        by_found before (find (same before) new) refl,
-      ),
+      laid_at next old (filter (λ y. not (list_any (λ t. same t y) old)) new) number before is,
+      by_found before (find (same before) new) refl,
     )
   where
     by_found : (before : X) (o : Option X) → find (same before) new ≡ o →

@@ -42,15 +42,13 @@ module _ {A X : Type 0} (shown : A → X) (same : X → X → Bool) (is_gone : X
         let it : shown before ≡ b = same_Some _ _ (sym (shown_at shown old i before in_old was) ∙ there) in
         subst (λ (x : X). (y : X) × (slice_get (map shown new) i ≡ Some y) × SameOrGone same is_gone x y) it (
           shown after,
-          (
-            shown_at shown new i after in_new is,
-            by_tests (shown before) (shown after) _ _ refl refl (sym told ∙ yes'),
-          ),
+          shown_at shown new i after in_new is,
+          by_tests (shown before) (shown after) _ _ refl refl (sym told ∙ yes'),
         ),
     λ keep.
         let kept = keep (shown before) (shown_at shown old i before in_old was) in
-        let it : kept.0 ≡ shown after = same_Some _ _ (sym kept.1.0 ∙ shown_at shown new i after in_new is) in
-        told ∙ one_of (shown before) (shown after) (subst (SameOrGone same is_gone (shown before)) it kept.1.1),
+        let it : kept.0 ≡ shown after = same_Some _ _ (sym kept.1 ∙ shown_at shown new i after in_new is) in
+        told ∙ one_of (shown before) (shown after) (subst (SameOrGone same is_gone (shown before)) it kept.2),
   )
 
   -- nobody does
@@ -60,7 +58,7 @@ module _ {A X : Type 0} (shown : A → X) (same : X → X → Bool) (is_gone : X
     λ yes'. absurd (true≢false (sym yes' ∙ told)),
     λ keep.
         let kept = keep (shown before) (shown_at shown old i before in_old was) in
-        absurd (none-some kept.0 (sym (shown_past shown new i past) ∙ kept.1.0)),
+        absurd (none-some kept.0 (sym (shown_past shown new i past) ∙ kept.1)),
   )
 
   -- the first ones are kept

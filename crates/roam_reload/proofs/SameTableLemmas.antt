@@ -33,14 +33,14 @@ pub peers_meet : (t x y : PeerView) → same_peer_name t y ≡ true → same_pee
 peers_meet t x y one two =
     let p = both_here t.gone y.gone (bytes_eq t.name y.name) one in
     let q = both_here x.gone y.gone (bytes_eq x.name y.name) two in
-    are_same t.gone x.gone _ p.0 q.0 (same_bytes t.name y.name x.name p.1.1 q.1.1)
+    are_same t.gone x.gone _ p.0 q.0 (same_bytes t.name y.name x.name p.2 q.2)
 
 pub peers_part : (x y z : PeerView) → same_peer_name x y ≡ true → same_peer_name x z ≡ true →
     same_peer_name y z ≡ true
 peers_part x y z one two =
     let p = both_here x.gone y.gone (bytes_eq x.name y.name) one in
     let q = both_here x.gone z.gone (bytes_eq x.name z.name) two in
-    are_same y.gone z.gone _ p.1.0 q.1.0 (same_two x.name y.name z.name p.1.1 q.1.1)
+    are_same y.gone z.gone _ p.1 q.1 (same_two x.name y.name z.name p.2 q.2)
 
 abbrev low : RealmView → List ℕ
 low realm = str_to_ascii_lowercase realm.name
@@ -50,21 +50,21 @@ pub realms_meet : (t x y : RealmView) → same_realm_name t y ≡ true → same_
 realms_meet t x y one two =
     let p = both_here t.gone y.gone (bytes_eq (low t) (low y)) one in
     let q = both_here x.gone y.gone (bytes_eq (low x) (low y)) two in
-    are_same t.gone x.gone _ p.0 q.0 (same_bytes (low t) (low y) (low x) p.1.1 q.1.1)
+    are_same t.gone x.gone _ p.0 q.0 (same_bytes (low t) (low y) (low x) p.2 q.2)
 
 pub realms_part : (x y z : RealmView) → same_realm_name x y ≡ true → same_realm_name x z ≡ true →
     same_realm_name y z ≡ true
 realms_part x y z one two =
     let p = both_here x.gone y.gone (bytes_eq (low x) (low y)) one in
     let q = both_here x.gone z.gone (bytes_eq (low x) (low z)) two in
-    are_same y.gone z.gone _ p.1.0 q.1.0 (same_two (low x) (low y) (low z) p.1.1 q.1.1)
+    are_same y.gone z.gone _ p.1 q.1 (same_two (low x) (low y) (low z) p.2 q.2)
 
 -- ---- no two peers of a configuration have one name
 
 closer_peer : (a b : PeerView) → same_peer_name a b ≡ true → same_peer a b ≡ true
 closer_peer a b is =
     let p = both_here a.gone b.gone (bytes_eq a.name b.name) is in
-    rw (p.0, p.1.0, p.1.1) refl
+    rw (p.0, p.1, p.2) refl
 
 pub peers_differ : (peers : List PeerView) → has_duplicate_peer peers ≡ false → has_pair same_peer_name peers ≡ false
 unfolding has_duplicate_peer
