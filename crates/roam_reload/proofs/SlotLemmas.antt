@@ -52,7 +52,8 @@ at_least test [] n i is = cc
 at_least test (x ∷ xs) n i is =
     elim (cases_Bool (test x)) [
       | inl yes' ↦ (
-          let same : n ≡ i = same_Some n i (ap (λ b. cond b (Some n) (position_from test (n + 1) xs)) (sym yes') ∙ is) in
+          let same : n ≡ i = same_Some n i
+          (ap (λ b. cond b (Some n) (position_from test (n + 1) xs)) (sym yes') ∙ is) in
           omega (arith, same))
       | inr no' ↦ (
           let rest : n + 1 ≤ i = at_least test xs (n + 1) i
@@ -63,7 +64,8 @@ at_least test (x ∷ xs) n i is =
 module _ {X : Type 0} (test : X → Bool) where
   -- what is found is in this slot, and taken out of it
   abbrev pub IsThere : List (Option X) → ℕ → Type 0
-  IsThere slots i = (find test (left_in slots) ≡ get_or slots i None) × (without_first test slots ≡ slice_set slots i None)
+  IsThere slots i =
+      (find test (left_in slots) ≡ get_or slots i None) × (without_first test slots ≡ slice_set slots i None)
 
   found_from : (slots : List (Option X)) (n i : ℕ) → position_from (slot_holds test) n slots ≡ Some (n + i) →
       IsThere slots i
