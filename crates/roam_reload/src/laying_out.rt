@@ -4,6 +4,7 @@
 ghost use Rattle.std.specs.Prelude.{◌≡◌, ◌⊎◌, ◌≤◌, ◌<◌, Err, IfOk, OnErr, OnOk};
 ghost use Rattle.roam_conf.specs.Shown.{shown, shown_parts};
 ghost use Rattle.roam_reload.specs.Numbers.{TooMany, laid_out};
+ghost use Rattle.roam_reload.specs.declared.laying_out.LayFault.TheVariants.{Memory};
 
 use crate::laying_peers::laid_peers;
 use crate::laying_realms::laid_realms;
