@@ -1,10 +1,12 @@
 -- What is looked at of a realm of the shard is what stands there.
 use Rattle.std.proofs.Common.{arith, ◌≡◌, ◌∙◌, ℕ, ◌<◌, true, false, List, Option, Some, None, length, ap, sym, subst}
 use Rattle.std.specs.Prelude.{slice_get}
-use Rattle.std.proofs.lemmas.Option.{slice_get-get_or}
+use Rattle.std.proofs.lemmas.Option.{slice_get-get_or, slice_get_within}
 use Rattle.std.proofs.Common.{get_or}
 use Rattle.roam_tables.specs.Stands.{RealmView, entries_in}
+use Rattle.roam_book.specs.RealmConfig.{realm_config}
 use Rattle.roam_book.specs.RealmState.{RealmState}
+use Rattle.roam_book.specs.Sound.{IsSound, state_of}
 use Rattle.roam_book.specs.declared.state.realm_numbers.RealmNumbers.{RealmNumbers}
 use Rattle.roam_core.specs.Events.{is_in_shard}
 use Rattle.roam_core.specs.ManyRealms.{state_at}
@@ -31,6 +33,26 @@ module _ {A : Type 0} (o : OpeningView) (tables : List RealmView) (ns : List (Op
       ap (λ (xs : List (Option (RealmNumbers A))). slice_get xs r) (sym same) ∙ at in
       sym (ap (λ (s : RealmState). s.sessions) (state-seen o (entries_in tables) r ns (Some n) there))
       ∙ ap (λ (v : ShardView). (state_at v.states r).sessions) is
+
+  -- its state, what fits there, and that it is configured
+  pub state-looked : (r : ℕ) (n : RealmNumbers A) → slice_get ds r ≡ Some (Some n)
+      → state_of (entries_in tables r) n ≡ state_at view.states r
+  state-looked r n at =
+      let there : slice_get ns r ≡ Some (Some n) =
+      ap (λ (xs : List (Option (RealmNumbers A))). slice_get xs r) (sym same) ∙ at in
+      sym (state-seen o (entries_in tables) r ns (Some n) there) ∙ ap (λ (v : ShardView). state_at v.states r) is
+
+  pub sound-looked : IsShard o tables ns → (r : ℕ) (n : RealmNumbers A) → slice_get ds r ≡ Some (Some n)
+      → IsSound (realm_config o.config r) (entries_in tables r) n
+  sound-looked are r n at =
+      are.sound r n (ap (λ (xs : List (Option (RealmNumbers A))). slice_get xs r) (sym same) ∙ at)
+
+  pub looked-within : IsShard o tables ns → (r : ℕ) (n : RealmNumbers A) → slice_get ds r ≡ Some (Some n)
+      → r < length o.config.realms
+  looked-within are r n at =
+      let lt = slice_get_within ds r (Some n) at in
+      let count = ap (λ (xs : List (Option (RealmNumbers A))). length xs) same in
+      omega (arith, lt, count, are.count)
 
   has_numbers : (are : IsShard o tables ns) (r : ℕ) (m : Option (RealmNumbers A)) → slice_get ns r ≡ Some m
       → is_in_shard o.config o.shard r ≡ true → NoneThere ns r → ⊥

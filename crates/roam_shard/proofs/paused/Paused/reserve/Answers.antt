@@ -25,13 +25,13 @@ loop-realm-init g c =
       still = more_realms_still (shown c.args.old.now) c.args.self.now c.add_realms.new.self c.requires.stands
           c.add_realms.ensures.entries
           c.add_realms.ensures.realms;
-      ready = rw c.in_ok-numbers.ensures.items
+      ready = rw c.in_ok-realms.ensures.items
           (none_ready (shown c.args.old.now) (shown c.args.new.now) c.args.self.now.shard
           c.args.self.now.numbers.items);
       kept = (let le = c.in_ok-add_realms.ensures.ok in
           omega (arith, le, length-map realms.items shown_realm, realms.ok.0, c.len.ensures));
-      len = c.in_ok-numbers.ensures.len;
-      room = (let le = c.in_ok-numbers.ensures.capacity in omega (arith, le, c.len-2.ensures));
+      len = c.in_ok-realms.ensures.len;
+      room = (let le = c.in_ok-realms.ensures.capacity in omega (arith, le, c.len-3.ensures));
     }
 
 pub returns-in_err-fresh-clause-still : goal.returns-in_err-fresh-clause-still
