@@ -1,15 +1,16 @@
 -- What becomes of a shard's realms when it follows a configuration: they go over, one after the other.
-use Rattle.std.proofs.Common.{◌≡◌, ◌≢◌, ℕ, ◌+◌, ◌<◌, ◌≤◌, Bool, true, List, [], ◌∷◌, ◌++◌, length, Option, Some, None, is_some, get_or, refl, ap, sym, ◌∙◌, subst, inl, inr, arith}
-use Rattle.std.specs.Prelude.{slice_get}
+use Rattle.std.proofs.Common.{◌≡◌, ◌≢◌, ℕ, zero, suc, ◌+◌, ◌<◌, ◌≤◌, ◌||◌, Bool, true, false, List, [], ◌∷◌, ◌++◌, length, Option, Some, None, is_some, get_or, refl, ap, sym, ◌∙◌, subst, inl, inr, arith}
+use Rattle.std.specs.Prelude.{slice_get, slice_index_or}
 use Rattle.std.proofs.lemmas.Bool.{cases_lt}
 use Rattle.std.proofs.lemmas.List.{length-append}
 use Rattle.std.proofs.lemmas.Option.{slice_get-get_or}
-use Rattle.roam_conf.specs.Config.{ConfigView}
+use Rattle.roam_conf.specs.Config.{ConfigView, RealmView as RealmTable}
+use Rattle.roam_conf.specs.Duplicates.{has_duplicate_server, has_pair_of_servers}
 use Rattle.roam_pending.specs.EntryList.{IsEntryList}
 use Rattle.roam_pending.specs.PlainEntry.{PlainEntry}
 use Rattle.roam_tables.specs.Stands.{RealmView, entries_in}
 use Rattle.roam_book.specs.Carrying.{IsReadyToCarry}
-use Rattle.roam_book.specs.RealmConfig.{RealmConfig, realm_config}
+use Rattle.roam_book.specs.RealmConfig.{RealmConfig, no_realm, realm_config}
 use Rattle.roam_book.specs.RealmState.{RealmState, opening}
 use Rattle.roam_book.specs.Reload.{carried}
 use Rattle.roam_book.specs.Sound.{IsSound, state_of}
@@ -27,6 +28,10 @@ use Rattle.roam_shard.proofs.CarriedListLemmas.{list_then}
 use Rattle.roam_shard.proofs.FollowLemmas.{AreReady, Cleared, HasNumbersAt, begins_where, get-push, good_begin, here_within, own_numbers, some_within, stands_at, still_own}
 use Rattle.roam_shard.proofs.OpeningLemmas.{sound_fresh, state_fresh}
 use Rattle.roam_shard.proofs.ShardLemmas.{length-states}
+
+or_none : (a b : Bool) → (a || b) ≡ false → (a ≡ false) × (b ≡ false)
+or_none true b none = absurd (cc none)
+or_none false b none = (refl, none)
 
 -- what is known of the numbers that stand there
 module _ {A : Type 0} (old new : ConfigView) (realm : ℕ) (there : Option (Option (RealmNumbers A)))
@@ -55,6 +60,31 @@ module _ {A : Type 0} (old new : ConfigView) (realm : ℕ) (there : Option (Opti
     over = subst (λ (y : RealmNumbers A). HasGoneOver (realm_config old realm) (realm_config new realm) es y es2 m)
         (are_those n x at at') over;
   }
+
+-- in a configuration no two servers of a realm are at one endpoint
+pub distinct_in : (config : ConfigView) (realm : ℕ) → has_duplicate_server config.realms ≡ false
+    → realm < length config.realms → has_pair_of_servers (realm_config config realm).realm ≡ false
+distinct_in config realm none lt = by config.realms realm none lt
+  where
+    by : (realms : List RealmTable) (r : ℕ) → has_duplicate_server realms ≡ false → r < length realms
+        → has_pair_of_servers (slice_index_or realms r no_realm) ≡ false
+    by [] r none lt = absurd (omega (arith, lt))
+    by (x ∷ xs) zero none lt = (or_none (has_pair_of_servers x) (has_duplicate_server xs) none).0
+    by (x ∷ xs) (suc r) none lt =
+        by xs r (or_none (has_pair_of_servers x) (has_duplicate_server xs) none).1 (omega (arith, lt))
+
+-- what a realm's entries and numbers become is said by its parts of both configurations
+pub gone_by : {A : Type 0} (old new : ConfigView) (realm : ℕ) (b c : RealmConfig) (E F : ℕ → List PlainEntry)
+    (n m : RealmNumbers A) → b ≡ realm_config old realm → c ≡ realm_config new realm
+    → state_of (F b.index) m ≡ carried b c (state_of (E b.index) n) → IsSound c (F b.index) m
+    → HasGoneOver (realm_config old realm) (realm_config new realm) (E realm) n (F realm) m
+gone_by old new realm b c E F n m was is state sound = record {
+  state = subst (λ (x : RealmConfig). state_of (F x.index) m
+      ≡ carried x (realm_config new realm) (state_of (E x.index) n)) was
+      (subst (λ (y : RealmConfig). state_of (F b.index) m ≡ carried b y (state_of (E b.index) n)) is state);
+  sound = subst (λ (x : RealmConfig). IsSound (realm_config new realm) (F x.index) m) was
+      (subst (λ (y : RealmConfig). IsSound y (F b.index) m) is sound);
+}
 
 module _ {A : Type 0} (old new : ConfigView) (shard : ℕ) where
   -- so many realms went over, one after the other
