@@ -1,10 +1,14 @@
 -- What is at hand when a realm goes on under another part of a configuration: words of private functions alone (ours).
-use Rattle.std.specs.Prelude.{◌≡◌, ◌⊎◌, true, false, ℕ, ◌<◌, ◌≤◌, List, length, map, Option, Some, None, slice_get, vec_capacity}
+use Rattle.std.specs.Prelude.{◌≡◌, ◌⊎◌, true, false, ℕ, ◌<◌, ◌≤◌, List, [], ◌∷◌, length, map, Option, Some, None, slice_get, vec_capacity}
+use Rattle.std.specs.Borrow.{Bor}
+use Rattle.std.specs.List.{AllByRecursion}
 use Rattle.roam_conf.specs.Config.{PeerView}
+use Rattle.roam_conf.specs.Parts.{shown_peer}
+use Rattle.roam_conf.specs.declared.peer.Peer.{Peer}
 use Rattle.roam_conf.specs.Duplicates.{has_pair_of_servers}
 use Rattle.roam_pending.specs.ListLaws.{IsIn}
 use Rattle.roam_reload.specs.Kept.{same_out, same_servers}
-use Rattle.roam_reload.specs.Reload.{peer_part}
+use Rattle.roam_reload.specs.Reload.{KeepsPeers, peer_part, realm_part}
 use Rattle.roam_book.specs.RealmConfig.{RealmConfig, link_count}
 use Rattle.roam_book.specs.Losses.{LossView}
 use Rattle.roam_book.specs.Rests.{all_awake}
@@ -13,11 +17,27 @@ use Rattle.roam_book.specs.declared.rules.carried_lanes.FreshLanes.{FreshLanes}
 use Rattle.roam_book.specs.declared.rules.losses.Loss.{Loss}
 use Rattle.roam_book.specs.declared.state.realm_numbers.RealmNumbers.{RealmNumbers}
 
--- an old peer's table is the one that it was, in the part on which packets depend, or its index is one of these
-abbrev pub AreChanged : List PeerView → List PeerView → List ℕ → Type 0
-AreChanged old new changed =
-    (peer : ℕ) → peer < length old
-    → IsIn peer changed ⊎ (slice_get (map peer_part new) peer ≡ slice_get (map peer_part old) peer)
+-- a peer that is looked at
+abbrev pub seen_peer : Bor Peer → PeerView
+seen_peer b = shown_peer b.now
+
+-- each is less than all that stand behind it
+abbrev pub AreRising : List ℕ → Type 0
+AreRising [] = Unit {0}
+AreRising (n ∷ ns) = AllByRecursion (λ m. n < m) ns × AreRising ns
+
+-- an old peer's table is the one that it was, in the part on which packets depend, or its index is one of these, which
+-- rise
+pub record AreChanged (old new : List PeerView) (changed : List ℕ) : Type 0 where
+  pub told :
+      (peer : ℕ) → peer < length old
+      → IsIn peer changed ⊎ (slice_get (map peer_part new) peer ≡ slice_get (map peer_part old) peer)
+  pub rising : AreRising changed
+
+-- neither a realm's table nor any peer's is another one, as far as packets depend on them
+pub record StandsAsItIs (old new : RealmConfig) : Type 0 where
+  pub table : realm_part new.realm ≡ realm_part old.realm
+  pub peers : KeepsPeers old.peers new.peers
 
 -- in neither part two servers are at one endpoint: so each has one place in the other part, if any
 abbrev pub HaveDistinctServers : RealmConfig → RealmConfig → Type 0

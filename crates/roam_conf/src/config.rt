@@ -164,7 +164,7 @@ impl Config {
 
     /// The parts of a configuration again. Takes no memory.
     pub fn into_parts(self) -> ConfigParts
-        ensures { shown_parts result ≡ shown self.entry }
+        ensures { shown_parts result ≡ shown self }
     {
         let Config {
             shards,

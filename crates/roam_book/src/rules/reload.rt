@@ -1,12 +1,14 @@
 //! A realm that goes on under another part of a configuration.
 
-ghost use Rattle.std.specs.Prelude.{◌≡◌, ◌≤◌, List, length, map, IfOk, OnErr, OnOk, vec_capacity};
+ghost use Rattle.std.specs.Prelude.{◌≡◌, ◌≤◌, ◌^◌, IfOk, List, OnErr, OnOk, Some, false, length, map};
+ghost use Rattle.std.specs.Prelude.{option_map, true, vec_capacity};
 ghost use Rattle.roam_conf.specs.Parts.{shown_peer};
 ghost use Rattle.roam_conf.specs.Shown.{shown};
 ghost use Rattle.roam_pending.specs.PlainEntry.{PlainEntry};
-ghost use Rattle.roam_reload.specs.Reload.{IsCarried};
+ghost use Rattle.roam_reload.specs.Reload.{IsCarried, peer_part};
 ghost use Rattle.roam_book.specs.BookView.{settings_of};
-ghost use Rattle.roam_book.specs.Carrying.{AreChanged, HaveDistinctServers, IsReadyToCarry};
+ghost use Rattle.roam_book.specs.Carrying.{AreChanged, HaveDistinctServers, IsReadyToCarry, StandsAsItIs};
+ghost use Rattle.roam_book.specs.Carrying.{seen_peer};
 ghost use Rattle.roam_book.specs.Private.MoreLanes.{AreMoreLanes};
 ghost use Rattle.roam_book.specs.RealmConfig.{RealmConfig, link_count};
 ghost use Rattle.roam_book.specs.Reload.{AsIfNothingChanged, CarriedAddsNothing, CarriedHasPlaces, CarriedTakesNoMore};
@@ -44,6 +46,17 @@ fn add_lanes<A: Allocator + Copy>(
     }
 }
 
+/// Whether a peer's table is another one, or isn't there any more.
+fn is_changed(old: &Peer, new: Option<&Peer>) -> bool
+    ensures { result ≡ false
+        → option_map peer_part (option_map seen_peer new.entry) ≡ Some (peer_part (shown_peer old.now)) }
+{
+    match new {
+        None => true,
+        Some(new) => peer_difference(old, new).is_some(),
+    }
+}
+
 /// The peers whose tables aren't what they were, but for which of their Access-Requests need a Message-Authenticator:
 /// few at most changes.
 pub fn changed_peers<A: Allocator + Copy>(
@@ -51,12 +64,13 @@ pub fn changed_peers<A: Allocator + Copy>(
     old: &[Peer],
     new: &[Peer],
 ) -> Result<Vec<u16, A>, NoMemory>
+    requires { length old.now ≤ 2 ^ 16 }
     ensures { IfOk result (λ changed. AreChanged (map shown_peer old.now) (map shown_peer new.now) changed.items) }
 {
     let mut changed = Vec::new(alloc);
     for i in 0..old.len() {
-        if i >= new.len() || peer_difference(&old[i], &new[i]).is_some() {
-            changed.push(i as u16).map_err(|_| NoMemory)?;
+        if is_changed(&old[i], new.get(i)) {
+            changed.push(i as u16)?;
         }
     }
     Ok(changed)
@@ -134,7 +148,10 @@ pub(crate) fn is_untouched(
     old: &RealmSettings<'_>,
     new: &RealmSettings<'_>,
     changed: &[u16],
-) -> bool {
+) -> bool
+    requires { AreChanged old.now.peers new.now.peers changed.now }
+    ensures { result ≡ true → StandsAsItIs old.now new.now }
+{
     changed.is_empty() && realm_difference(old.realm(), new.realm()).is_none()
 }
 

@@ -177,7 +177,8 @@ impl<'c> RealmSettings<'c> {
 
     /// All peers.
     pub(crate) fn peers(&self) -> &[Peer]
-        ensures { map shown_peer result.now ≡ self.now.peers }
+        ensures peers { map shown_peer result.now ≡ self.now.peers }
+        ensures few { length result.now ≤ 1024 }
     {
         self.config.peers.as_slice()
     }
