@@ -292,8 +292,8 @@ module _ {A : Type 0} (old new : ConfigView) (shard : ℕ) where
           let h = here_before r goes.0 in
           gone_over r (entries_in tables2 r) m goes.0 (goes.1 h.numbers h.at)
       here r f m lt made (inr stays) =
-          subst (λ (es : List PlainEntry). IsFollowed r es (state_at before r) m) (sym stays.1.1)
-          (subst (λ (x : Option (RealmNumbers A)). IsFollowed r (E r) (state_at before r) x) (sym stays.1.0)
+          subst (λ (es : List PlainEntry). IsFollowed r es (state_at before r) m) (sym stays.2)
+          (subst (λ (x : Option (RealmNumbers A)). IsFollowed r (E r) (state_at before r) x) (sym stays.1)
           (begun r f lt stays.0 made))
 
       done_at : (r : ℕ) (m : Option (RealmNumbers A)) → slice_get after r ≡ Some m
