@@ -18,7 +18,7 @@ use crate::growth::grow;
 use crate::realm_queues::RealmQueues;
 use crate::realms::{add_at, add_empty, change_at, no_entries, runs_of, take_at};
 use crate::round_runs::{RoundIndex, RoundKey, run_of};
-use crate::rounds::{go, hashes_in, kept_hash, kept_hash_in, move_round};
+use crate::rounds::{go, hashes_in, kept_hash, lost_hash_in, move_round};
 use crate::slots::{Slot, entry_in, exchange, put, send_again, set_ends, take};
 use indexmap::IndexMap;
 use roam_conf::Link;
@@ -291,10 +291,8 @@ impl<A: Allocator + Copy> Entries<A> for Tables<A> {
 
     fn set_ends(&mut self, realm: u16, ticket: u64, home: Option<u8>, link: Option<Link>) {
         if let Some(at) = ticket_slot(&self.by_ticket, TicketKey { realm, ticket }) {
-            if link.is_none() {
-                let from = kept_hash_in(&self.slots, at, self.key);
-                go(&mut self.rounds, realm, ticket, from);
-            }
+            let from = lost_hash_in(&self.slots, at, self.key, link);
+            go(&mut self.rounds, realm, ticket, from);
             set_ends(&mut self.slots, at, home, link);
         }
     }
