@@ -13,8 +13,18 @@ returns-in_err-add_realms-clause-still g c =
     more_realms_still (shown c.args.old.now) c.args.self.now c.add_realms.new.self c.requires.stands
     c.add_realms.ensures.entries c.add_realms.ensures.realms
 
+pub returns-in_err-changed-clause-still : goal.returns-in_err-changed-clause-still
+returns-in_err-changed-clause-still g c =
+    more_realms_still (shown c.args.old.now) c.args.self.now c.add_realms.new.self c.requires.stands
+    c.add_realms.ensures.entries c.add_realms.ensures.realms
+
 pub returns-in_err-numbers-clause-still : goal.returns-in_err-numbers-clause-still
 returns-in_err-numbers-clause-still g c =
+    more_realms_still (shown c.args.old.now) c.args.self.now c.add_realms.new.self c.requires.stands
+    c.add_realms.ensures.entries c.add_realms.ensures.realms
+
+pub returns-in_err-realms-clause-still : goal.returns-in_err-realms-clause-still
+returns-in_err-realms-clause-still g c =
     more_realms_still (shown c.args.old.now) c.args.self.now c.add_realms.new.self c.requires.stands
     c.add_realms.ensures.entries c.add_realms.ensures.realms
 
@@ -78,7 +88,11 @@ returns-clause-ready g c =
         c.loop-realm.auto.realm-end,
         c.len-realm-end.ensures,
       );
+      room = (let le = c.in_ok-numbers.ensures.capacity in
+          omega (arith, le, length-map realms.items shown_realm, realms.ok.0, c.len-2.ensures));
+      none_yet = c.in_ok-numbers.ensures.items;
       kept = inv.kept;
+      changed = c.in_ok-changed.ensures;
       each = λ r n at. subst (λ (k : ℕ). IsReadyAt old new k r c.loop-realm.self.numbers.items n)
           (sym inv.still.shard) (inv.ready.each r n at);
     }
