@@ -1,17 +1,36 @@
 //! Keeping octets in a file, and having them again.
 
+ghost use Rattle.std.specs.Prelude.{◌≡◌, ◌%◌, ◌++◌, IfOk, codes};
+
+use std::alloc::{AllocError, Global};
 use std::fs::{OpenFile, OpenOptions};
 use std::io::{ErrorKind, Write};
 use std::os::unix::fs::OpenOptionsExt;
 use std::rt::Files;
 use std::{fs, io};
 
-/// Its owner alone may read and write.
-const MODE: u32 = 0o600;
+/// Who may do what with the file: its owner alone reads and writes it.
+fn mode() -> u32
+    // The lower six bits are its group's and everybody's.
+    ensures others { result % 64 ≡ 0 }
+{
+    0o600
+}
+
+/// A path with `.new` behind it.
+fn named_new(alloc: Global, path: &str) -> Result<String, AllocError>
+    ensures { IfOk result (λ beside. beside ≡ path.now ++ codes ".new") }
+{
+    let mut beside = String::from_str(alloc, path)?;
+    beside.push_str(".new")?;
+    Ok(beside)
+}
 
 /// The path of a file that is written, beside the one that it takes the place of.
-fn beside<R: AllocGlobal>(rt: &R, path: &str) -> io::Result<String> {
-    match format!(in rt.alloc(); "{path}.new") {
+fn beside<R: AllocGlobal>(rt: &R, path: &str) -> io::Result<String>
+    ensures { IfOk result (λ beside. beside ≡ path.now ++ codes ".new") }
+{
+    match named_new(rt.alloc(), path) {
         Ok(beside) => Ok(beside),
         Err(_) => Err(io::Error::from(ErrorKind::OutOfMemory)),
     }
@@ -36,7 +55,7 @@ fn write_new<R: Files>(rt: &R, path: &str, octets: &[u8]) -> io::Result<()> {
     let mut file = OpenOptions::new()
         .write(true)
         .create_new(true)
-        .mode(MODE)
+        .mode(mode())
         .open(rt, path)?;
     file.write_all(octets)?;
     file.sync_all()

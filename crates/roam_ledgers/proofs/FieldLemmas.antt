@@ -38,6 +38,12 @@ not_false false e = absurd cc
 pub takes_then : (a x b y c : List ℕ) → a ≡ x ++ b → b ≡ y ++ c → a ≡ (x ++ y) ++ c
 takes_then a x b y c p q = p ∙ ap (λ (t : List ℕ). x ++ t) q ∙ sym (append_assoc x y c)
 
+four_take : (octets p r a s i t d rest : List ℕ) → octets ≡ p ++ r → r ≡ a ++ s → s ≡ i ++ t → t ≡ d ++ rest
+    → octets ≡ (p ++ a ++ i ++ d) ++ rest
+four_take octets p r a s i t d rest first second third last =
+    takes_then octets (p ++ a ++ i) t d rest (takes_then octets (p ++ a) s i t (takes_then octets p r a s first second)
+    third) last
+
 -- ---- the head
 
 pub head_takes : (octets rest : List ℕ) → head_at octets ≡ Ok rest → octets ≡ head ++ rest
@@ -157,12 +163,9 @@ session_takes octets s rest e =
     (record { peer = a.0.0; address = b.0.0; identifier = identifier.0; id = id.0 }, id.1)) (s, rest) b.2 in
     let d = bind_ok (text_at c.0.1)
     (λ id. Ok (record { peer = a.0.0; address = b.0.0; identifier = c.0.0; id = id.0 }, id.1)) (s, rest) c.2 in
-    let last = takes_then b.0.1 (optional c.0.0) c.0.1 (text d.0.0) d.0.1
+    let whole = four_take octets (text a.0.0) a.0.1 (optional b.0.0) b.0.1 (optional c.0.0) c.0.1 (text d.0.0) d.0.1
+    (text_takes octets a.0.0 a.0.1 a.1) (optional_takes a.0.1 b.0.0 b.0.1 b.1)
     (optional_takes b.0.1 c.0.0 c.0.1 c.1) (text_takes c.0.1 d.0.0 d.0.1 d.1) in
-    let later = takes_then a.0.1 (optional b.0.0) b.0.1 (optional c.0.0 ++ text d.0.0) d.0.1
-    (optional_takes a.0.1 b.0.0 b.0.1 b.1) last in
-    let whole = takes_then octets (text a.0.0) a.0.1 (optional b.0.0 ++ optional c.0.0 ++ text d.0.0) d.0.1
-    (text_takes octets a.0.0 a.0.1 a.1) later in
     let made : SavedSession × List ℕ =
     (record { peer = a.0.0; address = b.0.0; identifier = c.0.0; id = d.0.0 }, d.0.1) in
     subst (λ (x : SavedSession × List ℕ). octets ≡ session_text x.0 ++ x.1) (ok_is made (s, rest) d.2) whole
@@ -170,14 +173,11 @@ session_takes octets s rest e =
 pub session_again : (s : SavedSession) (rest : List ℕ) → session_at (session_text s ++ rest) ≡ Ok (s, rest)
 unfolding session_at
 session_again s rest =
-    let behind = append_assoc (optional s.identifier) (text s.id) rest in
-    let between = append_assoc (optional s.address) (optional s.identifier ++ text s.id) rest
-    ∙ ap (λ (x : List ℕ). optional s.address ++ x) behind in
-    let regrouped :
-    session_text s ++ rest
+    let regrouped : session_text s ++ rest
     ≡ text s.peer ++ (optional s.address ++ (optional s.identifier ++ (text s.id ++ rest))) =
-    append_assoc (text s.peer) (optional s.address ++ optional s.identifier ++ text s.id) rest
-    ∙ ap (λ (x : List ℕ). text s.peer ++ x) between in
+    append_assoc (text s.peer ++ optional s.address ++ optional s.identifier) (text s.id) rest
+    ∙ append_assoc (text s.peer ++ optional s.address) (optional s.identifier) (text s.id ++ rest)
+    ∙ append_assoc (text s.peer) (optional s.address) (optional s.identifier ++ (text s.id ++ rest)) in
     ap session_at regrouped
     ∙ rw (
       text_again s.peer (optional s.address ++ (optional s.identifier ++ (text s.id ++ rest))),

@@ -1,7 +1,7 @@
 -- What was written is read, what is read was so written, and of what was cut nothing is read.
 use Rattle.std.proofs.Common.{◌≡◌, ◌≢◌, ℕ, zero, suc, ◌≤◌, ◌<◌, Bool, true, false, cond, eqb, List, [], ◌∷◌, ◌++◌, length, Option, Some, None, Result, Ok, Err, refl, sym, ap, subst, ◌∙◌, append_assoc, arith}
 use Rattle.std.specs.List.{flat_map}
-use Rattle.std.proofs.lemmas.Bool.{eqb-true}
+use Rattle.std.proofs.lemmas.Bool.{eqb-true, ne_eqb}
 use Rattle.std.proofs.lemmas.List.{length-append, nil_from_length}
 use Rattle.std.proofs.lemmas.List.Concat.{flat_map-cons}
 use Rattle.roam_ledgers.specs.declared.fault.LedgerFault.{LedgerFault}
@@ -139,7 +139,7 @@ read_was_written octets items e =
 
 more_is_trailing : (items : List SavedItem) (rest : List ℕ) → rest ≢ [] → whole items rest ≡ Err Trailing
 more_is_trailing items [] h = absurd (h refl)
-more_is_trailing items (b ∷ bs) h = refl
+more_is_trailing items (b ∷ bs) h = rw (ne_eqb (length (b ∷ bs)) 0 (λ e. absurd (omega (arith, e)))) refl
 
 -- the octets of some items with more behind them aren't those of others
 goes_no_further :

@@ -1,15 +1,15 @@
 -- Reading items one after the other, as a loop does.
-use Rattle.std.proofs.Common.{◌≡◌, ℕ, suc, ◌-◌, ◌+◌, ◌≤◌, ◌<◌, List, [], ◌∷◌, ◌++◌, Some, None, Result, Ok, Err, refl, sym, ap, ◌∙◌, append_assoc, arith}
+use Rattle.std.proofs.Common.{◌≡◌, ℕ, suc, ◌-◌, ◌+◌, ◌≤◌, ◌<◌, List, [], ◌∷◌, ◌++◌, Some, None, Result, Ok, Err, refl, sym, ap, subst, ◌∙◌, append_assoc, arith}
+use Rattle.std.specs.Global.{Vec}
+use Rattle.std.proofs.lemmas.List.{map-append}
+use Rattle.roam_ledgers.specs.Shown.{shown_item, shown_items}
+use Rattle.roam_ledgers.specs.declared.item.Item.{Item}
 use Rattle.roam_ledgers.specs.declared.fault.LedgerFault.{LedgerFault}
 use Rattle.roam_ledgers.specs.declared.fault.LedgerFault.TheVariants.{Cut}
 use Rattle.roam_ledgers.specs.declared.fault.ReadError.{ReadError}
 use Rattle.roam_ledgers.specs.declared.fault.ReadError.TheVariants as errors
 use Rattle.roam_ledgers.specs.Ledgers.{SavedItem}
-use Rattle.roam_ledgers.specs.Reading.{◌>>=◌, Fails, ended, item_at, items_within}
-
--- what was read before, and what is still read
-abbrev pub with_front : List SavedItem → Result (List SavedItem) LedgerFault → Result (List SavedItem) LedgerFault
-with_front front read = read >>= λ more. Ok (front ++ more)
+use Rattle.roam_ledgers.specs.Reading.{◌>>=◌, Fails, Gives, ended, item_at, items_within, with_front}
 
 regroup :
     (front : List SavedItem) (item : SavedItem) (read : Result (List SavedItem) LedgerFault)
@@ -64,3 +64,24 @@ is_cut front count i octets total le so_far =
     let k : count - i ≡ 0 = omega (arith, le) in
     let one : with_front front (items_within (count - i) octets) ≡ Err Cut = rw k refl in
     sym so_far ∙ one
+
+-- the same of what the code's items are seen as
+pub goes_on_seen :
+    (items : List Item) (count i : ℕ) (octets : List ℕ) (item : Item) (after : List ℕ)
+    (total : Result (List SavedItem) LedgerFault) → i < count → item_at octets ≡ Ok (Some (shown_item item), after)
+    → with_front (shown_items items) (items_within (count - i) octets) ≡ total
+    → with_front (shown_items (items ++ item ∷ [])) (items_within (count - (i + 1)) after) ≡ total
+goes_on_seen items count i octets item after total lt h so_far =
+    ap (λ (front : List SavedItem). with_front front (items_within (count - (i + 1)) after))
+    (map-append shown_item items (item ∷ []))
+    ∙ goes_on (shown_items items) count i octets (shown_item item) after total lt h so_far
+
+pub ends_seen :
+    (items : List Item) (count i : ℕ) (octets after : List ℕ) (total : Result (List SavedItem) LedgerFault)
+    (r : Result (Vec Item) ReadError) → i < count → item_at octets ≡ Ok (None, after)
+    → with_front (shown_items items) (items_within (count - i) octets) ≡ total
+    → Gives (λ v. shown_items v.items) r (with_front (shown_items items) (ended after))
+    → Gives (λ v. shown_items v.items) r total
+ends_seen items count i octets after total r lt h so_far given =
+    subst (λ (read : Result (List SavedItem) LedgerFault). Gives (λ v. shown_items v.items) r read)
+    (sym (comes_to_end (shown_items items) count i octets after total lt h so_far)) given

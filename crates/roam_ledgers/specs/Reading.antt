@@ -1,5 +1,5 @@
 -- Reading octets as ledgers, from left to right, with the first fault that is met. Ours.
-use Rattle.std.specs.Prelude.{◌≡◌, ℕ, zero, suc, ◌==◌, List, [], ◌∷◌, length, take, drop, Bool, true, false, not, Option, Some, None, Result, Ok, Err, nat_lt, if◌then◌else◌}
+use Rattle.std.specs.Prelude.{◌≡◌, ℕ, zero, suc, ◌==◌, List, [], ◌∷◌, ◌++◌, length, take, drop, Bool, true, false, not, Option, Some, None, Result, Ok, Err, nat_lt, if◌then◌else◌}
 use Rattle.std.specs.Str.{bytes_eq}
 use Rattle.roam_ledgers.specs.Ledgers.{SavedItem, SavedSession, family, realm, session, version}
 use Rattle.roam_ledgers.specs.declared.fault.LedgerFault.{LedgerFault}
@@ -77,6 +77,10 @@ item_at (suc (suc (suc b)) ∷ rest) = Err Malformed
 -- nothing may stand behind the end
 abbrev pub ended : List ℕ → Result (List SavedItem) LedgerFault
 ended rest = if length rest == 0 then Ok [] else Err Trailing
+
+-- what was read before, and what is still read
+abbrev pub with_front : List SavedItem → Result (List SavedItem) LedgerFault → Result (List SavedItem) LedgerFault
+with_front front read = read >>= λ more. Ok (front ++ more)
 
 -- an item before those that are read from what stands behind it
 abbrev pub with_item :

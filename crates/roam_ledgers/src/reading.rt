@@ -2,13 +2,24 @@
 
 ghost use Rattle.std.specs.Prelude.{◌≡◌, List, IfOk, Ok, length};
 ghost use Rattle.roam_ledgers.specs.Ledgers.{SavedItem, ledgers_text};
-ghost use Rattle.roam_ledgers.specs.Reading.{Gives, items_within, reading};
+ghost use Rattle.roam_ledgers.specs.Reading.{Gives, ended, items_within, reading, with_front};
 ghost use Rattle.roam_ledgers.specs.Shown.{shown_items};
 
 use crate::fault::{LedgerFault, ReadError};
 use crate::fields::{behind_head, item_of};
 use crate::item::Item;
 use std::alloc::Global;
+
+/// All items, where nothing stands behind their end.
+fn ended<'a>(items: Vec<Item<'a>>, after: &[u8]) -> Result<Vec<Item<'a>>, ReadError>
+    ensures { Gives (λ v. shown_items v.items) result (with_front (shown_items items.entry.items) (ended after.now)) }
+{
+    if after.is_empty() {
+        Ok(items)
+    } else {
+        Err(ReadError::Fault(LedgerFault::Trailing))
+    }
+}
 
 /// The items of octets that begin behind the head.
 fn items_of(alloc: Global, octets: &[u8]) -> Result<Vec<Item<'_>>, ReadError>
@@ -17,15 +28,14 @@ fn items_of(alloc: Global, octets: &[u8]) -> Result<Vec<Item<'_>>, ReadError>
     let mut items = Vec::new(alloc);
     let mut rest = octets;
     for _ in 0..octets.len() {
-        let (item, after) = item_of(rest)?;
-        let Some(item) = item else {
-            if after.is_empty() {
-                return Ok(items);
+        match item_of(rest) {
+            Err(error) => return Err(error),
+            Ok((None, after)) => return ended(items, after),
+            Ok((Some(item), after)) => {
+                items.push(item)?;
+                rest = after;
             }
-            return Err(ReadError::Fault(LedgerFault::Trailing));
-        };
-        items.push(item)?;
-        rest = after;
+        }
     }
     Err(ReadError::Fault(LedgerFault::Cut))
 }

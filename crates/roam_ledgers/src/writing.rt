@@ -22,11 +22,11 @@ impl<A: Allocator> Model for Writing<A> {
     ghost view = { λ w. w.octets.items };
 }
 
-fn put_text<A: Allocator>(out: &mut Vec<u8, A>, text: Text<'_>) -> Result<(), AllocError>
-    ensures { OnOk result (out.new.items ≡ out.old.items ++ text (shown_text text.entry)) }
+fn put_text<A: Allocator>(out: &mut Vec<u8, A>, part: Text<'_>) -> Result<(), AllocError>
+    ensures { OnOk result (out.new.items ≡ out.old.items ++ text (shown_text part.entry)) }
 {
-    out.push(text.octets.len() as u8)?;
-    out.extend_from_slice(text.octets)?;
+    out.push(part.octets.len() as u8)?;
+    out.extend_from_slice(part.octets)?;
     Ok(())
 }
 
@@ -93,7 +93,7 @@ impl<A: Allocator + Copy> Writing<A> {
 
     /// Writes the end.
     pub fn finish(self) -> Result<Vec<u8, A>, AllocError>
-        ensures { IfOk result (λ octets. octets.items ≡ self.entry ++ end_text) }
+        ensures { IfOk result (λ octets. octets.items ≡ self ++ end_text) }
     {
         let Writing { mut octets } = self;
         octets.push(0)?;

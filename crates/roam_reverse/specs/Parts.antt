@@ -1,5 +1,5 @@
 -- Sessions by the octets of their parts (ours).
-use Rattle.std.specs.Prelude.{◌≤◌, length, option_map}
+use Rattle.std.specs.Prelude.{ℕ, ◌≤◌, List, Option, length, option_map}
 use Rattle.std.specs.Option.{ForSome}
 use Rattle.roam_reverse.specs.Sessions.{Session}
 use Rattle.roam_reverse.specs.Shown.{shown_octets}
@@ -13,8 +13,12 @@ shown_parts s = record {
   id = s.id.now;
 }
 
--- an attribute has room for each part (RFC 2865, section 5)
+-- an attribute has room for these octets, if there are any (RFC 2865, section 5)
+abbrev pub IsShortIfAny : Option (List ℕ) → Type 0
+IsShortIfAny octets = ForSome octets (λ some. length some ≤ 253)
+
+-- an attribute has room for each part
 pub record AreShort (s : Session) : Type 0 where
-  pub address : ForSome s.nas.address (λ octets. length octets ≤ 253)
-  pub identifier : ForSome s.nas.identifier (λ octets. length octets ≤ 253)
+  pub address : IsShortIfAny s.nas.address
+  pub identifier : IsShortIfAny s.nas.identifier
   pub id : length s.id ≤ 253

@@ -1,10 +1,12 @@
 //! The sessions of a ledger in the order in which they were opened.
 
 ghost use Rattle.std.specs.Prelude.{◌≡◌, ◌≢◌, ℕ, ◌+◌, ◌-◌, ◌<◌, ◌≤◌, [], ◌∷◌, ◌++◌, false, true};
-ghost use Rattle.std.specs.Prelude.{None, Some, IsOk, IsSome, OnOk, OnErr, drop, filter, is_some, length};
+ghost use Rattle.std.specs.Prelude.{None, Some, IsOk, IsSome, OnOk, OnErr, filter, is_some, length};
+ghost use Rattle.std.specs.Prelude.{option_map};
 ghost use Rattle.roam_reverse.specs.Private.Tickets.{IsTicketOf};
 ghost use Rattle.roam_reverse.specs.Sessions.{agrees, has_most, within, without_agreeing, without_first};
 ghost use Rattle.roam_reverse.specs.Kept.{kept_session, shown_asked, shown_session};
+ghost use Rattle.roam_reverse.specs.Parts.{shown_parts};
 ghost use Rattle.roam_reverse.specs.Stands.{IsSound, session_at, session_count, sessions_of};
 ghost use Rattle.roam_reverse.specs.Maps.{session_of};
 ghost use Rattle.indexmap.specs.IndexMap.{index_map_len, spare};
@@ -218,69 +220,6 @@ impl<A: Allocator + Copy> Chain<A> {
         }
     }
 
-    /// How many sessions were opened before a ticket.
-    fn count_before(&self, ticket: u64) -> usize
-        ensures { result ≤ session_count self.now }
-    {
-        let mut count = 0usize;
-        for other in self.by_ticket.keys().as_slice() {
-            if *other < ticket {
-                count += 1;
-            }
-        }
-        count
-    }
-
-    /// The least ticket before which so many sessions were opened, or all. Looks at each session some 64 times, however
-    /// many tickets are no session's any more.
-    fn ticket_after(&self, count: usize) -> u64
-        ensures { result ≤ self.now.next }
-    {
-        let mut least = 0u64;
-        let mut most = self.next;
-        while least < most {
-            let middle = least + (most - least) / 2;
-            if self.count_before(middle) < count {
-                least = middle + 1;
-            } else {
-                most = middle;
-            }
-        }
-        least
-    }
-
-    /// The ticket at a place of the table.
-    fn ticket_at(&self, index: usize) -> u64
-        requires { index < session_count self.now }
-        ensures { IsSome (session_at self.now result) }
-    {
-        self.by_ticket.keys().as_slice()[index]
-    }
-
-    /// Where there are more sessions than may be, the oldest go: one pass from the end, as the last one takes the place
-    /// of each that goes.
-    pub(crate) fn keep_newest(&mut self, limit: usize)
-        requires { IsSound self.old }
-        ensures sound { IsSound self.new }
-        ensures sessions { sessions_of self.new
-            ≡ drop (length (sessions_of self.old) - limit) (sessions_of self.old) }
-        ensures count { session_count self.new ≤ limit }
-        ensures room { self.new.spare ≡ self.old.spare }
-    {
-        let mut index = self.len();
-        if index <= limit {
-            return;
-        }
-        let end = self.ticket_after(index - limit);
-        while index > 0 {
-            index -= 1;
-            let ticket = self.ticket_at(index);
-            if ticket < end {
-                self.remove(ticket);
-            }
-        }
-    }
-
     /// How many sessions agree with what is asked, which names no id.
     pub(crate) fn count_of_peer(&self, asked: AskedRef<'_>) -> usize
         ensures { IsSound self.now → is_some (shown_asked asked.entry).id ≡ false
@@ -291,14 +230,16 @@ impl<A: Allocator + Copy> Chain<A> {
 
     /// Adds the tickets of all sessions, in no order.
     pub(crate) fn add_tickets(&self, tickets: &mut Vec<u64, A>) -> Result<(), NoMemory> {
-        for ticket in self.by_ticket.keys().as_slice() {
-            tickets.push(*ticket).map_err(|_| NoMemory)?;
+        match tickets.extend_from_slice(self.by_ticket.keys().as_slice()) {
+            Ok(()) => Ok(()),
+            Err(_) => Err(NoMemory),
         }
-        Ok(())
     }
 
     /// The session of a ticket, where there is one.
-    pub(crate) fn parts_of(&self, ticket: u64) -> Option<SessionParts<'_>> {
+    pub(crate) fn parts_of(&self, ticket: u64) -> Option<SessionParts<'_>>
+        ensures { option_map shown_parts result ≡ session_at self.now ticket }
+    {
         match self.by_ticket.get(&ticket) {
             Some(session) => Some(session.parts()),
             None => None,

@@ -1,6 +1,6 @@
 //! The ledger of a realm's open sessions.
 
-ghost use Rattle.std.specs.Prelude.{◌≡◌, ◌<◌, ◌-◌, [], drop, IfOk, IsOk, None, OnOk, OnErr, filter, is_some, length, true};
+ghost use Rattle.std.specs.Prelude.{◌≡◌, ◌<◌, ◌≤◌, ◌-◌, [], drop, IfOk, IsOk, None, OnOk, OnErr, filter, is_some, length, true};
 ghost use Rattle.roam_reverse.specs.Sessions.{IsLedger, agrees, applied, change_by_request, changed, is_open};
 ghost use Rattle.roam_reverse.specs.Sessions.{count_of_peer, has_session, with_session, without_agreeing};
 ghost use Rattle.roam_reverse.specs.Sessions.{without_peer, without_session};
@@ -252,6 +252,8 @@ impl<A: Allocator + Copy> Sessions<A> {
     pub fn limit_to(&mut self, limit: u32)
         ensures limit { self.new.limit ≡ limit }
         ensures sessions { self.new.sessions ≡ drop (length self.old.sessions - limit) self.old.sessions }
+        // So where the limit is no less, none goes.
+        ensures few { length self.old.sessions ≤ self.old.limit }
     {
         self.chain.keep_newest(limit as usize);
         self.limit = limit;

@@ -31,6 +31,7 @@ mod laws;
 mod ledger;
 mod nas_target;
 mod neighbours;
+mod newest;
 mod open_session;
 mod parts;
 mod row;

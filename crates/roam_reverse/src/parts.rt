@@ -1,9 +1,11 @@
 //! Sessions by the octets of their parts: what a file of ledgers has of them.
 
-ghost use Rattle.std.specs.Prelude.{◌≡◌, IfNone, IfSome, OnErr, OnOk, Some, None};
+ghost use Rattle.std.specs.Prelude.{◌≡◌, ◌≤◌, IfNone, IfSome, OnErr, OnOk, length, option_map, true};
 ghost use Rattle.roam_reverse.specs.Kept.{kept_session, shown_session};
-ghost use Rattle.roam_reverse.specs.Parts.{AreShort, shown_parts};
-ghost use Rattle.roam_reverse.specs.Sessions.{with_session};
+ghost use Rattle.roam_reverse.specs.Parts.{AreShort, IsShortIfAny, shown_parts};
+ghost use Rattle.roam_reverse.specs.Sessions.{has_session, with_session};
+ghost use Rattle.roam_reverse.specs.Short.{kept_octets, shown_short};
+ghost use Rattle.roam_reverse.specs.Shown.{shown_octets};
 
 use crate::asked::{NasRef, SessionRef};
 use crate::ledger::Sessions;
@@ -23,7 +25,10 @@ pub struct SessionParts<'a> {
 }
 
 /// Octets that an attribute has room for.
-fn short(octets: &[u8]) -> Option<Short<'_>> {
+fn short(octets: &[u8]) -> Option<Short<'_>>
+    ensures some { IfSome result (λ s. shown_short s ≡ octets.entry.now) }
+    ensures none { IfNone result (length octets.now ≤ 253 → ⊥) }
+{
     if octets.len() <= 253 {
         Some(Short { octets })
     } else {
@@ -32,7 +37,10 @@ fn short(octets: &[u8]) -> Option<Short<'_>> {
 }
 
 /// The same, where there are any: none where an attribute has no room for them.
-fn short_if_any(octets: Option<&[u8]>) -> Option<Option<Short<'_>>> {
+fn short_if_any(octets: Option<&[u8]>) -> Option<Option<Short<'_>>>
+    ensures some { IfSome result (λ s. option_map shown_short s ≡ option_map shown_octets octets.entry) }
+    ensures none { IfNone result (IsShortIfAny (option_map shown_octets octets.entry) → ⊥) }
+{
     match octets {
         None => Some(None),
         Some(octets) => match short(octets) {
@@ -61,7 +69,9 @@ fn session_of(parts: SessionParts<'_>) -> Option<SessionRef<'_>>
 }
 
 /// Octets where they lie, where there are any.
-fn lent<A: Allocator>(part: &Option<KeptShort<A>>) -> Option<&[u8]> {
+fn lent<A: Allocator>(part: &Option<KeptShort<A>>) -> Option<&[u8]>
+    ensures { option_map shown_octets result ≡ option_map kept_octets part.now }
+{
     match part {
         None => None,
         Some(part) => Some(part.lend().octets),
@@ -107,7 +117,9 @@ impl<A: Allocator + Copy> Sessions<A> {
     }
 
     /// The session of a ticket, where that is still open. Takes no memory.
-    pub fn parts_of(&self, ticket: u64) -> Option<SessionParts<'_>> {
+    pub fn parts_of(&self, ticket: u64) -> Option<SessionParts<'_>>
+        ensures { IfSome result (λ parts. has_session (shown_parts parts) self.now.sessions ≡ true) }
+    {
         self.chain.parts_of(ticket)
     }
 }

@@ -1,7 +1,6 @@
 use Rattle.std.proofs.Common.{◌≡◌, ◌-◌, length}
 use Rattle.roam_ledgers.specs.Shown.{shown_items}
-use Rattle.roam_ledgers.specs.Reading.{items_within}
-use Rattle.roam_ledgers.proofs.LoopLemmas.{with_front}
+use Rattle.roam_ledgers.specs.Reading.{items_within, with_front}
 use Rattle.roam_ledgers.proofs.reading.items_of.Given as goal
 
 abbrev pub invariant-loop : goal.invariant-loop
