@@ -1,7 +1,7 @@
 -- Tables that are laid out by older ones: what is found in slots, and what is left there.
-use Rattle.std.proofs.Common.{◌≡◌, ℕ, zero, suc, ◌+◌, ◌<◌, ◌≤◌, Bool, true, false, ◌||◌, not, cond, inl, inr, List, [], ◌∷◌, ◌++◌, Option, Some, None, option_map, slice_get, unwrap_or, map, length, get_or, take, drop, refl, sym, ap, ◌∙◌}
+use Rattle.std.proofs.Common.{◌≡◌, ℕ, zero, suc, ◌+◌, ◌<◌, ◌≤◌, Bool, true, false, ◌||◌, not, cond, inl, inr, List, [], ◌∷◌, ◌++◌, Option, Some, None, option_map, slice_get, unwrap_or, map, length, get_or, take, drop, refl, sym, ap, ◌∙◌, arith}
 use Rattle.std.proofs.lemmas.Bool.{cases_Bool, or_parts, false≢true}
-use Rattle.std.proofs.lemmas.List.{drop_more, get_or-map, length-map, map-append, take-append-drop, take_all, take_more}
+use Rattle.std.proofs.lemmas.List.{drop_more, get_or-map, length-append, length-map, map-append, take-append-drop, take_all, take_more}
 use Rattle.std.specs.List.{find, list_any}
 use Rattle.std.specs.Prelude.{filter, if◌then◌else◌}
 use Rattle.roam_conf.specs.Duplicates.{has_pair}
@@ -113,15 +113,12 @@ module _ {X : Type 0} (same : X → X → Bool)
 pub left_over : {X : Type 0} (same : X → X → Bool) (old new : List X) →
     left_in (slots_then same old new) ≡ filter (λ y. not (list_any (λ t. same t y) old)) new
 left_over same old [] = refl
-left_over {X} same old (y ∷ ys) = by_test (list_any (λ t. same t y) old) (left_over same old ys)
+left_over {X} same old (y ∷ ys) = by_test (list_any (λ t. same t y) old) _ (left_over same old ys)
   where
-    abbrev rest : List X
-    rest = filter (λ x. not (list_any (λ t. same t x) old)) ys
-
-    by_test : (b : Bool) → left_in (slots_then same old ys) ≡ rest →
-        left_in ((if b then None else Some y) ∷ slots_then same old ys) ≡ (if not b then y ∷ rest else rest)
-    by_test true is = is
-    by_test false is = ap (λ l. y ∷ l) is
+    by_test : (b : Bool) (rest : List X) → left_in (slots_then same old ys) ≡ rest →
+        left_in ((if b then None else Some y) ∷ slots_then same old ys) ≡ cond (not b) (y ∷ rest) rest
+    by_test true rest is = is
+    by_test false rest is = ap (λ l. y ∷ l) is
 
 -- a table isn't the same as one in front of it
 later_apart : {X : Type 0} (same : X → X → Bool) (t x : X) (front back : List X) →
@@ -244,10 +241,23 @@ pub all_laid : {X : Type 0} (same : X → X → Bool) (gone : X → X) (old new 
     laid ≡ map (λ x. unwrap_or (find (same x) new) (gone x)) (take i old) → slots ≡ slots_then same (take i old) new →
     laid ++ left_in slots ≡ laid_by same gone old new
 all_laid {X} same gone old new i laid slots end is stand =
+    let next : X → X = λ x. unwrap_or (find (same x) new) (gone x) in
     let all : take i old ≡ old = take_all i old end in
     ap (λ xs. xs ++ left_in slots) (is ∙ ap (map next) all)
     ∙ ap (λ ss. map next old ++ left_in ss) (stand ∙ ap (λ taken. slots_then same taken new) all)
     ∙ ap (λ l. map next old ++ l) (left_over same old new)
-  where
-    abbrev next : X → X
-    next x = unwrap_or (find (same x) new) (gone x)
+
+-- ---- the lists that are laid out
+
+pub laid_alike : {X : Type 0} (same : X → X → Bool) (gone : X → X) (laid old older new newer : List X) →
+    laid ≡ laid_by same gone old new → old ≡ older → new ≡ newer → laid ≡ laid_by same gone older newer
+laid_alike same gone laid old older new newer is olds news =
+    is ∙ ap (λ o. laid_by same gone o new) olds ∙ ap (laid_by same gone older) news
+
+-- none of the old numbers is lost
+pub laid_long : {X : Type 0} (same : X → X → Bool) (gone : X → X) (laid old new : List X) →
+    laid ≡ laid_by same gone old new → length old ≤ length laid
+laid_long {X} same gone laid old new is =
+    let next : X → X = λ x. unwrap_or (find (same x) new) (gone x) in
+    let rest = filter (λ y. not (list_any (λ t. same t y) old)) new in
+    omega (arith, ap length is, length-append (map next old) rest, length-map old next)

@@ -1,7 +1,7 @@
 -- Tables in slots: as they are shown, and the first one of a name.
-use Rattle.std.proofs.Common.{◌≡◌, ℕ, zero, suc, ◌+◌, ◌≤◌, Bool, false, cond, inl, inr, List, [], ◌∷◌, ◌++◌, Option, Some, None, option_map, get_or, map, append_assoc, refl, subst, sym, ap, ◌∙◌, arith}
+use Rattle.std.proofs.Common.{◌≡◌, ℕ, zero, suc, ◌+◌, ◌<◌, ◌≤◌, Bool, false, cond, inl, inr, List, [], ◌∷◌, ◌++◌, Option, Some, None, option_map, get_or, length, map, append_assoc, refl, subst, sym, ap, ◌∙◌, arith}
 use Rattle.std.proofs.lemmas.Bool.{cases_Bool}
-use Rattle.std.proofs.lemmas.List.{append-nil, map-append}
+use Rattle.std.proofs.lemmas.List.{append-nil, get_or-map, map-append, map-set}
 use Rattle.std.proofs.lemmas.Option.{same_Some}
 use Rattle.std.specs.List.{find, position_from}
 use Rattle.std.specs.Option.{option_to_list}
@@ -52,7 +52,8 @@ at_least test [] n i is = cc
 at_least test (x ∷ xs) n i is =
     elim (cases_Bool (test x)) [
       | inl yes' ↦ (
-          let same : n ≡ i = same_Some n i (ap (λ b. cond b (Some n) (position_from test (n + 1) xs)) (sym yes') ∙ is) in
+          let same : n ≡ i = same_Some n i
+          (ap (λ b. cond b (Some n) (position_from test (n + 1) xs)) (sym yes') ∙ is) in
           omega (arith, same))
       | inr no' ↦ (
           let rest : n + 1 ≤ i = at_least test xs (n + 1) i
@@ -63,20 +64,22 @@ at_least test (x ∷ xs) n i is =
 module _ {X : Type 0} (test : X → Bool) where
   -- what is found is in this slot, and taken out of it
   abbrev pub IsThere : List (Option X) → ℕ → Type 0
-  IsThere slots i = (find test (left_in slots) ≡ get_or slots i None) × (without_first test slots ≡ slice_set slots i None)
+  IsThere slots i =
+      (find test (left_in slots) ≡ get_or slots i None) × (without_first test slots ≡ slice_set slots i None)
 
   found_from : (slots : List (Option X)) (n i : ℕ) → position_from (slot_holds test) n slots ≡ Some (n + i) →
       IsThere slots i
   found_from [] n i is = absurd cc
-  found_from (None ∷ slots) n i is = by_index i is
+  found_from (None ∷ slots) n i is = by_index (λ j e. found_from slots (n + 1) j e) i is
     where
-      by_index : (j : ℕ) → position_from (slot_holds test) (n + 1) slots ≡ Some (n + j) → IsThere (None ∷ slots) j
-      by_index zero is' =
+      by_index : ((j : ℕ) → position_from (slot_holds test) (n + 1) slots ≡ Some (n + 1 + j) → IsThere slots j) →
+          (j : ℕ) → position_from (slot_holds test) (n + 1) slots ≡ Some (n + j) → IsThere (None ∷ slots) j
+      by_index later zero is' =
           let least : n + 1 ≤ n + 0 = at_least (slot_holds test) slots (n + 1) (n + 0) is' in
           absurd (omega (arith, least))
-      by_index (suc j) is' =
+      by_index later (suc j) is' =
           let next : n + suc j ≡ n + 1 + j = omega arith in
-          let rest = found_from slots (n + 1) j (is' ∙ ap (λ k. Some k) next) in
+          let rest = later j (is' ∙ ap (λ k. Some k) next) in
           (rest.0, ap (λ ss. None ∷ ss) rest.1)
   found_from (Some x ∷ slots) n i is =
       elim (cases_Bool (test x)) [
@@ -88,18 +91,19 @@ module _ {X : Type 0} (test : X → Bool) where
               ap (λ b. cond b (Some x) (find test (left_in slots))) yes',
               ap (λ b. if b then None ∷ slots else Some x ∷ without_first test slots) yes',
             ))
-        | inr no' ↦ by_index no' i
+        | inr no' ↦ by_index (λ j e. found_from slots (n + 1) j e) no' i
             (ap (λ b. cond b (Some n) (position_from (slot_holds test) (n + 1) slots)) (sym no') ∙ is)
       ]
     where
-      by_index : test x ≡ false → (j : ℕ) → position_from (slot_holds test) (n + 1) slots ≡ Some (n + j) →
+      by_index : ((j : ℕ) → position_from (slot_holds test) (n + 1) slots ≡ Some (n + 1 + j) → IsThere slots j) →
+          test x ≡ false → (j : ℕ) → position_from (slot_holds test) (n + 1) slots ≡ Some (n + j) →
           IsThere (Some x ∷ slots) j
-      by_index other zero is' =
+      by_index later other zero is' =
           let least : n + 1 ≤ n + 0 = at_least (slot_holds test) slots (n + 1) (n + 0) is' in
           absurd (omega (arith, least))
-      by_index other (suc j) is' =
+      by_index later other (suc j) is' =
           let next : n + suc j ≡ n + 1 + j = omega arith in
-          let rest = found_from slots (n + 1) j (is' ∙ ap (λ k. Some k) next) in (
+          let rest = later j (is' ∙ ap (λ k. Some k) next) in (
             ap (λ b. cond b (Some x) (find test (left_in slots))) other ∙ rest.0,
             ap (λ b. if b then None ∷ slots else Some x ∷ without_first test slots) other
                 ∙ ap (λ ss. Some x ∷ ss) rest.1,
@@ -131,3 +135,18 @@ module _ {X : Type 0} (test : X → Bool) where
                   ∙ ap (λ ss. Some x ∷ ss) rest.1,
             ))
       ]
+
+-- the table that was found is taken out of the slot where it lay
+module _ {A X : Type 0} (shown : A → X) (test : X → Bool) (slots : List (Option A)) (i : ℕ) (inside : i < length slots)
+    (place : position_from (slot_holds test) 0 (map (option_map shown) slots) ≡ Some i) where
+  pub taken_found : (slot : Option A) → slot ≡ get_or slots i slot →
+      option_map shown slot ≡ find test (left_in (map (option_map shown) slots))
+  taken_found slot is =
+      ap (option_map shown) is ∙ sym (get_or-map (option_map shown) slots i slot None inside)
+      ∙ sym (found_there test (map (option_map shown) slots) i place).0
+
+  pub taken_left : (slot : Option A) → slot ≡ None →
+      map (option_map shown) (slice_set slots i slot) ≡ without_first test (map (option_map shown) slots)
+  taken_left slot none =
+      ap (λ o. map (option_map shown) (slice_set slots i o)) none ∙ map-set (option_map shown) slots i None
+      ∙ sym (found_there test (map (option_map shown) slots) i place).1

@@ -4,6 +4,7 @@
 ghost use Rattle.std.specs.Prelude.{◌≡◌, ◌⊎◌, ◌≤◌, ◌<◌, Err, IfOk, OnErr, OnOk};
 ghost use Rattle.roam_conf.specs.Shown.{shown, shown_parts};
 ghost use Rattle.roam_reload.specs.Numbers.{TooMany, laid_out};
+ghost use Rattle.roam_reload.specs.declared.laying_out.LayFault.TheVariants.{Memory};
 
 use crate::laying_peers::laid_peers;
 use crate::laying_realms::laid_realms;
@@ -68,9 +69,13 @@ pub fn lay_out(alloc: Global, old: &Config, new: Config) -> Result<ConfigParts, 
         peers,
         realms,
     } = new.into_parts();
-    let peers = laid_peers(alloc, old.peers.as_slice(), peers)?;
-    let realms = laid_realms(alloc, old.realms.as_slice(), realms)?;
-    have_numbers(peers.len(), realms.len())?;
+    let old_peers = old.peers.as_slice();
+    let old_realms = old.realms.as_slice();
+    let peers = laid_peers(alloc, old_peers, peers)?;
+    let realms = laid_realms(alloc, old_realms, realms)?;
+    let peer_count = peers.len();
+    let realm_count = realms.len();
+    have_numbers(peer_count, realm_count)?;
     Ok(ConfigParts {
         shards,
         seed: old.seed,

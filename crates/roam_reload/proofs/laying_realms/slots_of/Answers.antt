@@ -12,7 +12,8 @@ loop-realm-init c =
     let iter = c.into_iter-realm-iterator.ensures.into_iter_gives in
     let none : c.new-slots.result.items ≡ [] = c.new-slots.ensures.items in
     record {
-      slots = ap (λ ss. realms_in ss ++ all_in (map shown_realm (into_iter_items c.into_iter-realm-iterator.result))) none
+      slots = ap
+          (λ ss. realms_in ss ++ all_in (map shown_realm (into_iter_items c.into_iter-realm-iterator.result))) none
           ∙ ap (λ xs. all_in (map shown_realm xs)) iter.0;
       left = iter.1 ∙ c.args.realms.ok.0 ∙ ap length (sym iter.0);
     }
