@@ -62,16 +62,17 @@ module _ {A : Type 0} (old new : ConfigView) (realm : ℕ) (there : Option (Opti
   }
 
 -- in a configuration no two servers of a realm are at one endpoint
+pair_free : (realms : List RealmTable) (r : ℕ) → has_duplicate_server realms ≡ false → r < length realms
+    → has_pair_of_servers (slice_index_or realms r no_realm) ≡ false
+unfolding has_duplicate_server
+pair_free [] r none lt = absurd (omega (arith, lt))
+pair_free (x ∷ xs) zero none lt = (or_none (has_pair_of_servers x) (has_duplicate_server xs) none).0
+pair_free (x ∷ xs) (suc r) none lt =
+    pair_free xs r (or_none (has_pair_of_servers x) (has_duplicate_server xs) none).1 (omega (arith, lt))
+
 pub distinct_in : (config : ConfigView) (realm : ℕ) → has_duplicate_server config.realms ≡ false
     → realm < length config.realms → has_pair_of_servers (realm_config config realm).realm ≡ false
-distinct_in config realm none lt = by config.realms realm none lt
-  where
-    by : (realms : List RealmTable) (r : ℕ) → has_duplicate_server realms ≡ false → r < length realms
-        → has_pair_of_servers (slice_index_or realms r no_realm) ≡ false
-    by [] r none lt = absurd (omega (arith, lt))
-    by (x ∷ xs) zero none lt = (or_none (has_pair_of_servers x) (has_duplicate_server xs) none).0
-    by (x ∷ xs) (suc r) none lt =
-        by xs r (or_none (has_pair_of_servers x) (has_duplicate_server xs) none).1 (omega (arith, lt))
+distinct_in config realm none lt = pair_free config.realms realm none lt
 
 -- what a realm's entries and numbers become is said by its parts of both configurations
 pub gone_by : {A : Type 0} (old new : ConfigView) (realm : ℕ) (b c : RealmConfig) (E F : ℕ → List PlainEntry)

@@ -27,7 +27,7 @@ loop-realm-init g c =
     }
 
 -- the memory of the realm that is next
-made : (g : Over) (c : goal.In-loop-realm-Some g) → slice_get c.args.fresh.realms.items c.loop-realm.index ≡ Some c.in-Some.realm
+made : (g : Over) (c : goal.In-Some g) → slice_get c.args.fresh.realms.items c.loop-realm.index ≡ Some c.in-Some.realm
 made g c =
     let k = c.loop-realm.index in
     let first : slice_get (into_iter_items c.loop-realm.realm-iterator) 0 ≡ Some c.in-Some.realm =
@@ -35,19 +35,19 @@ made g c =
     let e : k + 0 ≡ k = omega arith in
     ap (slice_get c.args.fresh.realms.items) (sym e) ∙ sym (c.loop-realm.invariant.behind 0) ∙ first
 
-pub go_over-requires-clause-configured : goal.go_over-requires-clause-configured
-go_over-requires-clause-configured g c =
+pub go_over-after-requires-clause-configured : goal.go_over-after-requires-clause-configured
+go_over-after-requires-clause-configured g c =
     let inv = c.loop-realm.invariant in
     let short = ap length c.in-Some.ensures.steps.0 in
     omega (arith, short, inv.count, c.requires.count)
 
-pub go_over-requires-clause-within : goal.go_over-requires-clause-within
-go_over-requires-clause-within g c =
+pub go_over-after-requires-clause-within : goal.go_over-after-requires-clause-within
+go_over-after-requires-clause-within g c =
     λ goes. subst (λ (n : ℕ). c.loop-realm.index < n) (sym c.loop-realm.invariant.over.left)
     (c.requires.within c.loop-realm.index goes)
 
-pub go_over-requires-clause-can : goal.go_over-requires-clause-can
-go_over-requires-clause-can g c = λ goes.
+pub go_over-after-requires-clause-can : goal.go_over-after-requires-clause-can
+go_over-after-requires-clause-can g c = λ goes.
     can_still (shown c.args.change.from.now) (shown c.args.change.to.now) c.args.change.shard c.args.before.now.items
     c.loop-realm.before.items (entries_in c.args.entries.now) (entries_in c.loop-realm.entries)
     c.args.fresh.realms.items c.loop-realm.numbers.items c.loop-realm.index c.in-Some.realm
@@ -65,12 +65,12 @@ loop-realm-preserved g c =
     let k = c.loop-realm.index in
     let steps = c.in-Some.ensures.steps in
     let short = ap length steps.0 in
-    let one = c.go_over.ensures in
+    let one = c.go_over-after.ensures in
     record {
       over = rw c.push_reserved.ensures.items
           (one_over (shown c.args.change.from.now) (shown c.args.change.to.now) c.args.change.shard
-          c.args.before.now.items c.loop-realm.before.items c.go_over.new.before.items (entries_in c.args.entries.now)
-          (entries_in c.loop-realm.entries) (entries_in c.go_over.new.entries) c.args.fresh.realms.items
+          c.args.before.now.items c.loop-realm.before.items c.go_over-after.new.before.items (entries_in c.args.entries.now)
+          (entries_in c.loop-realm.entries) (entries_in c.go_over-after.new.entries) c.args.fresh.realms.items
           c.loop-realm.numbers.items k c.in-Some.realm c.go_over-after.result inv.over (made g c) one.over one.others
           one.before one.before_count);
       realms = one.realms ∙ inv.realms;

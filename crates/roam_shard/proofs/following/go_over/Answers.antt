@@ -1,6 +1,6 @@
 -- The numbers of a realm that goes on go over with its entries.
 use Rattle.std.proofs.Common.{◌≡◌, ◌∙◌, Some, None, inl, inr, sym, subst, refl, ap}
-use Rattle.std.specs.Prelude.{Option, slice_get}
+use Rattle.std.specs.Prelude.{Option, slice_get, unwrap_or}
 use Rattle.roam_conf.specs.Shown.{shown}
 use Rattle.roam_tables.specs.Stands.{entries_in}
 use Rattle.roam_tables.proofs.RealmLemmas.{get-read, get-set_other}
@@ -17,7 +17,7 @@ carried-requires-clause-sound g c =
     let at = get-read c.args.before.now.items c.args.realm c.index_mut.result.now (c.requires.within goes)
     c.index_mut.ensures.value ∙ ap Some (sym c.take.ensures.value ∙ c.in-Some.is) in
     sound_from (shown c.args.change.from.now) (shown c.args.change.to.now) c.args.realm
-    (entries_in c.args.entries.now c.args.realm) (slice_get c.args.before.now.items c.args.realm)
+    (slice_get c.args.before.now.items c.args.realm) (entries_in c.args.entries.now c.args.realm)
     c.args.fresh.lanes (c.requires.can goes) c.in-Some.numbers at
 
 pub carried-requires-clause-ready : goal.carried-requires-clause-ready
@@ -26,7 +26,7 @@ carried-requires-clause-ready g c =
     let at = get-read c.args.before.now.items c.args.realm c.index_mut.result.now (c.requires.within goes)
     c.index_mut.ensures.value ∙ ap Some (sym c.take.ensures.value ∙ c.in-Some.is) in
     ready_from (shown c.args.change.from.now) (shown c.args.change.to.now) c.args.realm
-    (entries_in c.args.entries.now c.args.realm) (slice_get c.args.before.now.items c.args.realm)
+    (slice_get c.args.before.now.items c.args.realm) (entries_in c.args.entries.now c.args.realm)
     c.args.fresh.lanes (c.requires.can goes) c.in-Some.numbers at
 
 pub returns-then-not-goes_on-clause-over : goal.returns-then-not-goes_on-clause-over

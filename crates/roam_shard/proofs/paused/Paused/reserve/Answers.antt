@@ -64,7 +64,7 @@ loop-realm-preserved g c =
       still = still;
       ready = rw c.push_reserved.ensures.items
           (one_ready old new c.args.self.now.shard c.loop-realm.self.numbers.items c.reserve_one.new.self.numbers.items
-          c.loop-realm.numbers.items fresh c.loop-realm.realm inv.ready one.others.others ready);
+          c.loop-realm.realms.items fresh c.loop-realm.realm inv.ready one.others.others ready);
       kept = (let same = ap (λ (t : List RealmView). length t) one.others.entries in let kept = inv.kept in
           omega (arith, same, kept));
       len = (let len = c.push_reserved.ensures.len in omega (arith, len, inv.len));
@@ -92,7 +92,7 @@ returns-clause-ready g c =
           omega (arith, le, length-map realms.items shown_realm, realms.ok.0, c.len-2.ensures));
       none_yet = c.in_ok-numbers.ensures.items;
       kept = inv.kept;
-      changed = c.in_ok-changed.ensures;
+      changed = rw (← c.as_slice.ensures.value, ← c.as_slice-2.ensures.value) c.in_ok-changed.ensures;
       each = λ r n at. subst (λ (k : ℕ). IsReadyAt old new k r c.loop-realm.self.numbers.items n)
           (sym inv.still.shard) (inv.ready.each r n at);
     }
