@@ -57,7 +57,6 @@ pub mod LossLemmas
 pub mod LostLemmas
 pub mod LostSessionLemmas
 pub mod ChangedLemmas
-pub mod RestoredLemmas
 pub mod NothingLostLemmas
 pub mod BookCarryLemmas
 pub mod EndsLemmas

@@ -4,7 +4,7 @@ use Rattle.std.specs.List.{cons_option, filter_map}
 use Rattle.std.specs.Prelude.{option_and_then}
 use Rattle.std.proofs.lemmas.Bool.{cases_Bool}
 use Rattle.roam_conf.specs.declared.place.Link.{Link}
-use Rattle.roam_pending.specs.PlainEntry.{PlainEntry, PlainRequest, PlainStanding, waiting, done, is_done}
+use Rattle.roam_pending.specs.PlainEntry.{PlainEntry, PlainRequest, PlainStanding, waiting, done, is_done, stands_done}
 use Rattle.roam_book.specs.RealmConfig.{RealmConfig}
 use Rattle.roam_book.specs.Losses.{count_held, count_waiting}
 use Rattle.roam_book.specs.Private.Lost.{counted, held_and_goes, held_lost, one_if, waits_and_goes}
@@ -13,30 +13,22 @@ use Rattle.roam_book.proofs.LossLemmas.{counted_first}
 
 -- ---- an entry that stays waits where it waited, or is done as it was
 
-abbrev answered : PlainStanding → Bool
-answered (waiting l id forwarded sends_left deadline signs) = false
-answered (done reply deadline from) = true
-
 waits_on : (o : Option Link) (id : ℕ) (forwarded : List ℕ) (sends_left deadline signs : ℕ) (s : PlainStanding)
-    → option_map (λ m. waiting m id forwarded sends_left deadline signs) o ≡ Some s → answered s ≡ false
+    → option_map (λ m. waiting m id forwarded sends_left deadline signs) o ≡ Some s → stands_done s ≡ false
 waits_on None id forwarded sends_left deadline signs s is = absurd (cc is)
 waits_on (Some m) id forwarded sends_left deadline signs s is =
     let one = waiting m id forwarded sends_left deadline signs in
     let same : one ≡ s = ap (λ (o : Option PlainStanding). unwrap_or o one) is in
-    ap answered (sym same)
+    ap stands_done (sym same)
 
 stays_answered : (old new : RealmConfig) (r s : PlainStanding) → standing_then old new r ≡ Some s →
-    answered s ≡ answered r
+    stands_done s ≡ stands_done r
 stays_answered old new (waiting l id forwarded sends_left deadline signs) s is =
     waits_on (way_then old new l) id forwarded sends_left deadline signs s is
 stays_answered old new (done reply deadline from) s is =
     let one = done reply deadline (option_and_then (way_then old new) from) in
     let same : one ≡ s = ap (λ (o : Option PlainStanding). unwrap_or o one) is in
-    ap answered (sym same)
-
-is_answered : (e : PlainEntry) (s : PlainStanding) → e.standing ≡ s → is_done e ≡ answered s
-is_answered e (waiting l id forwarded sends_left deadline signs) is = rw is refl
-is_answered e (done reply deadline from) is = rw is refl
+    ap stands_done (sym same)
 
 done_as : (old new : RealmConfig) (e x : PlainEntry) (q : Option PlainRequest) (s : Option PlainStanding)
     → standing_then old new e.standing ≡ s → entry_of e.ticket q s ≡ Some x → is_done x ≡ is_done e
@@ -45,8 +37,7 @@ done_as old new e x (Some q) None stood is = absurd (cc is)
 done_as old new e x (Some q) (Some s) stood is =
     let one : PlainEntry = record { request = q; ticket = e.ticket; standing = s } in
     let same : one ≡ x = ap (λ (o : Option PlainEntry). unwrap_or o one) is in
-    ap is_done (sym same) ∙ is_answered one s refl ∙ stays_answered old new e.standing s stood
-    ∙ sym (is_answered e e.standing refl)
+    ap is_done (sym same) ∙ stays_answered old new e.standing s stood
 
 stays_done : (old new : RealmConfig) (e x : PlainEntry) → entry_then old new e ≡ Some x → is_done x ≡ is_done e
 stays_done old new e x is =

@@ -28,7 +28,7 @@ fn octets_of<'a>(text: Option<Text<'a>>) -> Option<&'a [u8]>
 }
 
 /// Whether a peer is here and has a name.
-fn has_name(peer: &Peer, name: &[u8]) -> bool
+fn is_named(peer: &Peer, name: &[u8]) -> bool
     ensures { result ≡ (not (shown_peer peer.now).gone && bytes_eq (shown_peer peer.now).name name.now) }
 {
     !peer.gone && peer.name.as_bytes() == name
@@ -40,7 +40,7 @@ fn peer_named(peers: &[Peer], name: &[u8]) -> Option<u16>
     ensures { result ≡ first_place (λ p. not p.gone && bytes_eq p.name name.now) (map shown_peer peers.now) }
 {
     for (index, peer) in peers.iter().enumerate() {
-        if has_name(peer, name) {
+        if is_named(peer, name) {
             return Some(index as u16);
         }
     }

@@ -79,4 +79,12 @@ loop-due-smaller g c =
     c.in-Some.ensures.list.in_order c.in-Some.ensures.next
 
 pub returns : goal.returns
-returns g c = ?
+returns g c =
+    let es = g.E.Entries.entries_of c.args.entries.now c.args.old.now.index in
+    let waits = waits_and_goes c.args.old.now c.args.new.now in
+    let held = held_and_goes c.args.old.now c.args.new.now in
+    let none = c.in_default.ensures.next in
+    record {
+      waiting = omega (arith, all_read waits c.loop-due.last es none, few_count waits es);
+      held = omega (arith, all_read held c.loop-due.last es none, few_count held es);
+    }
