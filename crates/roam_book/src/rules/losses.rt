@@ -1,13 +1,12 @@
 //! How much of a realm goes by a change. Nothing changes by looking.
 
-ghost use Rattle.std.specs.Prelude.{◌≡◌, ◌+◌, ◌<◌, ◌≤◌, ◌^◌, ◌-◌, false, filter, is_some, length, map, not};
+ghost use Rattle.std.specs.Prelude.{◌≡◌, ◌+◌, ◌<◌, ◌≤◌, ◌^◌, false, filter, is_some, length, map, not};
 ghost use Rattle.std.specs.Option.{ForSome, option_map_or};
 ghost use Rattle.roam_conf.specs.Parts.{shown_peer};
 ghost use Rattle.roam_pending.specs.PlainEntry.{is_done};
 ghost use Rattle.roam_pending.specs.Shown.{seen, shown};
-ghost use Rattle.roam_reverse.specs.Sessions.{count_of_peer};
 ghost use Rattle.roam_book.specs.Carrying.{AreChanged, shown_loss};
-ghost use Rattle.roam_book.specs.Losses.{all_lost, count_held, count_waiting, losses};
+ghost use Rattle.roam_book.specs.Losses.{all_lost, count_held, losses};
 ghost use Rattle.roam_book.specs.Private.Lost.{counted, held_and_goes, held_lost, is_of_gone, of_one_peer, one_if};
 ghost use Rattle.roam_book.specs.Private.Lost.{sessions_lost, waits_and_goes};
 ghost use Rattle.roam_book.specs.Reload.{entry_then};
