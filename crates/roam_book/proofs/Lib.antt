@@ -40,3 +40,4 @@ pub mod CarriedPlacesLemmas
 pub mod CarriedEntriesLemmas
 pub mod PlacesLemmas
 pub mod SavingLemmas
+pub mod WrittenLemmas
