@@ -149,7 +149,8 @@ realms_apart (r ∷ rs) more none =
         let parts = or_parts (list_any (same_pattern (whole r.name)) (r.also ++ (flat_map patterns_of rs ++ more)))
         (has_pair same_pattern (r.also ++ (flat_map patterns_of rs ++ more))) no_pair in
         ap (λ b. b || has_pair same_realm_name rs)
-        (unnamed r rs more (behind_front (same_pattern (whole r.name)) r.also (flat_map patterns_of rs ++ more) parts.0))
+        (unnamed r rs more
+        (behind_front (same_pattern (whole r.name)) r.also (flat_map patterns_of rs ++ more) parts.0))
         ∙ later (pairs_behind r.also (flat_map patterns_of rs ++ more) parts.1)
 
 pub realms_differ : (realms : List RealmView) (reject : List PatternView) → has_duplicate_realm realms reject ≡ false →
