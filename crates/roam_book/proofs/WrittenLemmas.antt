@@ -1,5 +1,5 @@
 -- What a file of ledgers gains of a ledger.
-use Rattle.std.proofs.Common.{◌≡◌, ℕ, suc, true, List, [], ◌∷◌, ◌++◌, length, Contains, Some, Result, Ok, Err, refl, sym, ap, ◌∙◌, inl, inr, arith, map, append_assoc, append-nil}
+use Rattle.std.proofs.Common.{◌≡◌, ℕ, suc, true, List, [], ◌∷◌, ◌++◌, Contains, Some, Result, Ok, Err, sym, ap, ◌∙◌, inl, inr, arith, map, append_assoc, append-nil}
 use Rattle.std.proofs.lemmas.Bool.{or_cases}
 use Rattle.std.proofs.lemmas.List.{map-append}
 use Rattle.std.proofs.lemmas.List.Concat.{flat_map-append}
