@@ -60,3 +60,4 @@ pub mod ChangedLemmas
 pub mod NothingLostLemmas
 pub mod BookCarryLemmas
 pub mod EndsLemmas
+pub mod WrittenLemmas
