@@ -19,7 +19,7 @@ fn mode() -> u32
 
 /// A path with `.new` behind it.
 fn named_new(alloc: Global, path: &str) -> Result<String, AllocError>
-    ensures { IfOk result (λ beside. beside ≡ path.now ++ codes ".new") }
+    ensures { IfOk result (λ beside. beside.bytes.items ≡ path.now ++ codes ".new") }
 {
     let mut beside = String::from_str(alloc, path)?;
     beside.push_str(".new")?;
@@ -28,7 +28,7 @@ fn named_new(alloc: Global, path: &str) -> Result<String, AllocError>
 
 /// The path of a file that is written, beside the one that it takes the place of.
 fn beside<R: AllocGlobal>(rt: &R, path: &str) -> io::Result<String>
-    ensures { IfOk result (λ beside. beside ≡ path.now ++ codes ".new") }
+    ensures { IfOk result (λ beside. beside.bytes.items ≡ path.now ++ codes ".new") }
 {
     match named_new(rt.alloc(), path) {
         Ok(beside) => Ok(beside),
