@@ -54,3 +54,5 @@ pub mod CarryingLemmas
 pub mod MovedRestLemmas
 pub mod CarriedOverLemmas
 pub mod EndsLemmas
+pub mod WrittenLemmas
+pub mod EntriesOverLemmas
