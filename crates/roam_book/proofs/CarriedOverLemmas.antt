@@ -116,3 +116,29 @@ untouched_state old new es was then' k count more ticket place rests sessions =
       rests = rests i;
     } in
     same ∙ sym (nothing_goes old new k s many)
+
+-- numbers with more room stand for the same, and keep the same
+pub same_state : {A : Type 0} (es : List PlainEntry) (was now : RealmNumbers A) → now.lanes.items ≡ was.lanes.items
+    → now.ticket ≡ was.ticket → now.stream_position ≡ was.stream_position → now.rests.items ≡ was.rests.items
+    → now.sessions ≡ was.sessions → state_of es now ≡ state_of es was
+same_state es was now lanes ticket place rests sessions = λ i. record {
+  entries = es;
+  ticket = ticket i;
+  cursors = cursors_of (lanes i);
+  stream_position = place i;
+  sessions = (sessions i).sessions;
+  rests = rests i;
+}
+
+pub same_sound : {A : Type 0} (c : RealmConfig) (es : List PlainEntry) (was now : RealmNumbers A)
+    → now.lanes.items ≡ was.lanes.items → now.ticket ≡ was.ticket → now.stream_position ≡ was.stream_position
+    → now.sessions ≡ was.sessions → IsSound c es was → IsSound c es now
+same_sound c es was now lanes ticket place sessions sound = record {
+  each = subst (λ (n : ℕ). AllByRecursion (IsEntry c n) es) (sym ticket) sound.each;
+  ticket = subst (λ (n : ℕ). n ≤ 2 ^ 63) (sym ticket) sound.ticket;
+  stream_position = subst (λ (n : ℕ). n < 2 ^ 68) (sym place) sound.stream_position;
+  lane_count = ap length lanes ∙ sound.lane_count;
+  lanes = subst (λ (ls : List LaneState). AreOwnLanes c (marks_of ls)) (sym lanes) sound.lanes;
+  lanes_tell = subst (LanesTell c es) (sym lanes) sound.lanes_tell;
+  ledger = ap (λ (l : Ledger). l.limit) sessions ∙ sound.ledger;
+}

@@ -127,6 +127,12 @@ module _ (old new : List PeerView) (changed : List ℕ) (i x : ℕ) (lt : i < le
       (λ s. one_gone old new (take i changed) x s keeps)
       ∙ ap (λ (l : List ℕ). filter (stays_so_far old new l) first) (sym (ap (λ (n : ℕ). take n changed) (add-one i) ∙ taken_one changed i x lt at))
 
+  -- either way
+  pub next_either : (b : Bool) → of_peer keeps_sessions old new x ≡ b
+      → (if b then cur else without_peer x cur) ≡ filter (stays_so_far old new (take (i + 1) changed)) first
+  next_either true keeps = next_stays keeps
+  next_either false keeps = next_closed keeps
+
 any_in : (n : ℕ) (xs : List ℕ) → IsIn n xs → list_any (λ p. n == p) xs ≡ true
 any_in n [] held = absurd held
 any_in n (x ∷ xs) held =

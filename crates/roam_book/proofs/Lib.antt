@@ -61,3 +61,4 @@ pub mod NothingLostLemmas
 pub mod BookCarryLemmas
 pub mod EndsLemmas
 pub mod WrittenLemmas
+pub mod EntriesOverLemmas

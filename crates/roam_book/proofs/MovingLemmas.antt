@@ -2,12 +2,12 @@
 use Rattle.std.proofs.Common.{◌≡◌, ◌≢◌, inl, inr, ℕ, ◌+◌, ◌*◌, ◌<◌, ◌≤◌, true, List, length, get_or, replicate, set, Option, Some, None, refl, sym, ap, subst, ◌∙◌, arith}
 use Rattle.std.specs.Option.{option_map_or}
 use Rattle.std.proofs.lemmas.Bool.{cases_lt}
-use Rattle.std.proofs.lemmas.List.{get_or-replicate, get_or-set_other, get_or-set_same, get_or_past, length-set}
+use Rattle.std.proofs.lemmas.List.{get_or_default, get_or-replicate, get_or-set_other, get_or-set_same, get_or_past, length-set}
 use Rattle.roam_conf.specs.declared.place.Link.{Link}
 use Rattle.roam_ids.specs.LaneState.{LaneState, place_at, with_tag}
 use Rattle.roam_ids.specs.declared.id_state.IdState.TheVariants.{Free}
 use Rattle.roam_book.specs.Carrying.{HaveDistinctServers}
-use Rattle.roam_book.specs.Private.Moving.{AreFresh, AreMoved, IsLeft, IsPlaceBefore, StandsFor, lane_before}
+use Rattle.roam_book.specs.Private.Moving.{AreFresh, AreMoved, IsLeft, IsMoving, IsPlaceBefore, StandsFor, lane_before}
 use Rattle.roam_book.specs.RealmConfig.{IsLink, RealmConfig, link_count, link_place}
 use Rattle.roam_book.specs.Reload.{way_before}
 use Rattle.roam_book.specs.Sound.{AreOwnLanes, cursors_of, lane_of, marks_of, no_lane}
@@ -29,17 +29,6 @@ fresh_by c lanes count cursors free own = record {
     made = λ server. sym (made_at lanes place) ∙ own.servers place server;
   };
 }
-
--- the places before this one have their lanes, the others fresh ones, and what wasn't taken is where it was
-pub record IsMoving (old new : RealmConfig) (first before after : List LaneState) (k : ℕ) : Type 0 where
-  pub count_before : length before ≡ link_count old
-  pub count_after : length after ≡ link_count new
-  pub moved : (m : Link) → IsLink new m → link_place new m < k
-      → StandsFor new (link_place new m) (lane_before old new first m) (lane_of new after m)
-  pub fresh : (place : ℕ) → k ≤ place → place < link_count new → StandsFor new place no_lane (get_or after place no_lane)
-  pub left : (l : Link) → IsLink old l
-      → ((m : Link) → IsLink new m → way_before old new m ≡ Some l → k ≤ link_place new m)
-      → lane_of old before l ≡ lane_of old first l
 
 pub none_moved : (old new : RealmConfig) (before after : List LaneState) → length before ≡ link_count old
     → AreFresh new after → IsMoving old new before before after 0
@@ -167,3 +156,14 @@ module _ (old new : RealmConfig) (first before after : List LaneState) (once : H
             get_or-set_other before from (link_place old l) other no_lane apart
             ∙ h.left l isl (λ n isn was. let later = away n isn was in omega (arith, later));
       }
+
+    pub one_goes_by : (lane other was : LaneState) (tag : ℕ) → was ≡ get_or before from was
+        → tag ≡ new.index * 65536 + k → lane ≡ with_tag tag was
+        → IsMoving old new first (set before from other) (set after k lane) (k + 1)
+    one_goes_by lane other was tag read tag_is goes =
+        let below = place_below old place.before place.link in
+        let many = h.count_before in
+        let within' : from < length before = omega (arith, below, many, place.at) in
+        one_goes lane other
+        (goes ∙ ap (λ (t : ℕ). with_tag t was) tag_is
+        ∙ ap (with_tag (new.index * 65536 + k)) (read ∙ get_or_default before from was no_lane within'))

@@ -1,5 +1,5 @@
 -- How a realm's entries and lanes go over to another part of a configuration: words of private functions alone (ours).
-use Rattle.std.specs.Prelude.{◌≡◌, ℕ, ◌+◌, ◌*◌, ◌<◌, ◌⊎◌, true, false, List, Option, Some, None, is_some, length, option_and_then, slice_index_or, if◌then◌else◌}
+use Rattle.std.specs.Prelude.{◌≡◌, ℕ, ◌+◌, ◌*◌, ◌<◌, ◌≤◌, ◌⊎◌, true, false, List, Option, Some, None, is_some, length, option_and_then, slice_index_or, if◌then◌else◌}
 use Rattle.std.specs.List.{filter_map}
 use Rattle.std.specs.Option.{option_map_or}
 use Rattle.roam_conf.specs.declared.place.Link.{Link}
@@ -84,3 +84,14 @@ pub record AreRenewed (old new : RealmConfig) (changed : List ℕ) (before after
   pub renewed : (peer : ℕ) → IsIn peer changed → peer < length old.peers
       → of_peer keeps_coa old.peers new.peers peer ≡ false
       → StandsFor new (coa_place old peer) no_lane (slice_index_or after (coa_place old peer) no_lane)
+
+-- the places before this one have their lanes, the others fresh ones, and what wasn't taken is where it was
+pub record IsMoving (old new : RealmConfig) (first before after : List LaneState) (k : ℕ) : Type 0 where
+  pub count_before : length before ≡ link_count old
+  pub count_after : length after ≡ link_count new
+  pub moved : (m : Link) → IsLink new m → link_place new m < k
+      → StandsFor new (link_place new m) (lane_before old new first m) (lane_of new after m)
+  pub fresh : (place : ℕ) → k ≤ place → place < link_count new → StandsFor new place no_lane (slice_index_or after place no_lane)
+  pub left : (l : Link) → IsLink old l
+      → ((m : Link) → IsLink new m → way_before old new m ≡ Some l → k ≤ link_place new m)
+      → lane_of old before l ≡ lane_of old first l

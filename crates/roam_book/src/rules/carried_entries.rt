@@ -1,6 +1,6 @@
 //! Which entries of a realm stay when it goes on under another part of a configuration.
 
-ghost use Rattle.std.specs.Prelude.{◌≡◌, ◌-◌, Some, None, IfNone, IfSome, length, option_map};
+ghost use Rattle.std.specs.Prelude.{◌≡◌, ◌-◌, IfNone, IfSome, List, None, Some, length, option_map};
 ghost use Rattle.std.specs.List.{AllByRecursion, filter_map};
 ghost use Rattle.roam_pending.specs.EntryList.{IsInOrder, find_ticket, without};
 ghost use Rattle.roam_pending.specs.PlainEntry.{PlainEntry};
@@ -136,9 +136,10 @@ fn carry_each<A: Allocator + Copy, E: Entries<A>>(
     ensures cursors { cursors_of numbers.new.lanes.items ≡ cursors_of numbers.old.lanes.items }
     ensures marks { marks_of numbers.new.lanes.items ≡ marks_of numbers.old.lanes.items }
 {
-    let _count = entries.len(old.index());
+    let realm = old.index();
+    let _count = entries.len(realm);
     let mut last = None;
-    while let Some(due) = entries.next_after(old.index(), last) {
+    while let Some(due) = entries.next_after(realm, last) {
         carry_one(old, new, entries, numbers, due.ticket);
         last = Some(due);
     }

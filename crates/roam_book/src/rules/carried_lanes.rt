@@ -1,9 +1,9 @@
 //! The lanes of a realm that goes on under another part of a configuration.
 
-ghost use Rattle.std.specs.Prelude.{◌≡◌, ◌↔◌, ◌<◌, ◌≤◌, ◌∷◌, [], IfNone, IfOk, IfSome, IsTrue, length, vec_capacity};
-ghost use Rattle.roam_ids.specs.LaneState.{with_tag};
+ghost use Rattle.std.specs.Prelude.{◌≡◌, ◌↔◌, ◌<◌, ◌≤◌, ◌+◌, ◌∷◌, [], IfNone, IfOk, IfSome, IsTrue, List, length, vec_capacity};
+ghost use Rattle.roam_ids.specs.LaneState.{LaneState, with_tag};
 ghost use Rattle.roam_book.specs.Carrying.{AreChanged, HaveDistinctServers, IsReadyToCarry, StandAsBefore};
-ghost use Rattle.roam_book.specs.Private.Moving.{AreFresh, AreMoved, AreRenewed, IsLeft, IsPlaceBefore};
+ghost use Rattle.roam_book.specs.Private.Moving.{AreFresh, AreMoved, AreRenewed, IsLeft, IsMoving, IsPlaceBefore};
 ghost use Rattle.roam_book.specs.RealmConfig.{IsLink, link_count, link_place, server_link_count};
 ghost use Rattle.roam_book.specs.Reload.{rests_then};
 ghost use Rattle.roam_book.specs.Rests.{all_awake};
@@ -94,6 +94,28 @@ fn move_lane<A: Allocator>(before: &mut LazyLane<A>, after: &mut LazyLane<A>, ta
     after.retag(tag);
 }
 
+/// A place gets the lane that its link had, if it had one.
+fn fill_place<A: Allocator>(
+    old: &RealmSettings<'_>,
+    new: &RealmSettings<'_>,
+    place: usize,
+    before: &mut Vec<LazyLane<A>, A>,
+    after: &mut Vec<LazyLane<A>, A>,
+)
+    requires servers { HaveDistinctServers old.now new.now }
+    requires place { place < link_count new.now }
+    requires before { length before.old.items ≡ link_count old.now }
+    requires after { length after.old.items ≡ link_count new.now }
+    ensures { (first : List LaneState) → length first ≡ link_count old.now → AreOwnLanes old.now (marks_of first)
+        → IsMoving old.now new.now first before.old.items after.old.items place
+        → IsMoving old.now new.now first before.new.items after.new.items (place + 1) }
+{
+    let _few = new.link_count();
+    if let Some(from) = place_before(old, new, link_at(new, place)) {
+        move_lane(&mut before[from], &mut after[place], tag_of(new, place));
+    }
+}
+
 /// All lanes go to their places; a further link's is fresh.
 fn move_lanes<A: Allocator>(
     old: &RealmSettings<'_>,
@@ -107,11 +129,8 @@ fn move_lanes<A: Allocator>(
     requires fresh { AreFresh new.now after.old.items }
     ensures { AreMoved old.now new.now before.old.items after.new.items }
 {
-    let _few = new.link_count();
-    for place in 0..after.len() {
-        if let Some(from) = place_before(old, new, link_at(new, place)) {
-            move_lane(&mut before[from], &mut after[place], tag_of(new, place));
-        }
+    for place in 0..new.link_count() {
+        fill_place(old, new, place, before, after);
     }
 }
 

@@ -1,7 +1,8 @@
 //! The ledger of a realm that goes on under another part of a configuration.
 
-ghost use Rattle.std.specs.Prelude.{◌≡◌, filter};
+ghost use Rattle.std.specs.Prelude.{◌≡◌, filter, if◌then◌else◌};
 ghost use Rattle.roam_reload.specs.Kept.{keeps_sessions, of_peer};
+ghost use Rattle.roam_reverse.specs.Sessions.{without_peer};
 ghost use Rattle.roam_book.specs.Carrying.{AreChanged};
 ghost use Rattle.roam_book.specs.Reload.{sessions_then};
 
@@ -10,6 +11,22 @@ use crate::state::realm_settings::RealmSettings;
 use roam_reload::peer_keeps_sessions;
 use roam_reverse::Sessions;
 use std::alloc::Allocator;
+
+/// The sessions of a peer are closed, if it went.
+fn close_if_gone<A: Allocator + Copy>(
+    old: &RealmSettings<'_>,
+    new: &RealmSettings<'_>,
+    peer: u16,
+    sessions: &mut Sessions<A>,
+)
+    ensures sessions { sessions.new.sessions ≡ (if of_peer keeps_sessions old.now.peers new.now.peers peer
+        then sessions.old.sessions else without_peer peer sessions.old.sessions) }
+    ensures limit { sessions.new.limit ≡ sessions.old.limit }
+{
+    if !peer_keeps_sessions(old.peers(), new.peers(), peer) {
+        sessions.close_peer(peer);
+    }
+}
 
 /// The sessions of peers that went are closed.
 fn close_gone<A: Allocator + Copy>(
@@ -24,9 +41,7 @@ fn close_gone<A: Allocator + Copy>(
     ensures limit { sessions.new.limit ≡ sessions.old.limit }
 {
     for peer in changed {
-        if !peer_keeps_sessions(old.peers(), new.peers(), *peer) {
-            sessions.close_peer(*peer);
-        }
+        close_if_gone(old, new, *peer, sessions);
     }
 }
 

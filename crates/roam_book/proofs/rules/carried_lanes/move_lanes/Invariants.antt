@@ -1,4 +1,4 @@
-use Rattle.roam_book.proofs.MovingLemmas.{IsMoving}
+use Rattle.roam_book.specs.Private.Moving.{IsMoving}
 use Rattle.roam_book.proofs.rules.carried_lanes.move_lanes.Given as goal
 
 abbrev pub invariant-loop-place : goal.invariant-loop-place
