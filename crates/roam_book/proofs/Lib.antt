@@ -53,6 +53,12 @@ pub mod CarriedSessionLemmas
 pub mod CarryingLemmas
 pub mod MovedRestLemmas
 pub mod CarriedOverLemmas
+pub mod LossLemmas
+pub mod LostLemmas
+pub mod LostSessionLemmas
+pub mod ChangedLemmas
+pub mod NothingLostLemmas
+pub mod BookCarryLemmas
 pub mod EndsLemmas
 pub mod WrittenLemmas
 pub mod EntriesOverLemmas

@@ -234,6 +234,8 @@ impl<'c, A: Allocator + Copy> Book<'c, A> {
             &mut self.numbers,
             fresh,
         );
+        // What the list keeps is said where it is counted.
+        let _count = self.entries.len();
         self.config = config;
         Ok(())
     }
