@@ -33,8 +33,9 @@ fn give_back<A: Allocator + Copy>(
     ensures cursors { cursors_of numbers.new.lanes.items ≡ cursors_of numbers.old.lanes.items }
     ensures marks { marks_of numbers.new.lanes.items ≡ marks_of numbers.old.lanes.items }
 {
-    if let Standing::Waiting(waiting) = &entry.standing {
-        numbers.give_back(old, waiting.link, waiting.id);
+    match &entry.standing {
+        Standing::Waiting(waiting) => numbers.give_back(old, waiting.link, waiting.id),
+        Standing::Done(_) => {}
     }
 }
 
@@ -58,8 +59,9 @@ fn let_go<A: Allocator + Copy, E: Entries<A>>(
     ensures cursors { cursors_of numbers.new.lanes.items ≡ cursors_of numbers.old.lanes.items }
     ensures marks { marks_of numbers.new.lanes.items ≡ marks_of numbers.old.lanes.items }
 {
-    if let Some(entry) = entries.remove(old.index(), ticket) {
-        give_back(old, numbers, &entry);
+    match entries.remove(old.index(), ticket) {
+        Some(entry) => give_back(old, numbers, &entry),
+        None => {}
     }
 }
 
