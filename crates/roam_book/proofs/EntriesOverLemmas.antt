@@ -1,8 +1,9 @@
 -- The entries of a realm that goes on: those that stay, and of these few enough.
-use Rattle.std.proofs.Common.{◌≡◌, ℕ, ◌-◌, ◌<◌, ◌≤◌, true, false, List, length, refl, sym, ap, ◌∙◌, arith, nat_lt}
+use Rattle.std.proofs.Common.{◌≡◌, ◌⊎◌, inl, inr, ℕ, ◌-◌, ◌<◌, ◌≤◌, true, false, List, None, length, refl, sym, ap, ◌∙◌, arith, nat_lt}
 use Rattle.std.specs.List.{filter_map}
 use Rattle.std.proofs.lemmas.Bool.Decides.{nat_tests}
 use Rattle.roam_conf.specs.declared.place.Link.{Link}
+use Rattle.roam_pending.specs.EntryList.{first_done}
 use Rattle.roam_pending.specs.PlainEntry.{PlainEntry, waiting}
 use Rattle.roam_pending.specs.Realms.{RealmBecomes}
 use Rattle.roam_book.specs.Carrying.{StandAsBefore}
@@ -10,6 +11,7 @@ use Rattle.roam_book.specs.RealmConfig.{IsLink, RealmConfig, link_count}
 use Rattle.roam_book.specs.Reload.{entries_then, entry_then, few_enough, rests_then, without_done}
 use Rattle.roam_book.specs.Sound.{IsEntry, StandsWell}
 use Rattle.roam_book.specs.declared.state.rest.Rest.{Rest}
+use Rattle.roam_book.proofs.FewLemmas.{none_goes}
 use Rattle.roam_book.proofs.RenewLemmas.{as_many}
 
 pub few_after : (old new : RealmConfig) (first mid last : ℕ → List PlainEntry)
@@ -53,3 +55,15 @@ no_fewer old new stand =
 pub rests_stay : (old new : RealmConfig) (rests : List Rest) → StandAsBefore old new
     → rests ≡ rests_then old new rests
 rests_stay old new rests stand = rw stand.servers refl
+
+-- ---- where no more make way
+
+pub none_left : (most n : ℕ) (es : List PlainEntry) → n ≡ length es - most
+    → (first_done es ≡ None) ⊎ (length es ≤ most) → without_done n es ≡ es
+none_left most n es at h =
+    elim h as (λ _. without_done n es ≡ es) [
+      | inl none ↦ none_goes n es none
+      | inr few ↦ (
+          let none : n ≡ 0 = omega (arith, at, few) in
+          ap (λ (k : ℕ). without_done k es) none)
+    ]
