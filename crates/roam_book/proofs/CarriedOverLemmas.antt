@@ -1,5 +1,5 @@
 -- A realm that is carried over stands for the state that it is to have, and keeps what a realm keeps.
-use Rattle.std.proofs.Common.{◌≡◌, ℕ, ◌-◌, ◌<◌, ◌≤◌, ◌^◌, Bool, true, false, List, ◌++◌, Option, Some, None, length, replicate, nat_lt, refl, sym, ap, subst, ◌∙◌, arith, if◌then◌else◌}
+use Rattle.std.proofs.Common.{◌≡◌, ℕ, ◌-◌, ◌<◌, ◌≤◌, ◌^◌, Bool, true, false, List, ◌++◌, Option, Some, None, length, replicate, nat_lt, vec_capacity, refl, sym, ap, subst, ◌∙◌, arith, if◌then◌else◌}
 use Rattle.std.specs.List.{AllByRecursion, filter_map}
 use Rattle.std.proofs.lemmas.List.{length-map}
 use Rattle.roam_ids.specs.LaneState.{LaneState}
@@ -7,7 +7,7 @@ use Rattle.roam_pending.specs.EntryList.{IsInOrder}
 use Rattle.roam_pending.specs.PlainEntry.{PlainEntry}
 use Rattle.roam_reverse.specs.Sessions.{Session}
 use Rattle.roam_reverse.specs.Shown.{Ledger}
-use Rattle.roam_book.specs.Carrying.{HaveDistinctServers, IsReadyToCarry}
+use Rattle.roam_book.specs.Carrying.{HaveDistinctServers, IsReadyToCarry, StandAsBefore}
 use Rattle.roam_book.specs.Private.MoreLanes.{AreMoreLanes}
 use Rattle.roam_book.specs.Private.Moving.{AreMoved, staying}
 use Rattle.roam_book.specs.RealmConfig.{RealmConfig, link_count}
@@ -150,3 +150,8 @@ pub still_ready : {A : Type 0} (old new : RealmConfig) (was now : RealmNumbers A
 still_ready old new was now None keeps ready =
     (subst (λ (n : ℕ). link_count new ≤ n) (sym keeps.capacity) ready.0, ready.1)
 still_ready old new was now (Some fresh) keeps ready = ready
+
+pub ready_none : {A : Type 0} (old new : RealmConfig) (was : RealmNumbers A) (o : Option (FreshLanes A)) → o ≡ None
+    → IsReadyToCarry old new was o → (link_count new ≤ vec_capacity was.lanes) × StandAsBefore old new
+ready_none old new was None is ready = ready
+ready_none old new was (Some fresh) is ready = absurd (cc is)

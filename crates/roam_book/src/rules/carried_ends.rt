@@ -1,7 +1,7 @@
 //! What the ends of an entry are when its realm goes on under another part of a configuration: its sender, and its
 //! link.
 
-ghost use Rattle.std.specs.Prelude.{◌≡◌, ◌<◌, IfSome, IfNone, Some, None, if◌then◌else◌, length, option_and_then, option_map};
+ghost use Rattle.std.specs.Prelude.{◌≡◌, ◌<◌, IfSome, IfNone, Some, None, false, if◌then◌else◌, length, option_and_then, option_map, true};
 ghost use Rattle.roam_wire.specs.Reading.{IsPacketText, packet_of};
 ghost use Rattle.roam_pending.specs.Realms.{with_ends, with_home};
 ghost use Rattle.roam_pending.specs.Shown.{shown, shown_request};
@@ -125,6 +125,26 @@ fn still_fits<A: Allocator>(new: &RealmSettings<'_>, peer: u16, request: &Reques
     can_be_shaped(&packet, &new.shaping_from(peer))
 }
 
+/// Whether a peer's request stays.
+fn peer_stays<A: Allocator>(
+    old: &RealmSettings<'_>,
+    new: &RealmSettings<'_>,
+    peer: u16,
+    request: &Request<A>,
+) -> bool
+    requires request { IsRequest old.now (shown_request request.now) }
+    requires sender { request.now.requester ≡ Requester.Peer peer }
+    ensures stays { result ≡ true → request_then old.now new.now (shown_request request.now)
+        ≡ Some (request_from (shown_request request.now) (with_home None request.now.requester)) }
+    ensures goes { result ≡ false → request_then old.now new.now (shown_request request.now) ≡ None }
+{
+    if peer_keeps_requests(old.peers(), new.peers(), peer) {
+        still_fits(new, peer, request)
+    } else {
+        false
+    }
+}
+
 /// The sender of a request then: the number of the home server, where one sent it. None where its requests don't stay.
 fn sender_then<A: Allocator>(
     old: &RealmSettings<'_>,
@@ -138,9 +158,7 @@ fn sender_then<A: Allocator>(
 {
     match request.requester {
         Requester::Peer(peer) => {
-            if peer_keeps_requests(old.peers(), new.peers(), peer)
-                && still_fits(new, peer, request)
-            {
+            if peer_stays(old, new, peer, request) {
                 Some(None)
             } else {
                 None
