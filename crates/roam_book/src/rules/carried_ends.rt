@@ -183,6 +183,40 @@ fn held_link(old: &RealmSettings<'_>, new: &RealmSettings<'_>, from: Option<Link
     }
 }
 
+/// The ends of an entry then, of which the request stays; none where it waits at a link that doesn't.
+fn standing_ends<A: Allocator>(
+    old: &RealmSettings<'_>,
+    new: &RealmSettings<'_>,
+    entry: &Entry<A>,
+    home: Option<u8>,
+) -> Option<Ends>
+    requires { request_then old.now new.now (shown entry.now).request
+        ≡ Some (request_from (shown entry.now).request (with_home home (shown entry.now).request.requester)) }
+    ensures stays { IfSome result (λ ends. entry_then old.now new.now (shown entry.now)
+        ≡ Some (with_ends ends.home ends.link (shown entry.now))) }
+    ensures goes { IfNone result (entry_then old.now new.now (shown entry.now) ≡ None) }
+{
+    match &entry.standing {
+        Standing::Waiting(waiting) => {
+            match way_then(old, new, waiting.link) {
+                Some(link) => {
+                    Some(Ends {
+                        home,
+                        link: Some(link),
+                    })
+                }
+                None => None,
+            }
+        }
+        Standing::Done(done) => {
+            Some(Ends {
+                home,
+                link: held_link(old, new, done.from),
+            })
+        }
+    }
+}
+
 /// The ends of an entry then; none where it doesn't stay.
 pub(crate) fn ends_then<A: Allocator>(
     old: &RealmSettings<'_>,
@@ -194,18 +228,8 @@ pub(crate) fn ends_then<A: Allocator>(
         ≡ Some (with_ends ends.home ends.link (shown entry.now))) }
     ensures goes { IfNone result (entry_then old.now new.now (shown entry.now) ≡ None) }
 {
-    let home = sender_then(old, new, &entry.request)?;
-    match &entry.standing {
-        Standing::Waiting(waiting) => {
-            let link = way_then(old, new, waiting.link)?;
-            Some(Ends {
-                home,
-                link: Some(link),
-            })
-        }
-        Standing::Done(done) => {
-            let link = held_link(old, new, done.from);
-            Some(Ends { home, link })
-        }
+    match sender_then(old, new, &entry.request) {
+        Some(home) => standing_ends(old, new, entry, home),
+        None => None,
     }
 }

@@ -111,8 +111,9 @@ fn fill_place<A: Allocator>(
         → IsMoving old.now new.now first before.new.items after.new.items (place + 1) }
 {
     let _few = new.link_count();
-    if let Some(from) = place_before(old, new, link_at(new, place)) {
-        move_lane(&mut before[from], &mut after[place], tag_of(new, place));
+    match place_before(old, new, link_at(new, place)) {
+        Some(from) => move_lane(&mut before[from], &mut after[place], tag_of(new, place)),
+        None => {}
     }
 }
 
