@@ -1,5 +1,7 @@
 //! What lies under a shard's lock is written as ledgers.
 
+ghost use Rattle.std.specs.Prelude.{◌<◌};
+
 use crate::locked_trace::LockedTrace;
 use roam_audit::Seat;
 use roam_history::Opened;

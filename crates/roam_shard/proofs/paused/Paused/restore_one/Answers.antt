@@ -14,8 +14,15 @@ use Rattle.roam_shard.proofs.paused.Paused.restore_one.Goals as goal
 pub new-requires : goal.new-requires
 new-requires g c =
     let realms = c.args.config.now.realms in
-    omega (arith, c.from.ensures, c.if-from-len.false, c.requires.count, length-map realms.items shown_realm,
-    realms.ok.0, c.args.self.now.numbers.ok.0)
+    omega (
+      arith,
+      c.from.ensures,
+      c.if-from-len.false,
+      c.requires.count,
+      length-map realms.items shown_realm,
+      realms.ok.0,
+      c.args.self.now.numbers.ok.0,
+    )
 
 pub restore-requires : goal.restore-requires
 restore-requires g c =
