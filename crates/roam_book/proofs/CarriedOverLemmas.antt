@@ -1,24 +1,21 @@
 -- A realm that is carried over stands for the state that it is to have, and keeps what a realm keeps.
-use Rattle.std.proofs.Common.{◌≡◌, ℕ, ◌-◌, ◌<◌, ◌≤◌, ◌^◌, Bool, true, false, List, ◌++◌, Option, Some, None, length, replicate, nat_lt, vec_capacity, refl, sym, ap, subst, ◌∙◌, arith, if◌then◌else◌}
+use Rattle.std.proofs.Common.{◌≡◌, ℕ, ◌-◌, ◌<◌, ◌≤◌, ◌^◌, Bool, true, false, List, ◌++◌, Option, Some, None, length, replicate, nat_lt, vec_capacity, sym, ap, subst, ◌∙◌, if◌then◌else◌}
 use Rattle.std.specs.List.{AllByRecursion, filter_map}
 use Rattle.std.proofs.lemmas.List.{length-map}
 use Rattle.roam_ids.specs.LaneState.{LaneState}
 use Rattle.roam_pending.specs.EntryList.{IsInOrder}
 use Rattle.roam_pending.specs.PlainEntry.{PlainEntry}
-use Rattle.roam_reverse.specs.Sessions.{Session}
 use Rattle.roam_reverse.specs.Shown.{Ledger}
 use Rattle.roam_book.specs.Carrying.{HaveDistinctServers, IsReadyToCarry, StandAsBefore}
 use Rattle.roam_book.specs.Private.MoreLanes.{AreMoreLanes}
 use Rattle.roam_book.specs.Private.Moving.{AreMoved, staying}
 use Rattle.roam_book.specs.RealmConfig.{RealmConfig, link_count}
-use Rattle.roam_book.specs.RealmState.{RealmState}
-use Rattle.roam_book.specs.Reload.{Carries, carried, cursors_then, entries_then, entry_then, few_enough, rests_then, sessions_then, without_done}
+use Rattle.roam_book.specs.Reload.{Carries, carried, cursors_then, entries_then, entry_then, rests_then, sessions_then, without_done}
 use Rattle.roam_book.specs.Sound.{AreOwnLanes, IsEntry, IsSound, LanesTell, cursors_of, marks_of, state_of}
 use Rattle.roam_book.specs.Stays.{KeepsButLanes}
 use Rattle.roam_book.specs.declared.rules.carried_lanes.FreshLanes.{FreshLanes}
 use Rattle.roam_book.specs.declared.state.realm_numbers.RealmNumbers.{RealmNumbers}
-use Rattle.roam_book.specs.declared.state.rest.Rest.{Rest}
-use Rattle.roam_book.proofs.EntryThenLemmas.{due_stays, entries_stay, entry_parts}
+use Rattle.roam_book.proofs.EntryThenLemmas.{entries_stay, entry_parts}
 use Rattle.roam_book.proofs.ByTicketLemmas.{order_kept}
 use Rattle.roam_book.proofs.FewLemmas.{each_left, tells_left}
 use Rattle.roam_book.proofs.MovedLaneLemmas.{cursors_moved, own_moved, tells_moved}

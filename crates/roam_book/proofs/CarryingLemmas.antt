@@ -1,17 +1,15 @@
 -- A realm's entries are carried over one after the other, in the lanes that they had.
-use Rattle.std.proofs.Common.{◌≡◌, ◌≢◌, inl, inr, ℕ, ◌<◌, ◌≤◌, Bool, true, false, List, [], ◌∷◌, length, map, option_map, Option, Some, None, refl, sym, ap, subst, ◌∙◌, arith}
-use Rattle.std.specs.Prelude.{option_and_then}
+use Rattle.std.proofs.Common.{◌≡◌, ℕ, ◌<◌, false, List, length, option_map, Option, Some, None, refl, sym, ap, subst, ◌∙◌}
 use Rattle.std.specs.List.{AllByRecursion, filter, filter_map}
 use Rattle.std.proofs.lemmas.Option.{same_Some}
 use Rattle.roam_conf.specs.declared.place.Link.{Link}
 use Rattle.roam_ids.specs.LaneState.{LaneState}
 use Rattle.roam_pending.specs.declared.due.Due.{Due}
 use Rattle.roam_pending.specs.DueOrder.{due_at, is_after}
-use Rattle.roam_pending.specs.EntryList.{IsInOrder, find_ticket, put, without}
+use Rattle.roam_pending.specs.EntryList.{IsInOrder, find_ticket, without}
 use Rattle.roam_pending.specs.ListLaws.{IsIn, IsNextEntry}
-use Rattle.roam_pending.specs.PlainEntry.{PlainEntry, PlainStanding, waiting, done, waits_at}
+use Rattle.roam_pending.specs.PlainEntry.{PlainEntry}
 use Rattle.roam_pending.specs.Realms.{PutsChanged, RealmBecomes, with_ends}
-use Rattle.roam_pending.proofs.ChangeLemmas.{found-ticket}
 use Rattle.roam_pending.proofs.OrderLemmas.{without-absent}
 use Rattle.roam_book.specs.Private.Moving.{kept_or_gone, set_or_gone, staying, then_at}
 use Rattle.roam_book.specs.RealmConfig.{RealmConfig, link_count}

@@ -1,5 +1,5 @@
 -- The ends of an entry then, by its sender and by how it stands.
-use Rattle.std.proofs.Common.{◌≡◌, ◌↔◌, inl, inr, ℕ, ◌<◌, ◌≤◌, ◌&&◌, Bool, true, false, not, List, length, Option, Some, None, is_some, option_map, refl, sym, ap, subst, ◌∙◌, slice_get, if◌then◌else◌}
+use Rattle.std.proofs.Common.{◌≡◌, ◌↔◌, inl, inr, ℕ, ◌<◌, ◌&&◌, Bool, true, false, not, List, length, Option, Some, None, is_some, option_map, refl, sym, ap, ◌∙◌, slice_get, if◌then◌else◌}
 use Rattle.std.specs.Option.{option_and_then}
 use Rattle.std.proofs.lemmas.Bool.{cases_Bool}
 use Rattle.roam_wire.specs.Reading.{packet_of}
@@ -13,7 +13,7 @@ use Rattle.roam_reload.specs.Kept.{home_then, keeps_requests, of_peer}
 use Rattle.roam_book.specs.RealmConfig.{RealmConfig}
 use Rattle.roam_book.specs.Reload.{entry_of, entry_then, fits, outgrows, request_from, request_then, requester_then, standing_then, way_then}
 use Rattle.roam_book.specs.Shapings.{shaping_from}
-use Rattle.roam_book.specs.Sound.{IsOfPeer, IsRequest}
+use Rattle.roam_book.specs.Sound.{IsOfPeer}
 use Rattle.roam_book.proofs.EntryThenLemmas.{does_fit, has_size, peer_there}
 
 -- ---- its sender

@@ -1,10 +1,10 @@
 -- A link of both parts is one in each: what it is then, and what it was, are one relation read from its two ends.
 use Rattle.std.proofs.Common.{◌≡◌, ◌⊎◌, ℕ, zero, suc, ◌+◌, ◌*◌, ◌<◌, ◌≤◌, ◌&&◌, Bool, true, false, List, [], ◌∷◌, length, Option, Some, None, option_map, refl, sym, ap, subst, ◌∙◌, arith, inl, inr, slice_get, if◌then◌else◌}
 use Rattle.std.specs.List.{position_from}
-use Rattle.std.specs.Option.{option_and_then, option_map_or}
+use Rattle.std.specs.Option.{option_and_then}
 use Rattle.std.specs.Str.{bytes_eq}
 use Rattle.std.proofs.lemmas.Bool.{cases_Bool, cases_lt, or_parts}
-use Rattle.std.proofs.lemmas.Option.{same_Some, slice_get_past}
+use Rattle.std.proofs.lemmas.Option.{same_Some}
 use Rattle.std.proofs.lemmas.Slice.Eq.{bytes_eq-Decides}
 use Rattle.roam_conf.specs.Config.{PeerView, RealmView, ServerView}
 use Rattle.roam_conf.specs.Duplicates.{has_pair, has_pair_of_servers, same_client, same_endpoint, server_endpoints}

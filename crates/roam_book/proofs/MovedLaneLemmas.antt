@@ -1,8 +1,8 @@
 -- Lanes that are moved have the cursors and the tags that they are to have, and tell the entries that stay.
-use Rattle.std.proofs.Common.{◌≡◌, ◌⊎◌, inl, inr, ◌==◌, ◌&&◌, ℕ, zero, suc, ◌+◌, ◌*◌, ◌<◌, ◌≤◌, Bool, true, false, List, [], ◌∷◌, length, map, get_or, Option, Some, None, is_some, option_map, refl, sym, ap, subst, ◌∙◌, arith, if◌then◌else◌}
+use Rattle.std.proofs.Common.{◌≡◌, ◌⊎◌, inl, inr, ◌==◌, ◌&&◌, ℕ, ◌+◌, ◌*◌, ◌<◌, ◌≤◌, Bool, true, false, List, [], ◌∷◌, length, get_or, Option, Some, None, is_some, option_map, refl, sym, ap, subst, ◌∙◌, arith, if◌then◌else◌}
 use Rattle.std.specs.List.{AllByRecursion, cons_option, filter_map}
 use Rattle.std.specs.Option.{option_and_then, option_map_or}
-use Rattle.std.proofs.lemmas.Bool.{cases_Bool, cases_eq, cases_lt}
+use Rattle.std.proofs.lemmas.Bool.{cases_Bool}
 use Rattle.std.proofs.lemmas.Bool.Decides.{nat_tests}
 use Rattle.std.proofs.lemmas.List.{get_or_past, length-map}
 use Rattle.std.proofs.lemmas.Option.{same_Some}
@@ -13,14 +13,13 @@ use Rattle.roam_ids.specs.Standing.{is_in_use, ticket_of}
 use Rattle.roam_ids.specs.declared.id_state.IdState.{IdState}
 use Rattle.roam_pending.specs.EntryList.{IsInOrder, find_ticket}
 use Rattle.roam_pending.specs.PlainEntry.{PlainEntry, PlainRequest, PlainStanding, waiting, done, same_link, stands_at, waits_at}
-use Rattle.roam_reload.specs.Kept.{keeps_coa, of_peer, same_out}
 use Rattle.roam_book.specs.Carrying.{HaveDistinctServers}
-use Rattle.roam_book.specs.Private.Moving.{AreMoved, IsLeft, StandsFor, if_stays, lane_before, staying}
+use Rattle.roam_book.specs.Private.Moving.{AreMoved, if_stays, staying}
 use Rattle.roam_book.specs.RealmConfig.{IsLink, RealmConfig, link_count, link_place}
 use Rattle.roam_book.specs.Reload.{cursor_then, cursors_then, entry_then, links_of, standing_then, way_before, way_then}
 use Rattle.roam_book.specs.Sound.{AreOwnLanes, IsEntry, LanesTell, StandsWell, TellsAt, cursors_of, is_parked, lane_of, marks_of, no_lane, waits_there}
 use Rattle.roam_book.proofs.ByTicketLemmas.{found_kept}
-use Rattle.roam_book.proofs.EntryThenLemmas.{due_stays, entry_parts}
+use Rattle.roam_book.proofs.EntryThenLemmas.{entry_parts}
 use Rattle.roam_book.proofs.LinkPlaceLemmas.{by_links, cursor_at, link_of_place, links_number, links_stand, made_at, tags_by}
 use Rattle.roam_book.proofs.LinkThenLemmas.{was_there, way_back, way_forth}
 use Rattle.roam_book.proofs.ReloadLemmas.{none_waits}

@@ -1,8 +1,8 @@
 -- Lanes that stay where they are, of which some begin anew, with further ones behind them.
-use Rattle.std.proofs.Common.{◌≡◌, ◌≢◌, ◌⊎◌, inl, inr, ℕ, zero, suc, ◌+◌, ◌-◌, ◌*◌, ◌<◌, ◌≤◌, ◌&&◌, Bool, true, false, List, [], ◌∷◌, ◌++◌, length, map, get_or, set, take, replicate, Option, Some, None, refl, sym, ap, subst, ◌∙◌, arith, slice_get, add-one, if◌then◌else◌}
+use Rattle.std.proofs.Common.{◌≡◌, ◌⊎◌, inl, inr, ℕ, zero, suc, ◌+◌, ◌-◌, ◌*◌, ◌<◌, ◌≤◌, ◌&&◌, Bool, true, false, List, [], ◌∷◌, ◌++◌, length, map, get_or, set, take, replicate, Option, Some, refl, sym, ap, subst, ◌∙◌, arith, slice_get, add-one, if◌then◌else◌}
 use Rattle.std.specs.Cmp.Lexicographic.{as_long, pointwise}
 use Rattle.std.specs.Option.{option_map, option_map_or}
-use Rattle.std.proofs.lemmas.Bool.{cases_Bool, cases_eq, cases_lt}
+use Rattle.std.proofs.lemmas.Bool.{cases_eq, cases_lt}
 use Rattle.std.proofs.lemmas.List.{get_or-append_right, get_or-replicate, get_or-set_other, get_or-set_same, get_or-take, get_or_past, length-map, length-set}
 use Rattle.roam_conf.specs.Config.{PeerView, ServerView}
 use Rattle.roam_conf.specs.declared.place.Link.{Link}
@@ -10,7 +10,7 @@ use Rattle.roam_conf.specs.declared.place.Link.TheVariants as link
 use Rattle.roam_ids.specs.LaneState.{LaneState, place_at}
 use Rattle.roam_ids.specs.declared.id_state.IdState.TheVariants.{Free}
 use Rattle.roam_pending.specs.ListLaws.{IsIn}
-use Rattle.roam_reload.specs.Kept.{both_or_none, keeps_coa, of_peer, same_out, same_server, same_servers, server_then}
+use Rattle.roam_reload.specs.Kept.{both_or_none, keeps_coa, of_peer, same_server, server_then}
 use Rattle.roam_reload.specs.Reload.{peer_part}
 use Rattle.roam_reload.proofs.KeptLemmas.{coa_stays}
 use Rattle.roam_book.specs.Carrying.{AreChanged, StandAsBefore}
@@ -19,7 +19,7 @@ use Rattle.roam_book.specs.Private.Moving.{AreMoved, AreRenewed, StandsFor, coa_
 use Rattle.roam_book.specs.RealmConfig.{IsLink, RealmConfig, link_count, link_place}
 use Rattle.roam_book.specs.Reload.{link_before, way_before}
 use Rattle.roam_book.specs.Sound.{AreOwnLanes, Mark, cursors_of, lane_of, marks_of, no_lane, own_tags}
-use Rattle.roam_book.proofs.LinkPlaceLemmas.{cursor_at, made_at, place_below, tag_of_lane, tags_by}
+use Rattle.roam_book.proofs.LinkPlaceLemmas.{cursor_at, made_at, tag_of_lane, tags_by}
 use Rattle.roam_book.proofs.LinkThenLemmas.{other_way}
 
 -- ---- as many servers, each where it stood

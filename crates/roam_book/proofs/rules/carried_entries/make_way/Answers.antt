@@ -1,4 +1,4 @@
-use Rattle.std.proofs.Common.{◌∙◌, ap, arith, refl, sym}
+use Rattle.std.proofs.Common.{◌∙◌, arith, refl, sym}
 use Rattle.roam_book.proofs.EntriesOverLemmas.{none_left}
 use Rattle.roam_book.proofs.FewLemmas.{one_fewer, turn}
 use Rattle.roam_book.proofs.rules.carried_entries.make_way.Goals as goal

@@ -1,6 +1,5 @@
-use Rattle.std.proofs.Common.{◌≡◌, ◌∙◌, None, Option, Some, subst, sym}
+use Rattle.std.proofs.Common.{◌≡◌, ◌∙◌, None, Some, subst, sym}
 use Rattle.std.proofs.lemmas.Option.{same_Some}
-use Rattle.roam_conf.specs.declared.place.Link.{Link}
 use Rattle.roam_book.specs.RealmConfig.{IsLink}
 use Rattle.roam_book.proofs.rules.carried_lanes.place_before.Goals as goal
 

@@ -1,4 +1,4 @@
-use Rattle.std.proofs.Common.{◌∙◌, arith}
+use Rattle.std.proofs.Common.{arith}
 use Rattle.roam_book.proofs.MovedRestLemmas.{all_rest, none_rest, one_rests}
 use Rattle.roam_book.proofs.rules.carried_rests.move_rests.Goals as goal
 

@@ -1,4 +1,4 @@
-use Rattle.std.proofs.Common.{◌∙◌, arith}
+use Rattle.std.proofs.Common.{arith}
 use Rattle.roam_book.proofs.EntriesOverLemmas.{no_fewer}
 use Rattle.roam_book.proofs.RenewLemmas.{keeps_moved}
 use Rattle.roam_book.proofs.state.realm_numbers.RealmNumbers.keep_lanes.Goals as goal
