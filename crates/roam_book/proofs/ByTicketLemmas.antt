@@ -110,7 +110,8 @@ module _ (f : PlainEntry → Option PlainEntry)
 
   here_by : (t : ℕ) (x : PlainEntry) (xs : List PlainEntry) (o : Option PlainEntry) → f x ≡ o → x.ticket ≡ t
       → IsAbove x.ticket xs → find_ticket t (cons_option o (filter_map f xs)) ≡ o
-  here_by t x xs None is at above = find-above x.ticket t (filter_map f xs) (omega (arith, at)) (above_kept x.ticket xs above)
+  here_by t x xs None is at above =
+      find-above x.ticket t (filter_map f xs) (omega (arith, at)) (above_kept x.ticket xs above)
   here_by t x xs (Some y) is at above =
       ap (λ (n : ℕ). find_ticket n (y ∷ filter_map f xs)) (sym at ∙ sym (own x y is)) ∙ first_found y (filter_map f xs)
 

@@ -76,7 +76,8 @@ module _ {A : Type 0} (old new : RealmConfig) (es : List PlainEntry) (was mid mo
       let all = filter_map (entry_then old new) es in
       let fewer = nat_lt new.realm.max_pending old.realm.max_pending in
       let count : length mid.lanes.items ≡ link_count old = keeps.count ∙ sound.lane_count in
-      let told = tells_moved old new once was.ticket es order sound.each mid.lanes.items count tells moved.lanes.items are in
+      let told = tells_moved old new once was.ticket es order sound.each mid.lanes.items count tells
+      moved.lanes.items are in
       subst (λ (l : List PlainEntry). IsSound new l then') (sym entries) (record {
         each = subst (λ (t : ℕ). AllByRecursion (IsEntry new t) (entries_then old new es)) (sym same_ticket)
             (few_by (IsEntry new was.ticket) fewer (length all - new.realm.max_pending) all stay);
@@ -95,7 +96,8 @@ module _ {A : Type 0} (old new : RealmConfig) (es : List PlainEntry) (was mid mo
 pub untouched_state : {A : Type 0} (old new : RealmConfig) (es : List PlainEntry) (was then' : RealmNumbers A)
     → Carries old new → length was.lanes.items ≡ link_count old
     → AreMoreLanes new (link_count new) was.lanes.items then'.lanes.items → then'.ticket ≡ was.ticket
-    → then'.stream_position ≡ was.stream_position → then'.rests.items ≡ was.rests.items → then'.sessions ≡ was.sessions
+    → then'.stream_position ≡ was.stream_position → then'.rests.items ≡ was.rests.items
+    → then'.sessions ≡ was.sessions
     → state_of es then' ≡ carried old new (state_of es was)
 untouched_state old new es was then' k count more ticket place rests sessions =
     let s = state_of es was in

@@ -50,7 +50,8 @@ peer_off old new q p is keeps =
     ∙ rw keeps (either_way (outgrows old new q (requester.Peer p)) None)
 
 pub peer_big : (old new : RealmConfig) (q : PlainRequest) (p : ℕ) → q.requester ≡ requester.Peer p
-    → p < length old.peers → IsOfPeer old p (packet_of q.octets) → fits new p q ≡ false → request_then old new q ≡ None
+    → p < length old.peers → IsOfPeer old p (packet_of q.octets) → fits new p q ≡ false
+    → request_then old new q ≡ None
 peer_big old new q p is below well big =
     let there = peer_there old.peers p below in
     let fit = does_fit old p q well.can_be_shaped in
@@ -89,7 +90,8 @@ entry_by old new e q s asked stood =
     ∙ ap (entry_of e.ticket (Some q)) stood
 
 module _ (old new : RealmConfig) (e : PlainEntry) (home : Option ℕ)
-    (asked : request_then old new e.request ≡ Some (request_from e.request (with_home home e.request.requester))) where
+    (asked : request_then old new e.request ≡ Some (request_from e.request
+    (with_home home e.request.requester))) where
   waiting_then : (l : Link) (id : ℕ) (forwarded : List ℕ) (sends_left deadline signs : ℕ) (o : Option Link)
       → e.standing ≡ waiting l id forwarded sends_left deadline signs → way_then old new l ≡ o
       → standing_then old new e.standing ≡ option_map (λ m. waiting m id forwarded sends_left deadline signs) o

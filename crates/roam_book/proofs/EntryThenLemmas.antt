@@ -26,7 +26,8 @@ use Rattle.roam_book.specs.RealmConfig.{RealmConfig, IsRequester}
 use Rattle.roam_book.specs.Reload.{entry_of, entry_then, fits, outgrows, request_from, request_then, requester_then, standing_then, way_then}
 use Rattle.roam_book.specs.Shapings.{shaping_from}
 use Rattle.roam_book.specs.Sound.{CanGo, IsEntry, IsOfPeer, IsRequest, IsWaiting, StandsWell}
-use Rattle.roam_book.proofs.LinkThenLemmas.{found_at, way_back}
+use Rattle.roam_book.proofs.LinkThenLemmas.{way_back}
+use Rattle.roam_book.proofs.ServerThenLemmas.{found_at}
 
 -- ---- its parts
 
@@ -43,7 +44,12 @@ parts_by old new before after None (Some s) asked stood is = absurd (cc is)
 parts_by old new before after (Some q) None asked stood is = absurd (cc is)
 parts_by old new before after (Some q) (Some s) asked stood is =
     let one : PlainEntry = record { request = q; ticket = before.ticket; standing = s } in
-    subst (HasParts old new before) (same_Some one after is) (record { ticket = refl; request = asked; standing = stood })
+    subst (HasParts old new before) (same_Some one after is) (record {
+      ticket = refl;
+      request = asked;
+      standing =
+          stood;
+    })
 
 pub entry_parts : (old new : RealmConfig) (before after : PlainEntry) → entry_then old new before ≡ Some after
     → HasParts old new before after

@@ -87,7 +87,8 @@ one_fewer es t order is =
     let found = done-found es t order is in length-without t es found.0 order found.1
 
 -- while there are too many, the next one goes
-pub turn : (most : ℕ) (first cur : List PlainEntry) (t : ℕ) → IsInOrder cur → first_done cur ≡ Some t → most < length cur
+pub turn : (most : ℕ) (first cur : List PlainEntry) (t : ℕ) → IsInOrder cur → first_done cur ≡ Some t
+    → most < length cur
     → without_done (length cur - most) cur ≡ without_done (length first - most) first
     → without_done (length (without t cur) - most) (without t cur) ≡ without_done (length first - most) first
 turn most first cur t order is many inv =
@@ -144,4 +145,5 @@ waits_left l id t (e ∷ es) (suc n) order =
 pub tells_left : (c : RealmConfig) (lanes : List LaneState) (es : List PlainEntry) (n : ℕ) → IsInOrder es
     → LanesTell c es lanes → LanesTell c (without_done n es) lanes
 tells_left c lanes es n order tells l link id octet =
-    tells-same l (lane_of c lanes l) id es (without_done n es) (λ t. waits_left l id t es n order) (tells l link id octet)
+    tells-same l (lane_of c lanes l) id es (without_done n es) (λ t. waits_left l id t es n order)
+    (tells l link id octet)

@@ -46,7 +46,8 @@ pub own_moved : (old new : RealmConfig) (before after : List LaneState) → AreM
 own_moved old new before after moved = record {
   tags = tags_by new.index (link_count new) after moved.count (λ k below.
       let at = link_of_place new k below in
-      subst (λ (n : ℕ). (get_or after n no_lane).tag ≡ new.index * 65536 + n) at.place (moved.each at.link at.is).tag);
+      subst (λ (n : ℕ). (get_or after n no_lane).tag ≡ new.index * 65536 + n) at.place
+      (moved.each at.link at.is).tag);
   servers = λ place below.
       let within : place < link_count new = omega (arith, below) in
       let at = link_of_place new place within in
@@ -57,7 +58,8 @@ own_moved old new before after moved = record {
 
 -- ---- an entry waits at a link then just where it waited at the one that this was
 
-same_by : (a b c d : Link) → (same_link a b ≡ true → same_link c d ≡ true) → (same_link c d ≡ true → same_link a b ≡ true)
+same_by : (a b c d : Link) → (same_link a b ≡ true → same_link c d ≡ true) → (same_link c d ≡ true
+    → same_link a b ≡ true)
     → same_link a b ≡ same_link c d
 same_by a b c d forth back =
     elim (cases_Bool (same_link a b)) as (λ _. same_link a b ≡ same_link c d) [
@@ -125,7 +127,8 @@ module _ (old new : RealmConfig) (once : HaveDistinctServers old new) where
   stands_then q (waiting l i forwarded sends_left deadline signs) after n id isn well stays =
       waiting_by l n i id forwarded sends_left deadline signs after (way_then old new l) well.link isn refl stays
   stands_then q (done reply deadline from) after n id isn well stays =
-      ap (stands_at n id) (sym (same_Some (done reply deadline (option_and_then (way_then old new) from)) after stays))
+      ap (stands_at n id) (sym (same_Some (done reply deadline (option_and_then
+      (way_then old new) from)) after stays))
       ∙ no_place (way_before old new n)
 
   waits_then : (next : ℕ) (before after : PlainEntry) (n : Link) (id : ℕ) → IsLink new n → IsEntry old next before
@@ -206,7 +209,8 @@ module _ (old new : RealmConfig) (once : HaveDistinctServers old new) where
     module _ (before : List LaneState) (count : length before ≡ link_count old)
         (tells : LanesTell old (staying old new es) before) where
       -- what waits on a link that was there, and on one that wasn't
-      told : (l : Link) (id t : ℕ) → id < 256 → IsLink old l ⊎ ((IsLink old l → ⊥) × (link_count old ≤ link_place old l))
+      told : (l : Link) (id t : ℕ) → id < 256 → IsLink old l ⊎ ((IsLink old l
+          → ⊥) × (link_count old ≤ link_place old l))
           → is_parked (lane_of old before l) id t ≡ waits_there l id t (staying old new es)
       told l id t octet at =
           elim at as (λ _. is_parked (lane_of old before l) id t ≡ waits_there l id t (staying old new es)) [
@@ -218,7 +222,8 @@ module _ (old new : RealmConfig) (once : HaveDistinctServers old new) where
                 ∙ sym (none_waits old next (staying old new es) l id t (all_stay es all) away.0))
           ]
 
-      none_out : (l : Link) (id : ℕ) → id < 256 → IsLink old l ⊎ ((IsLink old l → ⊥) × (link_count old ≤ link_place old l))
+      none_out : (l : Link) (id : ℕ) → id < 256 → IsLink old l ⊎ ((IsLink old l
+          → ⊥) × (link_count old ≤ link_place old l))
           → is_used (lane_of old before l) id ≡ is_some (ticket_at (lane_of old before l) id)
       none_out l id octet at =
           elim at as (λ _. is_used (lane_of old before l) id ≡ is_some (ticket_at (lane_of old before l) id)) [

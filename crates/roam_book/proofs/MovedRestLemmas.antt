@@ -52,6 +52,7 @@ pub rests_moved : (old new : RealmConfig) (before after : List Rest)
     → after ≡ map (rest_then old new before) (server_links_of new) → after ≡ rests_then old new before
 rests_moved old new before after other is = rw other is
 
-pub rests_kept : (old new : RealmConfig) (before : List Rest) → same_servers old.realm.servers new.realm.servers ≡ true
+pub rests_kept : (old new : RealmConfig) (before : List Rest)
+    → same_servers old.realm.servers new.realm.servers ≡ true
     → before ≡ rests_then old new before
 rests_kept old new before same = rw same refl

@@ -190,7 +190,8 @@ fn renew_lanes<A: Allocator + Copy>(
 }
 
 impl<A: Allocator + Copy> RealmNumbers<A> {
-    /// Each lane stays where it is, those of peers begin anew whose `coa` isn't what it was, and further peers have one.
+    /// Each lane stays where it is, those of peers begin anew whose `coa` isn't what it was, and further peers have
+    /// one.
     fn keep_lanes(&mut self, old: &RealmSettings<'_>, new: &RealmSettings<'_>, changed: &[u16])
         requires index { new.now.index ≡ old.now.index }
         requires changed { AreChanged old.now.peers new.now.peers changed.now }

@@ -18,8 +18,8 @@ rest_then-requires-clause-server g c = omega (arith, c.loop-place.invariant.coun
 pub loop-place-preserved : goal.loop-place-preserved
 loop-place-preserved g c =
     one_rests c.args.old.now c.args.new.now c.args.before.now c.loop-place.after.items c.loop-place.place
-    c.link_at.result c.rest_then.result c.loop-place.invariant (omega (arith, c.loop-place.invariant.count)) c.link_at.ensures.link
-    c.link_at.ensures.place c.rest_then.ensures
+    c.link_at.result c.rest_then.result c.loop-place.invariant (omega (arith, c.loop-place.invariant.count))
+    c.link_at.ensures.link c.link_at.ensures.place c.rest_then.ensures
 
 pub returns : goal.returns
 returns g c =
