@@ -29,6 +29,13 @@ use Rattle.roam_shard.proofs.FollowLemmas.{AreReady, Cleared, HasNumbersAt, begi
 use Rattle.roam_shard.proofs.OpeningLemmas.{sound_fresh, state_fresh}
 use Rattle.roam_shard.proofs.ShardLemmas.{length-states}
 
+-- what stands at a place, by what is left from there on
+pub next_made : {X : Type 0} (xs left : List X) (k : ℕ) (x : X)
+    → ((j : ℕ) → slice_get left j ≡ slice_get xs (k + j)) → slice_get left 0 ≡ Some x → slice_get xs k ≡ Some x
+next_made xs left k x behind first =
+    let e : k ≡ k + 0 = omega arith in
+    ap (slice_get xs) e ∙ sym (behind 0) ∙ first
+
 or_none : (a b : Bool) → (a || b) ≡ false → (a ≡ false) × (b ≡ false)
 or_none true b none = absurd (cc none)
 or_none false b none = (refl, none)
