@@ -63,7 +63,8 @@ loop-realm-preserved g c =
     record {
       over = rw c.push_reserved.ensures.items
           (one_over (shown c.args.change.from.now) (shown c.args.change.to.now) c.args.change.shard
-          c.args.before.now.items c.loop-realm.before.items c.go_over-after.new.before.items (entries_in c.args.entries.now)
+          c.args.before.now.items c.loop-realm.before.items c.go_over-after.new.before.items
+          (entries_in c.args.entries.now)
           (entries_in c.loop-realm.entries) (entries_in c.go_over-after.new.entries) c.args.fresh.realms.items
           c.loop-realm.numbers.items k c.in-Some.realm c.go_over-after.result inv.over made one.over one.others
           one.before one.before_count);
