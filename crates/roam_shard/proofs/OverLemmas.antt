@@ -49,7 +49,8 @@ module _ {A : Type 0} (old new : ConfigView) (realm : ℕ) (there : Option (Opti
   pub sound_from : (lanes : Option (FreshLanes A)) → CanGoOver old new realm es there lanes → (n : RealmNumbers A)
       → there ≡ Some (Some n) → IsSound (realm_config old realm) es n
   sound_from lanes can n at =
-      subst (λ (x : RealmNumbers A). IsSound (realm_config old realm) es x) (are_those can.numbers n can.at at) can.sound
+      subst (λ (x : RealmNumbers A). IsSound (realm_config old realm) es x) (are_those can.numbers n can.at at)
+      can.sound
 
   pub ready_from : (lanes : Option (FreshLanes A)) → CanGoOver old new realm es there lanes → (n : RealmNumbers A)
       → there ≡ Some (Some n) → IsReadyToCarry (realm_config old realm) (realm_config new realm) n lanes
@@ -243,7 +244,8 @@ module _ {A : Type 0} (old new : ConfigView) (shard : ℕ) where
         let list : IsEntryList (E r) = cleared.lists are.lists r in
         record {
           own = ap (λ (x : Option (RealmNumbers A)). is_some x) then'.is ∙ sym goes.own;
-          list = subst IsEntryList (sym (ap (λ (s : RealmState). s.entries) then'.over.state)) (list_then b c (E r) list);
+          list = subst IsEntryList (sym (ap (λ (s : RealmState). s.entries) then'.over.state))
+              (list_then b c (E r) list);
           sound = λ n eq. (
               let both : Some after ≡ Some n = sym then'.is ∙ eq in let same : after ≡ n = cc in
               subst (λ (x : RealmNumbers A). IsSound c es x) same then'.over.sound);

@@ -55,7 +55,8 @@ returns-in-None-clause-over g c =
     let at : Some None ≡ Some (Some can.numbers) = sym (get-read c.args.before.now.items c.args.realm
     c.index_mut.result.now (c.requires.within goes) c.index_mut.ensures.value
     ∙ ap Some (sym c.take.ensures.value ∙ c.in-None.is)) ∙ can.at in
-    absurd (let bad : None ≡ Some can.numbers = ap (λ (o : Option (Option (RealmNumbers _))). unwrap_or o None) at in cc)
+    absurd (let bad : None ≡ Some can.numbers =
+    ap (λ (o : Option (Option (RealmNumbers _))). unwrap_or o None) at in cc)
 
 pub returns-in-None-clause-before : goal.returns-in-None-clause-before
 returns-in-None-clause-before g c = λ r ne. get-set_other c.args.before.now.items c.args.realm r c.take.new.self ne
