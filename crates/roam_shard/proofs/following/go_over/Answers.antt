@@ -1,5 +1,5 @@
 -- The numbers of a realm that goes on go over with its entries.
-use Rattle.std.proofs.Common.{◌≡◌, ◌∙◌, Some, None, inl, inr, sym, subst, refl, ap}
+use Rattle.std.proofs.Common.{◌≡◌, ◌∙◌, Some, None, inl, inr, sym, refl, ap}
 use Rattle.std.specs.Prelude.{Option, slice_get, unwrap_or}
 use Rattle.roam_conf.specs.Shown.{shown}
 use Rattle.roam_tables.specs.Stands.{entries_in}
