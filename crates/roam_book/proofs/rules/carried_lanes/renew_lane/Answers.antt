@@ -1,4 +1,3 @@
-use Rattle.std.proofs.Common.{arith}
 use Rattle.roam_book.proofs.RenewLemmas.{none_renewed, one_renewed_at}
 use Rattle.roam_book.proofs.rules.carried_lanes.renew_lane.Goals as goal
 
