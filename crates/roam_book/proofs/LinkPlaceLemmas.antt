@@ -149,7 +149,7 @@ module _ {X : Type 0} (c : RealmConfig) (f : Link → X) (d : X) (xs : List X) w
       ap (λ (n : ℕ). get_or xs n d) (sym stand.1)
       ∙ at l stand.0 (omega (arith, count, stand.1)) in
       let rest : drop (suc k) xs ≡ map f ls = from_place (suc k) ls stand.2 (omega (arith, count)) at in
-      drop-cons xs k d below ∙ ap (λ (x : X). x ∷ drop (suc k) xs) here ∙ ap (λ (zs : List X). f l ∷ zs) rest
+      drop-cons xs k d below ∙ ap (λ (x : X). x ∷ drop (suc k) xs) here ∙ ap (λ (r : List X). f l ∷ r) rest
 
   pub by_links : (ls : List Link) → StandFrom c 0 ls → length xs ≡ length ls
       → ((l : Link) → IsLink c l → link_place c l < length xs → get_or xs (link_place c l) d ≡ f l)
