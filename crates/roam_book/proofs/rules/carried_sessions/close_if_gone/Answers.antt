@@ -9,8 +9,8 @@ returns-then-not-peer_keeps_sessions-clause-sessions g c =
     sym keeps ∙ c.if-not-peer_keeps_sessions.true in
     rw goes c.close_peer.ensures.sessions
 
-pub returns-clause-sessions : goal.returns-clause-sessions
-returns-clause-sessions g c =
+pub returns-else-not-peer_keeps_sessions-clause-sessions : goal.returns-else-not-peer_keeps_sessions-clause-sessions
+returns-else-not-peer_keeps_sessions-clause-sessions g c =
     let keeps = rw (c.peers.ensures.peers, c.peers-2.ensures.peers) at c.peer_keeps_sessions.ensures in
     let stays : of_peer keeps_sessions c.args.old.now.peers c.args.new.now.peers c.args.peer ≡ true =
     sym keeps ∙ c.if-not-peer_keeps_sessions.false in
