@@ -161,6 +161,15 @@ fn next_to_go<A: Allocator, E: Entries<A>>(entries: &E, realm: u16, most: u16) -
     entries.first_done(realm, None)
 }
 
+/// Takes out the entry of a ticket.
+fn take_out<A: Allocator, E: Entries<A>>(entries: &mut E, realm: u16, ticket: u64)
+    ensures entries { RealmBecomes realm (without ticket (E.entries_of entries.old realm))
+        (E.entries_of entries.old) (E.entries_of entries.new) }
+    ensures kept { E.keeps entries.new ≡ E.keeps entries.old }
+{
+    let _gone = entries.remove(realm, ticket);
+}
+
 /// Answered entries make way, in order of ticket, until there are so many at most.
 fn make_way<A: Allocator, E: Entries<A>>(entries: &mut E, realm: u16, most: u16)
     ensures entries { RealmBecomes realm
@@ -169,7 +178,7 @@ fn make_way<A: Allocator, E: Entries<A>>(entries: &mut E, realm: u16, most: u16)
     ensures kept { E.keeps entries.new ≡ E.keeps entries.old }
 {
     while let Some(ticket) = next_to_go(entries, realm, most) {
-        let _gone = entries.remove(realm, ticket);
+        take_out(entries, realm, ticket);
     }
 }
 

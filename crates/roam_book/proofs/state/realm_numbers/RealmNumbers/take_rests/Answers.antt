@@ -10,7 +10,7 @@ returns-then-not-has_same_servers g c =
     let test = c.has_same_servers.ensures
     ∙ ap (λ (r : RealmView). same_servers r.servers (shown_realm c.realm-2.result.now).servers) c.realm.ensures
     ∙ ap (λ (r : RealmView). same_servers c.args.old.now.realm.servers r.servers) c.realm-2.ensures in
-    let moved = rw c.as_slice.ensures at c.move_rests.ensures in
+    let moved = rw c.as_slice.ensures.value at c.move_rests.ensures in
     record {
       rests = rests_moved c.args.old.now c.args.new.now c.args.self.now.rests.items c.move_rests.new.after.items
           (sym test ∙ c.if-not-has_same_servers.true) moved;
