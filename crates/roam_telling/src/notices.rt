@@ -124,6 +124,8 @@ impl Notices {
         ensures not { IsFalse result → sent self.new.queue ≡ sent self.old.queue }
         ensures again { (replies : _) → turned_away refusal origin ≡ Some replies
             → IsTrue (list_any (is_recent replies now) self.old.said.rows) → IsFalse result }
+        ensures noted { IsTrue result → IsSomeAnd (turned_away refusal origin) (λ replies. (later : ℕ)
+            → later < min (now + 60000) (2 ^ 64 - 1) → IsTrue (list_any (is_recent replies later) self.new.said.rows)) }
         ensures repeats { self.new.repeats ≡ self.old.repeats }
         ensures due { self.new.due ≡ self.old.due }
         ensures dropped { self.new.dropped ≡ self.old.dropped }
