@@ -23,7 +23,7 @@ use roam_book::Start;
 use roam_hub::{Blanks, Gate, Hub, Opened, Seat};
 use roam_shard::Paused;
 use roam_sockets::ServeFault;
-use roam_threads::{Kits, prepare_threads};
+use roam_threads::prepare_threads;
 use roam_workers::{Ended, Shared, TimerRest};
 use std::alloc::Global;
 use std::net::Net;
@@ -52,11 +52,12 @@ fn run<
     ensures { MayGoOn N.opening.config result.end }
 {
     let Means {
-        kits: Kits { wakers, threads },
+        kits,
         outboxes,
         rests,
         handover,
     } = means;
+    let (wakers, threads) = kits.into_parts();
     let sockets = configured.sockets.as_slice();
     let logger = Parker::new();
     let stop = AtomicBool::new(false);

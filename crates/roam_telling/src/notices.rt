@@ -30,7 +30,6 @@ pub const SECOND: u64 = 1000;
 pub const NOTICES: usize = 1024;
 
 /// A thread's end of its queue of notices, and what was refused since that was told last.
-#[derive(Drop)]
 pub struct Notices {
     queue: Producer<Notice>,
     repeats: Repeats,
@@ -42,6 +41,24 @@ pub struct Notices {
     next_dropped: u64,
     /// Of which servers it was said that they answer and are refused.
     said: SaidLately,
+}
+
+// By hand, so that a proof sees one call wherever it ends, and not each of its parts.
+impl Drop for Notices {
+    fn drop(self) {
+        let Self {
+            queue,
+            repeats,
+            due: _,
+            dropped: _,
+            is_waiting: _,
+            next_dropped: _,
+            said,
+        } = self;
+        drop(queue);
+        drop(repeats);
+        drop(said);
+    }
 }
 
 /// A queue of notices: the end of the thread that has them, and that of the one who tells them.
