@@ -51,12 +51,7 @@ fn run<
     requires { shown configured.now.config ≡ N.opening.config }
     ensures { MayGoOn N.opening.config result.end }
 {
-    let Means {
-        kits,
-        outboxes,
-        rests,
-        handover,
-    } = means;
+    let (kits, outboxes, rests, handover) = means.into_parts();
     let (wakers, threads) = kits.into_parts();
     let sockets = configured.sockets.as_slice();
     let logger = Parker::new();
