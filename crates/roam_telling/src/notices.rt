@@ -85,6 +85,7 @@ impl Notices {
         ensures repeats { self.new.repeats ≡ self.old.repeats }
         ensures due { self.new.due ≡ self.old.due }
         ensures next { self.new.next_dropped ≡ self.old.next_dropped }
+        ensures said { self.new.said ≡ self.old.said }
         ensures woken { IsTrue result → IsTrue self.new.is_waiting }
         ensures waiting { IsFalse result → self.new.is_waiting ≡ self.old.is_waiting }
     {
