@@ -27,6 +27,7 @@ import packets  # noqa: E402
 ZEROING = (0x9E3779B97F4A7C15).to_bytes(8, "little")
 AT_ONCE = 64
 CONFIG = """
+trace_limit = 100
 auth = "127.0.0.1:18612"
 acct = "127.0.0.1:18613"
 [[peer]]
