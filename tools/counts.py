@@ -22,6 +22,12 @@ def lines_that_begin(*words: str) -> int:
     return found
 
 
+def signed_anew() -> int:
+    """How many mutated datagrams are sealed and signed anew."""
+    return sum(path.read_text(encoding="utf-8").count(", signed anew") for path in (
+        ROOT / "crates" / "test_rows" / "data" / "random").iterdir())
+
+
 def diagnosed() -> int:
     """How many mistakes the trial of diagnoses makes."""
     path = next(ROOT.glob("packaging/**/try-diagnoses.py"))
@@ -39,6 +45,7 @@ def crates() -> int:
 COUNTS = {
     r"([\d,]+) rows of\s+events": lambda: lines_that_begin("#@ "),
     r"([\d,]+) mutated\s+datagrams": lambda: lines_that_begin("# mutated"),
+    r"([\d,]+) of (?:these|them are) sealed and signed anew": signed_anew,
     r"(\d+) mistakes(?= in a sample| \(`packaging)|(?<=Makes )(\d+) mistakes": diagnosed,
     r"(\d+) crates\b": crates,
     r"(\d+) (?:must-fail )?edits\b": lambda: len(list(ROOT.glob("crates/*/must-fail/*.edit"))),

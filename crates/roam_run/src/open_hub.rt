@@ -23,7 +23,7 @@ use roam_book::Start;
 use roam_hub::{Blanks, Gate, Hub, Opened, Seat};
 use roam_shard::Paused;
 use roam_sockets::ServeFault;
-use roam_threads::{Kits, prepare_threads};
+use roam_threads::prepare_threads;
 use roam_workers::{Ended, Shared, TimerRest};
 use std::alloc::Global;
 use std::net::Net;
@@ -51,12 +51,8 @@ fn run<
     requires { shown configured.now.config ≡ N.opening.config }
     ensures { MayGoOn N.opening.config result.end }
 {
-    let Means {
-        kits: Kits { wakers, threads },
-        outboxes,
-        rests,
-        handover,
-    } = means;
+    let (kits, outboxes, rests, handover) = means.into_parts();
+    let (wakers, threads) = kits.into_parts();
     let sockets = configured.sockets.as_slice();
     let logger = Parker::new();
     let stop = AtomicBool::new(false);

@@ -94,11 +94,7 @@ fn tell_start<R: Wait + Clock + Log, G, N: Opened>(
     shared: &Shared<'_, '_, G, N>,
     handover: Handover,
 ) {
-    let Handover {
-        reply,
-        before,
-        is_awaited,
-    } = handover;
+    let (reply, before, is_awaited) = handover.into_parts();
     tell_or_drop(rt, shared.config, serving(shared.config));
     drop(before);
     if let Some(reply) = reply {

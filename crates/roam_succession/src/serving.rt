@@ -73,12 +73,7 @@ fn serve_once<
         Ok(served) => Ok(served),
         Err(Unserved::Fault(fault)) => Err(fault),
         Err(Unserved::Closed(shards, means)) => {
-            let Means {
-                outboxes,
-                rests,
-                handover,
-                ..
-            } = means;
+            let (_kits, outboxes, rests, handover) = means.into_parts();
             Ok(not_started(shards, outboxes, Some(rests), handover))
         }
     }
