@@ -42,7 +42,11 @@ fn a_file_is_kept(rt: HostRuntime) -> Result<(), Fail> {
         .expect(&rt, "a file")
         .mode();
     assert_eq!(rt; mode & 0o777, 0o600);
-    fs::remove_file(&rt, path.as_str()).expect(&rt, "a file that goes");
+    let aside = path_of(&rt, "ledgers.old");
+    put_aside(&rt, path.as_str()).expect(&rt, "another name");
+    assert_eq!(rt; is_none(&rt, path.as_str()), true);
+    assert_eq!(rt; is_kept(&rt, aside.as_str(), b"two"), true);
+    fs::remove_file(&rt, aside.as_str()).expect(&rt, "a file that goes");
     Ok(())
 }
 
