@@ -21,6 +21,7 @@ pub mod Reload
 pub mod Losses
 pub mod Carrying
 pub mod Saving
+pub mod Written
 pub mod Rooms
 pub mod Sound
 pub mod Stays

@@ -1,8 +1,13 @@
 //! Ledgers that outlast a shard: what is written of them, and what a shard takes up at its start.
 
-ghost use Rattle.std.specs.Prelude.{◌≡◌};
+ghost use Rattle.std.specs.Prelude.{◌≡◌, ◌⊎◌, IfNone, IfSome, OnOk, ℕ, false, true};
 ghost use Rattle.roam_conf.specs.Shown.{shown};
-ghost use Rattle.roam_shard.specs.Pausing.{StandsUnder};
+ghost use Rattle.roam_ledgers.specs.Shown.{shown_items, shown_session, shown_text};
+ghost use Rattle.roam_book.specs.RealmConfig.{realm_config};
+ghost use Rattle.roam_book.specs.Written.{GainsOpen, GainsRealm};
+ghost use Rattle.roam_core.specs.ManyRealms.{state_at};
+ghost use Rattle.roam_shard.specs.Pausing.{StandsUnder, states_under};
+ghost use Rattle.roam_shard.specs.Restoring.{is_named, restored_states, with_one};
 
 use crate::look::numbers_at;
 use crate::paused::Paused;
@@ -27,7 +32,10 @@ impl<A: Allocator + Copy> Shard<'_, A> {
     }
 
     /// Writes that the sessions of a realm follow.
-    pub fn save_realm(&self, realm: u16, writing: &mut Writing<A>) -> Result<(), AllocError> {
+    pub fn save_realm(&self, realm: u16, writing: &mut Writing<A>) -> Result<(), AllocError>
+        ensures { OnOk result ((writing.new ≡ writing.old)
+            ⊎ GainsRealm (realm_config self.now.opening.config realm) writing.old writing.new) }
+    {
         match numbers_at(&self.numbers, realm) {
             Some(_numbers) => {
                 save_realm(&RealmSettings::new(self.opening.config, realm), writing)
@@ -42,7 +50,10 @@ impl<A: Allocator + Copy> Shard<'_, A> {
         realm: u16,
         tickets: &[u64],
         writing: &mut Writing<A>,
-    ) -> Result<(), AllocError> {
+    ) -> Result<(), AllocError>
+        ensures { OnOk result (GainsOpen (realm_config self.now.opening.config realm)
+            (state_at self.now.states realm).sessions writing.old writing.new) }
+    {
         match numbers_at(&self.numbers, realm) {
             Some(numbers) => {
                 let settings = RealmSettings::new(self.opening.config, realm);
@@ -54,7 +65,12 @@ impl<A: Allocator + Copy> Shard<'_, A> {
 }
 
 /// The realm that is here and has a name, and tells its sessions so.
-fn realm_named(config: &Config, name: Text<'_>, own_sessions: bool) -> Option<u16> {
+fn realm_named(config: &Config, name: Text<'_>, own_sessions: bool) -> Option<u16>
+    ensures some { IfSome result (λ realm.
+        is_named (shown config.now) realm (shown_text name) own_sessions ≡ true) }
+    ensures none { IfNone result ((realm : ℕ)
+        → is_named (shown config.now) realm (shown_text name) own_sessions ≡ false) }
+{
     for (index, realm) in config.realms.iter().enumerate() {
         if !realm.gone && is_same_name(realm.name.as_bytes(), name.octets) {
             return if realm.own_sessions == own_sessions {
@@ -73,6 +89,9 @@ impl<A: Allocator + Copy> Paused<A> {
     pub fn restore(&mut self, config: &Config, items: &[Item<'_>]) -> Result<(), NoMemory>
         requires { StandsUnder (shown config.now) self.old }
         ensures stands { StandsUnder (shown config.now) self.new }
+        ensures states { OnOk result (states_under (shown config.now) self.new
+            ≡ restored_states (shown config.now) self.old.shard (shown_items items.now)
+            (states_under (shown config.now) self.old)) }
         ensures shard { self.new.shard ≡ self.old.shard }
     {
         let mut own = None;
@@ -100,6 +119,9 @@ impl<A: Allocator + Copy> Paused<A> {
     ) -> Result<(), NoMemory>
         requires { StandsUnder (shown config.now) self.old }
         ensures stands { StandsUnder (shown config.now) self.new }
+        ensures states { OnOk result (states_under (shown config.now) self.new
+            ≡ with_one (shown config.now) self.old.shard realm (shown_session session.entry)
+            (states_under (shown config.now) self.old)) }
         ensures shard { self.new.shard ≡ self.old.shard }
     {
         if usize::from(realm) >= self.numbers.len() {

@@ -4,6 +4,7 @@ ghost use Rattle.std.specs.Prelude.{◌≡◌, ◌∷◌, [], OnErr, OnOk};
 ghost use Rattle.roam_ledgers.specs.Shown.{shown_session};
 ghost use Rattle.roam_book.specs.Saving.{taken_up};
 ghost use Rattle.roam_book.specs.Stays.{KeepsButSessions};
+ghost use Rattle.roam_book.specs.Written.{GainsOpen, GainsRealm};
 
 use crate::state::realm_numbers::RealmNumbers;
 use crate::state::realm_settings::RealmSettings;
@@ -83,7 +84,9 @@ impl<A: Allocator + Copy> RealmNumbers<A> {
         settings: &RealmSettings<'_>,
         tickets: &[u64],
         writing: &mut Writing<A>,
-    ) -> Result<(), AllocError> {
+    ) -> Result<(), AllocError>
+        ensures { OnOk result (GainsOpen settings.now self.now.sessions.sessions writing.old writing.new) }
+    {
         for ticket in tickets {
             if let Some(parts) = self.sessions.parts_of(*ticket) {
                 if let Some(item) = item_of(settings.peers(), parts) {
@@ -99,7 +102,9 @@ impl<A: Allocator + Copy> RealmNumbers<A> {
 pub fn save_realm<A: Allocator + Copy>(
     settings: &RealmSettings<'_>,
     writing: &mut Writing<A>,
-) -> Result<(), AllocError> {
+) -> Result<(), AllocError>
+    ensures { OnOk result (GainsRealm settings.now writing.old writing.new) }
+{
     let realm = settings.realm();
     match Text::new(realm.name.as_bytes()) {
         Some(name) => writing.put(Item::Realm(name, realm.own_sessions)),

@@ -1,5 +1,8 @@
 //! What lies under a shard's lock is written as ledgers.
 
+ghost use Rattle.std.specs.Prelude.{◌<◌, OnOk};
+ghost use Rattle.roam_hub.specs.Written.{BeginsRealm, SavesOrNothing};
+
 use crate::locked_trace::LockedTrace;
 use roam_audit::Seat;
 use roam_history::Opened;
@@ -18,6 +21,7 @@ impl<A: Allocator + Copy, N: Opened> LockedTrace<'_, A, N> {
         writing: &mut Writing<A>,
     ) -> Result<(), NoMemory>
         requires { shard < N.opening.config.shards }
+        ensures { OnOk result (BeginsRealm N.opening realm writing.old writing.new) }
     {
         if !self.goes_on(seat, shard) {
             return Ok(());
@@ -37,6 +41,7 @@ impl<A: Allocator + Copy, N: Opened> LockedTrace<'_, A, N> {
         writing: &mut Writing<A>,
     ) -> Result<(), AllocError>
         requires { shard < N.opening.config.shards }
+        ensures { OnOk result (SavesOrNothing N.opening shard realm seat.now writing.old writing.new) }
     {
         if !self.goes_on(seat, shard) {
             return Ok(());
