@@ -161,7 +161,8 @@ impl<N: Opened> ResultRoom<N> {
 
 /// Runs the threads until they have ended, or until a configuration comes that is to follow. Once all run it is told
 /// that this one is served, also to who asked for it. Until the end this thread answers who asks for something. Where
-/// one can't be started, the others are ended.
+/// one can't be started, the others are ended. Where the server ends, the ledgers of sessions are kept as they stand
+/// then.
 pub fn run_threads<
     's,
     'c,
@@ -201,6 +202,9 @@ pub fn run_threads<
             end
         },
     );
+    if end.is_over() {
+        attendant.keep_ledgers(source);
+    }
     let _is_kept = seats.push(attendant.seat).is_ok();
     RunResult { ends, seats, end }
 }

@@ -23,11 +23,10 @@ mod stage;
 
 use crate::ends::Ends;
 use crate::exchange::Verdict;
-use crate::reload::Next;
+use crate::reload::{Next, manner};
 use crate::row::{ROWS, Row, TAKEN};
 use crate::stage::{Stage, Turnstile};
-use roam_conf::ExchangeLines;
-use roam_serve::{Build, ControlSocket, ServeFault, ServeOptions, StationForm, Watch, serve};
+use roam_serve::{Build, ControlSocket, ServeFault, ServeOptions, Watch, serve};
 use std::sync::atomic::AtomicU64;
 use std::{io, thread};
 
@@ -56,8 +55,7 @@ fn options<'s, 't, R>(
 ) -> ServeOptions<'s, Turnstile<'t, R>> {
     ServeOptions {
         watch,
-        told_exchanges: ExchangeLines::OfAll,
-        stations: StationForm::Clear,
+        manner: manner(),
         milliseconds: Some(row.milliseconds()),
         gate: &stage.turnstile,
     }

@@ -9,7 +9,7 @@ use crate::packets::{
 };
 use roam_conf::{Config, ExchangeLines};
 use roam_reload::hindrance_of;
-use roam_serve::{Following, ServeFault, Source, StationForm};
+use roam_serve::{Following, Manner, Reason, ServeFault, Source, StationForm};
 use std::alloc::Global;
 use std::io::{Read, Write};
 use std::net::{Net, SocketAddr};
@@ -22,6 +22,15 @@ pub(crate) const CONTROL: &str = "control";
 /// What asks for the next configuration.
 const RELOAD: &[u8] =
     b"POST /reload HTTP/1.1\r\nHost: roam\r\nContent-Length: 0\r\nConnection: close\r\n\r\n";
+
+/// How each configuration is served.
+pub(crate) fn manner() -> Manner {
+    Manner {
+        told_exchanges: ExchangeLines::OfAll,
+        stations: StationForm::Clear,
+        state: None,
+    }
+}
 
 /// The configuration that follows the first one, where there is one; no other follows.
 #[derive(Drop)]
@@ -38,8 +47,7 @@ impl Source for Next {
         match hindrance_of(old, &config) {
             None => Ok(Following {
                 config,
-                told_exchanges: ExchangeLines::OfAll,
-                stations: StationForm::Clear,
+                manner: manner(),
                 report: Vec::new(self.alloc),
             }),
             Some(_) => Err(Vec::new(self.alloc)),
@@ -48,6 +56,18 @@ impl Source for Next {
 
     fn words_of(&mut self, _fault: ServeFault) -> Vec<u8> {
         Vec::new(self.alloc)
+    }
+
+    fn kept(&mut self, _path: &str) -> Result<Option<Vec<u8>>, Reason> {
+        Ok(None)
+    }
+
+    fn keep(&mut self, _path: &str, _octets: &[u8]) -> Result<(), Reason> {
+        Ok(())
+    }
+
+    fn put_aside(&mut self, _path: &str) -> bool {
+        true
     }
 }
 

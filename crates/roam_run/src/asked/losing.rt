@@ -1,5 +1,6 @@
 //! What a change takes of each realm: told where it is made; and why it isn't made, where nobody agreed to lose that.
 
+use crate::asked::attending::Attendant;
 use crate::change::next::out_of_memory;
 use log::Log;
 use roam_book::{Loss, changed_peers};
@@ -121,5 +122,34 @@ pub fn objection<R: Wait + Log, G, N: Opened>(
     match why_not(shared.alloc, shared.config, losses.as_slice()) {
         Some(text) => Some(plain_reply(Course::Declined, text)),
         None => None,
+    }
+}
+
+impl<R: Wait + Log, G, N: Opened> Attendant<'_, '_, R, G, N> {
+    /// Tells what of the realm of an index is dropped for this cause.
+    fn tell_dropped_of(&self, index: u16, cause: DropCause) {
+        let shared = self.shared;
+        let Some(realm) = shared.config.realms.get(usize::from(index)) else {
+            return;
+        };
+        if realm.gone {
+            return;
+        }
+        if let Some(gauges) = shared.hub.look(self.rt, &self.seat, index) {
+            let dropped = DroppedText {
+                cause,
+                realm: realm.name.as_str(),
+                waiting: gauges.in_use as u64,
+                sessions: gauges.sessions as u64,
+            };
+            tell_dropped(self.rt, dropped);
+        }
+    }
+
+    /// Tells what all realms drop, since the server ends.
+    pub fn tell_dropped_at_end(&self) {
+        for index in 0..self.shared.config.realms.len() {
+            self.tell_dropped_of(index as u16, DropCause::End);
+        }
     }
 }

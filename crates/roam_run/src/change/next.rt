@@ -7,15 +7,15 @@ ghost use Rattle.roam_history.specs.Books.{count_of};
 
 use crate::change::configured::Configured;
 use crate::change::fresh::FreshMeans;
+use crate::change::manner::Manner;
 use crate::change::source::{Following, Source};
 use log::Log;
-use roam_conf::{Config, ExchangeLines};
+use roam_conf::Config;
 use roam_control::{Course, Reply, plain_reply};
 use roam_hub::{Blanks, Opened};
 use roam_sockets::{
     BoundSocket, RECEIVE_BUFFER, ServeFault, bind_following, descriptors_wanted, widen,
 };
-use roam_stations::StationForm;
 use roam_telling::{Counters, Notice};
 use roam_threads::{Kits, can_start};
 use roam_workers::{Rests, Shared, tell_or_drop};
@@ -115,8 +115,7 @@ fn bind_next<R: Net + Log, G, N: Opened>(
     shared: &Shared<'_, '_, G, N>,
     sockets: &[BoundSocket],
     config: Config,
-    told_exchanges: ExchangeLines,
-    stations: StationForm,
+    manner: Manner,
 ) -> Result<Configured, ServeFault>
     ensures { IfOk result (λ configured. configured.config ≡ config) }
 {
@@ -130,8 +129,7 @@ fn bind_next<R: Net + Log, G, N: Opened>(
     Ok(Configured {
         config,
         sockets,
-        told_exchanges,
-        stations,
+        manner,
         counters,
     })
 }
@@ -147,12 +145,11 @@ fn make_next<R: Threads + Wait + Net + Log + Sync, G, N: Opened>(
 {
     let Following {
         config,
-        told_exchanges,
-        stations,
+        manner,
         report,
     } = following;
     let alloc = shared.alloc;
-    let configured = bind_next(rt, shared, sockets, config, told_exchanges, stations)?;
+    let configured = bind_next(rt, shared, sockets, config, manner)?;
     let wanted = descriptors_wanted(shared.config, &configured.config);
     let spare = room_for_threads(rt, alloc, &configured)?;
     let FreshMeans {
