@@ -14,12 +14,13 @@ use roam_conf::Config;
 use roam_control::{Course, Reply, plain_reply};
 use roam_hub::{Blanks, Opened};
 use roam_sockets::{
-    BoundSocket, RECEIVE_BUFFER, ServeFault, bind_following, descriptors_wanted, widen,
+    BoundSocket, RECEIVE_BUFFER, ServeFault, bind_following, descriptors_wanted, open_beside, widen,
 };
 use roam_telling::{Counters, Notice};
 use roam_threads::{Kits, can_start};
 use roam_workers::{Rests, Shared, tell_or_drop};
 use std::alloc::Global;
+use std::io::Write;
 use std::net::Net;
 use std::sync::Wait;
 use std::thread::Threads;
@@ -134,6 +135,18 @@ fn bind_next<R: Net + Log, G, N: Opened>(
     })
 }
 
+/// What is said of a fault for which a configuration doesn't follow: of a socket that can't be bound also beside which
+/// one that is open.
+fn words_of<S: Source>(source: &mut S, sockets: &[BoundSocket], fault: ServeFault) -> Vec<u8> {
+    let mut words = source.words_of(fault);
+    if let ServeFault::Bind(endpoint, _) = fault {
+        if let Some(beside) = open_beside(sockets, endpoint) {
+            let _is_said = writeln!(words, "{beside} is served").is_ok();
+        }
+    }
+    words
+}
+
 /// All that the server needs for a configuration that follows the one that is served.
 fn make_next<R: Threads + Wait + Net + Log + Sync, G, N: Opened>(
     rt: &R,
@@ -190,6 +203,6 @@ pub fn prepare_next<R: Threads + Wait + Net + Log + Sync, G, N: Opened, S: Sourc
     };
     match make_next(rt, shared, sockets, following) {
         Ok(next) => Ok(next),
-        Err(fault) => Err(declined(source.words_of(fault))),
+        Err(fault) => Err(declined(words_of(source, sockets, fault))),
     }
 }
