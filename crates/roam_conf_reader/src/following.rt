@@ -16,14 +16,14 @@ use std::alloc::Global;
 ///
 /// `Memory`; `Numbers` where realms or peers are more than have an index.
 pub fn following_config(alloc: Global, old: &Config, new: Config) -> Result<Config, LayFault>
-    ensures ok { IfOk result (λ config. shown config ≡ laid_out (shown old.now) (shown new.entry)) }
-    ensures err { result ≡ Err LayFault.Numbers → TooMany (laid_out (shown old.now) (shown new.entry)) }
+    ensures ok { IfOk result (λ config. shown config ≡ laid_out (shown old.now) (shown new)) }
+    ensures err { result ≡ Err LayFault.Numbers → TooMany (laid_out (shown old.now) (shown new)) }
 {
     let parts = lay_out(alloc, old, new)?;
     match first_duplicate(alloc, &parts) {
         // Nothing stands twice in what is laid out that doesn't in the file.
         Ok(Some(_)) => Err(LayFault::Memory),
-        Ok(None) => Config::new(alloc, parts).map_err(|_| LayFault::Memory),
+        Ok(None) => Ok(Config::new(alloc, parts)?),
         Err(_) => Err(LayFault::Memory),
     }
 }

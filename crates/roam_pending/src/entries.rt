@@ -7,6 +7,7 @@ ghost use Rattle.roam_pending.specs.EntryList.{IsEntryList, IsNew, find_client, 
 ghost use Rattle.roam_pending.specs.EntryList.{besides, without};
 ghost use Rattle.roam_pending.specs.Conversations.{kept_state, last_round};
 ghost use Rattle.roam_pending.specs.DueOrder.{due_after};
+ghost use Rattle.roam_pending.specs.ListLaws.{IsNextAfter};
 ghost use Rattle.roam_pending.specs.Realms.{RealmBecomes, Puts, PutsChanged, sent_again, with_ends};
 ghost use Rattle.roam_pending.specs.Realms.{with_standing};
 ghost use Rattle.roam_pending.specs.Shown.{shown, shown_standing, seen, taken};
@@ -63,6 +64,11 @@ pub trait Entries<A: Allocator> {
     /// or where `last` is one of them, the next one after it.
     fn due_after(&self, realm: u16, now: u64, last: Option<Due>) -> Option<Due>
         ensures found { result ≡ due_after now last (entries_of self.now realm) }
+        ensures list { IsEntryList (entries_of self.now realm) };
+
+    /// The first of all entries of the realm after the last one, in order of deadline and ticket, whatever the moment.
+    fn next_after(&self, realm: u16, last: Option<Due>) -> Option<Due>
+        ensures next { IsNextAfter last (entries_of self.now realm) result }
         ensures list { IsEntryList (entries_of self.now realm) };
 
     /// Makes room for one entry more of the realm. No entry changes. `NoMemory` comes where there was

@@ -62,6 +62,14 @@ impl<A: Allocator> Entries<A> for Pending<A> {
         }
     }
 
+    fn next_after(&self, realm: u16, last: Option<Due>) -> Option<Due> {
+        if realm == self.realm() {
+            self.next_after(last)
+        } else {
+            None
+        }
+    }
+
     fn reserve(&mut self, realm: u16) -> Result<(), NoMemory> {
         self.reserve()
     }

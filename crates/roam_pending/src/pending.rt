@@ -6,6 +6,7 @@ ghost use Rattle.roam_pending.specs.Conversations.{last_round};
 ghost use Rattle.roam_pending.specs.DueOrder.{due_after};
 ghost use Rattle.roam_pending.specs.EntryList.{IsEntryList, IsNew, find_client, find_ticket, first_done};
 ghost use Rattle.roam_pending.specs.EntryList.{besides, put, without};
+ghost use Rattle.roam_pending.specs.ListLaws.{IsNextAfter};
 ghost use Rattle.roam_pending.specs.Realms.{IsChanged, sent_again, with_ends, with_standing};
 ghost use Rattle.roam_pending.specs.Shown.{shown, shown_standing, seen, taken};
 
@@ -13,7 +14,7 @@ use crate::conversations::round_in;
 use crate::due::Due;
 use crate::entry::{Entry, Standing};
 use crate::key::Key;
-use crate::list_search::{client_in, count_below, done_in, due_in, place_of};
+use crate::list_search::{client_in, count_below, done_in, due_in, next_in, place_of};
 use roam_conf::Link;
 use roam_wire::NoMemory;
 use std::alloc::Allocator;
@@ -137,6 +138,14 @@ impl<A: Allocator> Pending<A> {
         ensures list { IsEntryList self.now.entries }
     {
         self.due_after(now, None)
+    }
+
+    /// The first of all entries after the last one, in order of deadline and ticket, whatever the moment.
+    pub fn next_after(&self, last: Option<Due>) -> Option<Due>
+        ensures next { IsNextAfter last self.now.entries result }
+        ensures list { IsEntryList self.now.entries }
+    {
+        next_in(&self.entries, last)
     }
 
     /// Makes room for one entry more.

@@ -31,12 +31,16 @@ socket_endpoints config = own_endpoints config.auth config.acct config.realms
 abbrev pub own_out : RealmView → Option Endpoint
 own_out realm = if realm.gone then None else Some realm.out
 
+-- where its `reverse` is bound, where it takes reverse requests
+abbrev pub own_reverse : RealmView → Option Endpoint
+own_reverse realm = if realm.gone then None else realm.reverse
+
 -- where the socket of a place is bound; none where the realm isn't configured, or takes no reverse requests
 abbrev pub socket_endpoint : ConfigView → Place → Option Endpoint
 socket_endpoint config place.Auth = Some config.auth
 socket_endpoint config place.Acct = Some config.acct
 socket_endpoint config (place.Out realm) = option_and_then own_out (slice_get config.realms realm)
-socket_endpoint config (place.Reverse realm) = option_and_then (λ r. r.reverse) (slice_get config.realms realm)
+socket_endpoint config (place.Reverse realm) = option_and_then own_reverse (slice_get config.realms realm)
 
 -- the worker that hears a place's socket, of so many: in turn; or, where `auth` and `acct` are spread over the workers,
 -- that of the realm's shard, and of those two the first worker, beside which each other has its own

@@ -3,3 +3,7 @@ pub mod KindLemmas
 pub mod DifferenceLemmas
 pub mod FateLemmas
 pub mod KeptLemmas
+pub mod LayingLemmas
+pub mod SameTableLemmas
+pub mod SlotLemmas
+pub mod NumberLemmas

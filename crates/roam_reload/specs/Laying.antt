@@ -1,6 +1,7 @@
 -- How tables are laid out, one old table after the other: words of private functions alone (ours).
-use Rattle.std.specs.Prelude.{Bool, List, [], ◌∷◌, map, Option, None, Some, option_map, if◌then◌else◌}
+use Rattle.std.specs.Prelude.{Bool, false, List, [], ◌∷◌, map, Option, None, Some, option_map, if◌then◌else◌}
 use Rattle.std.specs.List.{filter_map, list_any}
+use Rattle.std.specs.Option.{option_map_or}
 use Rattle.roam_conf.specs.Config.{PeerView, RealmView}
 use Rattle.roam_conf.specs.Parts.{shown_peer, shown_realm}
 use Rattle.roam_conf.specs.declared.peer.Peer.{Peer}
@@ -12,6 +13,14 @@ peers_in slots = map (λ slot. option_map shown_peer slot) slots
 
 abbrev pub realms_in : List (Option Realm) → List (Option RealmView)
 realms_in slots = map (λ slot. option_map shown_realm slot) slots
+
+-- all tables, each in a slot
+abbrev pub all_in : {X : Type 0} → List X → List (Option X)
+all_in xs = map (λ x. Some x) xs
+
+-- a slot has a table that passes the test
+abbrev pub slot_holds : {X : Type 0} → (X → Bool) → Option X → Bool
+slot_holds test slot = option_map_or test slot false
 
 -- a table stays in its slot where it isn't the same as one of these
 abbrev pub slot_then : {X : Type 0} → (X → X → Bool) → List X → X → Option X

@@ -72,11 +72,14 @@ TooMany config = (1024 < length config.peers) ⊎ (1024 < length config.realms)
 abbrev pub SameOrGone : {X : Type 0} → (X → X → Bool) → (X → Bool) → X → X → Type 0
 SameOrGone same is_gone old new = (is_gone new ≡ true) ⊎ (same old new ≡ true)
 
--- each number of the old tables is the same one's in the new ones
-abbrev pub KeepEach : {X : Type 0} → (X → X → Bool) → (X → Bool) → List X → List X → Type 0
-KeepEach {X = X} same is_gone old new =
-    (number : ℕ) (before : X) → slice_get old number ≡ Some before
+-- a number of the old tables is the same one's in the new ones; each is
+abbrev pub KeepAt : {X : Type 0} → (X → X → Bool) → (X → Bool) → List X → List X → ℕ → Type 0
+KeepAt {X = X} same is_gone old new number =
+    (before : X) → slice_get old number ≡ Some before
     → (after : X) × (slice_get new number ≡ Some after) × SameOrGone same is_gone before after
+
+abbrev pub KeepEach : {X : Type 0} → (X → X → Bool) → (X → Bool) → List X → List X → Type 0
+KeepEach same is_gone old new = (number : ℕ) → KeepAt same is_gone old new number
 
 pub record KeepsNumbers (old new : ConfigView) : Type 0 where
   pub peers : KeepEach same_peer_name (λ peer. peer.gone) old.peers new.peers

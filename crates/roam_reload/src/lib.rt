@@ -24,6 +24,8 @@ mod keys;
 mod kind;
 mod laws;
 mod laying_out;
+mod laying_peers;
+mod laying_realms;
 mod numbers;
 mod peers;
 mod realms;

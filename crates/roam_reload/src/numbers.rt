@@ -1,9 +1,9 @@
 //! Whether an index is one realm's, or one peer's, in two configurations.
 
-ghost use Rattle.std.specs.Prelude.{◌≡◌, ◌↔◌, IsTrue, map};
+ghost use Rattle.std.specs.Prelude.{◌≡◌, ◌<◌, ◌↔◌, IsTrue, length, map};
 ghost use Rattle.roam_conf.specs.Parts.{shown_peer, shown_realm};
 ghost use Rattle.roam_conf.specs.Shown.{shown};
-ghost use Rattle.roam_reload.specs.Numbers.{KeepEach, KeepsNumbers, same_peer_name, same_realm_name};
+ghost use Rattle.roam_reload.specs.Numbers.{KeepAt, KeepEach, KeepsNumbers, same_peer_name, same_realm_name};
 
 use roam_conf::{Config, Peer, Realm, is_same_name};
 
@@ -21,17 +21,41 @@ pub(crate) fn is_same_realm(a: &Realm, b: &Realm) -> bool
     !a.gone && !b.gone && is_same_name(a.name.as_bytes(), b.name.as_bytes())
 }
 
+/// Whether the index of an old peer is the same peer's in both, or its place is empty.
+fn keeps_peer(old: &[Peer], new: &[Peer], i: usize) -> bool
+    requires { i < length old.now }
+    ensures { IsTrue result
+        ↔ KeepAt same_peer_name (λ peer. peer.gone) (map shown_peer old.now) (map shown_peer new.now) i }
+{
+    match new.get(i) {
+        Some(after) => after.gone || is_same_peer(&old[i], after),
+        None => false,
+    }
+}
+
 /// Whether each index is the same peer's in both, or its place is empty.
 fn keeps_peers(old: &[Peer], new: &[Peer]) -> bool
     ensures { IsTrue result
         ↔ KeepEach same_peer_name (λ peer. peer.gone) (map shown_peer old.now) (map shown_peer new.now) }
 {
     for i in 0..old.len() {
-        if i >= new.len() || !(new[i].gone || is_same_peer(&old[i], &new[i])) {
+        if !keeps_peer(old, new, i) {
             return false;
         }
     }
     true
+}
+
+/// Whether the index of an old realm is the same realm's in both, or its place is empty.
+fn keeps_realm(old: &[Realm], new: &[Realm], i: usize) -> bool
+    requires { i < length old.now }
+    ensures { IsTrue result
+        ↔ KeepAt same_realm_name (λ realm. realm.gone) (map shown_realm old.now) (map shown_realm new.now) i }
+{
+    match new.get(i) {
+        Some(after) => after.gone || is_same_realm(&old[i], after),
+        None => false,
+    }
 }
 
 /// Whether each index is the same realm's in both, or its place is empty.
@@ -40,7 +64,7 @@ fn keeps_realms(old: &[Realm], new: &[Realm]) -> bool
         ↔ KeepEach same_realm_name (λ realm. realm.gone) (map shown_realm old.now) (map shown_realm new.now) }
 {
     for i in 0..old.len() {
-        if i >= new.len() || !(new[i].gone || is_same_realm(&old[i], &new[i])) {
+        if !keeps_realm(old, new, i) {
             return false;
         }
     }

@@ -1,11 +1,12 @@
 -- The sessions of tickets before one, and how many those are.
-use Rattle.std.proofs.Common.{◌≡◌, ℕ, zero, suc, ◌+◌, ◌-◌, ◌<◌, ◌≤◌, true, false, List, [], ◌∷◌, ◌++◌, length, drop, take, get_or, length-append, length-drop, Option, Some, None, refl, sym, ap, ◌∙◌, subst, inl, inr, arith}
+use Rattle.std.proofs.Common.{◌≡◌, ℕ, zero, suc, ◌+◌, ◌-◌, ◌<◌, ◌≤◌, Bool, true, false, List, [], ◌∷◌, ◌++◌, length, drop, get_or, length-append, Option, Some, None, refl, sym, ap, ◌∙◌, subst, inl, inr, arith, cond}
 use Rattle.std.specs.Prelude.{IfNone, IfSome, IsSome, nat_eq, nat_lt, option_map}
 use Rattle.std.specs.List.{AllByRecursion, IsDistinct, cons_option, count_by}
 use Rattle.std.specs.Map.{keys_of, lookup}
-use Rattle.std.proofs.lemmas.Bool.{cases_Bool, cases_lt}
+use Rattle.std.proofs.lemmas.Bool.{cases_Bool, cases_lt, le-ltb, lt-ltb}
 use Rattle.std.proofs.lemmas.Bool.Decides.{nat_tests}
-use Rattle.std.proofs.lemmas.List.{append-nil, drop_at, get_or-drop, get_or-take, length-take}
+use Rattle.std.proofs.lemmas.List.{append-nil, drop_at}
+use Rattle.std.proofs.lemmas.List.Sums.{sum_by-cons}
 use Rattle.roam_wire.specs.Numbered.{listed}
 use Rattle.roam_reverse.proofs.ListedLemmas.{length-gone, listed-same}
 
@@ -91,28 +92,6 @@ module _ {X : Type 0} where
       ∙ sym (ap (drop (length (listed f 0 end))) old
       ∙ drop_at (listed f 0 end) (listed f (0 + end) (last - end)) (length (listed f 0 end)) refl)
 
--- ---- the first ones of a list, and those behind them
-
-pub of-front : (xs : List ℕ) (n k x : ℕ) → k < length (take n xs) → get_or (take n xs) k 0 ≡ x → get_or xs k 0 ≡ x
-of-front xs n k x lt is = sym (get_or-take n xs k 0 (omega (arith, lt, length-take n xs))) ∙ is
-
-pub of-back : (xs : List ℕ) (n k x : ℕ) → get_or (drop n xs) k 0 ≡ x → get_or xs (n + k) 0 ≡ x
-of-back xs n k x is = sym (get_or-drop n xs k 0) ∙ is
-
-pub of-both : (xs : List ℕ) (n end : ℕ) → n ≤ length xs
-    → ((k : ℕ) → k < length (take n xs) → end ≤ get_or (take n xs) k 0)
-    → ((k : ℕ) → k < length (drop n xs) → end ≤ get_or (drop n xs) k 0)
-    → (k : ℕ) → k < length xs → end ≤ get_or xs k 0
-of-both xs n end le front back k lt = elim (cases_lt k n) [
-  | inl less ↦ (
-      let here = front k (omega (arith, less, le, length-take n xs)) in
-      omega (arith, here, get_or-take n xs k 0 less))
-  | inr more ↦ (
-      let there = back (k - n) (omega (arith, more, lt, length-drop n xs)) in
-      let same : n + (k - n) ≡ k = omega (arith, more) in
-      omega (arith, there, get_or-drop n xs (k - n) 0, ap (λ (i : ℕ). get_or xs i 0) same))
-]
-
 -- ---- the keys of a map
 
 module _ {X Y : Type 0} (seen : X → Y) where
@@ -130,6 +109,21 @@ module _ {X Y : Type 0} (seen : X → Y) where
   here : (k : ℕ) (x : X) (es : List (ℕ × X)) → at ((k, x) ∷ es) k ≡ Some (seen x)
   here k x es = (let same : nat_eq k k ≡ true = grind (arith, nat_tests) in rw same refl)
 
+  abbrev one_below : ℕ → ℕ → ℕ
+  one_below t k = cond (nat_lt k t) 1 0
+
+  one-less : (k t : ℕ) (ks : List ℕ) → k < t
+      → count_by (λ (n : ℕ). nat_lt n t) (k ∷ ks) ≡ 1 + count_by (λ (n : ℕ). nat_lt n t) ks
+  one-less k t ks lt =
+      sum_by-cons (one_below t) k ks
+      ∙ ap (λ (b : Bool). cond b 1 0 + count_by (λ (n : ℕ). nat_lt n t) ks) (lt-ltb k t lt)
+
+  no-less : (k t : ℕ) (ks : List ℕ) → t ≤ k
+      → count_by (λ (n : ℕ). nat_lt n t) (k ∷ ks) ≡ 0 + count_by (λ (n : ℕ). nat_lt n t) ks
+  no-less k t ks ge =
+      sum_by-cons (one_below t) k ks
+      ∙ ap (λ (b : Bool). cond b 1 0 + count_by (λ (n : ℕ). nat_lt n t) ks) (le-ltb k t ge)
+
   -- as many keys are below a number as numbers below it have something
   pub keys-counted : (es : List (ℕ × X)) (t : ℕ) → IsDistinct nat_eq (keys_of es)
       → count_by (λ k. nat_lt k t) (keys_of es) ≡ length (listed (at es) 0 t)
@@ -140,17 +134,15 @@ module _ {X Y : Type 0} (seen : X → Y) where
       let none = absent e.0 es distinct.0 in
       elim (cases_lt e.0 t) [
         | inl lt ↦ (
-            let passes : nat_lt e.0 t ≡ true = grind (arith, nat_tests, lt) in
             let one = length-gone (at (e ∷ es)) (at es) 0 t e.0
-            (subst (λ (o : Option Y). IsSome o) (sym (here e.0 e.1 es)) tt) none
+            (subst (λ (o : Option Y). IsSome o) (sym (here e.0 e.1 es)) refl) none
             (λ v ne. sym (other e.0 v e.1 es ne)) (omega arith) (omega (arith, lt)) in
-            rw passes (omega (arith, rest, one)))
+            omega (arith, one-less e.0 t (keys_of es) lt, rest, one))
         | inr ge ↦ (
-            let fails : nat_lt e.0 t ≡ false = grind (arith, nat_tests, ge) in
             let same : listed (at (e ∷ es)) 0 t ≡ listed (at es) 0 t =
             listed-below (at es) (at (e ∷ es)) 0 t
             (λ v lt. other e.0 v e.1 es (λ is. absurd (omega (arith, lt, is, ge)))) in
-            rw fails (omega (arith, rest, ap (λ (l : List Y). length l) same)))
+            omega (arith, no-less e.0 t (keys_of es) ge, rest, ap (λ (l : List Y). length l) same))
       ]
 
   -- a key has something
@@ -158,9 +150,9 @@ module _ {X Y : Type 0} (seen : X → Y) where
       → IsSome (at es t)
   key-held [] k t lt is = absurd (omega (arith, lt))
   key-held (e ∷ es) zero t lt is = subst (λ (n : ℕ). IsSome (at (e ∷ es) n)) is
-      (subst (λ (o : Option Y). IsSome o) (sym (here e.0 e.1 es)) tt)
+      (subst (λ (o : Option Y). IsSome o) (sym (here e.0 e.1 es)) refl)
   key-held (e ∷ es) (suc k) t lt is = elim (cases_Bool (nat_eq t e.0)) [
-    | inl same ↦ rw same tt
+    | inl same ↦ rw same refl
     | inr apart ↦ rw apart (key-held es k t (omega (arith, lt)) is)
   ]
 

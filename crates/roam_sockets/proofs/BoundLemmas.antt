@@ -1,7 +1,7 @@
 -- Sockets come in behind others, and each place has one of its own.
 use Rattle.std.proofs.Common.{◌≡◌, inl, inr, ℕ, zero, suc, ◌+◌, ◌*◌, ◌<◌, List, [], ◌∷◌, ◌++◌, length}
 use Rattle.std.proofs.Common.{Bool, true}
-use Rattle.std.proofs.Common.{Contains, Some, None, option_map, option_and_then, slice_get, refl, ap, sym, subst, ◌∙◌, append_assoc, append-nil, arith}
+use Rattle.std.proofs.Common.{Contains, Some, None, option_and_then, slice_get, refl, ap, sym, subst, ◌∙◌, append_assoc, append-nil, arith}
 use Rattle.std.proofs.lemmas.Bool.{cases_lt}
 use Rattle.std.proofs.lemmas.List.{length-append}
 use Rattle.std.proofs.lemmas.List.Elements.{Contains-append_cases, Contains-append_left, Contains-append_right, Contains-push_cases}
@@ -11,7 +11,7 @@ use Rattle.roam_conf.specs.Duplicates.{same_endpoint}
 use Rattle.roam_conf.proofs.EqualPartsLemmas.{endpoint_decides}
 use Rattle.roam_conf.specs.declared.place.Place.{Place}
 use Rattle.roam_conf.specs.declared.place.Place.TheVariants as place
-use Rattle.roam_port.specs.Sockets.{socket_endpoint, socket_number}
+use Rattle.roam_port.specs.Sockets.{own_out, own_reverse, socket_endpoint, socket_number}
 use Rattle.roam_sockets.specs.Bound.{AreBoundFor, AreBoundUpTo, Gains, GainsSome, HasOne, IsAt}
 use Rattle.roam_sockets.specs.declared.bind.BoundSocket.{BoundSocket}
 
@@ -105,26 +105,19 @@ same_place (place.Reverse q) (place.Out r) is = absurd (omega (arith, is))
 same_place (place.Reverse q) (place.Reverse r) is = ap place.Reverse (omega (arith, is))
 
 -- what is configured has one of so many numbers
-realm_within : {E : Type 0} (realms : List RealmView) (k : ℕ) (f : RealmView → E) (e : E) →
-    option_map f (slice_get realms k) ≡ Some e
+realm_within : {E : Type 0} (own_at : RealmView → Option E) (realms : List RealmView) (k : ℕ) (e : E) →
+    option_and_then own_at (slice_get realms k) ≡ Some e
     → k < length realms
-realm_within [] k f e is = absurd cc
-realm_within (r ∷ rs) zero f e is = omega arith
-realm_within (r ∷ rs) (suc k) f e is = let lt = realm_within rs k f e is in omega (arith, lt)
-
-reverse_within : (realms : List RealmView) (k : ℕ) (e : Endpoint) →
-    option_and_then (λ r. r.reverse) (slice_get realms k) ≡ Some e
-    → k < length realms
-reverse_within [] k e is = absurd cc
-reverse_within (r ∷ rs) zero e is = omega arith
-reverse_within (r ∷ rs) (suc k) e is = let lt = reverse_within rs k e is in omega (arith, lt)
+realm_within own_at [] k e is = absurd cc
+realm_within own_at (r ∷ rs) zero e is = omega arith
+realm_within own_at (r ∷ rs) (suc k) e is = let lt = realm_within own_at rs k e is in omega (arith, lt)
 
 pub numbered : (config : ConfigView) (at : Place) (e : Endpoint) → socket_endpoint config at ≡ Some e
     → socket_number at < 2 * length config.realms + 2
 numbered config place.Auth e is = omega arith
 numbered config place.Acct e is = omega arith
-numbered config (place.Out r) e is = let lt = realm_within config.realms r (λ x. x.out) e is in omega (arith, lt)
-numbered config (place.Reverse r) e is = let lt = reverse_within config.realms r e is in omega (arith, lt)
+numbered config (place.Out r) e is = let lt = realm_within own_out config.realms r e is in omega (arith, lt)
+numbered config (place.Reverse r) e is = let lt = realm_within own_reverse config.realms r e is in omega (arith, lt)
 
 first_in : (xs : List BoundSocket) → 0 < length xs → (b : BoundSocket) × Contains xs b
 first_in [] some = absurd (omega (arith, some))

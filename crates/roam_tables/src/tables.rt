@@ -219,6 +219,13 @@ impl<A: Allocator + Copy> Entries<A> for Tables<A> {
         }
     }
 
+    fn next_after(&self, realm: u16, last: Option<Due>) -> Option<Due> {
+        match runs_of(&self.realms, realm) {
+            None => None,
+            Some(runs) => runs.next(last),
+        }
+    }
+
     fn reserve(&mut self, realm: u16) -> Result<(), NoMemory> {
         grow(
             &mut self.slots,

@@ -1,7 +1,7 @@
 use Rattle.std.proofs.Common.{◌∙◌}
 use Rattle.roam_reverse.specs.Kept.{kept_session}
 use Rattle.roam_reverse.proofs.NewestLemmas.{found-held, found-none}
-use Rattle.roam_reverse.proofs.newest.Chain.one_before.Goals as goal
+use Rattle.roam_reverse.proofs.chain.Chain.one_before.Goals as goal
 
 pub returns-clause-there : goal.returns-clause-there
 returns-clause-there g c =

@@ -1,7 +1,7 @@
 use Rattle.std.proofs.Common.{◌-◌, ◌≤◌, length}
 use Rattle.roam_wire.specs.Numbered.{listed}
 use Rattle.roam_reverse.specs.Stands.{session_at}
-use Rattle.roam_reverse.proofs.newest.Chain.ticket_after.Given as goal
+use Rattle.roam_reverse.proofs.chain.Chain.ticket_after.Given as goal
 
 -- so many are before one of these tickets
 abbrev pub invariant-loop-least : goal.invariant-loop-least

@@ -3,7 +3,7 @@ use Rattle.std.specs.Prelude.{nat_lt}
 use Rattle.std.specs.List.{count_by}
 use Rattle.roam_reverse.specs.Kept.{kept_session}
 use Rattle.roam_reverse.proofs.NewestLemmas.{keys-counted}
-use Rattle.roam_reverse.proofs.newest.Chain.count_before.Goals as goal
+use Rattle.roam_reverse.proofs.chain.Chain.count_before.Goals as goal
 
 pub returns : goal.returns
 returns g c =

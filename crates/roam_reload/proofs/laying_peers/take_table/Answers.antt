@@ -1,0 +1,17 @@
+use Rattle.std.proofs.Common.{◌≡◌, None, option_map, get_or, sym, ap, ◌∙◌}
+use Rattle.roam_conf.specs.Parts.{shown_peer}
+use Rattle.roam_reload.specs.Laying.{peers_in}
+use Rattle.roam_reload.specs.Numbers.{same_peer_name}
+use Rattle.roam_reload.proofs.SlotLemmas.{none_there}
+use Rattle.roam_reload.proofs.laying_peers.take_table.Goals as goal
+
+-- no slot has it
+pub returns-in-None-clause-found : goal.returns-in-None-clause-found
+returns-in-None-clause-found c =
+    sym (none_there (same_peer_name (shown_peer c.args.peer.now)) (peers_in c.args.slots.now.items) 0
+    (sym c.slot_with.ensures.value ∙ c.in-None.is)).0
+
+pub returns-in-None-clause-slots : goal.returns-in-None-clause-slots
+returns-in-None-clause-slots c =
+    sym (none_there (same_peer_name (shown_peer c.args.peer.now)) (peers_in c.args.slots.now.items) 0
+    (sym c.slot_with.ensures.value ∙ c.in-None.is)).1
