@@ -4,11 +4,11 @@ ghost use Rattle.std.specs.Prelude.{IfOk, IfSome};
 ghost use Rattle.roam_conf.specs.Shown.{shown};
 ghost use Rattle.roam_reload.specs.Reload.{MayFollow};
 
-use crate::asked::losing::objection;
+use crate::asked::losing::{objection, tell_what_goes};
 use crate::asked::overview::Overview;
 use crate::change::manner::StateFile;
-use crate::change::next::{Next, prepare_next};
-use crate::change::source::Source;
+use crate::change::next::{Next, following_of, prepare_next};
+use crate::change::source::{Following, Source};
 use log::Log;
 use roam_conf::Config;
 use roam_control::{Course, Desk, Handed, Order, Reply, done, grace, plain_reply, script_of};
@@ -190,16 +190,30 @@ impl<R: Threads + Wait + Clock + Net + Log + Sync, G, N: Opened> Attendant<'_, '
         }
     }
 
-    /// The configuration that is to follow, with all that the server needs for it; or why none follows.
+    /// The configuration that is to follow, which nobody objects to; or why none follows.
+    fn agreed_of<S: Source>(&self, source: &mut S, is_agreed: bool) -> Result<Following, Reply>
+        ensures { IfOk result (λ following. MayFollow N.opening.config (shown following.config)) }
+    {
+        let following = following_of(self.shared, source)?;
+        if is_agreed {
+            return Ok(following);
+        }
+        match objection(self.rt, self.shared, &self.seat, &following.config) {
+            Some(reply) => Err(reply),
+            None => Ok(following),
+        }
+    }
+
+    /// The same, with all that the server needs for it.
     fn next_of<S: Source>(&self, source: &mut S, is_agreed: bool) -> Result<Next, Reply>
         ensures { IfOk result (λ next. MayFollow N.opening.config (shown next.configured.config)) }
     {
-        let next = prepare_next(self.rt, self.shared, self.sockets, source)?;
-        let config = &next.configured.config;
-        match objection(self.rt, self.shared, &self.seat, config, is_agreed) {
-            Some(reply) => Err(reply),
-            None => Ok(next),
+        let following = self.agreed_of(source, is_agreed)?;
+        let next = prepare_next(self.rt, self.shared, self.sockets, source, following)?;
+        if is_agreed {
+            tell_what_goes(self.rt, self.shared, &self.seat, &next.configured.config);
         }
+        Ok(next)
     }
 
     /// Answers an order, unless a configuration comes by it that is to follow.

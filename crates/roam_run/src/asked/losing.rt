@@ -103,25 +103,31 @@ fn tell_losses<R: Log>(rt: &R, config: &Config, losses: &[Loss]) {
     }
 }
 
-/// Why a configuration isn't followed by which something would be lost, unless that is agreed to: then it is told
-/// what goes.
-pub fn objection<R: Wait + Log, G, N: Opened>(
+/// Why a configuration isn't followed to which nobody agreed: something would be lost by it.
+pub fn objection<R: Wait, G, N: Opened>(
     rt: &R,
     shared: &Shared<'_, '_, G, N>,
     seat: &Seat<Global, N>,
     next: &Config,
-    is_agreed: bool,
 ) -> Option<Reply> {
     let Ok(losses) = all_losses(rt, shared, seat, next) else {
         return Some(out_of_memory(shared.alloc));
     };
-    if is_agreed {
-        tell_losses(rt, shared.config, losses.as_slice());
-        return None;
-    }
     match why_not(shared.alloc, shared.config, losses.as_slice()) {
         Some(text) => Some(plain_reply(Course::Declined, text)),
         None => None,
+    }
+}
+
+/// Tells what goes by a change that was agreed to, where there is memory for that.
+pub fn tell_what_goes<R: Wait + Log, G, N: Opened>(
+    rt: &R,
+    shared: &Shared<'_, '_, G, N>,
+    seat: &Seat<Global, N>,
+    next: &Config,
+) {
+    if let Ok(losses) = all_losses(rt, shared, seat, next) {
+        tell_losses(rt, shared.config, losses.as_slice());
     }
 }
 

@@ -180,27 +180,40 @@ fn make_next<R: Threads + Wait + Net + Log + Sync, G, N: Opened>(
     })
 }
 
-/// Has a configuration come that is to follow the one that is served, and makes all that the server needs for it.
-/// Nothing changes yet.
+/// Has a configuration come that is to follow the one that is served.
 ///
 /// # Errors
 ///
 /// What is answered where none follows.
+pub fn following_of<G, N: Opened, S: Source>(
+    shared: &Shared<'_, '_, G, N>,
+    source: &mut S,
+) -> Result<Following, Reply>
+    ensures { IfOk result (λ following. MayFollow N.opening.config (shown following.config)) }
+{
+    if shared.stopping.is_asked() {
+        return Err(is_stopping(shared.alloc));
+    }
+    match source.following(shared.config) {
+        Ok(following) => Ok(following),
+        Err(body) => Err(declined(body)),
+    }
+}
+
+/// Makes all that the server needs for a configuration that follows the one that is served. Nothing changes yet.
+///
+/// # Errors
+///
+/// What is answered where it can't be had.
 pub fn prepare_next<R: Threads + Wait + Net + Log + Sync, G, N: Opened, S: Source>(
     rt: &R,
     shared: &Shared<'_, '_, G, N>,
     sockets: &[BoundSocket],
     source: &mut S,
+    following: Following,
 ) -> Result<Next, Reply>
-    ensures { IfOk result (λ next. MayFollow N.opening.config (shown next.configured.config)) }
+    ensures { IfOk result (λ next. next.configured.config ≡ following.config) }
 {
-    if shared.stopping.is_asked() {
-        return Err(is_stopping(shared.alloc));
-    }
-    let following = match source.following(shared.config) {
-        Ok(following) => following,
-        Err(body) => return Err(declined(body)),
-    };
     match make_next(rt, shared, sockets, following) {
         Ok(next) => Ok(next),
         Err(fault) => Err(declined(words_of(source, sockets, fault))),
