@@ -37,6 +37,15 @@ fn is_spread_at(config: &Config, place: Place) -> bool {
     }
 }
 
+/// How many sockets are wanted at a place.
+fn wanted_at(config: &Config, place: Place) -> usize {
+    if is_spread_at(config, place) {
+        usize::from(config.shards)
+    } else {
+        1
+    }
+}
+
 /// The worker that hears the socket of a place before which so many came there.
 fn worker_at(config: &Config, place: Place, before: usize) -> usize {
     let workers = usize::from(config.shards);
@@ -99,20 +108,21 @@ impl Sockets {
         }
     }
 
-    /// Binds the sockets of a place, where so many are there: one for each worker.
+    /// Binds the sockets of a place for the workers from this one on, up to so many, which others may be beside.
     fn bind_rest(
         &mut self,
         config: &Config,
         place: Place,
         endpoint: Endpoint,
-        there: usize,
+        first: usize,
+        wanted: usize,
     ) -> Result<(), ServeFault>
         requires { Contains (socket_endpoints (shown config.now)) endpoint }
         ensures ok { OnOk result (Gains place endpoint self.old.bound.items self.new.bound.items
-            (config.now.shards - there)) }
+            (wanted - first)) }
         ensures err { IfErr result (IsFaultOf (shown config.now)) }
     {
-        for worker in there..usize::from(config.shards) {
+        for worker in first..wanted {
             match bind_beside(endpoint) {
                 Ok(socket) => self.bound.push(BoundSocket {
                     place,
@@ -147,9 +157,10 @@ impl Sockets {
             }
         }
         share(open, endpoint, true);
-        let bound = self.bind_rest(config, place, endpoint, 0);
+        let bound = self.bind_rest(config, place, endpoint, 0, usize::from(config.shards));
         share(open, endpoint, false);
-        bound
+        bound?;
+        Ok(())
     }
 }
 
@@ -237,10 +248,11 @@ impl Sockets {
             let beside = beside_which(config, endpoint, open);
             return self.bind_place(rt, config, place, endpoint, beside);
         }
-        if is_spread_at(config, place) && there < usize::from(config.shards) {
+        let wanted = wanted_at(config, place);
+        if there < wanted {
             share(open, endpoint, true);
-            return self.bind_rest(config, place, endpoint, there);
         }
+        self.bind_rest(config, place, endpoint, there, wanted)?;
         Ok(())
     }
 }

@@ -10,7 +10,6 @@ use crate::change::manner::StateFile;
 use crate::change::next::{Next, following_of, prepare_next};
 use crate::change::source::{Following, Source};
 use log::Log;
-use roam_conf::Config;
 use roam_control::{Course, Desk, Handed, Order, Reply, done, grace, plain_reply, script_of};
 use roam_counters::Process;
 use roam_hub::{HubFault, Opened, Seat};
