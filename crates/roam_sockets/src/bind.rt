@@ -9,8 +9,9 @@ ghost use Rattle.roam_sockets.specs.Faults.{IsFaultOf};
 use crate::descriptors::descriptors_wanted;
 use crate::fault::{ServeFault, reason_of};
 use crate::one_socket::{beside_which, bind_beside, bind_one, is_free, open_beside, share};
+use crate::workers::{is_spread_at, wanted_at, worker_of_nth};
 use roam_conf::{Config, Endpoint, Place, is_same_endpoint};
-use roam_port::{endpoint_of, place_of, socket_numbers, worker_of};
+use roam_port::{endpoint_of, place_of, socket_numbers};
 use std::alloc::Global;
 use std::io;
 use std::net::{Net, UdpSocket};
@@ -27,33 +28,6 @@ pub struct BoundSocket {
     /// Whether it was open before for another configuration.
     pub was_open: bool,
     pub socket: UdpSocket,
-}
-
-/// Whether each worker has a socket of its own at a place.
-fn is_spread_at(config: &Config, place: Place) -> bool {
-    match place {
-        Place::Auth | Place::Acct => config.spread,
-        Place::Out(_) | Place::Reverse(_) => false,
-    }
-}
-
-/// How many sockets are wanted at a place.
-fn wanted_at(config: &Config, place: Place) -> usize {
-    if is_spread_at(config, place) {
-        usize::from(config.shards)
-    } else {
-        1
-    }
-}
-
-/// The worker that hears the socket of a place before which so many came there.
-fn worker_at(config: &Config, place: Place, before: usize) -> usize {
-    let workers = usize::from(config.shards);
-    if is_spread_at(config, place) {
-        before % workers
-    } else {
-        worker_of(place, workers, config.spread)
-    }
 }
 
 /// The fault of a socket that can't be bound to an endpoint, where the server wants so many descriptors.
@@ -93,11 +67,10 @@ impl Sockets {
     {
         match bind_one(rt, endpoint, open) {
             Ok(socket) => {
-                let worker = worker_of(place, usize::from(config.shards), config.spread);
                 self.bound.push(BoundSocket {
                     place,
                     endpoint,
-                    worker,
+                    worker: worker_of_nth(config, place, 0),
                     is_spread: false,
                     was_open: false,
                     socket,
@@ -196,7 +169,7 @@ impl Sockets {
                     Ok(socket) => self.bound.push(BoundSocket {
                         place,
                         endpoint: bound.endpoint,
-                        worker: worker_at(config, place, count),
+                        worker: worker_of_nth(config, place, count),
                         is_spread: is_spread_at(config, place),
                         was_open: true,
                         socket,

@@ -29,6 +29,7 @@ mod polls;
 mod receiver;
 mod seed;
 mod socket;
+mod workers;
 
 pub use bind::{BoundSocket, bind_all, bind_following};
 pub use clock::{now, wall_seconds};

@@ -1,6 +1,6 @@
 //! One socket is bound: alone at its endpoint, or beside others.
 
-ghost use Rattle.std.specs.Prelude.{◌≡◌};
+ghost use Rattle.std.specs.Prelude.{◌≡◌, IfSome, true};
 ghost use Rattle.roam_sockets.specs.Beside.{overlap};
 
 use crate::bind::BoundSocket;
@@ -24,7 +24,9 @@ pub(crate) fn overlaps(a: Endpoint, b: Endpoint) -> bool
 }
 
 /// The endpoint of the first socket that is open at a place which overlaps this one.
-pub fn open_beside(open: &[BoundSocket], endpoint: Endpoint) -> Option<Endpoint> {
+pub fn open_beside(open: &[BoundSocket], endpoint: Endpoint) -> Option<Endpoint>
+    ensures { IfSome result (λ beside. overlap beside endpoint ≡ true) }
+{
     for bound in open {
         if overlaps(bound.endpoint, endpoint) {
             return Some(bound.endpoint);
@@ -63,10 +65,10 @@ pub(crate) fn beside_which<'s>(
 /// Lets others be bound beside those sockets that are open there, or no longer, where the system does so. Those of
 /// which there are several let them anyway.
 pub(crate) fn share(open: &[BoundSocket], endpoint: Endpoint, is_shared: bool) {
+    let number = if is_shared { 1 } else { 0 };
     for bound in open {
         if !bound.is_spread && overlaps(bound.endpoint, endpoint) {
-            let fd = bound.socket.as_raw_fd();
-            let _is_set = set_option(fd, libc::net::SO_REUSEPORT, u32::from(is_shared));
+            let _is_set = set_option(bound.socket.as_raw_fd(), libc::net::SO_REUSEPORT, number);
         }
     }
 }
