@@ -198,13 +198,13 @@ pub fn run_threads<
             for handle in handles {
                 let _is_kept = ends.push(handle.join(rt)).is_ok();
             }
+            if end.is_over() {
+                attendant.keep_ledgers(source);
+            }
             shared.logger.unpark();
             end
         },
     );
-    if end.is_over() {
-        attendant.keep_ledgers(source);
-    }
     let _is_kept = seats.push(attendant.seat).is_ok();
     RunResult { ends, seats, end }
 }
