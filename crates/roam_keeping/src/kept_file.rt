@@ -19,7 +19,7 @@ fn mode() -> u32
 
 /// A path with `.new` behind it.
 fn named_new(alloc: Global, path: &str) -> Result<String, AllocError>
-    ensures { IfOk result (λ beside. beside ≡ path.now ++ codes ".new") }
+    ensures { IfOk result (λ beside. beside.bytes.items ≡ path.now ++ codes ".new") }
 {
     let mut beside = String::from_str(alloc, path)?;
     beside.push_str(".new")?;
@@ -28,7 +28,7 @@ fn named_new(alloc: Global, path: &str) -> Result<String, AllocError>
 
 /// A path with `.old` behind it.
 fn named_old(alloc: Global, path: &str) -> Result<String, AllocError>
-    ensures { IfOk result (λ aside. aside ≡ path.now ++ codes ".old") }
+    ensures { IfOk result (λ aside. aside.bytes.items ≡ path.now ++ codes ".old") }
 {
     let mut aside = String::from_str(alloc, path)?;
     aside.push_str(".old")?;
@@ -37,7 +37,7 @@ fn named_old(alloc: Global, path: &str) -> Result<String, AllocError>
 
 /// The path of a file that is written, beside the one that it takes the place of.
 fn beside<R: AllocGlobal>(rt: &R, path: &str) -> io::Result<String>
-    ensures { IfOk result (λ beside. beside ≡ path.now ++ codes ".new") }
+    ensures { IfOk result (λ beside. beside.bytes.items ≡ path.now ++ codes ".new") }
 {
     match named_new(rt.alloc(), path) {
         Ok(beside) => Ok(beside),
@@ -47,7 +47,7 @@ fn beside<R: AllocGlobal>(rt: &R, path: &str) -> io::Result<String>
 
 /// The path of a file that is put aside.
 fn aside<R: AllocGlobal>(rt: &R, path: &str) -> io::Result<String>
-    ensures { IfOk result (λ aside. aside ≡ path.now ++ codes ".old") }
+    ensures { IfOk result (λ aside. aside.bytes.items ≡ path.now ++ codes ".old") }
 {
     match named_old(rt.alloc(), path) {
         Ok(aside) => Ok(aside),

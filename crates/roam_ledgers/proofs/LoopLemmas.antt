@@ -1,6 +1,7 @@
 -- Reading items one after the other, as a loop does.
-use Rattle.std.proofs.Common.{◌≡◌, ℕ, suc, ◌-◌, ◌+◌, ◌≤◌, ◌<◌, List, [], ◌∷◌, ◌++◌, Some, None, Result, Ok, Err, refl, sym, ap, subst, ◌∙◌, append_assoc, arith}
+use Rattle.std.proofs.Common.{◌≡◌, ℕ, suc, ◌-◌, ◌+◌, ◌≤◌, ◌<◌, List, [], ◌∷◌, ◌++◌, Option, Some, None, Result, Ok, Err, refl, sym, ap, subst, ◌∙◌, append_assoc, arith}
 use Rattle.std.specs.Global.{Vec}
+use Rattle.std.specs.Prelude.{option_map}
 use Rattle.std.proofs.lemmas.List.{map-append}
 use Rattle.roam_ledgers.specs.Shown.{shown_item, shown_items}
 use Rattle.roam_ledgers.specs.declared.item.Item.{Item}
@@ -64,6 +65,13 @@ is_cut front count i octets total le so_far =
     let k : count - i ≡ 0 = omega (arith, le) in
     let one : with_front front (items_within (count - i) octets) ≡ Err Cut = rw k refl in
     sym so_far ∙ one
+
+-- what an item is that was read
+pub seen_item :
+    (octets : List ℕ) (o p : Option Item) (after : List ℕ) → item_at octets ≡ Ok (option_map shown_item o, after)
+    → o ≡ p → item_at octets ≡ Ok (option_map shown_item p, after)
+seen_item octets o p after h is =
+    subst (λ (x : Option Item). item_at octets ≡ Ok (option_map shown_item x, after)) is h
 
 -- the same of what the code's items are seen as
 pub goes_on_seen :

@@ -1,7 +1,7 @@
 -- Tables that are laid out by older ones: what is found in slots, and what is left there.
-use Rattle.std.proofs.Common.{◌≡◌, ℕ, zero, suc, ◌+◌, ◌<◌, ◌≤◌, Bool, true, false, ◌||◌, not, cond, inl, inr, List, [], ◌∷◌, ◌++◌, Option, Some, None, option_map, slice_get, unwrap_or, map, length, get_or, take, drop, refl, sym, ap, ◌∙◌}
+use Rattle.std.proofs.Common.{◌≡◌, ℕ, zero, suc, ◌+◌, ◌<◌, ◌≤◌, Bool, true, false, ◌||◌, not, cond, inl, inr, List, [], ◌∷◌, ◌++◌, Option, Some, None, option_map, slice_get, unwrap_or, map, length, get_or, take, drop, refl, sym, ap, ◌∙◌, arith}
 use Rattle.std.proofs.lemmas.Bool.{cases_Bool, or_parts, false≢true}
-use Rattle.std.proofs.lemmas.List.{drop_more, get_or-map, length-map, map-append, take-append-drop, take_all, take_more}
+use Rattle.std.proofs.lemmas.List.{drop_more, get_or-map, length-append, length-map, map-append, take-append-drop, take_all, take_more}
 use Rattle.std.specs.List.{find, list_any}
 use Rattle.std.specs.Prelude.{filter, if◌then◌else◌}
 use Rattle.roam_conf.specs.Duplicates.{has_pair}
@@ -246,3 +246,18 @@ all_laid {X} same gone old new i laid slots end is stand =
     ap (λ xs. xs ++ left_in slots) (is ∙ ap (map next) all)
     ∙ ap (λ ss. map next old ++ left_in ss) (stand ∙ ap (λ taken. slots_then same taken new) all)
     ∙ ap (λ l. map next old ++ l) (left_over same old new)
+
+-- ---- the lists that are laid out
+
+pub laid_alike : {X : Type 0} (same : X → X → Bool) (gone : X → X) (laid old older new newer : List X) →
+    laid ≡ laid_by same gone old new → old ≡ older → new ≡ newer → laid ≡ laid_by same gone older newer
+laid_alike same gone laid old older new newer is olds news =
+    is ∙ ap (λ o. laid_by same gone o new) olds ∙ ap (laid_by same gone older) news
+
+-- none of the old numbers is lost
+pub laid_long : {X : Type 0} (same : X → X → Bool) (gone : X → X) (laid old new : List X) →
+    laid ≡ laid_by same gone old new → length old ≤ length laid
+laid_long {X} same gone laid old new is =
+    let next : X → X = λ x. unwrap_or (find (same x) new) (gone x) in
+    let rest = filter (λ y. not (list_any (λ t. same t y) old)) new in
+    omega (arith, ap length is, length-append (map next old) rest, length-map old next)

@@ -7,3 +7,4 @@ pub mod LayingLemmas
 pub mod SameTableLemmas
 pub mod SlotLemmas
 pub mod NumberLemmas
+pub mod SourceLemmas

@@ -102,25 +102,26 @@ unnamed : (r : RealmView) (realms : List RealmView) (more : List PatternView) �
     list_any (same_realm_name r) realms ≡ false
 unnamed r [] more none = refl
 unnamed r (s ∷ ss) more none =
-    by_gone s.gone (sym (ap (list_any (same_pattern (whole r.name))) (others s ss more)) ∙ none)
+    by_gone (λ e. unnamed r ss more e) s.gone
+    (sym (ap (list_any (same_pattern (whole r.name))) (others s ss more)) ∙ none)
   where
     never : (gone : Bool) → not gone && false ≡ false
     never true = refl
     never false = refl
 
-    by_gone : (gone : Bool) →
+    by_gone : (list_any (same_pattern (whole r.name)) (flat_map patterns_of ss ++ more) ≡ false →
+        list_any (same_realm_name r) ss ≡ false) → (gone : Bool) →
         list_any (same_pattern (whole r.name)) (with_patterns gone s (flat_map patterns_of ss ++ more)) ≡ false →
         (not r.gone && not gone && str_eq_ignore_ascii_case r.name s.name) || list_any (same_realm_name r) ss ≡ false
-    by_gone true no_one =
+    by_gone later true no_one =
         ap (λ b. (b && str_eq_ignore_ascii_case r.name s.name) || list_any (same_realm_name r) ss) (never r.gone)
-        ∙ unnamed r ss more no_one
-    by_gone false no_one =
+        ∙ later no_one
+    by_gone later false no_one =
         let parts = or_parts (str_eq_ignore_ascii_case r.name s.name)
         (list_any (same_pattern (whole r.name)) (s.also ++ (flat_map patterns_of ss ++ more))) no_one in
         ap (λ b. (not r.gone && true && b) || list_any (same_realm_name r) ss) parts.0
         ∙ ap (λ b. b || list_any (same_realm_name r) ss) (no_more r.gone)
-        ∙ unnamed r ss more
-        (behind_front (same_pattern (whole r.name)) s.also (flat_map patterns_of ss ++ more) parts.1)
+        ∙ later (behind_front (same_pattern (whole r.name)) s.also (flat_map patterns_of ss ++ more) parts.1)
       where
         no_more : (gone : Bool) → not gone && true && false ≡ false
         no_more true = refl
@@ -129,23 +130,27 @@ unnamed r (s ∷ ss) more none =
 realms_apart : (realms : List RealmView) (more : List PatternView) →
     has_pair same_pattern (flat_map patterns_of realms ++ more) ≡ false → has_pair same_realm_name realms ≡ false
 realms_apart [] more none = refl
-realms_apart (r ∷ rs) more none = by_gone r.gone refl (sym (ap (has_pair same_pattern) (others r rs more)) ∙ none)
+realms_apart (r ∷ rs) more none =
+    by_gone (λ e. realms_apart rs more e) r.gone refl (sym (ap (has_pair same_pattern) (others r rs more)) ∙ none)
   where
     none_named : (realms : List RealmView) → r.gone ≡ true → list_any (same_realm_name r) realms ≡ false
     none_named [] is = refl
-    none_named (s ∷ ss) is = rw is (none_named ss is)
+    none_named (s ∷ ss) is =
+        ap (λ b. (not b && not s.gone && str_eq_ignore_ascii_case r.name s.name) || list_any (same_realm_name r) ss) is
+        ∙ none_named ss is
 
-    by_gone : (gone : Bool) → r.gone ≡ gone →
+    by_gone : (has_pair same_pattern (flat_map patterns_of rs ++ more) ≡ false → has_pair same_realm_name rs ≡ false) →
+        (gone : Bool) → r.gone ≡ gone →
         has_pair same_pattern (with_patterns gone r (flat_map patterns_of rs ++ more)) ≡ false →
         has_pair same_realm_name (r ∷ rs) ≡ false
-    by_gone true is no_pair =
-        ap (λ b. b || has_pair same_realm_name rs) (none_named rs is) ∙ realms_apart rs more no_pair
-    by_gone false is no_pair =
+    by_gone later true is no_pair =
+        ap (λ b. b || has_pair same_realm_name rs) (none_named rs is) ∙ later no_pair
+    by_gone later false is no_pair =
         let parts = or_parts (list_any (same_pattern (whole r.name)) (r.also ++ (flat_map patterns_of rs ++ more)))
         (has_pair same_pattern (r.also ++ (flat_map patterns_of rs ++ more))) no_pair in
         ap (λ b. b || has_pair same_realm_name rs)
         (unnamed r rs more (behind_front (same_pattern (whole r.name)) r.also (flat_map patterns_of rs ++ more) parts.0))
-        ∙ realms_apart rs more (pairs_behind r.also (flat_map patterns_of rs ++ more) parts.1)
+        ∙ later (pairs_behind r.also (flat_map patterns_of rs ++ more) parts.1)
 
 pub realms_differ : (realms : List RealmView) (reject : List PatternView) → has_duplicate_realm realms reject ≡ false →
     has_pair same_realm_name realms ≡ false

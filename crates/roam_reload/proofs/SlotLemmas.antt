@@ -70,15 +70,16 @@ module _ {X : Type 0} (test : X → Bool) where
   found_from : (slots : List (Option X)) (n i : ℕ) → position_from (slot_holds test) n slots ≡ Some (n + i) →
       IsThere slots i
   found_from [] n i is = absurd cc
-  found_from (None ∷ slots) n i is = by_index i is
+  found_from (None ∷ slots) n i is = by_index (λ j e. found_from slots (n + 1) j e) i is
     where
-      by_index : (j : ℕ) → position_from (slot_holds test) (n + 1) slots ≡ Some (n + j) → IsThere (None ∷ slots) j
-      by_index zero is' =
+      by_index : ((j : ℕ) → position_from (slot_holds test) (n + 1) slots ≡ Some (n + 1 + j) → IsThere slots j) →
+          (j : ℕ) → position_from (slot_holds test) (n + 1) slots ≡ Some (n + j) → IsThere (None ∷ slots) j
+      by_index later zero is' =
           let least : n + 1 ≤ n + 0 = at_least (slot_holds test) slots (n + 1) (n + 0) is' in
           absurd (omega (arith, least))
-      by_index (suc j) is' =
+      by_index later (suc j) is' =
           let next : n + suc j ≡ n + 1 + j = omega arith in
-          let rest = found_from slots (n + 1) j (is' ∙ ap (λ k. Some k) next) in
+          let rest = later j (is' ∙ ap (λ k. Some k) next) in
           (rest.0, ap (λ ss. None ∷ ss) rest.1)
   found_from (Some x ∷ slots) n i is =
       elim (cases_Bool (test x)) [
@@ -90,18 +91,19 @@ module _ {X : Type 0} (test : X → Bool) where
               ap (λ b. cond b (Some x) (find test (left_in slots))) yes',
               ap (λ b. if b then None ∷ slots else Some x ∷ without_first test slots) yes',
             ))
-        | inr no' ↦ by_index no' i
+        | inr no' ↦ by_index (λ j e. found_from slots (n + 1) j e) no' i
             (ap (λ b. cond b (Some n) (position_from (slot_holds test) (n + 1) slots)) (sym no') ∙ is)
       ]
     where
-      by_index : test x ≡ false → (j : ℕ) → position_from (slot_holds test) (n + 1) slots ≡ Some (n + j) →
+      by_index : ((j : ℕ) → position_from (slot_holds test) (n + 1) slots ≡ Some (n + 1 + j) → IsThere slots j) →
+          test x ≡ false → (j : ℕ) → position_from (slot_holds test) (n + 1) slots ≡ Some (n + j) →
           IsThere (Some x ∷ slots) j
-      by_index other zero is' =
+      by_index later other zero is' =
           let least : n + 1 ≤ n + 0 = at_least (slot_holds test) slots (n + 1) (n + 0) is' in
           absurd (omega (arith, least))
-      by_index other (suc j) is' =
+      by_index later other (suc j) is' =
           let next : n + suc j ≡ n + 1 + j = omega arith in
-          let rest = found_from slots (n + 1) j (is' ∙ ap (λ k. Some k) next) in (
+          let rest = later j (is' ∙ ap (λ k. Some k) next) in (
             ap (λ b. cond b (Some x) (find test (left_in slots))) other ∙ rest.0,
             ap (λ b. if b then None ∷ slots else Some x ∷ without_first test slots) other
                 ∙ ap (λ ss. Some x ∷ ss) rest.1,

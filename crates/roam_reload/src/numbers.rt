@@ -27,8 +27,9 @@ fn keeps_peer(old: &[Peer], new: &[Peer], i: usize) -> bool
     ensures { IsTrue result
         ↔ KeepAt same_peer_name (λ peer. peer.gone) (map shown_peer old.now) (map shown_peer new.now) i }
 {
+    let before = &old[i];
     match new.get(i) {
-        Some(after) => after.gone || is_same_peer(&old[i], after),
+        Some(after) => after.gone || is_same_peer(before, after),
         None => false,
     }
 }
@@ -52,8 +53,9 @@ fn keeps_realm(old: &[Realm], new: &[Realm], i: usize) -> bool
     ensures { IsTrue result
         ↔ KeepAt same_realm_name (λ realm. realm.gone) (map shown_realm old.now) (map shown_realm new.now) i }
 {
+    let before = &old[i];
     match new.get(i) {
-        Some(after) => after.gone || is_same_realm(&old[i], after),
+        Some(after) => after.gone || is_same_realm(before, after),
         None => false,
     }
 }

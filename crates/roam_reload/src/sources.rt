@@ -76,17 +76,25 @@ fn closes_reverse(old: &Realm, new: &Realm) -> bool
     old.reverse.is_some() && new.reverse.is_none()
 }
 
+/// The secret shared with the source of a number; none of its octets where there is no such source.
+fn secret_of(realm: &Realm, home: u8) -> &[u8]
+    ensures { result.now ≡ home_secret (shown_realm realm.now) home }
+{
+    match source_of(realm, home) {
+        Some(source) => source.secret,
+        None => b"",
+    }
+}
+
 /// The source at an address, if the secret shared with it is that of a source of the old realm.
 fn home_at(old: &Realm, new: &Realm, ip: [u8; 4], home: u8) -> Option<u8>
     ensures { result ≡ home_at (shown_realm new.now) ip (home_secret (shown_realm old.now) home) }
 {
     let there = new.home_of(ip)?;
-    let Some(before) = source_of(old, home) else {
-        return None;
-    };
-    match source_of(new, there) {
-        Some(after) if after.secret == before.secret => Some(there),
-        _ => None,
+    if secret_of(new, there) == secret_of(old, home) {
+        Some(there)
+    } else {
+        None
     }
 }
 

@@ -1,12 +1,13 @@
 //! The entries of all realms of a shard in one slab, with indexes and runs beside it.
 
-ghost use Rattle.std.specs.Prelude.{◌≡◌, ℕ, ◌<◌, ◌≤◌, ◌+◌, [], None, OnOk, IfNone, IfOk, IfSome, length};
+ghost use Rattle.std.specs.Prelude.{◌≡◌, ℕ, ◌<◌, ◌≤◌, ◌+◌, [], None, OnOk, IfOk, length};
 ghost use Rattle.roam_pending.specs.Conversations.{kept_state};
-ghost use Rattle.roam_pending.specs.EntryList.{IsEntryList, IsNew, put};
+ghost use Rattle.roam_pending.specs.EntryList.{IsNew, put};
 ghost use Rattle.roam_pending.specs.Realms.{RealmBecomes};
 ghost use Rattle.roam_pending.specs.Shown.{shown, shown_standing};
-ghost use Rattle.roam_tables.specs.Stands.{HasTicket, entries_in, room_in};
+ghost use Rattle.roam_tables.specs.Stands.{entries_in, room_in};
 
+mod clearing;
 mod round_search;
 
 use crate::due_mark::mark_of;
@@ -130,35 +131,6 @@ impl<A: Allocator + Copy> Tables<A> {
         ensures realms { length self.old ≤ length self.new }
     {
         add_empty(alloc, &mut self.realms, realms)
-    }
-
-    /// The ticket of one of a realm's entries.
-    fn any_ticket(&self, realm: u16) -> Option<u64>
-        ensures none { IfNone result (entries_in self.now realm ≡ []) }
-        ensures some { IfSome result (HasTicket (entries_in self.now realm)) }
-        ensures list { IsEntryList (entries_in self.now realm) }
-    {
-        match runs_of(&self.realms, realm) {
-            None => None,
-            Some(runs) => {
-                match runs.next(None) {
-                    None => None,
-                    Some(due) => Some(due.ticket),
-                }
-            }
-        }
-    }
-
-    /// Takes out all entries of a realm. Takes no memory.
-    pub fn clear(&mut self, realm: u16)
-        ensures entries { RealmBecomes realm [] (entries_in self.old) (entries_in self.new) }
-        ensures realms { length self.new ≡ length self.old }
-    {
-        for _ in 0..self.len(realm) {
-            if let Some(ticket) = self.any_ticket(realm) {
-                self.remove(realm, ticket);
-            }
-        }
     }
 }
 

@@ -1,17 +1,29 @@
-use Rattle.std.proofs.Common.{◌≡◌, None, option_map, get_or, sym, ap, ◌∙◌}
+use Rattle.std.proofs.Common.{◌≡◌, None, sym, ◌∙◌}
+use Rattle.std.specs.List.{position_from}
 use Rattle.roam_conf.specs.Parts.{shown_peer}
-use Rattle.roam_reload.specs.Laying.{peers_in}
+use Rattle.roam_reload.specs.Laying.{peers_in, slot_holds}
 use Rattle.roam_reload.specs.Numbers.{same_peer_name}
 use Rattle.roam_reload.proofs.SlotLemmas.{none_there}
 use Rattle.roam_reload.proofs.laying_peers.take_table.Goals as goal
 
+-- the slot that has it
+pub returns-in-Some-clause-found : goal.returns-in-Some-clause-found
+returns-in-Some-clause-found c = ?
+
+pub returns-in-Some-clause-slots : goal.returns-in-Some-clause-slots
+returns-in-Some-clause-slots c = ?
+
 -- no slot has it
 pub returns-in-None-clause-found : goal.returns-in-None-clause-found
 returns-in-None-clause-found c =
-    sym (none_there (same_peer_name (shown_peer c.args.peer.now)) (peers_in c.args.slots.now.items) 0
-    (sym c.slot_with.ensures.value ∙ c.in-None.is)).0
+    let same = same_peer_name (shown_peer c.args.peer.now) in
+    let none : position_from (slot_holds same) 0 (peers_in c.args.slots.now.items) ≡ None =
+    rw (← c.as_slice.ensures.value) (sym c.slot_with.ensures.value ∙ c.in-None.is) in
+    sym (none_there same (peers_in c.args.slots.now.items) 0 none).0
 
 pub returns-in-None-clause-slots : goal.returns-in-None-clause-slots
 returns-in-None-clause-slots c =
-    sym (none_there (same_peer_name (shown_peer c.args.peer.now)) (peers_in c.args.slots.now.items) 0
-    (sym c.slot_with.ensures.value ∙ c.in-None.is)).1
+    let same = same_peer_name (shown_peer c.args.peer.now) in
+    let none : position_from (slot_holds same) 0 (peers_in c.args.slots.now.items) ≡ None =
+    rw (← c.as_slice.ensures.value) (sym c.slot_with.ensures.value ∙ c.in-None.is) in
+    sym (none_there same (peers_in c.args.slots.now.items) 0 none).1

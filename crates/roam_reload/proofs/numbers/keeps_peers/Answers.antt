@@ -13,8 +13,8 @@ loop-i-init c = none_first shown_peer same_peer_name (λ (x : PeerView). x.gone)
 pub returns-then-not-keeps_peer : goal.returns-then-not-keeps_peer
 returns-then-not-keeps_peer c = (
   λ yes'. absurd (false≢true yes'),
-  λ all. absurd (not_kept shown_peer same_peer_name (λ (x : PeerView). x.gone) c.args.old.now c.args.new.now c.loop-i.i
-      c.keeps_peer.result c.keeps_peer.ensures c.if-not-keeps_peer.true all),
+  λ all. absurd (not_kept shown_peer same_peer_name (λ (x : PeerView). x.gone) c.args.old.now c.args.new.now
+      c.loop-i.i c.keeps_peer.result c.keeps_peer.ensures c.if-not-keeps_peer.true all),
 )
 
 pub loop-i-preserved : goal.loop-i-preserved

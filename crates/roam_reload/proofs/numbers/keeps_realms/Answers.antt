@@ -13,8 +13,8 @@ loop-i-init c = none_first shown_realm same_realm_name (λ (x : RealmView). x.go
 pub returns-then-not-keeps_realm : goal.returns-then-not-keeps_realm
 returns-then-not-keeps_realm c = (
   λ yes'. absurd (false≢true yes'),
-  λ all. absurd (not_kept shown_realm same_realm_name (λ (x : RealmView). x.gone) c.args.old.now c.args.new.now c.loop-i.i
-      c.keeps_realm.result c.keeps_realm.ensures c.if-not-keeps_realm.true all),
+  λ all. absurd (not_kept shown_realm same_realm_name (λ (x : RealmView). x.gone) c.args.old.now c.args.new.now
+      c.loop-i.i c.keeps_realm.result c.keeps_realm.ensures c.if-not-keeps_realm.true all),
 )
 
 pub loop-i-preserved : goal.loop-i-preserved

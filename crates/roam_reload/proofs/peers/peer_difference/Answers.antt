@@ -21,8 +21,8 @@ pub returns-then-ne-9-clause-some : goal.returns-then-ne-9-clause-some
 returns-then-ne-9-clause-some c =
     let old = c.args.old.now.request_without.items in
     let new = c.args.new.now.request_without.items in
-    differs old new (pointwise removed_eq old new) c.ne-else-old-new.result
-    (whole_list_decides removed_eq removed_decides old new) c.ne-else-old-new.ensures c.if-ne-9.true
+    differs old new (pointwise removed_eq old new) c.ne-else-old-new-2.result
+    (whole_list_decides removed_eq removed_decides old new) c.ne-else-old-new-2.ensures c.if-ne-9.true
 
 -- other attributes are taken out of replies
 pub returns-then-ne-10-clause-some : goal.returns-then-ne-10-clause-some
@@ -66,9 +66,9 @@ returns-else-ne-10-clause-none c =
     c.ne-else-ne-6.ensures c.if-ne-7.false in
     let requests : new.request_without.items ≡ old.request_without.items =
     agrees old.request_without.items new.request_without.items
-    (pointwise removed_eq old.request_without.items new.request_without.items) c.ne-else-old-new.result
+    (pointwise removed_eq old.request_without.items new.request_without.items) c.ne-else-old-new-2.result
     (whole_list_decides removed_eq removed_decides old.request_without.items new.request_without.items)
-    c.ne-else-old-new.ensures c.if-ne-9.false in
+    c.ne-else-old-new-2.ensures c.if-ne-9.false in
     let replies : new.reply_without.items ≡ old.reply_without.items =
     agrees old.reply_without.items new.reply_without.items
     (pointwise removed_eq old.reply_without.items new.reply_without.items) c.ne-else-ne-9.result

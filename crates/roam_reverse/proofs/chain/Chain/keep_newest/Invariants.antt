@@ -1,6 +1,5 @@
-use Rattle.std.proofs.Common.{◌≡◌, ◌-◌, ◌≤◌, ℕ, length}
-use Rattle.roam_wire.specs.Numbered.{listed}
-use Rattle.roam_reverse.specs.Stands.{IsSound, session_at, session_count, sessions_of}
+use Rattle.std.proofs.Common.{◌≡◌, ◌≤◌, ℕ}
+use Rattle.roam_reverse.specs.Stands.{IsSound, session_at, session_count}
 use Rattle.roam_reverse.proofs.chain.Chain.keep_newest.Given as goal
 
 -- those that were opened later are there
