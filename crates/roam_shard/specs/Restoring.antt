@@ -19,7 +19,7 @@ index_of_name config name =
 -- the realm of an index has this name, and tells its sessions so
 abbrev pub is_named : ConfigView → ℕ → List ℕ → Bool → Bool
 is_named config index name own =
-    option_map_or (λ place. place == index) (index_of_name config name) false
+    option_map_or (λ place. index == place) (index_of_name config name) false
     && same_values own (realm_config config index).realm.own_sessions
 
 -- the sessions that stand behind realms which pass a test, in their order; at first behind one that does, or doesn't

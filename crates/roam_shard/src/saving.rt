@@ -1,6 +1,7 @@
 //! Ledgers that outlast a shard: what is written of them, and what a shard takes up at its start.
 
-ghost use Rattle.std.specs.Prelude.{◌≡◌, ◌⊎◌, IfNone, IfSome, OnOk, ℕ, false, true};
+ghost use Rattle.std.specs.Prelude.{◌≡◌, ◌⊎◌, ◌==◌, OnOk, ℕ, false};
+ghost use Rattle.std.specs.Option.{option_map_or};
 ghost use Rattle.roam_conf.specs.Shown.{shown};
 ghost use Rattle.roam_ledgers.specs.Shown.{shown_items, shown_session, shown_text};
 ghost use Rattle.roam_book.specs.RealmConfig.{realm_config};
@@ -66,10 +67,8 @@ impl<A: Allocator + Copy> Shard<'_, A> {
 
 /// The realm that is here and has a name, and tells its sessions so.
 fn realm_named(config: &Config, name: Text<'_>, own_sessions: bool) -> Option<u16>
-    ensures some { IfSome result (λ realm.
-        is_named (shown config.now) realm (shown_text name) own_sessions ≡ true) }
-    ensures none { IfNone result ((realm : ℕ)
-        → is_named (shown config.now) realm (shown_text name) own_sessions ≡ false) }
+    ensures { (index : ℕ) → is_named (shown config.now) index (shown_text name) own_sessions
+        ≡ option_map_or (λ realm. index == realm) result false }
 {
     for (index, realm) in config.realms.iter().enumerate() {
         if !realm.gone && is_same_name(realm.name.as_bytes(), name.octets) {
