@@ -166,16 +166,21 @@ pub one-taken : (config : ConfigView) (shard k : ℕ) (s : SavedSession) (states
     → slice_get states k ≡ Some x → is_in_shard config shard k ≡ true
     → with_one config shard k s states ≡ set states k (with_saved config k (s ∷ []) x)
 one-taken config shard k s states x at own =
-    from-one config shard (λ other. if other == k then s ∷ [] else []) 0 k states x s at own
-    (ap (λ (b : Bool). if b then s ∷ [] else []) (equal-test k))
-    (λ i ne. ap (λ (b : Bool). if b then s ∷ [] else []) (other-test i k ne))
+    let e : 0 + k ≡ k = omega arith in
+    let saved : ℕ → List SavedSession = λ other. if other == k then s ∷ [] else [] in
+    from-one config shard saved 0 k states x s at (ap (is_in_shard config shard) e ∙ own)
+    (ap saved e ∙ ap (λ (b : Bool). if b then s ∷ [] else []) (equal-test k))
+    (λ i ne. ap (λ (b : Bool). if b then s ∷ [] else []) (other-test i k (λ is. ne (is ∙ sym e))))
+    ∙ ap (λ (n : ℕ). set states k (with_saved config n (s ∷ []) x)) e
 
 -- a session of a realm that isn't
 pub none-taken : (config : ConfigView) (shard k : ℕ) (s : SavedSession) (states : List RealmState)
     → is_in_shard config shard k ≡ false → with_one config shard k s states ≡ states
 none-taken config shard k s states own =
-    from-foreign config shard (λ other. if other == k then s ∷ [] else []) 0 k states own
-    (λ i ne. ap (λ (b : Bool). if b then s ∷ [] else []) (other-test i k ne))
+    let e : 0 + k ≡ k = omega arith in
+    from-foreign config shard (λ other. if other == k then s ∷ [] else []) 0 k states
+    (ap (is_in_shard config shard) e ∙ own)
+    (λ i ne. ap (λ (b : Bool). if b then s ∷ [] else []) (other-test i k (λ is. ne (is ∙ sym e))))
 
 -- The items so far, and whose sessions come now
 
