@@ -34,6 +34,29 @@ fn write_sessions<R: Wait, G, N: Opened>(
     Ok(())
 }
 
+/// Writes a realm, and answers the tickets of its sessions, the oldest first.
+fn begin_realm<R: Wait, G, N: Opened>(
+    rt: &R,
+    shared: &Shared<'_, '_, G, N>,
+    seat: &Seat<Global, N>,
+    realm: u16,
+    writing: &mut Writing<Global>,
+) -> Result<Vec<u64>, AllocError>
+    ensures { OnOk result (GainsItems writing.old writing.new) }
+{
+    let mut tickets = Vec::new(shared.alloc);
+    match shared
+        .hub
+        .begin_saving(rt, seat, realm, &mut tickets, writing)
+    {
+        Ok(()) => {
+            tickets.sort_unstable();
+            Ok(tickets)
+        }
+        Err(_) => Err(AllocError),
+    }
+}
+
 /// Writes a realm and its sessions, the oldest first.
 fn write_realm<R: Wait, G, N: Opened>(
     rt: &R,
@@ -44,15 +67,9 @@ fn write_realm<R: Wait, G, N: Opened>(
 ) -> Result<(), AllocError>
     ensures { OnOk result (GainsItems writing.old writing.new) }
 {
-    let mut tickets = Vec::new(shared.alloc);
-    let begun = shared
-        .hub
-        .begin_saving(rt, seat, realm, &mut tickets, writing);
-    if begun.is_err() {
-        return Err(AllocError);
-    }
-    tickets.sort_unstable();
-    write_sessions(rt, shared, seat, realm, tickets.as_slice(), writing)
+    let tickets = begin_realm(rt, shared, seat, realm, writing)?;
+    write_sessions(rt, shared, seat, realm, tickets.as_slice(), writing)?;
+    Ok(())
 }
 
 /// The ledgers of all realms that are here, as a file keeps them.
@@ -64,12 +81,13 @@ fn ledgers_of<R: Wait, G, N: Opened>(
     ensures { IfOk result (λ octets. (items : List SavedItem) × (octets.items ≡ ledgers_text items)) }
 {
     let mut writing = Writing::new(shared.alloc)?;
-    for (index, realm) in shared.config.realms.iter().enumerate() {
-        if !realm.gone {
+    for index in 0..shared.config.realms.len() {
+        if !shared.config.realms[index].gone {
             write_realm(rt, shared, seat, index as u16, &mut writing)?;
         }
     }
-    writing.finish()
+    let octets = writing.finish()?;
+    Ok(octets)
 }
 
 impl<R: Wait + Clock + Log, G, N: Opened> Attendant<'_, '_, R, G, N> {
