@@ -2,13 +2,22 @@
 use Rattle.std.proofs.Common.{◌≡◌, ◌≢◌, ℕ, zero, suc, ◌+◌, ◌==◌, ◌≤◌, Bool, true, false, List, [], ◌∷◌, ◌++◌, ◌∙◌, Option, Some, None, set, refl, ap, sym, arith}
 use Rattle.std.specs.Prelude.{if◌then◌else◌, slice_get}
 use Rattle.std.specs.Option.{option_map_or}
+use Rattle.std.proofs.lemmas.Option.{slice_get-get_or, slice_get_within}
 use Rattle.roam_conf.specs.Config.{ConfigView}
 use Rattle.roam_ledgers.specs.Ledgers.{SavedItem, SavedSession, realm, session}
 use Rattle.roam_book.specs.RealmConfig.{RealmConfig, realm_config}
 use Rattle.roam_book.specs.RealmState.{RealmState}
 use Rattle.roam_book.specs.Saving.{taken_up}
+use Rattle.roam_book.specs.Sound.{cursors_of, state_of}
+use Rattle.roam_book.specs.Stays.{KeepsButSessions}
+use Rattle.roam_book.specs.declared.state.realm_numbers.RealmNumbers.{RealmNumbers}
 use Rattle.roam_reverse.specs.Sessions.{Session}
+use Rattle.roam_pending.specs.PlainEntry.{PlainEntry}
+use Rattle.roam_tables.specs.Stands.{RealmView, entries_in}
 use Rattle.roam_core.specs.Events.{is_in_shard}
+use Rattle.roam_core.specs.ManyRealms.{no_state}
+use Rattle.roam_shard.specs.ShardView.{IsShard, OpeningView, states_in}
+use Rattle.roam_shard.proofs.ShardLemmas.{length-states, state-seen, states-set}
 use Rattle.roam_shard.specs.Restoring.{is_named, saved_of, sessions_behind, with_one, with_saved, with_saved_from}
 
 either-way : {X : Type 0} (b : Bool) (x : X) → (if b then x else x) ≡ x
@@ -181,6 +190,38 @@ none-taken config shard k s states own =
     from-foreign config shard (λ other. if other == k then s ∷ [] else []) 0 k states
     (ap (is_in_shard config shard) e ∙ own)
     (λ i ne. ap (λ (b : Bool). if b then s ∷ [] else []) (other-test i k (λ is. ne (is ∙ sym e))))
+
+module _ {A : Type 0} where
+  -- the numbers of a realm took it up
+  state-then : (config : ConfigView) (k : ℕ) (es : List PlainEntry) (n m : RealmNumbers A) (s : SavedSession)
+      → KeepsButSessions n m
+      → m.sessions.sessions ≡ taken_up (realm_config config k) (s ∷ []) n.sessions.sessions
+      → state_of es m ≡ with_saved config k (s ∷ []) (state_of es n)
+  state-then config k es n m s keeps sessions = λ j. record {
+    entries = es;
+    ticket = keeps.ticket j;
+    cursors = cursors_of (keeps.lanes j);
+    stream_position = keeps.stream_position j;
+    sessions = sessions j;
+    rests = keeps.rests j;
+  }
+
+  pub numbers-taken : (o : OpeningView) (tables : List RealmView) (ns : List (Option (RealmNumbers A))) (k : ℕ)
+      (n m : RealmNumbers A) (s : SavedSession) → IsShard o tables ns → slice_get ns k ≡ Some (Some n)
+      → KeepsButSessions n m
+      → m.sessions.sessions ≡ taken_up (realm_config o.config k) (s ∷ []) n.sessions.sessions
+      → states_in o tables (set ns k (Some m)) ≡ with_one o.config o.shard k s (states_in o tables ns)
+  numbers-taken o tables ns k n m s are at keeps sessions =
+      let E = entries_in tables in
+      let own : is_in_shard o.config o.shard k ≡ true = sym (are.own k (Some n) at) in
+      let lt = slice_get_within ns k (Some n) at in
+      let long = length-states o E 0 ns in
+      let there : slice_get (states_in o tables ns) k ≡ Some (state_of (E k) n) =
+      slice_get-get_or (states_in o tables ns) k no_state (omega (arith, lt, long))
+      ∙ ap Some (state-seen o E k ns (Some n) at) in
+      states-set o E E k ns m (λ q ne. refl)
+      ∙ ap (set (states_in o tables ns) k) (state-then o.config k (E k) n m s keeps sessions)
+      ∙ sym (one-taken o.config o.shard k s (states_in o tables ns) (state_of (E k) n) there own)
 
 -- The items so far, and whose sessions come now
 
