@@ -129,7 +129,7 @@ comes_by old new before after (Some q) (Some s) asked stood is =
       standing = standing_by old new before.standing s stood;
     })
 
-comes_over : (old new : RealmConfig) (before after : PlainEntry)
+pub comes_over : (old new : RealmConfig) (before after : PlainEntry)
     → entry_then old new before ≡ Some after → ComesOver old new before after
 comes_over old new before after is =
     comes_by old new before after (request_then old new before.request) (standing_then old new before.standing)

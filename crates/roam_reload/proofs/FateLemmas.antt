@@ -1,5 +1,5 @@
 -- What becomes of a realm.
-use Rattle.std.proofs.Common.{◌≡◌, ◌≢◌, ℕ, zero, suc, ◌<◌, true, false, List, [], ◌∷◌, ◌++◌, Option, Some, None, IfNone, IfSome, option_map, unwrap_or, slice_get, map, length, refl, ap, sym, ◌∙◌, arith}
+use Rattle.std.proofs.Common.{◌≡◌, ◌≢◌, ℕ, zero, suc, ◌<◌, Bool, true, false, not, List, [], ◌∷◌, ◌++◌, Option, Some, None, is_some, IfNone, IfSome, option_map, unwrap_or, slice_get, map, length, refl, ap, sym, ◌∙◌, arith}
 use Rattle.std.proofs.lemmas.Bool.{false≢true, true≢false}
 use Rattle.std.proofs.lemmas.List.{length-map}
 use Rattle.std.specs.Prelude.{is_none}
@@ -107,3 +107,11 @@ no_other old new (Some i) other kept =
     let inside : i < length (map peer_part old) = rw (length-map old peer_part) other.there in
     absurd (other.differs (ap (λ (ps : List PeerView). slice_get ps i) kept.same
     ∙ front_kept (map peer_part old) kept.more i inside))
+
+-- what `is_none` tells
+pub none_told : {K : Type 0} (o : Option K) (told : Bool) → is_some o ≡ not told → is_none o ≡ told
+none_told o told is = ap not is ∙ twice told
+  where
+    twice : (b : Bool) → not (not b) ≡ b
+    twice true = refl
+    twice false = refl

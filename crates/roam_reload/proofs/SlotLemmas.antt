@@ -1,7 +1,7 @@
 -- Tables in slots: as they are shown, and the first one of a name.
-use Rattle.std.proofs.Common.{◌≡◌, ℕ, zero, suc, ◌+◌, ◌≤◌, Bool, false, cond, inl, inr, List, [], ◌∷◌, ◌++◌, Option, Some, None, option_map, get_or, map, append_assoc, refl, subst, sym, ap, ◌∙◌, arith}
+use Rattle.std.proofs.Common.{◌≡◌, ℕ, zero, suc, ◌+◌, ◌<◌, ◌≤◌, Bool, false, cond, inl, inr, List, [], ◌∷◌, ◌++◌, Option, Some, None, option_map, get_or, length, map, append_assoc, refl, subst, sym, ap, ◌∙◌, arith}
 use Rattle.std.proofs.lemmas.Bool.{cases_Bool}
-use Rattle.std.proofs.lemmas.List.{append-nil, map-append}
+use Rattle.std.proofs.lemmas.List.{append-nil, get_or-map, map-append, map-set}
 use Rattle.std.proofs.lemmas.Option.{same_Some}
 use Rattle.std.specs.List.{find, position_from}
 use Rattle.std.specs.Option.{option_to_list}
@@ -135,3 +135,18 @@ module _ {X : Type 0} (test : X → Bool) where
                   ∙ ap (λ ss. Some x ∷ ss) rest.1,
             ))
       ]
+
+-- the table that was found is taken out of the slot where it lay
+module _ {A X : Type 0} (shown : A → X) (test : X → Bool) (slots : List (Option A)) (i : ℕ) (inside : i < length slots)
+    (place : position_from (slot_holds test) 0 (map (option_map shown) slots) ≡ Some i) where
+  pub taken_found : (slot : Option A) → slot ≡ get_or slots i slot →
+      option_map shown slot ≡ find test (left_in (map (option_map shown) slots))
+  taken_found slot is =
+      ap (option_map shown) is ∙ sym (get_or-map (option_map shown) slots i slot None inside)
+      ∙ sym (found_there test (map (option_map shown) slots) i place).0
+
+  pub taken_left : (slot : Option A) → slot ≡ None →
+      map (option_map shown) (slice_set slots i slot) ≡ without_first test (map (option_map shown) slots)
+  taken_left slot none =
+      ap (λ o. map (option_map shown) (slice_set slots i o)) none ∙ map-set (option_map shown) slots i None
+      ∙ sym (found_there test (map (option_map shown) slots) i place).1

@@ -4,7 +4,10 @@ pub mod DueLemmas
 pub mod LettingGoLemmas
 pub mod LookLemmas
 pub mod OpeningLemmas
+pub mod CarriedListLemmas
 pub mod FollowLemmas
+pub mod OverLemmas
+pub mod RestoredLemmas
 pub mod RoomLemmas
 pub mod TickLemmas
 pub mod AcrossLemmas

@@ -1,6 +1,7 @@
 //! A paused shard follows another configuration.
 
-ghost use Rattle.std.specs.Prelude.{◌≡◌, ◌≢◌, ◌↔◌, ℕ, ◌<◌, [], IfOk, IsTrue, length, vec_len};
+ghost use Rattle.std.specs.Prelude.{◌≡◌, ◌≢◌, ◌↔◌, ℕ, ◌<◌, ◌≤◌, [], IfOk, IsTrue, length, slice_get, vec_capacity};
+ghost use Rattle.std.specs.Prelude.{vec_len};
 ghost use Rattle.roam_conf.specs.Shown.{shown};
 ghost use Rattle.roam_pending.specs.EntryList.{IsEntryList};
 ghost use Rattle.roam_tables.specs.Stands.{entries_in};
@@ -8,8 +9,9 @@ ghost use Rattle.roam_book.specs.Carrying.{AreChanged, IsReadyToCarry};
 ghost use Rattle.roam_book.specs.RealmConfig.{realm_config};
 ghost use Rattle.roam_book.specs.Sound.{IsSound};
 ghost use Rattle.roam_shard.specs.Follow.{AllFollow};
-ghost use Rattle.roam_shard.specs.Pausing.{GoesOn, HasGoneOver, IsReady, IsReadyAt};
-ghost use Rattle.roam_shard.specs.Pausing.{KeepsOthers, StandsStill, StandsUnder, begin_at, states_under};
+ghost use Rattle.roam_shard.specs.Pausing.{AllCanGoOver, AreLanesReady, AreOver, CanGoOver, GoesOn, HasGoneOver};
+ghost use Rattle.roam_shard.specs.Pausing.{IsOver, IsReady, IsReadyAt, KeepsOthers, StandsStill, StandsUnder};
+ghost use Rattle.roam_shard.specs.Pausing.{begin_at, states_under};
 
 use crate::look::numbers_at;
 use crate::paused::Paused;
@@ -125,7 +127,24 @@ fn go_over<A: Allocator + Copy>(
     entries: &mut Tables<A>,
     before: &mut Vec<Option<RealmNumbers<A>>, A>,
     fresh: FreshRealm<A>,
-) -> Option<RealmNumbers<A>> {
+) -> Option<RealmNumbers<A>>
+    requires configured { realm < vec_len change.to.now.realms }
+    requires changed { AreChanged (shown change.from.now).peers (shown change.to.now).peers changed.now }
+    requires seed { change.to.now.seed ≡ change.from.now.seed }
+    requires within { GoesOn (shown change.from.now) (shown change.to.now) change.shard realm
+        → realm < length before.old.items }
+    requires can { GoesOn (shown change.from.now) (shown change.to.now) change.shard realm
+        → CanGoOver (shown change.from.now) (shown change.to.now) realm (entries_in entries.old realm)
+        (slice_get before.old.items realm) fresh.lanes }
+    ensures over { IsOver (shown change.entry.from.now) (shown change.entry.to.now) change.entry.shard realm
+        (slice_get before.old.items realm) (entries_in entries.old realm) fresh.numbers
+        (entries_in entries.new realm) result }
+    ensures others { (r : ℕ) → r ≢ realm → entries_in entries.new r ≡ entries_in entries.old r }
+    ensures realms { length entries.new ≡ length entries.old }
+    ensures before { (r : ℕ) → r ≢ realm
+        → slice_get before.new.items r ≡ slice_get before.old.items r }
+    ensures before_count { length before.new.items ≡ length before.old.items }
+{
     if !goes_on(change, realm as u16) {
         return fresh.numbers;
     }
@@ -149,7 +168,18 @@ fn all_over<A: Allocator + Copy>(
     before: &mut Vec<Option<RealmNumbers<A>>, A>,
     fresh: FreshNumbers<A>,
 ) -> Vec<Option<RealmNumbers<A>>, A>
-    ensures count { length result.items ≡ length fresh.realms.items }
+    requires count { length fresh.realms.items ≡ vec_len change.to.now.realms }
+    requires room { vec_len change.to.now.realms ≤ vec_capacity fresh.numbers }
+    requires none_yet { fresh.numbers.items ≡ [] }
+    requires changed { AreChanged (shown change.from.now).peers (shown change.to.now).peers fresh.changed.items }
+    requires seed { change.to.now.seed ≡ change.from.now.seed }
+    requires within { (r : ℕ) → GoesOn (shown change.from.now) (shown change.to.now) change.shard r
+        → r < length before.old.items }
+    requires can { AllCanGoOver (shown change.from.now) (shown change.to.now) change.shard (entries_in entries.old)
+        before.old.items fresh.realms.items }
+    ensures over { AreOver (shown change.entry.from.now) (shown change.entry.to.now) change.entry.shard
+        before.old.items (entries_in entries.old) (entries_in entries.new) fresh.realms.items result.items }
+    ensures realms { length entries.new ≡ length entries.old }
 {
     let FreshNumbers {
         realms,
@@ -179,6 +209,7 @@ impl<A: Allocator + Copy> Paused<A> {
         requires shards { new.now.shards ≡ old.now.shards }
         ensures still { StandsStill (shown old.now) self.old self.new }
         ensures others { KeepsOthers realm self.old self.new }
+        ensures ready { IfOk result (AreLanesReady (shown old.now) (shown new.now) realm self.new.numbers.items) }
     {
         let before = RealmSettings::new(old, realm);
         let after = RealmSettings::new(new, realm);

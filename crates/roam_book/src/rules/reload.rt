@@ -175,6 +175,7 @@ pub fn carry_over<A: Allocator + Copy, E: Entries<A>>(
         ≡ carried old.now new.now (state_of (E.entries_of entries.old old.now.index) numbers.old) }
     ensures sound { IsSound new.now (E.entries_of entries.new old.now.index) numbers.new }
     ensures others { OthersStay old.now.index (E.entries_of entries.old) (E.entries_of entries.new) }
+    ensures kept { E.keeps entries.new ≡ E.keeps entries.old }
 {
     if fresh.is_none() && is_untouched(old, new, changed) {
         numbers.add_lanes(new);

@@ -1,5 +1,8 @@
 //! What a change takes of each realm: told where it is made; and why it isn't made, where nobody agreed to lose that.
 
+ghost use Rattle.roam_conf.specs.Shown.{shown};
+ghost use Rattle.roam_book.specs.Carrying.{AreChanged};
+
 use crate::asked::attending::Attendant;
 use crate::change::next::out_of_memory;
 use log::Log;
@@ -22,7 +25,9 @@ fn loss_at<R: Wait, G, N: Opened>(
     realm: u16,
     next: &Config,
     changed: &[u16],
-) -> Loss {
+) -> Loss
+    requires { AreChanged N.opening.config.peers (shown next.now).peers changed.now }
+{
     match shared.hub.losses(rt, seat, realm, next, changed) {
         Some(loss) => loss,
         None => Loss {

@@ -4,7 +4,7 @@ use Rattle.roam_conf.specs.Parts.{shown_peer, shown_realm}
 use Rattle.roam_conf.specs.Shown.{shown}
 use Rattle.roam_conf.proofs.OneLinkLemmas.{realm_there}
 use Rattle.roam_reload.specs.Reload.{KeepsPeers}
-use Rattle.roam_reload.proofs.FateLemmas.{given, no_other, somewhere, untouched}
+use Rattle.roam_reload.proofs.FateLemmas.{given, none_told, no_other, somewhere, untouched}
 use Rattle.roam_reload.proofs.fate.is_untouched.Goals as goal
 
 -- no key of its table differs, and the peers tell
@@ -24,15 +24,16 @@ returns-then-is_none c =
     rw (← c.from-2.ensures, ← c.deref-2.ensures.value) c.in-Some-get.ensures.lookup.1 in
     let was = realm_there c.args.old.now.realms.items c.args.realm c.in-Some.before.now in_old at_old in
     let is = realm_there c.args.new.now.realms.items c.args.realm c.in-Some-get.after.now in_new at_new in
-    let same = given c.realm_difference.result c.realm_difference.ensures.none (sym c.is_none.ensures ∙ c.if-is_none.true)
-    in (
+    let same = given c.realm_difference.result c.realm_difference.ensures.none
+    (none_told c.realm_difference.result c.is_none.result c.is_none.ensures ∙ c.if-is_none.true) in (
       λ yes'.
           let peers : KeepsPeers (map shown_peer c.args.old.now.peers.items) (map shown_peer c.args.new.now.peers.items) =
           rw (← c.as_slice.ensures.value, ← c.as_slice-then-is_none.ensures.value)
-          (given c.other_peer.result c.other_peer.ensures.none (sym c.is_none-then-is_none.ensures ∙ yes')) in
+          (given c.other_peer.result c.other_peer.ensures.none
+          (none_told c.other_peer.result c.is_none-then-is_none.result c.is_none-then-is_none.ensures ∙ yes')) in
           untouched old new c.args.realm before after (c.is_carried.ensures.0 c.if-not-is_carried.false) was is same
           peers,
-      λ kept. c.is_none-then-is_none.ensures
+      λ kept. sym (none_told c.other_peer.result c.is_none-then-is_none.result c.is_none-then-is_none.ensures)
           ∙ no_other (map shown_peer c.as_slice.result.now) (map shown_peer c.as_slice-then-is_none.result.now)
           c.other_peer.result c.other_peer.ensures.some
           (rw (c.as_slice.ensures.value, c.as_slice-then-is_none.ensures.value) kept.peers),
@@ -54,5 +55,6 @@ returns-else-is_none c =
           (shown_realm c.in-Some.before.now) (shown_realm c.in-Some-get.after.now) c.realm_difference.result
           (realm_there c.args.old.now.realms.items c.args.realm c.in-Some.before.now in_old at_old)
           (realm_there c.args.new.now.realms.items c.args.realm c.in-Some-get.after.now in_new at_new)
-          c.realm_difference.ensures.some (sym c.is_none.ensures ∙ c.if-is_none.false) kept),
+          c.realm_difference.ensures.some
+          (none_told c.realm_difference.result c.is_none.result c.is_none.ensures ∙ c.if-is_none.false) kept),
     )

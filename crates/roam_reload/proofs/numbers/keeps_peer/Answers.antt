@@ -1,4 +1,4 @@
-use Rattle.std.proofs.Common.{◌||◌, ◌∙◌, ap, refl, sym}
+use Rattle.std.proofs.Common.{◌||◌, ◌∙◌, ap, refl, sym, arith}
 use Rattle.roam_conf.specs.Config.{PeerView}
 use Rattle.roam_conf.specs.Parts.{shown_peer}
 use Rattle.roam_reload.specs.Numbers.{same_peer_name}
@@ -11,7 +11,7 @@ returns-then-after c =
     let before = c.index-old-i.result in
     let after = c.in-Some.after.now in
     tells shown_peer same_peer_name (λ (x : PeerView). x.gone) c.args.old.now c.args.new.now c.args.i before after _
-    c.requires c.index-old-i.is c.in-Some.ensures.lookup.0 c.in-Some.ensures.lookup.1
+    c.requires c.index-old-i.is (omega (arith, c.in-Some.ensures.lookup)) c.in-Some.ensures.lookup.1
     (ap (λ b. b || same_peer_name (shown_peer before) (shown_peer after)) (sym c.if-after.true))
 
 -- its name tells
@@ -20,7 +20,7 @@ returns-else-after c =
     let before = c.index-old-i.result in
     let after = c.in-Some.after.now in
     tells shown_peer same_peer_name (λ (x : PeerView). x.gone) c.args.old.now c.args.new.now c.args.i before after _
-    c.requires c.index-old-i.is c.in-Some.ensures.lookup.0 c.in-Some.ensures.lookup.1
+    c.requires c.index-old-i.is (omega (arith, c.in-Some.ensures.lookup)) c.in-Some.ensures.lookup.1
     (c.is_same_peer.ensures
     ∙ ap (λ b. b || same_peer_name (shown_peer before) (shown_peer after)) (sym c.if-after.false))
 
@@ -28,4 +28,4 @@ returns-else-after c =
 pub returns-in-None : goal.returns-in-None
 returns-in-None c =
     tells_none shown_peer same_peer_name (λ (x : PeerView). x.gone) c.args.old.now c.args.new.now c.args.i
-    c.index-old-i.result _ c.requires c.index-old-i.is c.in-None.ensures.lookup refl
+    c.index-old-i.result _ c.requires c.index-old-i.is (omega (arith, c.in-None.ensures.lookup)) refl
