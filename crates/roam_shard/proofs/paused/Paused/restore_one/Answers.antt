@@ -7,15 +7,24 @@ use Rattle.roam_conf.specs.Shown.{shown}
 use Rattle.roam_tables.proofs.RealmLemmas.{get-read}
 use Rattle.roam_book.specs.RealmConfig.{RealmConfig}
 use Rattle.roam_shard.specs.Pausing.{opening_under}
+use Rattle.roam_ledgers.specs.Shown.{shown_session}
 use Rattle.roam_shard.proofs.RestoredLemmas.{restored_shard}
+use Rattle.roam_shard.proofs.TakenUpLemmas.{numbers-taken, on-ok}
 use Rattle.roam_shard.proofs.paused.Paused.restore_one.Given.{Over}
 use Rattle.roam_shard.proofs.paused.Paused.restore_one.Goals as goal
 
 pub new-requires : goal.new-requires
 new-requires g c =
     let realms = c.args.config.now.realms in
-    omega (arith, c.from.ensures, c.if-from-len.false, c.requires.count, length-map realms.items shown_realm,
-    realms.ok.0, c.args.self.now.numbers.ok.0)
+    omega (
+      arith,
+      c.from.ensures,
+      c.if-from-len.false,
+      c.requires.count,
+      length-map realms.items shown_realm,
+      realms.ok.0,
+      c.args.self.now.numbers.ok.0,
+    )
 
 pub restore-requires : goal.restore-requires
 restore-requires g c =
@@ -34,3 +43,13 @@ returns-in-Some-clause-stands g c =
     c.index_mut.ensures.value ∙ ap Some c.in-Some.is in
     restored_shard (opening_under (shown c.args.config.now) p) p.entries ns c.requires c.from-2.result c.in-Some.numbers
     c.restore.new.self at c.restore.ensures.keeps
+
+pub returns-in-Some-clause-states : goal.returns-in-Some-clause-states
+returns-in-Some-clause-states g c =
+    let p = c.args.self.now in
+    let ns = p.numbers.items in
+    let at = get-read ns c.from-2.result c.index_mut.result.now
+    (omega (arith, c.from.ensures, c.from-2.ensures, c.if-from-len.false, p.numbers.ok.0))
+    c.index_mut.ensures.value ∙ ap Some c.in-Some.is in
+    on-ok _ (numbers-taken (opening_under (shown c.args.config.now) p) p.entries ns c.from-2.result c.in-Some.numbers
+    c.restore.new.self (shown_session c.args.session) c.requires at c.restore.ensures.keeps) c.restore.ensures.sessions
