@@ -23,7 +23,7 @@ use Rattle.roam_shard.specs.Restoring.{is_named, saved_of, sessions_behind, with
 -- what follows where it went well
 pub on-ok : {R E P Q : Type 0} (r : Result R E) → (P → Q) → OnOk r P → OnOk r Q
 on-ok (Ok x) so p = so p
-on-ok (Err e) so p = _
+on-ok (Err e) so p = tt
 
 either-way : {X : Type 0} (b : Bool) (x : X) → (if b then x else x) ≡ x
 either-way true x = refl
