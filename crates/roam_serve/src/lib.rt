@@ -9,7 +9,7 @@
 //! # Proved
 //!
 //! - what a server did that ends without a fault: of each shard such spans of one history, from the opening of a hub whose
-//!   realms begin | `serve`: `served`
+//!   realms begin, with no more than the sessions that a file of ledgers has of them | `serve`: `served`
 //! - of a server's faults, an endpoint that can't be bound is one of its configuration | `serve`: `err`
 #![tactic(auto)]
 
