@@ -21,8 +21,8 @@ pub record SavesIn (o : HubOpening) (shard index : ℕ) (seat : SeatView) (old n
   pub entries : List HistoryEntry
   pub begins : IsPrefix (front_of seat shard) entries
   pub history : IsHistory (opening_at o shard) (steps_in entries)
-  pub writes : GainsOpen (realm_config o.config index) (state_at (end_of (opening_at o shard) (steps_in entries)) index).sessions
-      old new
+  pub writes : GainsOpen (realm_config o.config index)
+      (state_at (end_of (opening_at o shard) (steps_in entries)) index).sessions old new
 
 -- nothing is written where the lock holds another shard's history
 abbrev pub SavesOrNothing : HubOpening → ℕ → ℕ → SeatView → List ℕ → List ℕ → Type 0

@@ -79,8 +79,7 @@ fn run<
     };
     match prepare_threads(sockets, &shared, seat, threads, outboxes, rests) {
         Ok((prepared, seat)) => {
-            let state = configured.manner.state.as_ref();
-            let attendant = Attendant::new(parts.rt, &shared, sockets, seat, state);
+            let attendant = Attendant::new(parts.rt, &shared, configured, seat);
             run_threads(attendant, prepared, room, handover, parts.source)
         }
         Err(fault) => RunResult {

@@ -82,7 +82,8 @@ taken-then c (s ∷ first) more ss = taken-then c first more _
 saved-then : (config : ConfigView) (index : ℕ) (first more : List SavedSession) (s : RealmState)
     → with_saved config index more (with_saved config index first s) ≡ with_saved config index (first ++ more) s
 saved-then config index first more s =
-    ap (λ (l : List Session). record s { sessions = l }) (sym (taken-then (realm_config config index) first more s.sessions))
+    ap (λ (l : List Session). record s { sessions = l })
+    (sym (taken-then (realm_config config index) first more s.sessions))
 
 from-then : (config : ConfigView) (shard : ℕ) (first more : ℕ → List SavedSession) (index : ℕ)
     (states : List RealmState)

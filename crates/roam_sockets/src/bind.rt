@@ -202,8 +202,8 @@ impl Sockets {
         }
     }
 
-    /// Takes the sockets of an endpoint that are open, and binds those that are wanted beside; or where none is, those of
-    /// its place.
+    /// Takes the sockets of an endpoint that are open, and binds those that are wanted beside; or where none is open,
+    /// those of its place.
     fn take_or_bind<R: Net>(
         &mut self,
         rt: &R,

@@ -6,6 +6,7 @@ ghost use Rattle.roam_reload.specs.Reload.{MayFollow};
 
 use crate::asked::losing::{objection, tell_what_goes};
 use crate::asked::overview::Overview;
+use crate::change::configured::Configured;
 use crate::change::manner::StateFile;
 use crate::change::next::{Next, following_of, prepare_next};
 use crate::change::source::{Following, Source};
@@ -45,17 +46,16 @@ impl<'s, 'c, R, G, N: Opened> Attendant<'s, 'c, R, G, N> {
     pub fn new(
         rt: &'s R,
         shared: &'s Shared<'s, 'c, G, N>,
-        sockets: &'s [BoundSocket],
+        configured: &'s Configured,
         seat: Seat<Global, N>,
-        state: Option<&'s StateFile>,
     ) -> Attendant<'s, 'c, R, G, N> {
         Attendant {
             rt,
             shared,
-            sockets,
+            sockets: configured.sockets.as_slice(),
             seat,
             now: 0,
-            state,
+            state: configured.manner.state.as_ref(),
             due: 0,
         }
     }
