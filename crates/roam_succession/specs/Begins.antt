@@ -11,8 +11,8 @@ use Rattle.roam_hub.specs.Pausing.{ArePaused}
 
 -- ## Begin of a server
 -- Each realm of a server begins at place 0 of its random words and ticket 0, with no entry, and with those sessions
--- that a file of ledgers has of it; with none where no file was read. So tickets and words begin anew at a restart, under
--- another seed, and what waited or was held is lost.
+-- that a file of ledgers has of it; with none where no file was read. So tickets and words begin anew at a restart,
+-- under another seed, and what waited or was held is lost.
 -- Source: ours
 -- Rules out: a server that begins in a state which no restart leaves; sessions from elsewhere than the file
 -- Stands in: `roam_succession` `Begins.antt`: `opening_with`, `HaveBegun`; `Served.antt`: `HasServedAll`; `beginning`
