@@ -1,15 +1,16 @@
 -- What was saved of a ledger is taken up as it was.
 use Rattle.std.proofs.Common.{◌≡◌, ℕ, zero, suc, ◌+◌, ◌<◌, ◌≤◌, ◌==◌, ◌&&◌, ◌||◌, not, Bool, true, false, List, [], ◌∷◌, ◌++◌, length, Option, Some, None, refl, sym, ap, subst, ◌∙◌, arith, slice_get, unwrap_or, append_assoc, append-nil}
-use Rattle.std.proofs.lemmas.Bool.{le-leb, le-ltb, or_parts}
+use Rattle.std.proofs.lemmas.Bool.{and_parts, le-leb, le-ltb, leb-true, ne_eqb, or_parts}
 use Rattle.std.proofs.lemmas.List.{length-append}
 use Rattle.std.proofs.lemmas.List.Folds.{list_any-append}
 use Rattle.std.proofs.lemmas.Slice.Eq.{bytes_eq-Decides}
 use Rattle.std.specs.List.{list_any, position_from}
 use Rattle.std.specs.Option.{ForSome, option_map_or}
-use Rattle.std.specs.Prelude.{nat_le}
+use Rattle.std.specs.Prelude.{Err, Ok, OnOk, Result, if◌then◌else◌, nat_le, option_map}
 use Rattle.std.specs.Str.{bytes_eq}
 use Rattle.roam_conf.specs.Config.{PeerView}
 use Rattle.roam_conf.specs.Duplicates.{has_duplicate_peer, has_pair, nas_texts, same_peer}
+use Rattle.roam_conf.specs.Lookup.{first_place}
 use Rattle.roam_ledgers.specs.Ledgers.{SavedSession}
 use Rattle.roam_reload.proofs.KeptLemmas.{values_itself}
 use Rattle.roam_reverse.specs.Parts.{AreShort}
@@ -101,8 +102,7 @@ new_there (x ∷ acc) s rest distinct =
     rw (other_way x s apart, new_there acc s rest distinct.1) refl
 
 not_zero : (n : ℕ) → 0 < n → (n == 0) ≡ false
-not_zero zero h = absurd (omega (arith, h))
-not_zero (suc n) h = refl
+not_zero n h = ne_eqb n 0 (λ e. absurd (omega (arith, h, e)))
 
 goes_last : (limit : ℕ) (s : Session) (acc : List Session) → has_session s acc ≡ false
     → length acc + 1 ≤ limit → with_session limit s acc ≡ acc ++ s ∷ []
@@ -122,9 +122,9 @@ all_taken c once acc [] of_peers distinct room = sym (append-nil acc)
 all_taken c once acc (s ∷ rest) of_peers distinct room =
     let first = of_peers.0 in
     let p = first.0 in
-    let there = first.1.0 in
+    let there = first.1 in
     let named : session_named c.peers (named_by p s) ≡ Some s =
-    names_peer c.peers s p once there first.1.1.0 first.1.1.1 in
+    names_peer c.peers s p once there first.2 first.3 in
     let put : with_session c.realm.max_sessions s acc ≡ acc ++ s ∷ [] =
     goes_last c.realm.max_sessions s acc (new_there acc s rest distinct) (omega (arith, room)) in
     let on : (acc ++ s ∷ []) ++ rest ≡ acc ++ s ∷ rest = append_assoc acc (s ∷ []) rest in
@@ -136,4 +136,73 @@ all_taken c once acc (s ∷ rest) of_peers distinct room =
 pub restored_is_saved : RestoredIsSaved
 restored_is_saved c ss once ledger of_peers =
     rw (values_itself c.realm.own_sessions)
-    (all_taken c once [] ss of_peers ledger.distinct ledger.at_most)
+    (all_taken c once [] ss of_peers ledger.distinct (omega (arith, ledger.at_most)))
+
+-- ---- one that is taken up
+
+abbrev pub under : ℕ → SavedSession → Session
+under peer s = record { peer = peer; nas = record { address = s.address; identifier = s.identifier }; id = s.id }
+
+abbrev named_if : Bool → Option ℕ → SavedSession → Option Session
+named_if short place s = if short then option_map (λ peer. under peer s) place else None
+
+abbrev with_named : ℕ → Option Session → List Session → List Session
+with_named limit named ss = option_map_or (λ own. with_session limit own ss) named ss
+
+abbrev pub place_named : RealmConfig → SavedSession → Option ℕ
+place_named c s = first_place (λ p. not p.gone && bytes_eq p.name s.peer) c.peers
+
+-- nothing, where no peer has its name
+pub taken_none : (c : RealmConfig) (s : SavedSession) (ss : List Session) → place_named c s ≡ None
+    → taken_up c (s ∷ []) ss ≡ ss
+taken_none c s ss none =
+    ap (λ (o : Option ℕ). with_named c.realm.max_sessions (named_if (are_short s) o s) ss) none ∙ by (are_short s)
+  where
+    by : (short : Bool) → with_named c.realm.max_sessions (named_if short None s) ss ≡ ss
+    by true = refl
+    by false = refl
+
+part_from : (o : Option (List ℕ)) → option_map_or (λ octets. nat_le (length octets) 253) o true ≡ true
+    → ForSome o (λ octets. length octets ≤ 253)
+part_from None is = λ x at. absurd (cc at)
+part_from (Some y) is = λ x at.
+    subst (λ (o : Option (List ℕ)). length (unwrap_or o y) ≤ 253) at (leb-true (length y) 253 is)
+
+short_from : (peer : ℕ) (s : SavedSession) → are_short s ≡ true → AreShort (under peer s)
+short_from peer s is =
+    let both = and_parts (option_map_or (λ octets. nat_le (length octets) 253) s.address true
+    && option_map_or (λ octets. nat_le (length octets) 253) s.identifier true) (nat_le (length s.id) 253) is in
+    let names = and_parts (option_map_or (λ octets. nat_le (length octets) 253) s.address true)
+    (option_map_or (λ octets. nat_le (length octets) 253) s.identifier true) both.0 in
+    record {
+      address = part_from s.address names.0;
+      identifier = part_from s.identifier names.1;
+      id = leb-true (length s.id) 253 both.1;
+    }
+
+short_to : (peer : ℕ) (s : SavedSession) → AreShort (under peer s) → are_short s ≡ true
+short_to peer s h =
+    rw (part_short s.address h.address, part_short s.identifier h.identifier, le-leb (length s.id) 253 h.id) refl
+
+-- else as one of the peer that has it, if its parts are short
+pub taken_some : (c : RealmConfig) (s : SavedSession) (peer limit : ℕ) (ss new : List Session)
+    → place_named c s ≡ Some peer → limit ≡ c.realm.max_sessions
+    → (AreShort (under peer s) → new ≡ with_session limit (under peer s) ss)
+    → ((AreShort (under peer s) → ⊥) → new ≡ ss) → new ≡ taken_up c (s ∷ []) ss
+taken_some c s peer limit ss new found same short long = by (are_short s) refl
+  where
+    there : with_named c.realm.max_sessions (named_if (are_short s) (Some peer) s) ss ≡ taken_up c (s ∷ []) ss
+    there = sym (ap (λ (o : Option ℕ). with_named c.realm.max_sessions (named_if (are_short s) o s) ss) found)
+
+    by : (b : Bool) → are_short s ≡ b → new ≡ taken_up c (s ∷ []) ss
+    by true is =
+        short (short_from peer s is) ∙ ap (λ (n : ℕ). with_session n (under peer s) ss) same
+        ∙ sym (ap (λ (b : Bool). with_named c.realm.max_sessions (named_if b (Some peer) s) ss) is) ∙ there
+    by false is =
+        long (λ h. absurd (let k = short_to peer s h in cc (k, is)))
+        ∙ sym (ap (λ (b : Bool). with_named c.realm.max_sessions (named_if b (Some peer) s) ss) is) ∙ there
+
+-- what holds where a call answers
+pub on_both : {X E P Q R : Type 0} (r : Result X E) → OnOk r P → OnOk r Q → (P → Q → R) → OnOk r R
+on_both (Ok x) p q f = f p q
+on_both (Err e) p q f = tt

@@ -1,6 +1,6 @@
 -- Two tables of one peer, or of one realm: what meets in a third is the same, and no two tables of a configuration are.
 use Rattle.std.proofs.Common.{◌≡◌, ℕ, Bool, true, false, ◌&&◌, ◌||◌, not, List, [], ◌∷◌, ◌++◌, refl, sym, ap, ◌∙◌}
-use Rattle.std.proofs.lemmas.Bool.{and_parts, or_parts, true≢false}
+use Rattle.std.proofs.lemmas.Bool.{or_parts, true≢false}
 use Rattle.std.proofs.lemmas.List.{append_assoc}
 use Rattle.std.proofs.lemmas.Slice.Eq.{bytes_eq-Decides}
 use Rattle.std.specs.List.{flat_map, list_any}
@@ -149,7 +149,8 @@ realms_apart (r ∷ rs) more none =
         let parts = or_parts (list_any (same_pattern (whole r.name)) (r.also ++ (flat_map patterns_of rs ++ more)))
         (has_pair same_pattern (r.also ++ (flat_map patterns_of rs ++ more))) no_pair in
         ap (λ b. b || has_pair same_realm_name rs)
-        (unnamed r rs more (behind_front (same_pattern (whole r.name)) r.also (flat_map patterns_of rs ++ more) parts.0))
+        (unnamed r rs more
+        (behind_front (same_pattern (whole r.name)) r.also (flat_map patterns_of rs ++ more) parts.0))
         ∙ later (pairs_behind r.also (flat_map patterns_of rs ++ more) parts.1)
 
 pub realms_differ : (realms : List RealmView) (reject : List PatternView) → has_duplicate_realm realms reject ≡ false →

@@ -1,7 +1,11 @@
 //! What of a realm's ledger is kept from one run of a server to the next, and what is taken up again.
 
-ghost use Rattle.std.specs.Prelude.{◌≡◌, ◌∷◌, [], OnErr, OnOk};
-ghost use Rattle.roam_ledgers.specs.Shown.{shown_session};
+ghost use Rattle.std.specs.Prelude.{◌≡◌, ◌≤◌, ◌&&◌, ◌∷◌, [], OnErr, OnOk, length, map, not, option_map};
+ghost use Rattle.std.specs.Str.{bytes_eq};
+ghost use Rattle.roam_conf.specs.Lookup.{first_place};
+ghost use Rattle.roam_conf.specs.Parts.{shown_peer};
+ghost use Rattle.roam_ledgers.specs.Shown.{shown_session, shown_text};
+ghost use Rattle.roam_reverse.specs.Shown.{shown_octets};
 ghost use Rattle.roam_book.specs.Saving.{taken_up};
 ghost use Rattle.roam_book.specs.Stays.{KeepsButSessions};
 ghost use Rattle.roam_book.specs.Written.{GainsOpen, GainsRealm};
@@ -15,17 +19,29 @@ use roam_wire::NoMemory;
 use std::alloc::{AllocError, Allocator};
 
 /// The octets of a text, where there is one.
-fn octets_of<'a>(text: Option<Text<'a>>) -> Option<&'a [u8]> {
+fn octets_of<'a>(text: Option<Text<'a>>) -> Option<&'a [u8]>
+    ensures { option_map shown_octets result ≡ option_map shown_text text.entry }
+{
     match text {
         Some(text) => Some(text.octets),
         None => None,
     }
 }
 
+/// Whether a peer is here and has a name.
+fn is_named(peer: &Peer, name: &[u8]) -> bool
+    ensures { result ≡ (not (shown_peer peer.now).gone && bytes_eq (shown_peer peer.now).name name.now) }
+{
+    !peer.gone && peer.name.as_bytes() == name
+}
+
 /// The first peer that is here and has a name.
-fn peer_named(peers: &[Peer], name: &[u8]) -> Option<u16> {
+fn peer_named(peers: &[Peer], name: &[u8]) -> Option<u16>
+    requires { length peers.now ≤ 1024 }
+    ensures { result ≡ first_place (λ p. not p.gone && bytes_eq p.name name.now) (map shown_peer peers.now) }
+{
     for (index, peer) in peers.iter().enumerate() {
-        if !peer.gone && peer.name.as_bytes() == name {
+        if is_named(peer, name) {
             return Some(index as u16);
         }
     }

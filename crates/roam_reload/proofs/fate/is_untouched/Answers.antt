@@ -1,4 +1,4 @@
-use Rattle.std.proofs.Common.{◌≡◌, ◌<◌, Some, length, get_or, map, slice_get, ap, sym, ◌∙◌, arith}
+use Rattle.std.proofs.Common.{◌≡◌, ◌<◌, length, get_or, map, ap, sym, ◌∙◌, arith}
 use Rattle.std.proofs.lemmas.Bool.{true≢false}
 use Rattle.roam_conf.specs.Parts.{shown_peer, shown_realm}
 use Rattle.roam_conf.specs.Shown.{shown}
@@ -27,7 +27,8 @@ returns-then-is_none c =
     let same = given c.realm_difference.result c.realm_difference.ensures.none
     (none_told c.realm_difference.result c.is_none.result c.is_none.ensures ∙ c.if-is_none.true) in (
       λ yes'.
-          let peers : KeepsPeers (map shown_peer c.args.old.now.peers.items) (map shown_peer c.args.new.now.peers.items) =
+          let peers : KeepsPeers (map shown_peer c.args.old.now.peers.items)
+          (map shown_peer c.args.new.now.peers.items) =
           rw (← c.as_slice.ensures.value, ← c.as_slice-then-is_none.ensures.value)
           (given c.other_peer.result c.other_peer.ensures.none
           (none_told c.other_peer.result c.is_none-then-is_none.result c.is_none-then-is_none.ensures ∙ yes')) in

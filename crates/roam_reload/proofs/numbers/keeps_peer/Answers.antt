@@ -10,9 +10,9 @@ pub returns-then-after : goal.returns-then-after
 returns-then-after c =
     let before = c.index-old-i.result in
     let after = c.in-Some.after.now in
-    tells shown_peer same_peer_name (λ (x : PeerView). x.gone) c.args.old.now c.args.new.now c.args.i before after _
-    c.requires c.index-old-i.is (omega (arith, c.in-Some.ensures.lookup)) c.in-Some.ensures.lookup.1
-    (ap (λ b. b || same_peer_name (shown_peer before) (shown_peer after)) (sym c.if-after.true))
+    tells shown_peer same_peer_name (λ (x : PeerView). x.gone) c.args.old.now c.args.new.now c.args.i before after
+    after.gone c.requires c.index-old-i.is (omega (arith, c.in-Some.ensures.lookup)) c.in-Some.ensures.lookup.1
+    (c.if-after.true ∙ ap (λ b. b || same_peer_name (shown_peer before) (shown_peer after)) (sym c.if-after.true))
 
 -- its name tells
 pub returns-else-after : goal.returns-else-after
