@@ -34,7 +34,7 @@ CameFrom {X} f es after =
 
 one_on : {X : Type 0} (f : X → Option X) (e : X) (es : List X) (after : X)
     → CameFrom f es after → CameFrom f (e ∷ es) after
-one_on f e es after k = (suc k.0, k.1.0, k.1.1.0, k.1.1.1)
+one_on f e es after k = (suc k.0, k.1, k.2, k.3)
 
 first_came : {X : Type 0} (f : X → Option X) (e : X) (es : List X) (o : Option X) → f e ≡ o
     → ((i : ℕ) (after : X) → slice_get (filter_map f es) i ≡ Some after → CameFrom f es after)
@@ -123,9 +123,9 @@ comes_by old new before after (Some q) (Some s) asked stood is =
     (requester_then old new before.request.key before.request.requester) q asked in
     subst (ComesOver old new before) same (record {
       ticket = refl;
-      key = ap (λ (p : PlainRequest). p.key) from.1.1;
-      octets = ap (λ (p : PlainRequest). p.octets) from.1.1;
-      requester = from.1.0 ∙ sym (ap (λ (p : PlainRequest). Some p.requester) from.1.1);
+      key = ap (λ (p : PlainRequest). p.key) from.2;
+      octets = ap (λ (p : PlainRequest). p.octets) from.2;
+      requester = from.1 ∙ sym (ap (λ (p : PlainRequest). Some p.requester) from.2);
       standing = standing_by old new before.standing s stood;
     })
 
@@ -141,7 +141,7 @@ pub carried_adds_nothing : CarriedAddsNothing
 carried_adds_nothing old new s i after at =
     let left = few_left old new (filter_map (entry_then old new) s.entries) i after at in
     let came = came_from (entry_then old new) s.entries left.0 after left.1 in
-    (came.0, came.1.0, came.1.1.0, comes_over old new came.1.0 after came.1.1.1)
+    (came.0, came.1, came.2, comes_over old new came.1 after came.3)
 
 pub carried_takes_no_more : CarriedTakesNoMore
 carried_takes_no_more old new s j before after as_many there stays =

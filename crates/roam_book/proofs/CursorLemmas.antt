@@ -2,7 +2,7 @@
 use Rattle.std.proofs.Common.{◌≡◌, inl, inr, ℕ, zero, suc, ◌+◌, ◌-◌, ◌<◌, ◌≤◌, List, [], ◌∷◌, ◌++◌, length, map, replicate, Some, get_or, option_map, refl, sym, ap, ◌∙◌, arith, slice_index}
 use Rattle.std.proofs.lemmas.Bool.{cases_lt}
 use Rattle.std.proofs.lemmas.Grind.{same_number_lists}
-use Rattle.std.proofs.lemmas.List.{get_or_append_left, length-append, length-replicate}
+use Rattle.std.proofs.lemmas.List.{get_or-append_right, get_or-replicate, get_or_append_left, get_or_past, length-append, length-replicate}
 use Rattle.roam_conf.specs.Config.{PeerView, ServerView}
 use Rattle.roam_conf.specs.declared.place.Link.{Link}
 use Rattle.roam_conf.specs.declared.place.Link.TheVariants as link
@@ -125,7 +125,10 @@ list_then_zeros xs count few =
         from_at (slice_index xs) 0 count i within ∙ ap (slice_index xs) here in
         elim (cases_lt i (length xs)) [
           | inl inside ↦ left ∙ sym (get_or_append_left xs (replicate (count - length xs) 0) 0 i inside)
-          | inr past ↦ left ∙ grind (arith, past)
+          | inr past ↦ (
+              left ∙ get_or_past xs i 0 past
+              ∙ sym (get_or-append_right xs (replicate (count - length xs) 0) (length xs) i 0 refl past
+              ∙ get_or-replicate (count - length xs) (i - length xs) 0 0 (omega (arith, past, within))))
         ]
 
 -- the cursors of all links of the new part

@@ -152,16 +152,6 @@ with_named limit named ss = option_map_or (λ own. with_session limit own ss) na
 abbrev pub place_named : RealmConfig → SavedSession → Option ℕ
 place_named c s = first_place (λ p. not p.gone && bytes_eq p.name s.peer) c.peers
 
--- nothing, where no peer has its name
-pub taken_none : (c : RealmConfig) (s : SavedSession) (ss : List Session) → place_named c s ≡ None
-    → taken_up c (s ∷ []) ss ≡ ss
-taken_none c s ss none =
-    ap (λ (o : Option ℕ). with_named c.realm.max_sessions (named_if (are_short s) o s) ss) none ∙ by (are_short s)
-  where
-    by : (short : Bool) → with_named c.realm.max_sessions (named_if short None s) ss ≡ ss
-    by true = refl
-    by false = refl
-
 part_from : (o : Option (List ℕ)) → option_map_or (λ octets. nat_le (length octets) 253) o true ≡ true
     → ForSome o (λ octets. length octets ≤ 253)
 part_from None is = λ x at. absurd (cc at)

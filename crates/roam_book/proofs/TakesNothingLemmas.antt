@@ -9,15 +9,19 @@ use Rattle.roam_book.proofs.ReloadLemmas.{servers}
 use Rattle.roam_book.proofs.SameBrokerLemmas.{as_if_nothing}
 use Rattle.roam_book.proofs.UntouchedLemmas.{entries_are, rests_are, sessions_are}
 
-pub takes_nothing : TakesNothing
-takes_nothing old new k s places = λ i. record {
+pub nothing_goes : (old new : RealmConfig) → Carries old new → (s : RealmState) → length s.cursors ≡ link_count old
+    → carried old new s ≡ record s { cursors = s.cursors ++ replicate (link_count new - link_count old) 0 }
+nothing_goes old new k s count = λ i. record {
   entries = entries_are old new k s.entries i;
   ticket = s.ticket;
-  cursors = cursors_are old new k s.cursors places.cursors i;
+  cursors = cursors_are old new k s.cursors count i;
   stream_position = s.stream_position;
   sessions = sessions_are old new k s.sessions i;
   rests = rests_are old new k s.rests i;
 }
+
+pub takes_nothing : TakesNothing
+takes_nothing old new k s places = nothing_goes old new k s places.cursors
 
 -- where no peer is new it goes on just as it stands
 stands : (old new : RealmConfig) → Carries old new → length new.peers ≡ length old.peers → (s : RealmState)

@@ -9,10 +9,10 @@ use Rattle.roam_conf.specs.Duplicates.{has_pair_of_servers}
 use Rattle.roam_pending.specs.ListLaws.{IsIn}
 use Rattle.roam_reload.specs.Kept.{same_out, same_servers}
 use Rattle.roam_reload.specs.Reload.{KeepsPeers, peer_part, realm_part}
+use Rattle.roam_book.specs.Private.Moving.{AreFresh}
 use Rattle.roam_book.specs.RealmConfig.{RealmConfig, link_count}
 use Rattle.roam_book.specs.Losses.{LossView}
 use Rattle.roam_book.specs.Rests.{all_awake}
-use Rattle.roam_book.specs.Sound.{AreOwnLanes, marks_of}
 use Rattle.roam_book.specs.declared.rules.carried_lanes.FreshLanes.{FreshLanes}
 use Rattle.roam_book.specs.declared.rules.losses.Loss.{Loss}
 use Rattle.roam_book.specs.declared.state.realm_numbers.RealmNumbers.{RealmNumbers}
@@ -54,8 +54,7 @@ abbrev pub IsReadyToCarry : {A : Type 0} → RealmConfig → RealmConfig → Rea
 IsReadyToCarry old new numbers None =
     (link_count new ≤ vec_capacity numbers.lanes) × StandAsBefore old new
 IsReadyToCarry old new numbers (Some fresh) =
-    (length fresh.lanes.items ≡ link_count new) × AreOwnLanes new (marks_of fresh.lanes.items)
-    × (fresh.rests.items ≡ all_awake new)
+    AreFresh new fresh.lanes.items × (fresh.rests.items ≡ all_awake new)
 
 -- what is counted of losses
 abbrev pub shown_loss : Loss → LossView

@@ -5,6 +5,8 @@ pub mod admit_plan;
 pub mod carried_ends;
 pub mod carried_entries;
 pub mod carried_lanes;
+pub mod carried_rests;
+pub mod carried_sessions;
 pub mod conversations;
 pub mod due_action;
 pub mod evict_done;

@@ -1,5 +1,5 @@
 -- What tables state, with the texts and the arrays still in the document, as plain records. Ours.
-use Rattle.std.specs.Prelude.{◌≡◌, ℕ, codes, true, List, Option, Some}
+use Rattle.std.specs.Prelude.{◌≡◌, ℕ, codes, true, List, Option, Some, false}
 use Rattle.std.specs.Option.{option_copied}
 use Rattle.toml.specs.Data.{Members, get_member}
 use Rattle.toml.specs.View.{array_view}

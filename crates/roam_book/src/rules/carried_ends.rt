@@ -1,13 +1,15 @@
 //! What the ends of an entry are when its realm goes on under another part of a configuration: its sender, and its
 //! link.
 
-ghost use Rattle.std.specs.Prelude.{◌≡◌, ◌<◌, IfSome, IfNone, Some, None, length};
+ghost use Rattle.std.specs.Prelude.{◌≡◌, ◌<◌, IfSome, IfNone, Some, None, if◌then◌else◌, length, option_and_then, option_map};
+ghost use Rattle.roam_wire.specs.Reading.{IsPacketText, packet_of};
 ghost use Rattle.roam_pending.specs.Realms.{with_ends, with_home};
 ghost use Rattle.roam_pending.specs.Shown.{shown, shown_request};
+ghost use Rattle.roam_reload.specs.Kept.{keeps_coa, of_peer};
 ghost use Rattle.roam_book.specs.RealmConfig.{RealmConfig};
 ghost use Rattle.roam_book.specs.Reload.{entry_then, fits, link_before, link_then, request_from, request_then};
 ghost use Rattle.roam_book.specs.Reload.{way_before, way_then};
-ghost use Rattle.roam_book.specs.Sound.{IsRequest};
+ghost use Rattle.roam_book.specs.Sound.{IsOfPeer, IsRequest};
 
 use crate::state::realm_settings::RealmSettings;
 use roam_conf::Link;
@@ -25,12 +27,34 @@ pub(crate) struct Ends {
     pub(crate) link: Option<Link>,
 }
 
-/// A server's link at the place where that server stands, if it does.
-fn at_place(link: Link, server: Option<u8>) -> Option<Link> {
-    match (link, server) {
-        (Link::Auth(_), Some(server)) => Some(Link::Auth(server)),
-        (Link::Acct(_), Some(server)) => Some(Link::Acct(server)),
-        _ => None,
+/// The `auth` of a server, if there is one.
+fn auth_of(server: Option<u8>) -> Option<Link>
+    ensures { result ≡ option_map (λ s. Link.Auth s) server }
+{
+    match server {
+        Some(server) => Some(Link::Auth(server)),
+        None => None,
+    }
+}
+
+/// The `acct` of a server, if there is one.
+fn acct_of(server: Option<u8>) -> Option<Link>
+    ensures { result ≡ option_map (λ s. Link.Acct s) server }
+{
+    match server {
+        Some(server) => Some(Link::Acct(server)),
+        None => None,
+    }
+}
+
+/// The `coa` of a peer, where it is the same in both.
+fn coa_of(old: &RealmSettings<'_>, new: &RealmSettings<'_>, peer: u16) -> Option<Link>
+    ensures { result ≡ (if of_peer keeps_coa old.now.peers new.now.peers peer then Some (Link.Coa peer) else None) }
+{
+    if peer_keeps_coa(old.peers(), new.peers(), peer) {
+        Some(Link::Coa(peer))
+    } else {
+        None
     }
 }
 
@@ -43,16 +67,9 @@ pub(crate) fn link_then(
     ensures { result ≡ link_then old.now new.now link }
 {
     match link {
-        Link::Auth(server) | Link::Acct(server) => {
-            at_place(link, server_then(old.realm(), new.realm(), server))
-        }
-        Link::Coa(peer) => {
-            if peer_keeps_coa(old.peers(), new.peers(), peer) {
-                Some(link)
-            } else {
-                None
-            }
-        }
+        Link::Auth(server) => auth_of(server_then(old.realm(), new.realm(), server)),
+        Link::Acct(server) => acct_of(server_then(old.realm(), new.realm(), server)),
+        Link::Coa(peer) => coa_of(old, new, peer),
     }
 }
 
@@ -65,16 +82,9 @@ pub(crate) fn link_before(
     ensures { result ≡ link_before old.now new.now link }
 {
     match link {
-        Link::Auth(server) | Link::Acct(server) => {
-            at_place(link, server_then(new.realm(), old.realm(), server))
-        }
-        Link::Coa(peer) => {
-            if peer_keeps_coa(old.peers(), new.peers(), peer) {
-                Some(link)
-            } else {
-                None
-            }
-        }
+        Link::Auth(server) => auth_of(server_then(new.realm(), old.realm(), server)),
+        Link::Acct(server) => acct_of(server_then(new.realm(), old.realm(), server)),
+        Link::Coa(peer) => coa_of(old, new, peer),
     }
 }
 
@@ -106,8 +116,9 @@ pub(crate) fn way_before(
 
 /// Whether a peer's request can be forwarded with what is added for it then.
 fn still_fits<A: Allocator>(new: &RealmSettings<'_>, peer: u16, request: &Request<A>) -> bool
-    requires { peer < length new.now.peers }
-    ensures { (c : RealmConfig) → IsRequest c (shown_request request.now) → request.now.requester ≡ Requester.Peer peer
+    requires peer { peer < length new.now.peers }
+    requires packet { IsPacketText request.now.octets }
+    ensures { (c : RealmConfig) → IsOfPeer c peer (packet_of request.now.octets)
         → result ≡ fits new.now peer (shown_request request.now) }
 {
     let packet = View::of_packet(request.octets.as_slice());
@@ -144,6 +155,16 @@ fn sender_then<A: Allocator>(
     }
 }
 
+/// The link that a held reply keeps then, of the one from which it came.
+fn held_link(old: &RealmSettings<'_>, new: &RealmSettings<'_>, from: Option<Link>) -> Option<Link>
+    ensures { result ≡ option_and_then (way_then old.now new.now) from }
+{
+    match from {
+        Some(link) => way_then(old, new, link),
+        None => None,
+    }
+}
+
 /// The ends of an entry then; none where it doesn't stay.
 pub(crate) fn ends_then<A: Allocator>(
     old: &RealmSettings<'_>,
@@ -165,10 +186,7 @@ pub(crate) fn ends_then<A: Allocator>(
             })
         }
         Standing::Done(done) => {
-            let link = match done.from {
-                Some(link) => way_then(old, new, link),
-                None => None,
-            };
+            let link = held_link(old, new, done.from);
             Some(Ends { home, link })
         }
     }

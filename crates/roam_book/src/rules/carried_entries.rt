@@ -1,18 +1,42 @@
 //! Which entries of a realm stay when it goes on under another part of a configuration.
 
-ghost use Rattle.std.specs.Prelude.{◌≡◌};
-ghost use Rattle.std.specs.List.{filter_map};
-ghost use Rattle.roam_pending.specs.EntryList.{without};
-ghost use Rattle.roam_pending.specs.Realms.{RealmBecomes};
-ghost use Rattle.roam_book.specs.Reload.{entries_then, entry_then, few_enough};
-ghost use Rattle.roam_book.specs.Sound.{IsSound, OthersStay, cursors_of};
+ghost use Rattle.std.specs.Prelude.{◌≡◌, ◌-◌, IfNone, IfSome, List, None, Some, length, option_map};
+ghost use Rattle.std.specs.List.{AllByRecursion, filter_map};
+ghost use Rattle.roam_pending.specs.EntryList.{IsInOrder, find_ticket, without};
+ghost use Rattle.roam_pending.specs.PlainEntry.{PlainEntry};
+ghost use Rattle.roam_pending.specs.Realms.{RealmBecomes, with_ends};
+ghost use Rattle.roam_pending.specs.Shown.{shown};
+ghost use Rattle.roam_book.specs.Private.Moving.{kept_or_gone, set_or_gone, staying, then_at};
+ghost use Rattle.roam_book.specs.RealmConfig.{link_count};
+ghost use Rattle.roam_book.specs.Reload.{entries_then, entry_then, few_enough, without_done};
+ghost use Rattle.roam_book.specs.Sound.{IsEntry, IsRequest, LanesTell, cursors_of, marks_of};
 ghost use Rattle.roam_book.specs.Stays.{KeepsButLanes};
 
-use crate::rules::carried_ends::ends_then;
+use crate::rules::carried_ends::{Ends, ends_then};
 use crate::state::realm_numbers::RealmNumbers;
 use crate::state::realm_settings::RealmSettings;
-use roam_pending::{Entries, Standing};
+use roam_pending::{Entries, Entry, Standing};
 use std::alloc::Allocator;
+
+/// Gives back the Identifier with which an entry waited that is gone.
+fn give_back<A: Allocator + Copy>(
+    old: &RealmSettings<'_>,
+    numbers: &mut RealmNumbers<A>,
+    entry: &Entry<A>,
+)
+    requires entry { IsEntry old.now numbers.old.ticket (shown entry.now) }
+    requires count { length numbers.old.lanes.items ≡ link_count old.now }
+    ensures tells { (es : List PlainEntry) → LanesTell old.now es numbers.old.lanes.items
+        → find_ticket (shown entry.now).ticket es ≡ Some (shown entry.now)
+        → LanesTell old.now (without (shown entry.now).ticket es) numbers.new.lanes.items }
+    ensures keeps { KeepsButLanes numbers.old numbers.new }
+    ensures cursors { cursors_of numbers.new.lanes.items ≡ cursors_of numbers.old.lanes.items }
+    ensures marks { marks_of numbers.new.lanes.items ≡ marks_of numbers.old.lanes.items }
+{
+    if let Standing::Waiting(waiting) = &entry.standing {
+        numbers.give_back(old, waiting.link, waiting.id);
+    }
+}
 
 /// Lets the entry of a ticket go, and gives back the Identifier with which it waits.
 fn let_go<A: Allocator + Copy, E: Entries<A>>(
@@ -21,33 +45,71 @@ fn let_go<A: Allocator + Copy, E: Entries<A>>(
     numbers: &mut RealmNumbers<A>,
     ticket: u64,
 )
-    requires { IsSound old.now (E.entries_of entries.old old.now.index) numbers.old }
+    requires entry { (e : PlainEntry) → find_ticket ticket (E.entries_of entries.old old.now.index) ≡ Some e
+        → IsEntry old.now numbers.old.ticket e }
+    requires count { length numbers.old.lanes.items ≡ link_count old.now }
     ensures entries { RealmBecomes old.now.index (without ticket (E.entries_of entries.old old.now.index))
         (E.entries_of entries.old) (E.entries_of entries.new) }
-    ensures sound { IsSound old.now (E.entries_of entries.new old.now.index) numbers.new }
+    ensures kept { E.keeps entries.new ≡ E.keeps entries.old }
+    ensures tells { (es : List PlainEntry) → LanesTell old.now es numbers.old.lanes.items
+        → find_ticket ticket es ≡ find_ticket ticket (E.entries_of entries.old old.now.index)
+        → LanesTell old.now (without ticket es) numbers.new.lanes.items }
     ensures keeps { KeepsButLanes numbers.old numbers.new }
     ensures cursors { cursors_of numbers.new.lanes.items ≡ cursors_of numbers.old.lanes.items }
+    ensures marks { marks_of numbers.new.lanes.items ≡ marks_of numbers.old.lanes.items }
 {
     if let Some(entry) = entries.remove(old.index(), ticket) {
-        if let Standing::Waiting(waiting) = entry.standing {
-            numbers.give_back(old, waiting.link, waiting.id);
-        }
+        give_back(old, numbers, &entry);
     }
 }
 
-/// An entry goes, or has the numbers of its ends that they have then.
+/// The ends of the entry of a ticket then; none where it isn't there or doesn't stay.
+fn ends_at<A: Allocator + Copy, E: Entries<A>>(
+    old: &RealmSettings<'_>,
+    new: &RealmSettings<'_>,
+    entries: &E,
+    ticket: u64,
+) -> Option<Ends>
+    requires entry { (e : PlainEntry) → find_ticket ticket (E.entries_of entries.now old.now.index) ≡ Some e
+        → IsRequest old.now e.request }
+    ensures stays { IfSome result (λ ends.
+        then_at old.now new.now ticket (E.entries_of entries.now old.now.index)
+        ≡ option_map (with_ends ends.home ends.link)
+        (find_ticket ticket (E.entries_of entries.now old.now.index))) }
+    ensures goes { IfNone result
+        (then_at old.now new.now ticket (E.entries_of entries.now old.now.index) ≡ None) }
+{
+    match entries.find_ticket(old.index(), ticket) {
+        Some(entry) => ends_then(old, new, entry),
+        None => None,
+    }
+}
+
+/// The entry of a ticket goes, or has the numbers of its ends that they have then.
 fn carry_one<A: Allocator + Copy, E: Entries<A>>(
     old: &RealmSettings<'_>,
     new: &RealmSettings<'_>,
     entries: &mut E,
     numbers: &mut RealmNumbers<A>,
     ticket: u64,
-) {
-    let ends = match entries.find_ticket(old.index(), ticket) {
-        Some(entry) => ends_then(old, new, entry),
-        None => return,
-    };
-    match ends {
+)
+    requires entry { (e : PlainEntry) → find_ticket ticket (E.entries_of entries.old old.now.index) ≡ Some e
+        → IsEntry old.now numbers.old.ticket e }
+    requires count { length numbers.old.lanes.items ≡ link_count old.now }
+    ensures entries { RealmBecomes old.now.index
+        (set_or_gone ticket (then_at old.now new.now ticket (E.entries_of entries.old old.now.index))
+        (E.entries_of entries.old old.now.index)) (E.entries_of entries.old) (E.entries_of entries.new) }
+    ensures kept { E.keeps entries.new ≡ E.keeps entries.old }
+    ensures tells { (es : List PlainEntry) → LanesTell old.now es numbers.old.lanes.items
+        → find_ticket ticket es ≡ find_ticket ticket (E.entries_of entries.old old.now.index)
+        → LanesTell old.now
+        (kept_or_gone ticket (then_at old.now new.now ticket (E.entries_of entries.old old.now.index)) es)
+        numbers.new.lanes.items }
+    ensures keeps { KeepsButLanes numbers.old numbers.new }
+    ensures cursors { cursors_of numbers.new.lanes.items ≡ cursors_of numbers.old.lanes.items }
+    ensures marks { marks_of numbers.new.lanes.items ≡ marks_of numbers.old.lanes.items }
+{
+    match ends_at(old, new, entries, ticket) {
         Some(ends) => entries.set_ends(old.index(), ticket, ends.home, ends.link),
         None => let_go(old, entries, numbers, ticket),
     }
@@ -60,33 +122,59 @@ fn carry_each<A: Allocator + Copy, E: Entries<A>>(
     entries: &mut E,
     numbers: &mut RealmNumbers<A>,
 )
-    ensures entries { E.entries_of entries.new old.now.index
-        ≡ filter_map (entry_then old.now new.now) (E.entries_of entries.old old.now.index) }
+    requires each { AllByRecursion (IsEntry old.now numbers.old.ticket) (E.entries_of entries.old old.now.index) }
+    requires count { length numbers.old.lanes.items ≡ link_count old.now }
+    requires tells { LanesTell old.now (E.entries_of entries.old old.now.index) numbers.old.lanes.items }
+    ensures entries { RealmBecomes old.now.index
+        (filter_map (entry_then old.now new.now) (E.entries_of entries.old old.now.index))
+        (E.entries_of entries.old) (E.entries_of entries.new) }
+    ensures kept { E.keeps entries.new ≡ E.keeps entries.old }
+    ensures order { IsInOrder (E.entries_of entries.old old.now.index) }
+    ensures tells { LanesTell old.now (staying old.now new.now (E.entries_of entries.old old.now.index))
+        numbers.new.lanes.items }
+    ensures keeps { KeepsButLanes numbers.old numbers.new }
+    ensures cursors { cursors_of numbers.new.lanes.items ≡ cursors_of numbers.old.lanes.items }
+    ensures marks { marks_of numbers.new.lanes.items ≡ marks_of numbers.old.lanes.items }
 {
-    let mut next = entries.due_after(old.index(), u64::MAX, None);
-    while let Some(due) = next {
-        next = entries.due_after(old.index(), u64::MAX, Some(due));
+    let realm = old.index();
+    let _count = entries.len(realm);
+    let mut last = None;
+    while let Some(due) = entries.next_after(realm, last) {
         carry_one(old, new, entries, numbers, due.ticket);
+        last = Some(due);
     }
 }
 
-/// Where fewer may be pending than before, answered ones make way, in order of ticket.
-fn make_way<A: Allocator + Copy, E: Entries<A>>(
+/// Answered entries make way, in order of ticket, until there are so many at most.
+fn make_way<A: Allocator, E: Entries<A>>(entries: &mut E, realm: u16, most: u16)
+    ensures entries { RealmBecomes realm
+        (without_done (length (E.entries_of entries.old realm) - most) (E.entries_of entries.old realm))
+        (E.entries_of entries.old) (E.entries_of entries.new) }
+    ensures kept { E.keeps entries.new ≡ E.keeps entries.old }
+{
+    while entries.len(realm) > usize::from(most) {
+        match entries.first_done(realm, None) {
+            Some(ticket) => {
+                let _gone = entries.remove(realm, ticket);
+            }
+            None => return,
+        }
+    }
+}
+
+/// Where fewer may be pending than before, answered ones make way.
+fn keep_few<A: Allocator, E: Entries<A>>(
     old: &RealmSettings<'_>,
     new: &RealmSettings<'_>,
     entries: &mut E,
 )
-    ensures entries { E.entries_of entries.new old.now.index
-        ≡ few_enough old.now new.now (E.entries_of entries.old old.now.index) }
+    ensures entries { RealmBecomes old.now.index
+        (few_enough old.now new.now (E.entries_of entries.old old.now.index))
+        (E.entries_of entries.old) (E.entries_of entries.new) }
+    ensures kept { E.keeps entries.new ≡ E.keeps entries.old }
 {
-    if new.max_pending() >= old.max_pending() {
-        return;
-    }
-    while entries.len(old.index()) > usize::from(new.max_pending()) {
-        let Some(ticket) = entries.first_done(old.index(), None) else {
-            return;
-        };
-        let _gone = entries.remove(old.index(), ticket);
+    if new.max_pending() < old.max_pending() {
+        make_way(entries, old.index(), new.max_pending());
     }
 }
 
@@ -97,13 +185,20 @@ pub(crate) fn carry_entries<A: Allocator + Copy, E: Entries<A>>(
     entries: &mut E,
     numbers: &mut RealmNumbers<A>,
 )
-    requires { new.now.index ≡ old.now.index }
-    ensures entries { E.entries_of entries.new old.now.index
-        ≡ entries_then old.now new.now (E.entries_of entries.old old.now.index) }
-    ensures others { OthersStay old.now.index (E.entries_of entries.old) (E.entries_of entries.new) }
+    requires each { AllByRecursion (IsEntry old.now numbers.old.ticket) (E.entries_of entries.old old.now.index) }
+    requires count { length numbers.old.lanes.items ≡ link_count old.now }
+    requires tells { LanesTell old.now (E.entries_of entries.old old.now.index) numbers.old.lanes.items }
+    ensures entries { RealmBecomes old.now.index
+        (entries_then old.now new.now (E.entries_of entries.old old.now.index))
+        (E.entries_of entries.old) (E.entries_of entries.new) }
+    ensures kept { E.keeps entries.new ≡ E.keeps entries.old }
+    ensures order { IsInOrder (E.entries_of entries.old old.now.index) }
+    ensures tells { LanesTell old.now (staying old.now new.now (E.entries_of entries.old old.now.index))
+        numbers.new.lanes.items }
     ensures keeps { KeepsButLanes numbers.old numbers.new }
     ensures cursors { cursors_of numbers.new.lanes.items ≡ cursors_of numbers.old.lanes.items }
+    ensures marks { marks_of numbers.new.lanes.items ≡ marks_of numbers.old.lanes.items }
 {
     carry_each(old, new, entries, numbers);
-    make_way(old, new, entries);
+    keep_few(old, new, entries);
 }

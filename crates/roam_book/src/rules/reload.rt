@@ -13,7 +13,7 @@ ghost use Rattle.roam_book.specs.Private.MoreLanes.{AreMoreLanes};
 ghost use Rattle.roam_book.specs.RealmConfig.{RealmConfig, link_count};
 ghost use Rattle.roam_book.specs.Reload.{AsIfNothingChanged, CarriedAddsNothing, CarriedHasPlaces, CarriedTakesNoMore};
 ghost use Rattle.roam_book.specs.Reload.{NothingChangesForThem, PlacesStay, TakesNothing, UntouchedRealmsGoOn};
-ghost use Rattle.roam_book.specs.Reload.{carried, sessions_then};
+ghost use Rattle.roam_book.specs.Reload.{carried};
 ghost use Rattle.roam_book.specs.Sound.{IsSound, OthersStay, state_of};
 
 use crate::book::Book;
@@ -24,8 +24,7 @@ use crate::state::realm_settings::RealmSettings;
 use roam_conf::{Config, Peer};
 use roam_ids::LazyLane;
 use roam_pending::Entries;
-use roam_reload::{peer_difference, peer_keeps_sessions, realm_difference};
-use roam_reverse::Sessions;
+use roam_reload::{peer_difference, realm_difference};
 use roam_wire::NoMemory;
 use std::alloc::Allocator;
 
@@ -81,7 +80,11 @@ impl<A: Allocator + Copy> RealmNumbers<A> {
     pub(crate) fn add_lanes(&mut self, settings: &RealmSettings<'_>)
         requires few { length self.old.lanes.items ≤ link_count settings.now }
         requires room { link_count settings.now ≤ vec_capacity self.old.lanes }
-        ensures { AreMoreLanes settings.now (link_count settings.now) self.old.lanes.items self.new.lanes.items }
+        ensures more { AreMoreLanes settings.now (link_count settings.now) self.old.lanes.items self.new.lanes.items }
+        ensures ticket { self.new.ticket ≡ self.old.ticket }
+        ensures stream_position { self.new.stream_position ≡ self.old.stream_position }
+        ensures rests { self.new.rests.items ≡ self.old.rests.items }
+        ensures sessions { self.new.sessions ≡ self.old.sessions }
     {
         add_lanes(self.alloc, settings, &mut self.lanes);
     }
@@ -122,25 +125,6 @@ impl<A: Allocator + Copy> RealmNumbers<A> {
         }
         Ok(Some(fresh_lanes(self.alloc, new)?))
     }
-
-    /// The sessions that stay: those of peers that didn't go, the newest where fewer are kept; none where they are told
-    /// otherwise now.
-    fn carry_sessions(&mut self, old: &RealmSettings<'_>, new: &RealmSettings<'_>, changed: &[u16])
-        requires { AreChanged old.now.peers new.now.peers changed.now }
-        ensures sessions { self.new.sessions.sessions ≡ sessions_then old.now new.now self.old.sessions.sessions }
-        ensures limit { self.new.sessions.limit ≡ new.now.realm.max_sessions }
-    {
-        if old.own_sessions() != new.own_sessions() {
-            self.sessions = Sessions::new(self.alloc, new.max_sessions(), new.hash_key());
-            return;
-        }
-        for peer in changed {
-            if !peer_keeps_sessions(old.peers(), new.peers(), *peer) {
-                self.sessions.close_peer(*peer);
-            }
-        }
-        self.sessions.limit_to(new.max_sessions());
-    }
 }
 
 /// Whether neither the realm's table nor any peer's is another one, as far as its packets depend on them.
@@ -153,6 +137,31 @@ pub(crate) fn is_untouched(
     ensures { result ≡ true → StandsAsItIs old.now new.now }
 {
     changed.is_empty() && realm_difference(old.realm(), new.realm()).is_none()
+}
+
+/// A realm goes on that a change touches: entries, lanes, rests and sessions stay or go.
+fn carry_touched<A: Allocator + Copy, E: Entries<A>>(
+    old: &RealmSettings<'_>,
+    new: &RealmSettings<'_>,
+    changed: &[u16],
+    entries: &mut E,
+    numbers: &mut RealmNumbers<A>,
+    fresh: Option<FreshLanes<A>>,
+)
+    requires index { new.now.index ≡ old.now.index }
+    requires servers { HaveDistinctServers old.now new.now }
+    requires changed { AreChanged old.now.peers new.now.peers changed.now }
+    requires sound { IsSound old.now (E.entries_of entries.old old.now.index) numbers.old }
+    requires ready { IsReadyToCarry old.now new.now numbers.old fresh }
+    ensures state { state_of (E.entries_of entries.new old.now.index) numbers.new
+        ≡ carried old.now new.now (state_of (E.entries_of entries.old old.now.index) numbers.old) }
+    ensures sound { IsSound new.now (E.entries_of entries.new old.now.index) numbers.new }
+    ensures others { OthersStay old.now.index (E.entries_of entries.old) (E.entries_of entries.new) }
+    ensures kept { E.keeps entries.new ≡ E.keeps entries.old }
+{
+    carry_entries(old, new, entries, numbers);
+    numbers.carry_lanes(old, new, changed, fresh);
+    numbers.carry_sessions(old, new, changed);
 }
 
 /// A realm goes on under other settings, with the memory that was taken: entries, lanes, rests and sessions stay or
@@ -179,11 +188,9 @@ pub fn carry_over<A: Allocator + Copy, E: Entries<A>>(
 {
     if fresh.is_none() && is_untouched(old, new, changed) {
         numbers.add_lanes(new);
-        return;
+    } else {
+        carry_touched(old, new, changed, entries, numbers, fresh);
     }
-    carry_entries(old, new, entries, numbers);
-    numbers.carry_lanes(old, new, changed, fresh);
-    numbers.carry_sessions(old, new, changed);
 }
 
 /// A realm that a change doesn't touch goes on as it stands, and where no peer is new it is sent what it would have
@@ -227,6 +234,8 @@ impl<'c, A: Allocator + Copy> Book<'c, A> {
             &mut self.numbers,
             fresh,
         );
+        // What the list keeps is said where it is counted.
+        let _count = self.entries.len();
         self.config = config;
         Ok(())
     }

@@ -1,12 +1,13 @@
 //! What of a realm's ledger is kept from one run of a server to the next, and what is taken up again.
 
-ghost use Rattle.std.specs.Prelude.{◌≡◌, ◌≤◌, ◌&&◌, ◌∷◌, [], OnErr, OnOk, length, map, not, option_map};
+ghost use Rattle.std.specs.Prelude.{◌≡◌, ◌≤◌, ◌&&◌, ◌∷◌, [], Some, IfSome, OnErr, OnOk, length, map, not, option_map};
 ghost use Rattle.std.specs.Str.{bytes_eq};
 ghost use Rattle.roam_conf.specs.Lookup.{first_place};
 ghost use Rattle.roam_conf.specs.Parts.{shown_peer};
 ghost use Rattle.roam_ledgers.specs.Shown.{shown_session, shown_text};
+ghost use Rattle.roam_reverse.specs.Parts.{shown_parts};
 ghost use Rattle.roam_reverse.specs.Shown.{shown_octets};
-ghost use Rattle.roam_book.specs.Saving.{taken_up};
+ghost use Rattle.roam_book.specs.Saving.{saved_session, taken_up};
 ghost use Rattle.roam_book.specs.Stays.{KeepsButSessions};
 ghost use Rattle.roam_book.specs.Written.{GainsOpen, GainsRealm};
 
@@ -48,20 +49,31 @@ fn peer_named(peers: &[Peer], name: &[u8]) -> Option<u16>
     None
 }
 
-/// A text of these octets, where there are any; none of more than a file has room for.
-fn text_of(octets: Option<&[u8]>) -> Option<Text<'_>> {
-    Text::new(octets?)
+/// A text of these octets, where there are any: nothing where a file has no room for them.
+fn text_if_any(octets: Option<&[u8]>) -> Option<Option<Text<'_>>>
+    ensures { IfSome result (λ text. option_map shown_text text ≡ option_map shown_octets octets.entry) }
+{
+    match octets {
+        None => Some(None),
+        Some(octets) => match Text::new(octets) {
+            Some(text) => Some(Some(text)),
+            None => None,
+        },
+    }
 }
 
-/// What a file of ledgers has of a session, by the name of its peer.
-fn item_of<'a>(peers: &'a [Peer], parts: SessionParts<'a>) -> Option<Item<'a>> {
+/// What a file of ledgers has of a session, by the name of its peer: nothing where it has no room for a part.
+fn item_of<'a>(peers: &'a [Peer], parts: SessionParts<'a>) -> Option<SessionItem<'a>>
+    ensures { IfSome result (λ item. saved_session (map shown_peer peers.entry.now) (shown_parts parts.entry)
+        ≡ Some (shown_session item)) }
+{
     let peer = peers.get(usize::from(parts.peer))?;
-    Some(Item::Session(SessionItem {
+    Some(SessionItem {
         peer: Text::new(peer.name.as_bytes())?,
-        address: text_of(parts.address),
-        identifier: text_of(parts.identifier),
+        address: text_if_any(parts.address)?,
+        identifier: text_if_any(parts.identifier)?,
         id: Text::new(parts.id)?,
-    }))
+    })
 }
 
 impl<A: Allocator + Copy> RealmNumbers<A> {
@@ -94,6 +106,24 @@ impl<A: Allocator + Copy> RealmNumbers<A> {
         self.sessions.add_tickets(tickets)
     }
 
+    /// Writes the session of a ticket, where it is still open.
+    fn save_one(
+        &self,
+        settings: &RealmSettings<'_>,
+        ticket: u64,
+        writing: &mut Writing<A>,
+    ) -> Result<(), AllocError>
+        ensures { OnOk result (GainsOpen settings.now self.now.sessions.sessions writing.old writing.new) }
+    {
+        let Some(parts) = self.sessions.parts_of(ticket) else {
+            return Ok(());
+        };
+        let Some(item) = item_of(settings.peers(), parts) else {
+            return Ok(());
+        };
+        writing.put(Item::Session(item))
+    }
+
     /// Writes the sessions of these tickets that are still open.
     pub fn save(
         &self,
@@ -104,11 +134,7 @@ impl<A: Allocator + Copy> RealmNumbers<A> {
         ensures { OnOk result (GainsOpen settings.now self.now.sessions.sessions writing.old writing.new) }
     {
         for ticket in tickets {
-            if let Some(parts) = self.sessions.parts_of(*ticket) {
-                if let Some(item) = item_of(settings.peers(), parts) {
-                    writing.put(item)?;
-                }
-            }
+            self.save_one(settings, *ticket, writing)?;
         }
         Ok(())
     }
@@ -124,6 +150,6 @@ pub fn save_realm<A: Allocator + Copy>(
     let realm = settings.realm();
     match Text::new(realm.name.as_bytes()) {
         Some(name) => writing.put(Item::Realm(name, realm.own_sessions)),
-        None => Ok(()),
+        None => unreachable!(),
     }
 }

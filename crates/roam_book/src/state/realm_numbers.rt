@@ -1,7 +1,7 @@
 //! What a realm keeps besides its entries: the numbers that it hands out, and the ledger of sessions.
 
 ghost use Rattle.std.specs.Prelude.{◌≡◌, ℕ, ◌<◌, ◌+◌, ◌*◌, ◌%◌, List, [], true, Some, None, length, replicate};
-ghost use Rattle.std.specs.Prelude.{slice_set, IfSome, IfNone, IfOk, IsOk, OnOk, is_some};
+ghost use Rattle.std.specs.Prelude.{slice_index_or, slice_set, IfSome, IfNone, IfOk, IsOk, OnOk, is_some};
 ghost use Rattle.roam_ids.specs.LaneState.{place_at, ticket_at};
 ghost use Rattle.roam_ids.specs.declared.id_state.IdState.TheVariants.{Free};
 ghost use Rattle.roam_pending.specs.PlainEntry.{PlainEntry, waits_at};
@@ -13,7 +13,7 @@ ghost use Rattle.roam_book.specs.RealmConfig.{IsLink, link_place, link_count};
 ghost use Rattle.roam_book.specs.RealmState.{next_toward};
 ghost use Rattle.roam_book.specs.Rests.{all_awake};
 ghost use Rattle.roam_book.specs.Stays.{IsStarted, KeepsButLanes, KeepsButSessions};
-ghost use Rattle.roam_book.specs.Sound.{AreOwnLanes, LanesTell, lane_of, cursors_of, has_free, marks_of, WaitsJustAt};
+ghost use Rattle.roam_book.specs.Sound.{AreOwnLanes, LanesTell, lane_of, cursors_of, has_free, marks_of, no_lane, WaitsJustAt};
 
 use crate::state::realm_settings::RealmSettings;
 use crate::state::rest::Rest;
@@ -98,6 +98,8 @@ pub(crate) fn new_lanes<A: Allocator + Copy>(
     ensures count { IfOk result (λ lanes. length lanes.items ≡ link_count settings.now) }
     ensures cursors { IfOk result (λ lanes. cursors_of lanes.items ≡ replicate (link_count settings.now) 0) }
     ensures free { IfOk result (λ lanes. LanesTell settings.now [] lanes.items) }
+    ensures places { IfOk result (λ lanes. (place id : ℕ)
+        → place_at (slice_index_or lanes.items place no_lane) id ≡ Free) }
     ensures lanes { IfOk result (λ lanes. AreOwnLanes settings.now (marks_of lanes.items)) }
 {
     let count = settings.link_count();

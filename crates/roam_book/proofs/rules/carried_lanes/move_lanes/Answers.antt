@@ -1,0 +1,11 @@
+use Rattle.roam_book.proofs.MovingLemmas.{all_moved, none_moved}
+use Rattle.roam_book.proofs.rules.carried_lanes.move_lanes.Goals as goal
+
+pub loop-place-init : goal.loop-place-init
+loop-place-init g c =
+    none_moved c.args.old.now c.args.new.now c.args.before.now.items c.args.after.now.items c.requires.count
+    c.requires.fresh
+
+pub loop-place-preserved : goal.loop-place-preserved
+loop-place-preserved g c =
+    c.fill_place.ensures c.args.before.now.items c.requires.count c.requires.lanes c.loop-place.invariant
