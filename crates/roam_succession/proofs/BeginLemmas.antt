@@ -1,5 +1,5 @@
 -- How a server begins.
-use Rattle.std.proofs.Common.{◌≡◌, ℕ, ◌+◌, ◌<◌, ◌≤◌, Bool, true, false, List, [], ◌∷◌, ◌++◌, ◌∙◌, length, set, Some, inl, inr, refl, ap, sym, subst, arith}
+use Rattle.std.proofs.Common.{◌≡◌, ◌⊎◌, ℕ, zero, suc, ◌+◌, ◌<◌, ◌≤◌, Bool, true, false, List, [], ◌∷◌, ◌++◌, ◌∙◌, length, set, Some, None, inl, inr, refl, ap, sym, subst, arith}
 use Rattle.std.specs.Prelude.{if◌then◌else◌, slice_get, slice_index_or}
 use Rattle.std.proofs.Math.ListN.{length-set}
 use Rattle.std.proofs.lemmas.Bool.{cases_eq}
@@ -15,8 +15,20 @@ use Rattle.roam_shard.specs.Pausing.{states_under}
 use Rattle.roam_shard.specs.Restoring.{restored_states, saved_of, with_saved_from}
 use Rattle.roam_shard.specs.declared.paused.Paused.{Paused}
 use Rattle.roam_follow.specs.Paused.{ArePaused, IsPaused}
-use Rattle.roam_follow.proofs.FollowLemmas.{get-push}
 use Rattle.roam_succession.specs.Begins.{HaveBegun, HaveTakenUp}
+
+-- what stands in a list with one more
+get-push : {X : Type 0} (xs : List X) (x y : X) (k : ℕ) → slice_get (xs ++ x ∷ []) k ≡ Some y →
+    ((k ≡ length xs) × (x ≡ y)) ⊎ ((k < length xs) × (slice_get xs k ≡ Some y))
+get-push [] x y zero at = (let some : Some x ≡ Some y = at in let is : x ≡ y = cc in inl (refl, is))
+get-push [] x y (suc k) at = absurd (let bad : None ≡ Some y = at in cc)
+get-push (z ∷ zs) x y zero at = inr (omega arith, at)
+get-push (z ∷ zs) x y (suc k) at =
+    elim (get-push zs x y k at) as (λ _. ((suc k ≡ length (z ∷ zs)) × (x ≡ y))
+    ⊎ ((suc k < length (z ∷ zs)) × (slice_get (z ∷ zs) (suc k) ≡ Some y))) [
+      | inl last ↦ inl (ap suc last.0, last.1)
+      | inr there ↦ inr ((let lt = there.0 in omega (arith, lt)), there.1)
+    ]
 
 either-way : {X : Type 0} (b : Bool) (x : X) → (if b then x else x) ≡ x
 either-way true x = refl
@@ -43,7 +55,8 @@ module _ {A : Type 0} where
         → IsPaused config k p × (states_under config p ≡ fresh config)
 
   pub none-begun : (config : ConfigView) → HaveBegunSoFar config [] 0
-  none-begun config = record { number = refl; each = λ k p at. absurd cc }
+  none-begun config =
+      record { number = refl; each = λ k p at. absurd (let bad : None ≡ Some p = at in cc) }
 
   pub one-more-begun : (config : ConfigView) (shards : List (Paused A)) (count : ℕ) (p : Paused A)
       → HaveBegunSoFar config shards count → IsPaused config count p → states_under config p ≡ fresh config
