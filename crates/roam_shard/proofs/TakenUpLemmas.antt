@@ -1,5 +1,5 @@
 -- A shard's realms take up sessions that were saved, one item of the file after the other.
-use Rattle.std.proofs.Common.{◌≡◌, ◌≢◌, ℕ, zero, suc, ◌+◌, ◌==◌, ◌≤◌, Bool, true, false, List, [], ◌∷◌, ◌++◌, ◌∙◌, OnOk, Option, Some, None, Result, Ok, Err, set, refl, ap, sym, arith}
+use Rattle.std.proofs.Common.{◌≡◌, ◌≢◌, ℕ, zero, suc, ◌+◌, ◌==◌, ◌≤◌, Bool, true, false, List, [], ◌∷◌, ◌++◌, ◌∙◌, Option, Some, None, set, refl, ap, sym, arith}
 use Rattle.std.specs.Prelude.{if◌then◌else◌, slice_get}
 use Rattle.std.specs.Option.{option_map_or}
 use Rattle.std.proofs.lemmas.Option.{slice_get-get_or, slice_get_within}
@@ -19,11 +19,6 @@ use Rattle.roam_core.specs.ManyRealms.{no_state}
 use Rattle.roam_shard.specs.ShardView.{IsShard, OpeningView, states_in}
 use Rattle.roam_shard.proofs.ShardLemmas.{length-states, state-seen, states-set}
 use Rattle.roam_shard.specs.Restoring.{is_named, saved_of, sessions_behind, with_one, with_saved, with_saved_from}
-
--- what follows where it went well
-pub on-ok : {R E P Q : Type 0} (r : Result R E) → (P → Q) → OnOk r P → OnOk r Q
-on-ok (Ok x) so p = so p
-on-ok (Err e) so p = tt
 
 either-way : {X : Type 0} (b : Bool) (x : X) → (if b then x else x) ≡ x
 either-way true x = refl

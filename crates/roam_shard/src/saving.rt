@@ -37,12 +37,11 @@ impl<A: Allocator + Copy> Shard<'_, A> {
         ensures { OnOk result ((writing.new ≡ writing.old)
             ⊎ GainsRealm (realm_config self.now.opening.config realm) writing.old writing.new) }
     {
-        match numbers_at(&self.numbers, realm) {
-            Some(_numbers) => {
-                save_realm(&RealmSettings::new(self.opening.config, realm), writing)
-            }
-            None => Ok(()),
-        }
+        let Some(_numbers) = numbers_at(&self.numbers, realm) else {
+            return Ok(());
+        };
+        let settings = RealmSettings::new(self.opening.config, realm);
+        save_realm(&settings, writing)
     }
 
     /// Writes the sessions of a realm that have these tickets.
@@ -55,13 +54,11 @@ impl<A: Allocator + Copy> Shard<'_, A> {
         ensures { OnOk result (GainsOpen (realm_config self.now.opening.config realm)
             (state_at self.now.states realm).sessions writing.old writing.new) }
     {
-        match numbers_at(&self.numbers, realm) {
-            Some(numbers) => {
-                let settings = RealmSettings::new(self.opening.config, realm);
-                numbers.save(&settings, tickets, writing)
-            }
-            None => Ok(()),
-        }
+        let Some(numbers) = numbers_at(&self.numbers, realm) else {
+            return Ok(());
+        };
+        let settings = RealmSettings::new(self.opening.config, realm);
+        numbers.save(&settings, tickets, writing)
     }
 }
 

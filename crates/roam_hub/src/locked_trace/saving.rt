@@ -26,9 +26,11 @@ impl<A: Allocator + Copy, N: Opened> LockedTrace<'_, A, N> {
         if !self.goes_on(seat, shard) {
             return Ok(());
         }
-        let shard = self.traced.shard();
-        shard.add_session_tickets(realm, tickets)?;
-        shard.save_realm(realm, writing).map_err(|_| NoMemory)
+        self.traced.shard().add_session_tickets(realm, tickets)?;
+        match self.traced.shard().save_realm(realm, writing) {
+            Ok(()) => Ok(()),
+            Err(_) => Err(NoMemory),
+        }
     }
 
     /// Writes the sessions of a realm that have these tickets; nothing where this is another shard's trace.

@@ -8,8 +8,9 @@ use Rattle.roam_tables.proofs.RealmLemmas.{get-read}
 use Rattle.roam_book.specs.RealmConfig.{RealmConfig}
 use Rattle.roam_shard.specs.Pausing.{opening_under}
 use Rattle.roam_ledgers.specs.Shown.{shown_session}
+use Rattle.roam_book.proofs.WrittenLemmas.{on_one}
 use Rattle.roam_shard.proofs.RestoredLemmas.{restored_shard}
-use Rattle.roam_shard.proofs.TakenUpLemmas.{numbers-taken, on-ok}
+use Rattle.roam_shard.proofs.TakenUpLemmas.{numbers-taken}
 use Rattle.roam_shard.proofs.paused.Paused.restore_one.Given.{Over}
 use Rattle.roam_shard.proofs.paused.Paused.restore_one.Goals as goal
 
@@ -51,5 +52,6 @@ returns-in-Some-clause-states g c =
     let at = get-read ns c.from-2.result c.index_mut.result.now
     (omega (arith, c.from.ensures, c.from-2.ensures, c.if-from-len.false, p.numbers.ok.0))
     c.index_mut.ensures.value ∙ ap Some c.in-Some.is in
-    on-ok _ (numbers-taken (opening_under (shown c.args.config.now) p) p.entries ns c.from-2.result c.in-Some.numbers
-    c.restore.new.self (shown_session c.args.session) c.requires at c.restore.ensures.keeps) c.restore.ensures.sessions
+    on_one _ c.restore.ensures.sessions
+    (numbers-taken (opening_under (shown c.args.config.now) p) p.entries ns c.from-2.result c.in-Some.numbers
+    c.restore.new.self (shown_session c.args.session) c.requires at c.restore.ensures.keeps)
