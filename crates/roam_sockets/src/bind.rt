@@ -130,10 +130,17 @@ impl Sockets {
             }
         }
         share(open, endpoint, true);
-        let bound = self.bind_rest(config, place, endpoint, 0, usize::from(config.shards));
-        share(open, endpoint, false);
-        bound?;
-        Ok(())
+        let wanted = usize::from(config.shards);
+        match self.bind_rest(config, place, endpoint, 0, wanted) {
+            Ok(()) => {
+                share(open, endpoint, false);
+                Ok(())
+            }
+            Err(fault) => {
+                share(open, endpoint, false);
+                Err(fault)
+            }
+        }
     }
 }
 
