@@ -1,5 +1,5 @@
 -- A realm that is carried over stands for the state that it is to have, and keeps what a realm keeps.
-use Rattle.std.proofs.Common.{◌≡◌, ℕ, ◌-◌, ◌<◌, ◌≤◌, ◌^◌, Bool, true, false, List, ◌++◌, Some, length, replicate, nat_lt, refl, sym, ap, subst, ◌∙◌, arith, if◌then◌else◌}
+use Rattle.std.proofs.Common.{◌≡◌, ℕ, ◌-◌, ◌<◌, ◌≤◌, ◌^◌, Bool, true, false, List, ◌++◌, Option, Some, None, length, replicate, nat_lt, vec_capacity, refl, sym, ap, subst, ◌∙◌, arith, if◌then◌else◌}
 use Rattle.std.specs.List.{AllByRecursion, filter_map}
 use Rattle.std.proofs.lemmas.List.{length-map}
 use Rattle.roam_ids.specs.LaneState.{LaneState}
@@ -7,7 +7,7 @@ use Rattle.roam_pending.specs.EntryList.{IsInOrder}
 use Rattle.roam_pending.specs.PlainEntry.{PlainEntry}
 use Rattle.roam_reverse.specs.Sessions.{Session}
 use Rattle.roam_reverse.specs.Shown.{Ledger}
-use Rattle.roam_book.specs.Carrying.{HaveDistinctServers}
+use Rattle.roam_book.specs.Carrying.{HaveDistinctServers, IsReadyToCarry, StandAsBefore}
 use Rattle.roam_book.specs.Private.MoreLanes.{AreMoreLanes}
 use Rattle.roam_book.specs.Private.Moving.{AreMoved, staying}
 use Rattle.roam_book.specs.RealmConfig.{RealmConfig, link_count}
@@ -15,6 +15,7 @@ use Rattle.roam_book.specs.RealmState.{RealmState}
 use Rattle.roam_book.specs.Reload.{Carries, carried, cursors_then, entries_then, entry_then, few_enough, rests_then, sessions_then, without_done}
 use Rattle.roam_book.specs.Sound.{AreOwnLanes, IsEntry, IsSound, LanesTell, cursors_of, marks_of, state_of}
 use Rattle.roam_book.specs.Stays.{KeepsButLanes}
+use Rattle.roam_book.specs.declared.rules.carried_lanes.FreshLanes.{FreshLanes}
 use Rattle.roam_book.specs.declared.state.realm_numbers.RealmNumbers.{RealmNumbers}
 use Rattle.roam_book.specs.declared.state.rest.Rest.{Rest}
 use Rattle.roam_book.proofs.EntryThenLemmas.{due_stays, entries_stay, entry_parts}
@@ -142,3 +143,15 @@ same_sound c es was now lanes ticket place sessions sound = record {
   lanes_tell = subst (LanesTell c es) (sym lanes) sound.lanes_tell;
   ledger = ap (λ (l : Ledger). l.limit) sessions ∙ sound.ledger;
 }
+
+-- what is ready stays so
+pub still_ready : {A : Type 0} (old new : RealmConfig) (was now : RealmNumbers A) (o : Option (FreshLanes A))
+    → KeepsButLanes was now → IsReadyToCarry old new was o → IsReadyToCarry old new now o
+still_ready old new was now None keeps ready =
+    (subst (λ (n : ℕ). link_count new ≤ n) (sym keeps.capacity) ready.0, ready.1)
+still_ready old new was now (Some fresh) keeps ready = ready
+
+pub ready_none : {A : Type 0} (old new : RealmConfig) (was : RealmNumbers A) (o : Option (FreshLanes A)) → o ≡ None
+    → IsReadyToCarry old new was o → (link_count new ≤ vec_capacity was.lanes) × StandAsBefore old new
+ready_none old new was None is ready = ready
+ready_none old new was (Some fresh) is ready = absurd (cc is)

@@ -180,3 +180,14 @@ newest_left old new ss few =
           let more : old.realm.max_sessions ≤ new.realm.max_sessions = grind (arith, nat_tests, n) in
           rw n (drop_none (length ss - new.realm.max_sessions) ss (omega (arith, few, more))))
     ]
+
+pub told_alike : (old new : RealmConfig) (first cur after : List Session) → same_sessions old.realm new.realm ≡ true
+    → cur ≡ filter (λ s. of_peer keeps_sessions old.peers new.peers s.peer) first
+    → after ≡ drop (length cur - new.realm.max_sessions) cur → length cur ≤ old.realm.max_sessions
+    → after ≡ sessions_then old new first
+told_alike old new first cur after alike are left few =
+    rw alike (left ∙ newest_left old new cur few ∙ ap (newest old new) are)
+
+pub told_otherwise : (old new : RealmConfig) (first after : List Session) → same_sessions old.realm new.realm ≡ false
+    → after ≡ [] → after ≡ sessions_then old new first
+told_otherwise old new first after other none = rw other none

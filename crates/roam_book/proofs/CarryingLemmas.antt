@@ -30,6 +30,7 @@ use Rattle.roam_book.proofs.WalkLemmas.{IsWalk, fewer_after, kept_ends, next_fou
 pub stay_both : {A : Type 0} (a b c : RealmNumbers A) → KeepsButLanes a b → KeepsButLanes b c → KeepsButLanes a c
 stay_both a b c h g = record {
   count = g.count ∙ h.count;
+  capacity = g.capacity ∙ h.capacity;
   ticket = g.ticket ∙ h.ticket;
   stream_position = g.stream_position ∙ h.stream_position;
   rests = g.rests ∙ h.rests;
@@ -37,7 +38,7 @@ stay_both a b c h g = record {
 }
 
 pub stays_itself : {A : Type 0} (a : RealmNumbers A) → KeepsButLanes a a
-stays_itself a = record { count = refl; ticket = refl; stream_position = refl; rests = refl; sessions = refl }
+stays_itself a = record { count = refl; capacity = refl; ticket = refl; stream_position = refl; rests = refl; sessions = refl }
 
 -- ---- one entry
 

@@ -1,9 +1,10 @@
 -- The ends of an entry then, by its sender and by how it stands.
-use Rattle.std.proofs.Common.{◌≡◌, ℕ, ◌<◌, ◌≤◌, ◌&&◌, Bool, true, false, not, List, length, Option, Some, None, is_some, option_map, refl, sym, ap, subst, ◌∙◌, slice_get, if◌then◌else◌}
+use Rattle.std.proofs.Common.{◌≡◌, ◌↔◌, inl, inr, ℕ, ◌<◌, ◌≤◌, ◌&&◌, Bool, true, false, not, List, length, Option, Some, None, is_some, option_map, refl, sym, ap, subst, ◌∙◌, slice_get, if◌then◌else◌}
 use Rattle.std.specs.Option.{option_and_then}
 use Rattle.std.proofs.lemmas.Bool.{cases_Bool}
 use Rattle.roam_wire.specs.Reading.{packet_of}
 use Rattle.roam_conf.specs.declared.place.Link.{Link}
+use Rattle.roam_fwd.specs.Shaped.{CanBeShaped}
 use Rattle.roam_pending.specs.declared.key.Requester.{Requester}
 use Rattle.roam_pending.specs.declared.key.Requester.TheVariants as requester
 use Rattle.roam_pending.specs.PlainEntry.{PlainEntry, PlainRequest, PlainStanding, waiting, done}
@@ -11,8 +12,9 @@ use Rattle.roam_pending.specs.Realms.{with_ends, with_home}
 use Rattle.roam_reload.specs.Kept.{home_then, keeps_requests, of_peer}
 use Rattle.roam_book.specs.RealmConfig.{RealmConfig}
 use Rattle.roam_book.specs.Reload.{entry_of, entry_then, fits, outgrows, request_from, request_then, requester_then, standing_then, way_then}
+use Rattle.roam_book.specs.Shapings.{shaping_from}
 use Rattle.roam_book.specs.Sound.{IsOfPeer, IsRequest}
-use Rattle.roam_book.proofs.EntryThenLemmas.{does_fit, peer_there}
+use Rattle.roam_book.proofs.EntryThenLemmas.{does_fit, has_size, peer_there}
 
 -- ---- its sender
 
@@ -122,3 +124,20 @@ module _ (old new : RealmConfig) (e : PlainEntry) (home : Option ℕ)
       entry_by old new e (request_from e.request (with_home home e.request.requester))
       (Some (done reply deadline (option_and_then (way_then old new) from))) asked (ap (standing_then old new) is)
       ∙ rw (is, held_by from link at) refl
+
+-- ---- whether it fits
+
+pub fit_test : (c new : RealmConfig) (p : ℕ) (q : PlainRequest) (b : Bool) → IsOfPeer c p (packet_of q.octets)
+    → (b ≡ true ↔ CanBeShaped (shaping_from new p) (packet_of q.octets)) → b ≡ fits new p q
+fit_test c new p q true well test = sym (does_fit new p q (test.0 refl))
+fit_test c new p q false well test =
+    elim (cases_Bool (fits new p q)) as (λ _. false ≡ fits new p q) [
+      | inl y ↦ (
+          let can : CanBeShaped (shaping_from new p) (packet_of q.octets) = record {
+            message_authenticator = well.can_be_shaped.message_authenticator;
+            passwords = well.can_be_shaped.passwords;
+            size = has_size new p q y;
+          } in
+          test.1 can ∙ sym y)
+      | inr n ↦ sym n
+    ]

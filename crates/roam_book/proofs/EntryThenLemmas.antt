@@ -94,7 +94,7 @@ is_sender : (old new : RealmConfig) (q p : PlainRequest) → request_then old ne
 is_sender old new q p is =
     sender_by old new q p (outgrows old new q q.requester) (requester_then old new q.key q.requester) refl refl is
 
-peer_below : (old new : List PeerView) (p : ℕ) → of_peer keeps_requests old new p ≡ true → p < length old
+pub peer_below : (old new : List PeerView) (p : ℕ) → of_peer keeps_requests old new p ≡ true → p < length old
     → p < length new
 peer_below [] new p h below = omega (arith, below)
 peer_below (a ∷ old) [] zero h below = absurd (cc h)
@@ -226,7 +226,7 @@ does_fit c i q h =
     let size = h.size in
     grind (arith, nat_tests, size)
 
-has_size : (c : RealmConfig) (i : ℕ) (q : PlainRequest) → fits c i q ≡ true
+pub has_size : (c : RealmConfig) (i : ℕ) (q : PlainRequest) → fits c i q ≡ true
     → forwarded_length (shaped (shaping_from c i) (packet_of q.octets)) ≤ MAX_PACKET_LENGTH
 has_size c i q h = grind (arith, nat_tests, h)
 

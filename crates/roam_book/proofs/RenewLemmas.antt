@@ -146,6 +146,16 @@ one_renewed old new peer lanes lane many count below no' tag cursor free =
           ];
     }
 
+pub one_renewed_at : (old new : RealmConfig) (peer k tag : ℕ) (lanes : List LaneState) (lane : LaneState)
+    → StandAsBefore old new → length lanes ≡ link_count old
+    → (peer < length old.peers) × (of_peer keeps_coa old.peers new.peers peer ≡ false) → k ≡ coa_place old peer
+    → tag ≡ new.index * 65536 + k → lane.tag ≡ tag → lane.cursor ≡ 0 → ((id : ℕ) → place_at lane id ≡ Free)
+    → AreRenewed old new (peer ∷ []) lanes (set lanes k lane)
+one_renewed_at old new peer k tag lanes lane stand count one at tag_is own cursor free =
+    subst (λ (n : ℕ). AreRenewed old new (peer ∷ []) lanes (set lanes n lane)) (sym at)
+    (one_renewed old new peer lanes lane (as_many old new stand) count one.0 one.1
+    (own ∙ tag_is ∙ ap (λ (n : ℕ). new.index * 65536 + n) at) cursor free)
+
 -- ---- one after the other
 
 in_more : (x : ℕ) (xs : List ℕ) (e : ℕ) → IsIn x (xs ++ e ∷ []) → IsIn x xs ⊎ IsIn x (e ∷ [])

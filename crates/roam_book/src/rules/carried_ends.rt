@@ -1,7 +1,7 @@
 //! What the ends of an entry are when its realm goes on under another part of a configuration: its sender, and its
 //! link.
 
-ghost use Rattle.std.specs.Prelude.{◌≡◌, ◌<◌, IfSome, IfNone, Some, None, if◌then◌else◌, length, option_and_then, option_map};
+ghost use Rattle.std.specs.Prelude.{◌≡◌, ◌<◌, IfSome, IfNone, Some, None, false, if◌then◌else◌, length, option_and_then, option_map, true};
 ghost use Rattle.roam_wire.specs.Reading.{IsPacketText, packet_of};
 ghost use Rattle.roam_pending.specs.Realms.{with_ends, with_home};
 ghost use Rattle.roam_pending.specs.Shown.{shown, shown_request};
@@ -125,6 +125,26 @@ fn still_fits<A: Allocator>(new: &RealmSettings<'_>, peer: u16, request: &Reques
     can_be_shaped(&packet, &new.shaping_from(peer))
 }
 
+/// Whether a peer's request stays.
+fn peer_stays<A: Allocator>(
+    old: &RealmSettings<'_>,
+    new: &RealmSettings<'_>,
+    peer: u16,
+    request: &Request<A>,
+) -> bool
+    requires request { IsRequest old.now (shown_request request.now) }
+    requires sender { request.now.requester ≡ Requester.Peer peer }
+    ensures stays { result ≡ true → request_then old.now new.now (shown_request request.now)
+        ≡ Some (request_from (shown_request request.now) (with_home None request.now.requester)) }
+    ensures goes { result ≡ false → request_then old.now new.now (shown_request request.now) ≡ None }
+{
+    if peer_keeps_requests(old.peers(), new.peers(), peer) {
+        still_fits(new, peer, request)
+    } else {
+        false
+    }
+}
+
 /// The sender of a request then: the number of the home server, where one sent it. None where its requests don't stay.
 fn sender_then<A: Allocator>(
     old: &RealmSettings<'_>,
@@ -138,9 +158,7 @@ fn sender_then<A: Allocator>(
 {
     match request.requester {
         Requester::Peer(peer) => {
-            if peer_keeps_requests(old.peers(), new.peers(), peer)
-                && still_fits(new, peer, request)
-            {
+            if peer_stays(old, new, peer, request) {
                 Some(None)
             } else {
                 None
@@ -165,6 +183,40 @@ fn held_link(old: &RealmSettings<'_>, new: &RealmSettings<'_>, from: Option<Link
     }
 }
 
+/// The ends of an entry then, of which the request stays; none where it waits at a link that doesn't.
+fn standing_ends<A: Allocator>(
+    old: &RealmSettings<'_>,
+    new: &RealmSettings<'_>,
+    entry: &Entry<A>,
+    home: Option<u8>,
+) -> Option<Ends>
+    requires { request_then old.now new.now (shown entry.now).request
+        ≡ Some (request_from (shown entry.now).request (with_home home (shown entry.now).request.requester)) }
+    ensures stays { IfSome result (λ ends. entry_then old.now new.now (shown entry.now)
+        ≡ Some (with_ends ends.home ends.link (shown entry.now))) }
+    ensures goes { IfNone result (entry_then old.now new.now (shown entry.now) ≡ None) }
+{
+    match &entry.standing {
+        Standing::Waiting(waiting) => {
+            match way_then(old, new, waiting.link) {
+                Some(link) => {
+                    Some(Ends {
+                        home,
+                        link: Some(link),
+                    })
+                }
+                None => None,
+            }
+        }
+        Standing::Done(done) => {
+            Some(Ends {
+                home,
+                link: held_link(old, new, done.from),
+            })
+        }
+    }
+}
+
 /// The ends of an entry then; none where it doesn't stay.
 pub(crate) fn ends_then<A: Allocator>(
     old: &RealmSettings<'_>,
@@ -176,18 +228,8 @@ pub(crate) fn ends_then<A: Allocator>(
         ≡ Some (with_ends ends.home ends.link (shown entry.now))) }
     ensures goes { IfNone result (entry_then old.now new.now (shown entry.now) ≡ None) }
 {
-    let home = sender_then(old, new, &entry.request)?;
-    match &entry.standing {
-        Standing::Waiting(waiting) => {
-            let link = way_then(old, new, waiting.link)?;
-            Some(Ends {
-                home,
-                link: Some(link),
-            })
-        }
-        Standing::Done(done) => {
-            let link = held_link(old, new, done.from);
-            Some(Ends { home, link })
-        }
+    match sender_then(old, new, &entry.request) {
+        Some(home) => standing_ends(old, new, entry, home),
+        None => None,
     }
 }

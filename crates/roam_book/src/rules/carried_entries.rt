@@ -1,8 +1,8 @@
 //! Which entries of a realm stay when it goes on under another part of a configuration.
 
-ghost use Rattle.std.specs.Prelude.{◌≡◌, ◌-◌, IfNone, IfSome, List, None, Some, length, option_map};
+ghost use Rattle.std.specs.Prelude.{◌≡◌, ◌-◌, ◌<◌, ◌≤◌, ◌⊎◌, IfNone, IfSome, List, None, Some, length, option_map};
 ghost use Rattle.std.specs.List.{AllByRecursion, filter_map};
-ghost use Rattle.roam_pending.specs.EntryList.{IsInOrder, find_ticket, without};
+ghost use Rattle.roam_pending.specs.EntryList.{IsEntryList, IsInOrder, find_ticket, first_done, without};
 ghost use Rattle.roam_pending.specs.PlainEntry.{PlainEntry};
 ghost use Rattle.roam_pending.specs.Realms.{RealmBecomes, with_ends};
 ghost use Rattle.roam_pending.specs.Shown.{shown};
@@ -33,8 +33,9 @@ fn give_back<A: Allocator + Copy>(
     ensures cursors { cursors_of numbers.new.lanes.items ≡ cursors_of numbers.old.lanes.items }
     ensures marks { marks_of numbers.new.lanes.items ≡ marks_of numbers.old.lanes.items }
 {
-    if let Standing::Waiting(waiting) = &entry.standing {
-        numbers.give_back(old, waiting.link, waiting.id);
+    match &entry.standing {
+        Standing::Waiting(waiting) => numbers.give_back(old, waiting.link, waiting.id),
+        Standing::Done(_) => {}
     }
 }
 
@@ -58,8 +59,9 @@ fn let_go<A: Allocator + Copy, E: Entries<A>>(
     ensures cursors { cursors_of numbers.new.lanes.items ≡ cursors_of numbers.old.lanes.items }
     ensures marks { marks_of numbers.new.lanes.items ≡ marks_of numbers.old.lanes.items }
 {
-    if let Some(entry) = entries.remove(old.index(), ticket) {
-        give_back(old, numbers, &entry);
+    match entries.remove(old.index(), ticket) {
+        Some(entry) => give_back(old, numbers, &entry),
+        None => {}
     }
 }
 
@@ -145,6 +147,20 @@ fn carry_each<A: Allocator + Copy, E: Entries<A>>(
     }
 }
 
+/// The answered entry that makes way next, where there are more entries than so many.
+fn next_to_go<A: Allocator, E: Entries<A>>(entries: &E, realm: u16, most: u16) -> Option<u64>
+    ensures some { IfSome result (λ ticket. (first_done (E.entries_of entries.now realm) ≡ Some ticket)
+        × (most < length (E.entries_of entries.now realm))) }
+    ensures none { IfNone result ((first_done (E.entries_of entries.now realm) ≡ None)
+        ⊎ (length (E.entries_of entries.now realm) ≤ most)) }
+    ensures list { IsEntryList (E.entries_of entries.now realm) }
+{
+    if entries.len(realm) <= usize::from(most) {
+        return None;
+    }
+    entries.first_done(realm, None)
+}
+
 /// Answered entries make way, in order of ticket, until there are so many at most.
 fn make_way<A: Allocator, E: Entries<A>>(entries: &mut E, realm: u16, most: u16)
     ensures entries { RealmBecomes realm
@@ -152,13 +168,8 @@ fn make_way<A: Allocator, E: Entries<A>>(entries: &mut E, realm: u16, most: u16)
         (E.entries_of entries.old) (E.entries_of entries.new) }
     ensures kept { E.keeps entries.new ≡ E.keeps entries.old }
 {
-    while entries.len(realm) > usize::from(most) {
-        match entries.first_done(realm, None) {
-            Some(ticket) => {
-                let _gone = entries.remove(realm, ticket);
-            }
-            None => return,
-        }
+    while let Some(ticket) = next_to_go(entries, realm, most) {
+        let _gone = entries.remove(realm, ticket);
     }
 }
 

@@ -1,7 +1,8 @@
 //! The lanes of a realm that goes on under another part of a configuration.
 
-ghost use Rattle.std.specs.Prelude.{◌≡◌, ◌↔◌, ◌<◌, ◌≤◌, ◌+◌, ◌∷◌, [], IfNone, IfOk, IfSome, IsTrue, List, length, vec_capacity};
+ghost use Rattle.std.specs.Prelude.{◌≡◌, ◌↔◌, ◌<◌, ◌≤◌, ◌+◌, ◌∷◌, [], IfNone, IfOk, IfSome, IsTrue, List, false, length, true, vec_capacity};
 ghost use Rattle.roam_ids.specs.LaneState.{LaneState, with_tag};
+ghost use Rattle.roam_reload.specs.Kept.{keeps_coa, of_peer};
 ghost use Rattle.roam_book.specs.Carrying.{AreChanged, HaveDistinctServers, IsReadyToCarry, StandAsBefore};
 ghost use Rattle.roam_book.specs.Private.Moving.{AreFresh, AreMoved, AreRenewed, IsLeft, IsMoving, IsPlaceBefore};
 ghost use Rattle.roam_book.specs.RealmConfig.{IsLink, link_count, link_place, server_link_count};
@@ -111,8 +112,9 @@ fn fill_place<A: Allocator>(
         → IsMoving old.now new.now first before.new.items after.new.items (place + 1) }
 {
     let _few = new.link_count();
-    if let Some(from) = place_before(old, new, link_at(new, place)) {
-        move_lane(&mut before[from], &mut after[place], tag_of(new, place));
+    match place_before(old, new, link_at(new, place)) {
+        Some(from) => move_lane(&mut before[from], &mut after[place], tag_of(new, place)),
+        None => {}
     }
 }
 
@@ -134,6 +136,20 @@ fn move_lanes<A: Allocator>(
     }
 }
 
+/// Whether a peer was there whose `coa` isn't what it was.
+fn is_renewed(old: &RealmSettings<'_>, new: &RealmSettings<'_>, peer: u16) -> bool
+    ensures yes { result ≡ true
+        → (peer < length old.now.peers) × (of_peer keeps_coa old.now.peers new.now.peers peer ≡ false) }
+    ensures no { result ≡ false → peer < length old.now.peers
+        → of_peer keeps_coa old.now.peers new.now.peers peer ≡ true }
+{
+    if usize::from(peer) < old.peer_count() {
+        !peer_keeps_coa(old.peers(), new.peers(), peer)
+    } else {
+        false
+    }
+}
+
 /// The lane of a peer whose `coa` isn't what it was begins anew: nothing waits there any more.
 fn renew_lane<A: Allocator + Copy>(
     alloc: A,
@@ -148,7 +164,7 @@ fn renew_lane<A: Allocator + Copy>(
     ensures capacity { vec_capacity lanes.new ≡ vec_capacity lanes.old }
 {
     let _few = old.link_count();
-    if usize::from(peer) < old.peer_count() && !peer_keeps_coa(old.peers(), new.peers(), peer) {
+    if is_renewed(old, new, peer) {
         let place = old.place_of(Link::Coa(peer));
         lanes[place] = LazyLane::new(alloc, tag_of(new, place));
     }

@@ -1,7 +1,7 @@
 //! The ledger of a realm that goes on under another part of a configuration.
 
 ghost use Rattle.std.specs.Prelude.{◌≡◌, filter, if◌then◌else◌};
-ghost use Rattle.roam_reload.specs.Kept.{keeps_sessions, of_peer};
+ghost use Rattle.roam_reload.specs.Kept.{keeps_sessions, of_peer, same_sessions};
 ghost use Rattle.roam_reverse.specs.Sessions.{without_peer};
 ghost use Rattle.roam_book.specs.Carrying.{AreChanged};
 ghost use Rattle.roam_book.specs.Reload.{sessions_then};
@@ -11,6 +11,17 @@ use crate::state::realm_settings::RealmSettings;
 use roam_reload::peer_keeps_sessions;
 use roam_reverse::Sessions;
 use std::alloc::Allocator;
+
+/// Whether sessions are told by their access servers in both, or in neither.
+fn tells_alike(old: &RealmSettings<'_>, new: &RealmSettings<'_>) -> bool
+    ensures { result ≡ same_sessions old.now.realm new.now.realm }
+{
+    if old.own_sessions() {
+        new.own_sessions()
+    } else {
+        !new.own_sessions()
+    }
+}
 
 /// The sessions of a peer are closed, if it went.
 fn close_if_gone<A: Allocator + Copy>(
@@ -63,7 +74,7 @@ impl<A: Allocator + Copy> RealmNumbers<A> {
         ensures stream_position { self.new.stream_position ≡ self.old.stream_position }
         ensures rests { self.new.rests.items ≡ self.old.rests.items }
     {
-        if old.own_sessions() == new.own_sessions() {
+        if tells_alike(old, new) {
             close_gone(old, new, changed, &mut self.sessions);
             self.sessions.limit_to(new.max_sessions());
         } else {

@@ -1,6 +1,6 @@
 //! A realm that goes on under another part of a configuration.
 
-ghost use Rattle.std.specs.Prelude.{◌≡◌, ◌≤◌, ◌^◌, IfOk, List, OnErr, OnOk, Some, false, length, map};
+ghost use Rattle.std.specs.Prelude.{◌≡◌, ◌≤◌, ◌^◌, IfOk, List, None, OnErr, OnOk, Some, false, length, map};
 ghost use Rattle.std.specs.Prelude.{option_map, true, vec_capacity};
 ghost use Rattle.roam_conf.specs.Parts.{shown_peer};
 ghost use Rattle.roam_conf.specs.Shown.{shown};
@@ -139,6 +139,23 @@ pub(crate) fn is_untouched(
     changed.is_empty() && realm_difference(old.realm(), new.realm()).is_none()
 }
 
+/// Whether a realm goes on just as it stands: nothing of it is touched, and each lane stays where it is.
+fn stands_as_it_is<A: Allocator>(
+    old: &RealmSettings<'_>,
+    new: &RealmSettings<'_>,
+    changed: &[u16],
+    fresh: &Option<FreshLanes<A>>,
+) -> bool
+    requires { AreChanged old.now.peers new.now.peers changed.now }
+    ensures untouched { result ≡ true → StandsAsItIs old.now new.now }
+    ensures stays { result ≡ true → fresh.now ≡ None }
+{
+    match fresh {
+        Some(_) => false,
+        None => is_untouched(old, new, changed),
+    }
+}
+
 /// A realm goes on that a change touches: entries, lanes, rests and sessions stay or go.
 fn carry_touched<A: Allocator + Copy, E: Entries<A>>(
     old: &RealmSettings<'_>,
@@ -186,7 +203,7 @@ pub fn carry_over<A: Allocator + Copy, E: Entries<A>>(
     ensures others { OthersStay old.now.index (E.entries_of entries.old) (E.entries_of entries.new) }
     ensures kept { E.keeps entries.new ≡ E.keeps entries.old }
 {
-    if fresh.is_none() && is_untouched(old, new, changed) {
+    if stands_as_it_is(old, new, changed, &fresh) {
         numbers.add_lanes(new);
     } else {
         carry_touched(old, new, changed, entries, numbers, fresh);

@@ -8,6 +8,7 @@ use Rattle.roam_tables.specs.Stands.{entries_in}
 use Rattle.roam_shard.specs.Pausing.{CanGoOver, GoesOn}
 use Rattle.roam_shard.proofs.OverLemmas.{all_over, can_still, none_over, one_over}
 use Rattle.roam_shard.proofs.following.all_over.Given.{Over}
+use Rattle.roam_shard.proofs.following.all_over.Goals.{In-Some}
 use Rattle.roam_shard.proofs.following.all_over.Goals as goal
 
 pub loop-realm-init : goal.loop-realm-init
@@ -27,7 +28,7 @@ loop-realm-init g c =
     }
 
 -- the memory of the realm that is next
-made : (g : Over) (c : goal.In-Some g) → slice_get c.args.fresh.realms.items c.loop-realm.index ≡ Some c.in-Some.realm
+made : (g : Over) (c : In-Some g) → slice_get c.args.fresh.realms.items c.loop-realm.index ≡ Some c.in-Some.realm
 made g c =
     let k = c.loop-realm.index in
     let first : slice_get (into_iter_items c.loop-realm.realm-iterator) 0 ≡ Some c.in-Some.realm =

@@ -1,3 +1,4 @@
+use Rattle.std.proofs.Common.{arith}
 use Rattle.roam_book.proofs.MovingLemmas.{all_moved, none_moved}
 use Rattle.roam_book.proofs.rules.carried_lanes.move_lanes.Goals as goal
 
@@ -9,3 +10,8 @@ loop-place-init g c =
 pub loop-place-preserved : goal.loop-place-preserved
 loop-place-preserved g c =
     c.fill_place.ensures c.args.before.now.items c.requires.count c.requires.lanes c.loop-place.invariant
+
+pub returns : goal.returns
+returns g c =
+    all_moved c.args.old.now c.args.new.now c.args.before.now.items c.loop-place.before.items c.loop-place.after.items
+    c.loop-place.place c.loop-place.invariant (omega (arith, c.loop-place.invariant.count_after))

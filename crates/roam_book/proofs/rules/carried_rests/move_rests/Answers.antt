@@ -1,0 +1,18 @@
+use Rattle.std.proofs.Common.{◌∙◌, arith}
+use Rattle.roam_book.proofs.MovedRestLemmas.{all_rest, none_rest, one_rests}
+use Rattle.roam_book.proofs.rules.carried_rests.move_rests.Goals as goal
+
+pub loop-place-init : goal.loop-place-init
+loop-place-init g c =
+    none_rest c.args.old.now c.args.new.now c.args.before.now c.args.after.now.items c.requires
+
+pub loop-place-preserved : goal.loop-place-preserved
+loop-place-preserved g c =
+    one_rests c.args.old.now c.args.new.now c.args.before.now c.loop-place.after.items c.loop-place.place
+    c.link_at.result c.rest_then.result c.loop-place.invariant (omega arith) c.link_at.ensures.link
+    c.link_at.ensures.place c.rest_then.ensures
+
+pub returns : goal.returns
+returns g c =
+    all_rest c.args.old.now c.args.new.now c.args.before.now c.loop-place.after.items c.loop-place.place
+    c.loop-place.invariant (omega arith)
