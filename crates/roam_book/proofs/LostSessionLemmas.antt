@@ -2,13 +2,13 @@
 use Rattle.std.proofs.Common.{◌≡◌, ◌⊎◌, ℕ, ◌+◌, ◌-◌, ◌<◌, ◌≤◌, ◌==◌, ◌||◌, Bool, true, false, not, List, [], ◌∷◌, Option, Some, None, option_map, refl, sym, ap, subst, ◌∙◌, arith, inl, inr, length, map, drop, length-drop, nat_lt, slice_get, unwrap_or, if◌then◌else◌}
 use Rattle.std.specs.List.{AllByRecursion, filter}
 use Rattle.std.specs.Option.{option_map_or}
-use Rattle.std.proofs.lemmas.Bool.{cases_Bool}
+use Rattle.std.proofs.lemmas.Bool.{cases_Bool, le-ltb, lt-ltb}
 use Rattle.std.proofs.lemmas.Bool.Decides.{nat_tests}
 use Rattle.std.proofs.lemmas.Option.{slice_get-map, slice_get_within}
 use Rattle.roam_conf.specs.Config.{PeerView}
 use Rattle.roam_pending.specs.ListLaws.{IsIn}
 use Rattle.roam_pending.proofs.TestLemmas.{differs, same}
-use Rattle.roam_reload.specs.Kept.{keeps_sessions, of_peer, same_sessions}
+use Rattle.roam_reload.specs.Kept.{keeps_sessions, of_peer, same_sessions, same_values}
 use Rattle.roam_reload.specs.Reload.{peer_part}
 use Rattle.roam_reverse.specs.Sessions.{Session, count_of_peer}
 use Rattle.roam_book.specs.Carrying.{AreChanged, AreRising}
@@ -206,3 +206,41 @@ sessions_go old new ss =
 
 pub few_gone : (old new : List PeerView) (ss : List Session) → counted (is_of_gone old new) ss ≤ length ss
 few_gone old new ss = few_count (is_of_gone old new) ss
+
+-- ---- where they are told otherwise, or fewer are kept
+
+apart-values : (a b : Bool) → (a ≡ b → ⊥) → same_values a b ≡ false
+apart-values true true differ = absurd (differ refl)
+apart-values true false differ = refl
+apart-values false true differ = refl
+apart-values false false differ = absurd (differ refl)
+
+equal-values : (a b : Bool) → a ≡ b → same_values a b ≡ true
+equal-values true true is = refl
+equal-values true false is = sym is
+equal-values false true is = absurd (cc is)
+equal-values false false is = refl
+
+pub all_go : (old new : RealmConfig) (ss : List Session) → (old.realm.own_sessions ≡ new.realm.own_sessions → ⊥) →
+    length ss ≡ sessions_lost old new ss
+all_go old new ss differ = rw (apart-values old.realm.own_sessions new.realm.own_sessions differ) refl
+
+pub peers_go : (old new : RealmConfig) (ss : List Session) (n : ℕ)
+    → old.realm.own_sessions ≡ new.realm.own_sessions → old.realm.max_sessions ≤ new.realm.max_sessions
+    → n ≡ counted (is_of_gone old.peers new.peers) ss → n ≡ sessions_lost old new ss
+peers_go old new ss n same few is =
+    rw (
+      equal-values old.realm.own_sessions new.realm.own_sessions same,
+      le-ltb new.realm.max_sessions old.realm.max_sessions few,
+    ) is
+
+pub oldest_go : (old new : RealmConfig) (ss : List Session) (n : ℕ)
+    → old.realm.own_sessions ≡ new.realm.own_sessions → new.realm.max_sessions < old.realm.max_sessions
+    → n ≡ counted (is_of_gone old.peers new.peers) ss
+    + (length ss - counted (is_of_gone old.peers new.peers) ss - new.realm.max_sessions)
+    → n ≡ sessions_lost old new ss
+oldest_go old new ss n same less is =
+    rw (
+      equal-values old.realm.own_sessions new.realm.own_sessions same,
+      lt-ltb new.realm.max_sessions old.realm.max_sessions less,
+    ) is

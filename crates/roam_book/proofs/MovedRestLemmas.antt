@@ -1,10 +1,11 @@
 -- How servers' links rest, in the order of their places then.
-use Rattle.std.proofs.Common.{◌≡◌, inl, inr, ℕ, ◌+◌, ◌<◌, ◌≤◌, List, length, map, get_or, set, refl, sym, ap, subst, ◌∙◌, arith}
+use Rattle.std.proofs.Common.{◌≡◌, true, false, inl, inr, ℕ, ◌+◌, ◌<◌, ◌≤◌, List, length, map, get_or, set, refl, sym, ap, subst, ◌∙◌, arith}
 use Rattle.std.proofs.lemmas.Bool.{cases_lt}
 use Rattle.std.proofs.lemmas.List.{get_or-set_other, get_or-set_same, length-set}
 use Rattle.roam_conf.specs.declared.place.Link.{Link}
+use Rattle.roam_reload.specs.Kept.{same_servers}
 use Rattle.roam_book.specs.RealmConfig.{IsLink, RealmConfig, link_place, server_link_count}
-use Rattle.roam_book.specs.Reload.{rest_then, server_links_of}
+use Rattle.roam_book.specs.Reload.{rest_then, rests_then, server_links_of}
 use Rattle.roam_book.specs.Rests.{awake}
 use Rattle.roam_book.specs.declared.state.rest.Rest.{Rest}
 use Rattle.roam_book.proofs.LinkPlaceLemmas.{by_links, one_place, server_links_number, server_links_stand}
@@ -43,3 +44,14 @@ pub all_rest : (old new : RealmConfig) (before after : List Rest) (k : ℕ) → 
 all_rest old new before after k h past =
     by_links new (rest_then old new before) awake after (server_links_of new) (server_links_stand new)
     (h.count ∙ sym (server_links_number new)) (λ m is below. h.each m is (omega (arith, below, past)))
+
+-- ---- which rests are taken
+
+pub rests_moved : (old new : RealmConfig) (before after : List Rest)
+    → same_servers old.realm.servers new.realm.servers ≡ false
+    → after ≡ map (rest_then old new before) (server_links_of new) → after ≡ rests_then old new before
+rests_moved old new before after other is = rw other is
+
+pub rests_kept : (old new : RealmConfig) (before : List Rest) → same_servers old.realm.servers new.realm.servers ≡ true
+    → before ≡ rests_then old new before
+rests_kept old new before same = rw same refl

@@ -7,9 +7,9 @@ use Rattle.roam_book.proofs.rules.losses.count_going.Given as goal
 abbrev pub invariant-loop-due : goal.invariant-loop-due
 invariant-loop-due g l = record {
   waiting :
-      l.waiting ≡ counted_read (waits_and_goes l.old l.new) l.last (g.E.Entries.entries_of l.entries l.old.index);
-  held : l.held ≡ counted_read (held_and_goes l.old l.new) l.last (g.E.Entries.entries_of l.entries l.old.index);
+      l.waiting ≡ counted_read (waits_and_goes l.old l.new) l.last (g.E.Entries.entries_of l.entries l.realm);
+  held : l.held ≡ counted_read (held_and_goes l.old l.new) l.last (g.E.Entries.entries_of l.entries l.realm);
 }
 
 abbrev pub decreases-loop-due : goal.decreases-loop-due
-decreases-loop-due g l = counted (λ e. is_after l.last (due_at e)) (g.E.Entries.entries_of l.entries l.old.index)
+decreases-loop-due g l = counted (λ e. is_after l.last (due_at e)) (g.E.Entries.entries_of l.entries l.realm)

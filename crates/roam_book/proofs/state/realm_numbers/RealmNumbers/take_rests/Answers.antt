@@ -1,0 +1,28 @@
+use Rattle.std.proofs.Common.{◌∙◌, refl, sym}
+use Rattle.roam_book.proofs.MovedRestLemmas.{rests_kept, rests_moved}
+use Rattle.roam_book.proofs.state.realm_numbers.RealmNumbers.take_rests.Goals as goal
+
+pub returns-then-not-has_same_servers : goal.returns-then-not-has_same_servers
+returns-then-not-has_same_servers g c =
+    let test = rw (c.realm.ensures, c.realm-2.ensures) at c.has_same_servers.ensures in
+    let moved = rw c.as_slice.ensures at c.move_rests.ensures in
+    record {
+      rests = rests_moved c.args.old.now c.args.new.now c.args.self.now.rests.items c.move_rests.new.after.items
+          (sym test ∙ c.if-not-has_same_servers.true) moved;
+      lanes = refl;
+      ticket = refl;
+      stream_position = refl;
+      sessions = refl;
+    }
+
+pub returns : goal.returns
+returns g c =
+    let test = rw (c.realm.ensures, c.realm-2.ensures) at c.has_same_servers.ensures in
+    record {
+      rests = rests_kept c.args.old.now c.args.new.now c.args.self.now.rests.items
+          (sym test ∙ c.if-not-has_same_servers.false);
+      lanes = refl;
+      ticket = refl;
+      stream_position = refl;
+      sessions = refl;
+    }
