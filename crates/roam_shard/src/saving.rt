@@ -1,7 +1,10 @@
 //! Ledgers that outlast a shard: what is written of them, and what a shard takes up at its start.
 
-ghost use Rattle.std.specs.Prelude.{◌≡◌, ◌⊎◌, ◌==◌, OnOk, ℕ, false};
+ghost use Rattle.std.specs.Prelude.{◌≡◌, ◌⊎◌, ◌≤◌, ◌==◌, ◌&&◌, OnOk, ℕ, false, length, map, not};
+ghost use Rattle.std.specs.Str.{str_eq_ignore_ascii_case};
 ghost use Rattle.std.specs.Option.{option_map_or};
+ghost use Rattle.roam_conf.specs.Lookup.{first_place};
+ghost use Rattle.roam_conf.specs.Parts.{shown_realm};
 ghost use Rattle.roam_conf.specs.Shown.{shown};
 ghost use Rattle.roam_ledgers.specs.Shown.{shown_items, shown_session, shown_text};
 ghost use Rattle.roam_book.specs.RealmConfig.{realm_config};
@@ -14,7 +17,7 @@ use crate::look::numbers_at;
 use crate::paused::Paused;
 use crate::shard::Shard;
 use roam_book::{RealmSettings, save_realm};
-use roam_conf::{Config, is_same_name};
+use roam_conf::{Config, Realm, is_same_name};
 use roam_ledgers::{Item, SessionItem, Text, Writing};
 use roam_wire::NoMemory;
 use std::alloc::{AllocError, Allocator};
@@ -62,21 +65,44 @@ impl<A: Allocator + Copy> Shard<'_, A> {
     }
 }
 
-/// The realm that is here and has a name, and tells its sessions so.
+/// Whether a realm is here and has a name, without ASCII case.
+fn has_name(realm: &Realm, name: &[u8]) -> bool
+    ensures { result ≡ (not (shown_realm realm.now).gone
+        && str_eq_ignore_ascii_case (shown_realm realm.now).name name.now) }
+{
+    !realm.gone && is_same_name(realm.name.as_bytes(), name)
+}
+
+/// The first realm that is here and has a name.
+fn index_named(realms: &[Realm], name: &[u8]) -> Option<u16>
+    requires { length realms.now ≤ 1024 }
+    ensures { result ≡ first_place (λ r. not r.gone && str_eq_ignore_ascii_case r.name name.now)
+        (map shown_realm realms.now) }
+{
+    for (index, realm) in realms.iter().enumerate() {
+        if has_name(realm, name) {
+            return Some(index as u16);
+        }
+    }
+    None
+}
+
+/// The realm that is here and has a name, if it tells its sessions so.
 fn realm_named(config: &Config, name: Text<'_>, own_sessions: bool) -> Option<u16>
     ensures { (index : ℕ) → is_named (shown config.now) index (shown_text name) own_sessions
         ≡ option_map_or (λ realm. index == realm) result false }
 {
-    for (index, realm) in config.realms.iter().enumerate() {
-        if !realm.gone && is_same_name(realm.name.as_bytes(), name.octets) {
-            return if realm.own_sessions == own_sessions {
-                Some(index as u16)
-            } else {
-                None
-            };
-        }
+    let Some(index) = index_named(config.realms.as_slice(), name.octets) else {
+        return None;
+    };
+    let Some(realm) = config.realms.get(usize::from(index)) else {
+        return None;
+    };
+    if realm.own_sessions == own_sessions {
+        Some(index)
+    } else {
+        None
     }
-    None
 }
 
 impl<A: Allocator + Copy> Paused<A> {
