@@ -114,7 +114,8 @@ standing_by old new (done reply deadline from) s is =
 comes_by : (old new : RealmConfig) (before after : PlainEntry) (q : Option PlainRequest) (s : Option PlainStanding)
     → request_then old new before.request ≡ q → standing_then old new before.standing ≡ s
     → entry_of before.ticket q s ≡ Some after → ComesOver old new before after
-comes_by old new before after None s asked stood is = absurd (cc is)
+comes_by old new before after None None asked stood is = absurd (cc is)
+comes_by old new before after None (Some s) asked stood is = absurd (cc is)
 comes_by old new before after (Some q) None asked stood is = absurd (cc is)
 comes_by old new before after (Some q) (Some s) asked stood is =
     let one : PlainEntry = record { request = q; ticket = before.ticket; standing = s } in

@@ -39,15 +39,15 @@ peer_on old new q p is keeps fit =
     fits_still (is_some (slice_get old.peers p)) (fits old p q) (fits new p q) fit in
     request_by old new q (requester.Peer p) is ∙ rw (still, keeps, is) refl
 
-none_either : {X : Type 0} (b : Bool) → (if b then None {A = X} else None) ≡ None
-none_either true = refl
-none_either false = refl
+either_way : (b : Bool) (o : Option PlainRequest) → (if b then o else o) ≡ o
+either_way true o = refl
+either_way false o = refl
 
 pub peer_off : (old new : RealmConfig) (q : PlainRequest) (p : ℕ) → q.requester ≡ requester.Peer p
     → of_peer keeps_requests old.peers new.peers p ≡ false → request_then old new q ≡ None
 peer_off old new q p is keeps =
     request_by old new q (requester.Peer p) is
-    ∙ rw keeps (none_either (outgrows old new q (requester.Peer p)))
+    ∙ rw keeps (either_way (outgrows old new q (requester.Peer p)) None)
 
 pub peer_big : (old new : RealmConfig) (q : PlainRequest) (p : ℕ) → q.requester ≡ requester.Peer p
     → p < length old.peers → IsOfPeer old p (packet_of q.octets) → fits new p q ≡ false → request_then old new q ≡ None

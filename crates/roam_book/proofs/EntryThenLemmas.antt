@@ -39,7 +39,8 @@ pub record HasParts (old new : RealmConfig) (before after : PlainEntry) : Type 0
 parts_by : (old new : RealmConfig) (before after : PlainEntry) (q : Option PlainRequest) (s : Option PlainStanding)
     → request_then old new before.request ≡ q → standing_then old new before.standing ≡ s
     → entry_of before.ticket q s ≡ Some after → HasParts old new before after
-parts_by old new before after None s asked stood is = absurd (cc is)
+parts_by old new before after None None asked stood is = absurd (cc is)
+parts_by old new before after None (Some s) asked stood is = absurd (cc is)
 parts_by old new before after (Some q) None asked stood is = absurd (cc is)
 parts_by old new before after (Some q) (Some s) asked stood is =
     let one : PlainEntry = record { request = q; ticket = before.ticket; standing = s } in

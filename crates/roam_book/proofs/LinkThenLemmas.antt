@@ -42,13 +42,13 @@ record AreSame (a b : ServerView) : Type 0 where
 
 are_same : (a b : ServerView) → same_server a b ≡ true → AreSame a b
 are_same a b h =
-    let first = both (same_endpoint a.auth b.auth)
-    (both_or_none same_endpoint a.acct b.acct && bytes_eq a.secret b.secret) h in
-    let second = both (both_or_none same_endpoint a.acct b.acct) (bytes_eq a.secret b.secret) first.1 in
+    let first = both (same_endpoint a.auth b.auth && both_or_none same_endpoint a.acct b.acct)
+    (bytes_eq a.secret b.secret) h in
+    let second = both (same_endpoint a.auth b.auth) (both_or_none same_endpoint a.acct b.acct) first.0 in
     record {
-      auth = (endpoint_decides a.auth b.auth).0 first.0;
-      acct = if_any a.acct b.acct second.0;
-      secret = (bytes_eq-Decides a.secret b.secret).0 second.1;
+      auth = (endpoint_decides a.auth b.auth).0 second.0;
+      acct = if_any a.acct b.acct second.1;
+      secret = (bytes_eq-Decides a.secret b.secret).0 first.1;
     }
 
 same_again : (a b : ServerView) → AreSame a b → same_server b a ≡ true

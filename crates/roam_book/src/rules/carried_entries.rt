@@ -1,6 +1,6 @@
 //! Which entries of a realm stay when it goes on under another part of a configuration.
 
-ghost use Rattle.std.specs.Prelude.{◌≡◌, ◌-◌, ◌<◌, ◌≤◌, ◌⊎◌, IfNone, IfSome, List, None, Some, length, option_map};
+ghost use Rattle.std.specs.Prelude.{◌≡◌, ◌-◌, ◌<◌, ◌≤◌, ◌⊎◌, IfNone, IfSome, List, None, Some, false, length, option_map, true};
 ghost use Rattle.std.specs.List.{AllByRecursion, filter_map};
 ghost use Rattle.roam_pending.specs.EntryList.{IsEntryList, IsInOrder, find_ticket, first_done, without};
 ghost use Rattle.roam_pending.specs.PlainEntry.{PlainEntry};
@@ -173,6 +173,14 @@ fn make_way<A: Allocator, E: Entries<A>>(entries: &mut E, realm: u16, most: u16)
     }
 }
 
+/// Whether fewer may be pending than before.
+fn keeps_fewer(old: &RealmSettings<'_>, new: &RealmSettings<'_>) -> bool
+    ensures fewer { result ≡ true → new.now.realm.max_pending < old.now.realm.max_pending }
+    ensures as_many { result ≡ false → old.now.realm.max_pending ≤ new.now.realm.max_pending }
+{
+    new.max_pending() < old.max_pending()
+}
+
 /// Where fewer may be pending than before, answered ones make way.
 fn keep_few<A: Allocator, E: Entries<A>>(
     old: &RealmSettings<'_>,
@@ -184,7 +192,7 @@ fn keep_few<A: Allocator, E: Entries<A>>(
         (E.entries_of entries.old) (E.entries_of entries.new) }
     ensures kept { E.keeps entries.new ≡ E.keeps entries.old }
 {
-    if new.max_pending() < old.max_pending() {
+    if keeps_fewer(old, new) {
         make_way(entries, old.index(), new.max_pending());
     }
 }
