@@ -1,7 +1,7 @@
 -- A list in order of ticket is what is found in it by its tickets.
-use Rattle.std.proofs.Common.{◌≡◌, ◌≢◌, ℕ, ◌<◌, ◌≤◌, Bool, true, false, List, [], ◌∷◌, Option, Some, None, refl, ap, sym, subst, ◌∙◌, arith, inl, inr}
+use Rattle.std.proofs.Common.{◌≡◌, ◌≢◌, ℕ, ◌<◌, List, [], ◌∷◌, Option, Some, None, refl, ap, sym, subst, ◌∙◌, arith, inl, inr}
 use Rattle.std.specs.Prelude.{option_and_then}
-use Rattle.std.specs.List.{AllByRecursion, cons_option, filter_map}
+use Rattle.std.specs.List.{cons_option, filter_map}
 use Rattle.std.proofs.lemmas.Bool.{cases_Bool, cases_eq}
 use Rattle.std.proofs.lemmas.Option.{same_Some}
 use Rattle.roam_pending.specs.EntryList.{IsInOrder, find_ticket}
@@ -110,7 +110,8 @@ module _ (f : PlainEntry → Option PlainEntry)
 
   here_by : (t : ℕ) (x : PlainEntry) (xs : List PlainEntry) (o : Option PlainEntry) → f x ≡ o → x.ticket ≡ t
       → IsAbove x.ticket xs → find_ticket t (cons_option o (filter_map f xs)) ≡ o
-  here_by t x xs None is at above = find-above x.ticket t (filter_map f xs) (omega (arith, at)) (above_kept x.ticket xs above)
+  here_by t x xs None is at above =
+      find-above x.ticket t (filter_map f xs) (omega (arith, at)) (above_kept x.ticket xs above)
   here_by t x xs (Some y) is at above =
       ap (λ (n : ℕ). find_ticket n (y ∷ filter_map f xs)) (sym at ∙ sym (own x y is)) ∙ first_found y (filter_map f xs)
 

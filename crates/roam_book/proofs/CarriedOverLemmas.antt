@@ -1,24 +1,21 @@
 -- A realm that is carried over stands for the state that it is to have, and keeps what a realm keeps.
-use Rattle.std.proofs.Common.{◌≡◌, ℕ, ◌-◌, ◌<◌, ◌≤◌, ◌^◌, Bool, true, false, List, ◌++◌, Option, Some, None, length, replicate, nat_lt, vec_capacity, refl, sym, ap, subst, ◌∙◌, arith, if◌then◌else◌}
+use Rattle.std.proofs.Common.{◌≡◌, ℕ, ◌-◌, ◌<◌, ◌≤◌, ◌^◌, Bool, true, false, List, ◌++◌, Option, Some, None, length, replicate, nat_lt, vec_capacity, sym, ap, subst, ◌∙◌, if◌then◌else◌}
 use Rattle.std.specs.List.{AllByRecursion, filter_map}
 use Rattle.std.proofs.lemmas.List.{length-map}
 use Rattle.roam_ids.specs.LaneState.{LaneState}
 use Rattle.roam_pending.specs.EntryList.{IsInOrder}
 use Rattle.roam_pending.specs.PlainEntry.{PlainEntry}
-use Rattle.roam_reverse.specs.Sessions.{Session}
 use Rattle.roam_reverse.specs.Shown.{Ledger}
 use Rattle.roam_book.specs.Carrying.{HaveDistinctServers, IsReadyToCarry, StandAsBefore}
 use Rattle.roam_book.specs.Private.MoreLanes.{AreMoreLanes}
 use Rattle.roam_book.specs.Private.Moving.{AreMoved, staying}
 use Rattle.roam_book.specs.RealmConfig.{RealmConfig, link_count}
-use Rattle.roam_book.specs.RealmState.{RealmState}
-use Rattle.roam_book.specs.Reload.{Carries, carried, cursors_then, entries_then, entry_then, few_enough, rests_then, sessions_then, without_done}
+use Rattle.roam_book.specs.Reload.{Carries, carried, cursors_then, entries_then, entry_then, rests_then, sessions_then, without_done}
 use Rattle.roam_book.specs.Sound.{AreOwnLanes, IsEntry, IsSound, LanesTell, cursors_of, marks_of, state_of}
 use Rattle.roam_book.specs.Stays.{KeepsButLanes}
 use Rattle.roam_book.specs.declared.rules.carried_lanes.FreshLanes.{FreshLanes}
 use Rattle.roam_book.specs.declared.state.realm_numbers.RealmNumbers.{RealmNumbers}
-use Rattle.roam_book.specs.declared.state.rest.Rest.{Rest}
-use Rattle.roam_book.proofs.EntryThenLemmas.{due_stays, entries_stay, entry_parts}
+use Rattle.roam_book.proofs.EntryThenLemmas.{entries_stay, entry_parts}
 use Rattle.roam_book.proofs.ByTicketLemmas.{order_kept}
 use Rattle.roam_book.proofs.FewLemmas.{each_left, tells_left}
 use Rattle.roam_book.proofs.MovedLaneLemmas.{cursors_moved, own_moved, tells_moved}
@@ -79,7 +76,8 @@ module _ {A : Type 0} (old new : RealmConfig) (es : List PlainEntry) (was mid mo
       let all = filter_map (entry_then old new) es in
       let fewer = nat_lt new.realm.max_pending old.realm.max_pending in
       let count : length mid.lanes.items ≡ link_count old = keeps.count ∙ sound.lane_count in
-      let told = tells_moved old new once was.ticket es order sound.each mid.lanes.items count tells moved.lanes.items are in
+      let told = tells_moved old new once was.ticket es order sound.each mid.lanes.items count tells
+      moved.lanes.items are in
       subst (λ (l : List PlainEntry). IsSound new l then') (sym entries) (record {
         each = subst (λ (t : ℕ). AllByRecursion (IsEntry new t) (entries_then old new es)) (sym same_ticket)
             (few_by (IsEntry new was.ticket) fewer (length all - new.realm.max_pending) all stay);
@@ -98,7 +96,8 @@ module _ {A : Type 0} (old new : RealmConfig) (es : List PlainEntry) (was mid mo
 pub untouched_state : {A : Type 0} (old new : RealmConfig) (es : List PlainEntry) (was then' : RealmNumbers A)
     → Carries old new → length was.lanes.items ≡ link_count old
     → AreMoreLanes new (link_count new) was.lanes.items then'.lanes.items → then'.ticket ≡ was.ticket
-    → then'.stream_position ≡ was.stream_position → then'.rests.items ≡ was.rests.items → then'.sessions ≡ was.sessions
+    → then'.stream_position ≡ was.stream_position → then'.rests.items ≡ was.rests.items
+    → then'.sessions ≡ was.sessions
     → state_of es then' ≡ carried old new (state_of es was)
 untouched_state old new es was then' k count more ticket place rests sessions =
     let s = state_of es was in

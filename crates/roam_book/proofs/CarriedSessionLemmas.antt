@@ -1,5 +1,5 @@
 -- The ledger that is carried over: without the sessions of peers that went, the newest where fewer are kept.
-use Rattle.std.proofs.Common.{◌≡◌, ◌⊎◌, inl, inr, ◌==◌, ◌&&◌, ◌||◌, ℕ, zero, suc, ◌+◌, ◌-◌, ◌<◌, ◌≤◌, Bool, true, false, not, List, [], ◌∷◌, ◌++◌, drop, length, take, get_or, refl, sym, ap, subst, ◌∙◌, arith, nat_lt, add-one, if◌then◌else◌}
+use Rattle.std.proofs.Common.{◌≡◌, inl, inr, ◌==◌, ◌&&◌, ◌||◌, ℕ, zero, suc, ◌+◌, ◌-◌, ◌<◌, ◌≤◌, Bool, true, false, not, List, [], ◌∷◌, ◌++◌, drop, length, take, get_or, refl, sym, ap, ◌∙◌, arith, nat_lt, add-one, if◌then◌else◌}
 use Rattle.std.specs.List.{filter, list_any}
 use Rattle.std.proofs.lemmas.Bool.{cases_Bool, cases_eq}
 use Rattle.std.proofs.lemmas.Bool.Decides.{nat_tests}
@@ -107,7 +107,8 @@ one_gone old new seen x s keeps =
     and_true true = refl
     and_true false = refl
 
-module _ (old new : List PeerView) (changed : List ℕ) (i x : ℕ) (lt : i < length changed) (at : x ≡ get_or changed i x)
+module _ (old new : List PeerView) (changed : List ℕ) (i x : ℕ) (lt : i < length changed) (at : x
+    ≡ get_or changed i x)
     (first cur : List Session) (inv : cur ≡ filter (stays_so_far old new (take i changed)) first) where
   pub next_stays : of_peer keeps_sessions old new x ≡ true
       → cur ≡ filter (stays_so_far old new (take (i + 1) changed)) first
@@ -115,7 +116,8 @@ module _ (old new : List PeerView) (changed : List ℕ) (i x : ℕ) (lt : i < le
       inv
       ∙ filter_same (stays_so_far old new (take i changed)) (stays_so_far old new (take i changed ++ x ∷ [])) first
       (λ s. one_seen old new (take i changed) x s keeps)
-      ∙ ap (λ (l : List ℕ). filter (stays_so_far old new l) first) (sym (ap (λ (n : ℕ). take n changed) (add-one i) ∙ taken_one changed i x lt at))
+      ∙ ap (λ (l : List ℕ). filter (stays_so_far old new l) first) (sym (ap (λ (n : ℕ). take n changed)
+      (add-one i) ∙ taken_one changed i x lt at))
 
   pub next_closed : of_peer keeps_sessions old new x ≡ false
       → without_peer x cur ≡ filter (stays_so_far old new (take (i + 1) changed)) first
@@ -125,7 +127,8 @@ module _ (old new : List PeerView) (changed : List ℕ) (i x : ℕ) (lt : i < le
       ∙ filter_same (λ s. stays_so_far old new (take i changed) s && not (s.peer == x))
       (stays_so_far old new (take i changed ++ x ∷ [])) first
       (λ s. one_gone old new (take i changed) x s keeps)
-      ∙ ap (λ (l : List ℕ). filter (stays_so_far old new l) first) (sym (ap (λ (n : ℕ). take n changed) (add-one i) ∙ taken_one changed i x lt at))
+      ∙ ap (λ (l : List ℕ). filter (stays_so_far old new l) first) (sym (ap (λ (n : ℕ). take n changed)
+      (add-one i) ∙ taken_one changed i x lt at))
 
   -- either way
   pub next_either : (b : Bool) → of_peer keeps_sessions old new x ≡ b

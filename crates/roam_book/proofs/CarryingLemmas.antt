@@ -1,17 +1,15 @@
 -- A realm's entries are carried over one after the other, in the lanes that they had.
-use Rattle.std.proofs.Common.{◌≡◌, ◌≢◌, inl, inr, ℕ, ◌<◌, ◌≤◌, Bool, true, false, List, [], ◌∷◌, length, map, option_map, Option, Some, None, refl, sym, ap, subst, ◌∙◌, arith}
-use Rattle.std.specs.Prelude.{option_and_then}
+use Rattle.std.proofs.Common.{◌≡◌, ℕ, ◌<◌, false, List, length, option_map, Option, Some, None, refl, sym, ap, subst, ◌∙◌}
 use Rattle.std.specs.List.{AllByRecursion, filter, filter_map}
 use Rattle.std.proofs.lemmas.Option.{same_Some}
 use Rattle.roam_conf.specs.declared.place.Link.{Link}
 use Rattle.roam_ids.specs.LaneState.{LaneState}
 use Rattle.roam_pending.specs.declared.due.Due.{Due}
 use Rattle.roam_pending.specs.DueOrder.{due_at, is_after}
-use Rattle.roam_pending.specs.EntryList.{IsInOrder, find_ticket, put, without}
+use Rattle.roam_pending.specs.EntryList.{IsInOrder, find_ticket, without}
 use Rattle.roam_pending.specs.ListLaws.{IsIn, IsNextEntry}
-use Rattle.roam_pending.specs.PlainEntry.{PlainEntry, PlainStanding, waiting, done, waits_at}
+use Rattle.roam_pending.specs.PlainEntry.{PlainEntry}
 use Rattle.roam_pending.specs.Realms.{PutsChanged, RealmBecomes, with_ends}
-use Rattle.roam_pending.proofs.ChangeLemmas.{found-ticket}
 use Rattle.roam_pending.proofs.OrderLemmas.{without-absent}
 use Rattle.roam_book.specs.Private.Moving.{kept_or_gone, set_or_gone, staying, then_at}
 use Rattle.roam_book.specs.RealmConfig.{RealmConfig, link_count}
@@ -38,12 +36,20 @@ stay_both a b c h g = record {
 }
 
 pub stays_itself : {A : Type 0} (a : RealmNumbers A) → KeepsButLanes a a
-stays_itself a = record { count = refl; capacity = refl; ticket = refl; stream_position = refl; rests = refl; sessions = refl }
+stays_itself a = record {
+  count = refl;
+  capacity = refl;
+  ticket = refl;
+  stream_position = refl;
+  rests = refl;
+  sessions = refl;
+}
 
 -- ---- one entry
 
 -- where it isn't there, none goes
-pub none_there : (realm ticket : ℕ) (first cur : ℕ → List PlainEntry) → first ≡ cur → find_ticket ticket (first realm) ≡ None
+pub none_there : (realm ticket : ℕ) (first cur : ℕ → List PlainEntry) → first ≡ cur
+    → find_ticket ticket (first realm) ≡ None
     → RealmBecomes realm (without ticket (first realm)) first cur
 none_there realm ticket first cur same none = record {
   here = ap (λ (f : ℕ → List PlainEntry). f realm) (sym same) ∙ sym (without-absent ticket (first realm) none);
@@ -61,8 +67,10 @@ ends_by realm ticket home link first cur (Some e) at puts = rw at at puts
 
 pub ends_set : (old new : RealmConfig) (ticket : ℕ) (home : Option ℕ) (link : Option Link)
     (first cur : ℕ → List PlainEntry) → PutsChanged (with_ends home link) old.index ticket first cur
-    → then_at old new ticket (first old.index) ≡ option_map (with_ends home link) (find_ticket ticket (first old.index))
-    → RealmBecomes old.index (set_or_gone ticket (then_at old new ticket (first old.index)) (first old.index)) first cur
+    → then_at old new ticket (first old.index) ≡ option_map (with_ends home link) (find_ticket ticket
+    (first old.index))
+    → RealmBecomes old.index (set_or_gone ticket (then_at old new ticket (first old.index))
+    (first old.index)) first cur
 ends_set old new ticket home link first cur puts then' =
     rw then' (ends_by old.index ticket home link first cur (find_ticket ticket (first old.index)) refl puts)
 
@@ -82,7 +90,8 @@ ends_tell old new lanes ticket cur es change then' tells same =
 
 -- ---- one after the other
 
-pub record IsCarrying {A : Type 0} (old new : RealmConfig) (first cur : ℕ → List PlainEntry) (was now : RealmNumbers A)
+pub record IsCarrying {A : Type 0} (old new : RealmConfig) (first cur : ℕ
+    → List PlainEntry) (was now : RealmNumbers A)
     (last : Option Due) : Type 0 where
   pub order : IsInOrder (first old.index)
   pub each : AllByRecursion (IsEntry old was.ticket) (first old.index)
@@ -121,9 +130,11 @@ module _ {A : Type 0} (old new : RealmConfig) (first : ℕ → List PlainEntry) 
       -- what is found is an entry of the realm
       pub found_well : (e : PlainEntry) → find_ticket d.ticket (cur old.index) ≡ Some e → IsEntry old now.ticket e
       found_well e at =
-          let there = next_found (entry_then old new) (due_stays old new) (first old.index) (cur old.index) h.mid last d
+          let there = next_found (entry_then old new) (due_stays old new) (first old.index)
+          (cur old.index) h.mid last d
           order h.walk next in
-          let was_there = next_was (entry_then old new) (due_stays old new) (first old.index) (cur old.index) h.mid last d
+          let was_there = next_was (entry_then old new) (due_stays old new) (first old.index)
+          (cur old.index) h.mid last d
           order h.walk next in
           let well = kept-ticket old was.ticket d.ticket next.entry (first old.index) was_there h.each in
           subst (λ (t : ℕ). IsEntry old t e) (sym h.keeps.ticket)
@@ -139,18 +150,22 @@ module _ {A : Type 0} (old new : RealmConfig) (first : ℕ → List PlainEntry) 
           → marks_of then'.lanes.items ≡ marks_of now.lanes.items
           → IsCarrying old new first after was then' (Some d)
       carrying_goes_on after then' become tell keeps cursors marks =
-          let there = next_found (entry_then old new) (due_stays old new) (first old.index) (cur old.index) h.mid last d
+          let there = next_found (entry_then old new) (due_stays old new) (first old.index)
+          (cur old.index) h.mid last d
           order h.walk next in
           let kept = next_kept (entry_then old new) (due_stays old new) (first old.index) (cur old.index) h.mid last d
           order h.walk next in
-          let on = walk_goes_on (entry_then old new) (due_stays old new) (first old.index) (cur old.index) h.mid last d
+          let on = walk_goes_on (entry_then old new) (due_stays old new) (first old.index)
+          (cur old.index) h.mid last d
           order h.walk next in
           record {
             order = h.order;
             each = h.each;
             mid = kept_or_gone d.ticket (then_at old new d.ticket (cur old.index)) h.mid;
-            walk = subst (λ (es : List PlainEntry). IsWalk (entry_then old new) (due_stays old new) (first old.index) es
-                (kept_or_gone d.ticket (then_at old new d.ticket (cur old.index)) h.mid) (Some d)) (sym become.here) on;
+            walk = subst (λ (es : List PlainEntry). IsWalk (entry_then old new) (due_stays old new)
+                (first old.index) es
+                (kept_or_gone d.ticket (then_at old new d.ticket (cur old.index)) h.mid) (Some d))
+                (sym become.here) on;
             tells = tell h.mid h.tells (kept ∙ sym there);
             others = λ r ne. become.others r ne ∙ h.others r ne;
             keeps = stay_both was now then' h.keeps keeps;
@@ -162,16 +177,19 @@ module _ {A : Type 0} (old new : RealmConfig) (first : ℕ → List PlainEntry) 
       pub carrying_fewer : length (filter (λ x. is_after (Some d) (due_at x)) (first old.index))
           < length (filter (λ x. is_after last (due_at x)) (first old.index))
       carrying_fewer =
-          let was_there = next_was (entry_then old new) (due_stays old new) (first old.index) (cur old.index) h.mid last d
+          let was_there = next_was (entry_then old new) (due_stays old new) (first old.index)
+          (cur old.index) h.mid last d
           order h.walk next in
-          fewer_after (first old.index) last d next.entry (found_in d.ticket (first old.index) next.entry was_there) next.at
+          fewer_after (first old.index) last d next.entry (found_in d.ticket
+          (first old.index) next.entry was_there) next.at
           next.after
 
     module _ (order : IsInOrder (cur old.index))
         (none : (x : PlainEntry) → IsIn x (cur old.index) → is_after last (due_at x) ≡ false) where
       pub carried_all : RealmBecomes old.index (filter_map (entry_then old new) (first old.index)) first cur
       carried_all = record {
-        here = walk_ends (entry_then old new) (due_stays old new) (first old.index) (cur old.index) h.mid last h.walk none
+        here = walk_ends (entry_then old new) (due_stays old new) (first old.index)
+            (cur old.index) h.mid last h.walk none
             h.order order;
         others = h.others;
       }

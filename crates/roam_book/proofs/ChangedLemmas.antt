@@ -1,13 +1,16 @@
 -- Which peers' tables are other ones, looked for one after the other.
-use Rattle.std.proofs.Common.{◌≡◌, ◌⊎◌, ℕ, zero, suc, ◌+◌, ◌<◌, ◌≤◌, false, List, [], ◌∷◌, ◌++◌, Option, Some, None, option_map, refl, sym, ap, subst, ◌∙◌, arith, inl, inr, length, map, drop, slice_get, unwrap_or}
+use Rattle.std.proofs.Common.{◌≡◌, ◌⊎◌, ℕ, suc, ◌+◌, ◌<◌, ◌≤◌, Bool, true, false, List, [], ◌∷◌, ◌++◌, Option, Some, None, option_map, refl, sym, ap, subst, ◌∙◌, arith, eqb, inl, inr, length, map, drop, get_or, slice_get, unwrap_or}
 use Rattle.std.proofs.lemmas.List.{length-map}
 use Rattle.std.specs.List.{AllByRecursion}
-use Rattle.std.proofs.lemmas.Option.{slice_get-map}
+use Rattle.std.proofs.lemmas.Bool.Decides.{nat_tests}
+use Rattle.std.proofs.lemmas.Option.{slice_get-get_or, slice_get-map}
 use Rattle.roam_conf.specs.Config.{PeerView}
+use Rattle.roam_conf.specs.Parts.{shown_peer}
+use Rattle.roam_conf.specs.declared.peer.Peer.{Peer}
 use Rattle.roam_pending.specs.ListLaws.{IsIn}
 use Rattle.roam_pending.proofs.TestLemmas.{all-append, all-weaker}
 use Rattle.roam_reload.specs.Reload.{KeepsPeers, peer_part}
-use Rattle.roam_book.specs.Carrying.{AreChanged, AreRising}
+use Rattle.roam_book.specs.Carrying.{AreChanged, AreRising, Unless, noted}
 
 -- what holds of the first so many peers
 pub record AreChangedBelow (old new : List PeerView) (n : ℕ) (changed : List ℕ) : Type 0 where
@@ -41,7 +44,7 @@ last-or-less : (peer n : ℕ) → peer < n + 1 → (peer ≡ n) ⊎ (peer < n)
 last-or-less peer n less = grind arith
 
 -- one more is another one
-pub one-changed : (old new : List PeerView) (n : ℕ) (changed : List ℕ) → AreChangedBelow old new n changed →
+one-changed : (old new : List PeerView) (n : ℕ) (changed : List ℕ) → AreChangedBelow old new n changed →
     AreChangedBelow old new (n + 1) (changed ++ n ∷ [])
 one-changed old new n changed h = record {
   told = λ peer less. elim (last-or-less peer n less)
@@ -60,24 +63,46 @@ one-changed old new n changed h = record {
 }
 
 -- or it is the one that it was
-pub one-stays : (old new : List PeerView) (n : ℕ) (changed : List ℕ) (p : PeerView) → slice_get old n ≡ Some p
-    → option_map peer_part (slice_get new n) ≡ Some (peer_part p) → AreChangedBelow old new n changed
+one-stays : (old new : List PeerView) (n : ℕ) (changed : List ℕ)
+    → slice_get (map peer_part new) n ≡ slice_get (map peer_part old) n → AreChangedBelow old new n changed
     → AreChangedBelow old new (n + 1) changed
-one-stays old new n changed p there same h =
-    let here : slice_get (map peer_part new) n ≡ slice_get (map peer_part old) n =
-    slice_get-map peer_part new n ∙ same ∙ sym (ap (option_map peer_part) there)
-    ∙ sym (slice_get-map peer_part old n) in
-    record {
-      told = λ peer less. elim (last-or-less peer n less)
-          as (λ _. IsIn peer changed
-          ⊎ (slice_get (map peer_part new) peer ≡ slice_get (map peer_part old) peer)) [
-            | inl is ↦ inr (subst (λ (k : ℕ). slice_get (map peer_part new) k ≡ slice_get (map peer_part old) k)
-                (sym is) here)
-            | inr before ↦ h.told peer before
-          ];
-      rising = h.rising;
-      below = up n changed h.below;
-    }
+one-stays old new n changed here h = record {
+  told = λ peer less. elim (last-or-less peer n less)
+      as (λ _. IsIn peer changed
+      ⊎ (slice_get (map peer_part new) peer ≡ slice_get (map peer_part old) peer)) [
+        | inl is ↦ inr (subst (λ (k : ℕ). slice_get (map peer_part new) k ≡ slice_get (map peer_part old) k)
+            (sym is) here)
+        | inr before ↦ h.told peer before
+      ];
+  rising = h.rising;
+  below = up n changed h.below;
+}
+
+-- one more was looked at
+by-test : (b : Bool) (old new : List PeerView) (n : ℕ) (changed : List ℕ)
+    → Unless b (slice_get (map peer_part new) n ≡ slice_get (map peer_part old) n)
+    → AreChangedBelow old new n changed → AreChangedBelow old new (n + 1) (noted changed n b)
+by-test true old new n changed stays h = one-changed old new n changed h
+by-test false old new n changed stays h = one-stays old new n changed stays h
+
+pub one-noted : (old new : List PeerView) (n : ℕ) (changed after : List ℕ) (b : Bool)
+    → Unless b (slice_get (map peer_part new) n ≡ slice_get (map peer_part old) n)
+    → after ≡ noted changed n b → AreChangedBelow old new n changed → AreChangedBelow old new (n + 1) after
+one-noted old new n changed after b stays is h =
+    subst (AreChangedBelow old new (n + 1)) (sym is) (by-test b old new n changed stays h)
+
+-- a peer of both lists whose table is the same
+pub same-place : (old new : List Peer) (i : ℕ) (a b : Peer) → i < length old → i < length new
+    → a ≡ get_or old i a → b ≡ get_or new i b → peer_part (shown_peer b) ≡ peer_part (shown_peer a)
+    → slice_get (map peer_part (map shown_peer new)) i ≡ slice_get (map peer_part (map shown_peer old)) i
+same-place old new i a b was is at there same =
+    let part = λ (o : Option Peer). option_map peer_part (option_map shown_peer o) in
+    let first : slice_get old i ≡ Some a = slice_get-get_or old i a was ∙ ap (λ (p : Peer). Some p) (sym at) in
+    let second : slice_get new i ≡ Some b = slice_get-get_or new i b is ∙ ap (λ (p : Peer). Some p) (sym there) in
+    slice_get-map peer_part (map shown_peer new) i ∙ ap (option_map peer_part) (slice_get-map shown_peer new i)
+    ∙ ap part second ∙ ap (λ (p : PeerView). Some p) same ∙ sym (ap part first)
+    ∙ sym (ap (option_map peer_part) (slice_get-map shown_peer old i))
+    ∙ sym (slice_get-map peer_part (map shown_peer old) i)
 
 pub all-changed : (old new : List PeerView) (n : ℕ) (changed : List ℕ) → length old ≤ n
     → AreChangedBelow old new n changed → AreChanged old new changed
@@ -95,6 +120,10 @@ begins (x ∷ xs) (y ∷ ys) each =
     let first : y ≡ x = ap (λ (o : Option PeerView). unwrap_or o y) (each 0 (omega arith)) in
     let rest = begins xs ys (λ i less. each (suc i) (omega (arith, less))) in
     ap (λ (p : PeerView). p ∷ ys) first ∙ ap (λ (l : List PeerView). x ∷ l) rest
+
+pub none-noted : (changed : List ℕ) → eqb (length changed) 0 ≡ true → changed ≡ []
+none-noted [] is = refl
+none-noted (n ∷ ns) is = let zero_long : length (n ∷ ns) ≡ 0 = grind (arith, nat_tests, is) in absurd (omega (arith, zero_long))
 
 within : (old : List PeerView) (i : ℕ) → i < length (map peer_part old) → i < length old
 within old i less = omega (arith, less, length-map old peer_part)

@@ -1,5 +1,5 @@
 -- The ends of an entry then, by its sender and by how it stands.
-use Rattle.std.proofs.Common.{◌≡◌, ◌↔◌, inl, inr, ℕ, ◌<◌, ◌≤◌, ◌&&◌, Bool, true, false, not, List, length, Option, Some, None, is_some, option_map, refl, sym, ap, subst, ◌∙◌, slice_get, if◌then◌else◌}
+use Rattle.std.proofs.Common.{◌≡◌, ◌↔◌, inl, inr, ℕ, ◌<◌, ◌&&◌, Bool, true, false, not, List, length, Option, Some, None, is_some, option_map, refl, sym, ap, ◌∙◌, slice_get, if◌then◌else◌}
 use Rattle.std.specs.Option.{option_and_then}
 use Rattle.std.proofs.lemmas.Bool.{cases_Bool}
 use Rattle.roam_wire.specs.Reading.{packet_of}
@@ -13,7 +13,7 @@ use Rattle.roam_reload.specs.Kept.{home_then, keeps_requests, of_peer}
 use Rattle.roam_book.specs.RealmConfig.{RealmConfig}
 use Rattle.roam_book.specs.Reload.{entry_of, entry_then, fits, outgrows, request_from, request_then, requester_then, standing_then, way_then}
 use Rattle.roam_book.specs.Shapings.{shaping_from}
-use Rattle.roam_book.specs.Sound.{IsOfPeer, IsRequest}
+use Rattle.roam_book.specs.Sound.{IsOfPeer}
 use Rattle.roam_book.proofs.EntryThenLemmas.{does_fit, has_size, peer_there}
 
 -- ---- its sender
@@ -50,7 +50,8 @@ peer_off old new q p is keeps =
     ∙ rw keeps (either_way (outgrows old new q (requester.Peer p)) None)
 
 pub peer_big : (old new : RealmConfig) (q : PlainRequest) (p : ℕ) → q.requester ≡ requester.Peer p
-    → p < length old.peers → IsOfPeer old p (packet_of q.octets) → fits new p q ≡ false → request_then old new q ≡ None
+    → p < length old.peers → IsOfPeer old p (packet_of q.octets) → fits new p q ≡ false
+    → request_then old new q ≡ None
 peer_big old new q p is below well big =
     let there = peer_there old.peers p below in
     let fit = does_fit old p q well.can_be_shaped in
@@ -89,7 +90,8 @@ entry_by old new e q s asked stood =
     ∙ ap (entry_of e.ticket (Some q)) stood
 
 module _ (old new : RealmConfig) (e : PlainEntry) (home : Option ℕ)
-    (asked : request_then old new e.request ≡ Some (request_from e.request (with_home home e.request.requester))) where
+    (asked : request_then old new e.request ≡ Some (request_from e.request
+    (with_home home e.request.requester))) where
   waiting_then : (l : Link) (id : ℕ) (forwarded : List ℕ) (sends_left deadline signs : ℕ) (o : Option Link)
       → e.standing ≡ waiting l id forwarded sends_left deadline signs → way_then old new l ≡ o
       → standing_then old new e.standing ≡ option_map (λ m. waiting m id forwarded sends_left deadline signs) o

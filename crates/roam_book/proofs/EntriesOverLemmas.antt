@@ -1,7 +1,7 @@
 -- The entries of a realm that goes on: those that stay, and of these few enough.
 use Rattle.std.proofs.Common.{◌≡◌, ◌⊎◌, ◌==◌, inl, inr, ℕ, ◌-◌, ◌<◌, ◌≤◌, true, false, List, Option, Some, None, length, option_map, refl, sym, ap, subst, ◌∙◌, arith, nat_lt}
 use Rattle.std.specs.List.{filter_map}
-use Rattle.std.specs.Option.{IfNone, option_and_then}
+use Rattle.std.specs.Option.{IfNone, IfSome, option_and_then}
 use Rattle.std.proofs.lemmas.Bool.Decides.{nat_tests}
 use Rattle.roam_conf.specs.declared.place.Link.{Link}
 use Rattle.roam_conf.specs.declared.place.Link.TheVariants as link
@@ -114,3 +114,15 @@ none_found old new t e cur at is = ap (option_and_then (entry_then old new)) at 
 pub none_then : {X : Type 0} {P Q : Type 0} (r : Option X) → IfNone r P → (P → Q) → IfNone r Q
 none_then None h f = f h
 none_then (Some x) h f = h
+
+-- ---- the answered one that is found
+
+pub first_some : (es : List PlainEntry) (P : Type 0) (o : Option ℕ) → o ≡ first_done es → P
+    → IfSome o (λ t. (first_done es ≡ Some t) × P)
+first_some es P None is p = tt
+first_some es P (Some t) is p = (sym is, p)
+
+pub first_none : (es : List PlainEntry) (Q : Type 0) (o : Option ℕ) → o ≡ first_done es
+    → IfNone o ((first_done es ≡ None) ⊎ Q)
+first_none es Q None is = inl (sym is)
+first_none es Q (Some t) is = tt

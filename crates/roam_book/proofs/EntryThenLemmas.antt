@@ -1,11 +1,11 @@
 -- What an entry is then, if it stays: one of its ticket, its deadline and its request, well under the new part.
-use Rattle.std.proofs.Common.{◌≡◌, ℕ, zero, suc, ◌+◌, ◌-◌, ◌<◌, ◌≤◌, ◌&&◌, Bool, true, false, List, [], ◌∷◌, length, not, nat_le, nat_lt, Option, Some, None, is_some, option_map, refl, sym, ap, subst, ◌∙◌, arith, inl, inr, slice_get, unwrap_or, if◌then◌else◌}
+use Rattle.std.proofs.Common.{◌≡◌, ℕ, zero, suc, ◌+◌, ◌-◌, ◌<◌, ◌≤◌, ◌&&◌, Bool, true, false, List, [], ◌∷◌, length, not, nat_lt, Option, Some, None, is_some, option_map, refl, sym, ap, subst, ◌∙◌, arith, inl, inr, slice_get, if◌then◌else◌}
 use Rattle.std.specs.Option.{option_and_then, option_or}
 use Rattle.std.specs.List.{AllByRecursion, cons_option, filter_map, position_from}
 use Rattle.std.specs.Str.{bytes_eq}
-use Rattle.std.proofs.lemmas.Bool.{cases_Bool, cases_lt}
+use Rattle.std.proofs.lemmas.Bool.{cases_Bool}
 use Rattle.std.proofs.lemmas.Bool.Decides.{nat_tests}
-use Rattle.std.proofs.lemmas.Option.{same_Some, slice_get-get_or, slice_get_within}
+use Rattle.std.proofs.lemmas.Option.{same_Some, slice_get_within}
 use Rattle.roam_wire.specs.Reading.{packet_of}
 use Rattle.roam_wire.specs.declared.packet_size.TheConstants.{MAX_PACKET_LENGTH}
 use Rattle.roam_conf.specs.Config.{CoaClientView, PeerView, RealmView, ServerView}
@@ -16,18 +16,18 @@ use Rattle.roam_conf.specs.declared.place.Link.{Link}
 use Rattle.roam_fwd.specs.Forwarded.{forwarded_length}
 use Rattle.roam_fwd.specs.Shaped.{CanBeShaped, shaped}
 use Rattle.roam_pending.specs.declared.due.Due.{Due}
-use Rattle.roam_pending.specs.declared.key.Key.{Key}
 use Rattle.roam_pending.specs.declared.key.Requester.{Requester}
 use Rattle.roam_pending.specs.declared.key.Requester.TheVariants as requester
 use Rattle.roam_pending.specs.DueOrder.{due_at}
 use Rattle.roam_pending.specs.PlainEntry.{PlainEntry, PlainRequest, PlainStanding, deadline_of, waiting, done}
-use Rattle.roam_reload.specs.Kept.{Source, both_or_none, client_source, closes_reverse, home_at, home_then, keeps_requests, of_peer, same_source, server_source, source}
+use Rattle.roam_reload.specs.Kept.{Source, both_or_none, client_source, closes_reverse, home_then, keeps_requests, of_peer, same_source, server_source, source}
 use Rattle.roam_book.specs.Carrying.{HaveDistinctServers}
-use Rattle.roam_book.specs.RealmConfig.{RealmConfig, IsLink, IsRequester}
+use Rattle.roam_book.specs.RealmConfig.{RealmConfig, IsRequester}
 use Rattle.roam_book.specs.Reload.{entry_of, entry_then, fits, outgrows, request_from, request_then, requester_then, standing_then, way_then}
 use Rattle.roam_book.specs.Shapings.{shaping_from}
 use Rattle.roam_book.specs.Sound.{CanGo, IsEntry, IsOfPeer, IsRequest, IsWaiting, StandsWell}
-use Rattle.roam_book.proofs.LinkThenLemmas.{found_at, way_back}
+use Rattle.roam_book.proofs.LinkThenLemmas.{way_back}
+use Rattle.roam_book.proofs.ServerThenLemmas.{found_at}
 
 -- ---- its parts
 
@@ -44,7 +44,12 @@ parts_by old new before after None (Some s) asked stood is = absurd (cc is)
 parts_by old new before after (Some q) None asked stood is = absurd (cc is)
 parts_by old new before after (Some q) (Some s) asked stood is =
     let one : PlainEntry = record { request = q; ticket = before.ticket; standing = s } in
-    subst (HasParts old new before) (same_Some one after is) (record { ticket = refl; request = asked; standing = stood })
+    subst (HasParts old new before) (same_Some one after is) (record {
+      ticket = refl;
+      request = asked;
+      standing =
+          stood;
+    })
 
 pub entry_parts : (old new : RealmConfig) (before after : PlainEntry) → entry_then old new before ≡ Some after
     → HasParts old new before after

@@ -1,12 +1,12 @@
 -- Answered entries make way one after the other, the first of them, and nothing else changes.
-use Rattle.std.proofs.Common.{◌≡◌, ◌≢◌, inl, inr, ℕ, zero, suc, ◌+◌, ◌-◌, ◌<◌, ◌≤◌, Bool, true, false, List, [], ◌∷◌, length, Option, Some, None, option_map, refl, sym, ap, subst, ◌∙◌, arith, if◌then◌else◌}
-use Rattle.std.specs.List.{AllByRecursion, find}
+use Rattle.std.proofs.Common.{◌≡◌, ◌≢◌, inl, inr, ℕ, zero, suc, ◌+◌, ◌-◌, ◌<◌, Bool, true, false, List, [], ◌∷◌, length, Some, None, refl, sym, ap, ◌∙◌, arith, if◌then◌else◌}
+use Rattle.std.specs.List.{AllByRecursion}
 use Rattle.std.proofs.lemmas.Bool.{cases_Bool, cases_eq}
 use Rattle.std.proofs.lemmas.Option.{same_Some}
 use Rattle.roam_conf.specs.declared.place.Link.{Link}
 use Rattle.roam_ids.specs.LaneState.{LaneState}
 use Rattle.roam_pending.specs.EntryList.{IsInOrder, find_ticket, first_done, without}
-use Rattle.roam_pending.specs.PlainEntry.{PlainEntry, PlainStanding, waiting, done, is_done, waits_at}
+use Rattle.roam_pending.specs.PlainEntry.{PlainEntry, is_done}
 use Rattle.roam_pending.proofs.ChangeLemmas.{found-ticket, length-without}
 use Rattle.roam_pending.proofs.ClientLemmas.{done-found}
 use Rattle.roam_pending.proofs.OrderLemmas.{IsAbove, find-above, without-absent}
@@ -87,7 +87,8 @@ one_fewer es t order is =
     let found = done-found es t order is in length-without t es found.0 order found.1
 
 -- while there are too many, the next one goes
-pub turn : (most : ℕ) (first cur : List PlainEntry) (t : ℕ) → IsInOrder cur → first_done cur ≡ Some t → most < length cur
+pub turn : (most : ℕ) (first cur : List PlainEntry) (t : ℕ) → IsInOrder cur → first_done cur ≡ Some t
+    → most < length cur
     → without_done (length cur - most) cur ≡ without_done (length first - most) first
     → without_done (length (without t cur) - most) (without t cur) ≡ without_done (length first - most) first
 turn most first cur t order is many inv =
@@ -144,4 +145,5 @@ waits_left l id t (e ∷ es) (suc n) order =
 pub tells_left : (c : RealmConfig) (lanes : List LaneState) (es : List PlainEntry) (n : ℕ) → IsInOrder es
     → LanesTell c es lanes → LanesTell c (without_done n es) lanes
 tells_left c lanes es n order tells l link id octet =
-    tells-same l (lane_of c lanes l) id es (without_done n es) (λ t. waits_left l id t es n order) (tells l link id octet)
+    tells-same l (lane_of c lanes l) id es (without_done n es) (λ t. waits_left l id t es n order)
+    (tells l link id octet)

@@ -62,3 +62,5 @@ pub mod BookCarryLemmas
 pub mod EndsLemmas
 pub mod WrittenLemmas
 pub mod EntriesOverLemmas
+pub mod ServerThenLemmas
+pub mod KeptLaneLemmas

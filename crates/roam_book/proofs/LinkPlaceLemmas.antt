@@ -1,5 +1,5 @@
 -- Each place is one link's, and what stands at the places of all links is a list by them.
-use Rattle.std.proofs.Common.{◌≡◌, ◌≢◌, ℕ, zero, suc, ◌+◌, ◌-◌, ◌*◌, ◌<◌, ◌≤◌, List, [], ◌∷◌, ◌++◌, length, map, drop, get_or, refl, sym, ap, subst, ◌∙◌, arith, inl, inr, add-one, drop-cons}
+use Rattle.std.proofs.Common.{◌≡◌, ℕ, zero, suc, ◌+◌, ◌-◌, ◌*◌, ◌<◌, List, [], ◌∷◌, ◌++◌, length, map, drop, get_or, refl, sym, ap, subst, ◌∙◌, arith, inl, inr, add-one, drop-cons}
 use Rattle.std.proofs.Math.ListN as lists
 use Rattle.std.proofs.lemmas.Bool.{cases_lt}
 use Rattle.std.proofs.lemmas.Grind.{same_number_lists}
@@ -64,7 +64,8 @@ StandFrom c k (l ∷ ls) = IsLink c l × (link_place c l ≡ k) × StandFrom c (
 
 stand_both : (c : RealmConfig) (k j : ℕ) (xs ys : List Link) → StandFrom c k xs → j ≡ k + length xs → StandFrom c j ys
     → StandFrom c k (xs ++ ys)
-stand_both c k j [] ys h at rest = let same : j ≡ k = omega (arith, at) in subst (λ (n : ℕ). StandFrom c n ys) same rest
+stand_both c k j [] ys h at rest = let same : j ≡ k = omega (arith, at) in subst (λ
+    (n : ℕ). StandFrom c n ys) same rest
 stand_both c k j (x ∷ xs) ys h at rest =
     (h.0, h.1, stand_both c (suc k) j xs ys h.2 (omega (arith, at)) rest)
 
@@ -160,7 +161,8 @@ module _ {X : Type 0} (c : RealmConfig) (f : Link → X) (d : X) (xs : List X) w
 pub cursor_at : (lanes : List LaneState) (k : ℕ) → get_or (cursors_of lanes) k 0 ≡ (get_or lanes k no_lane).cursor
 cursor_at lanes k = lists.get_or-map (λ (x : LaneState). x.cursor) lanes k no_lane
 
-mark_at : (lanes : List LaneState) (k : ℕ) → get_or (marks_of lanes) k (mark_of no_lane) ≡ mark_of (get_or lanes k no_lane)
+mark_at : (lanes : List LaneState) (k : ℕ) → get_or (marks_of lanes) k (mark_of no_lane)
+    ≡ mark_of (get_or lanes k no_lane)
 mark_at lanes k = lists.get_or-map mark_of lanes k no_lane
 
 pub made_at : (lanes : List LaneState) (k : ℕ)
@@ -206,6 +208,8 @@ pub tags_by : (index n : ℕ) (lanes : List LaneState) → length lanes ≡ n
     → map (λ (m : Mark). m.tag) (marks_of lanes) ≡ own_tags index n
 tags_by index n lanes count each =
     let tags = map (λ (m : Mark). m.tag) (marks_of lanes) in
-    let many : length tags ≡ n = length-map (marks_of lanes) (λ (m : Mark). m.tag) ∙ length-map lanes mark_of ∙ count in
+    let many : length tags ≡ n = length-map (marks_of lanes) (λ (m : Mark). m.tag) ∙ length-map lanes mark_of
+    ∙ count in
     same_number_lists tags (own_tags index n) (many ∙ sym (own_number index n))
-    (λ k below. tag_at lanes k ∙ each k (omega (arith, below, many)) ∙ sym (own_at index n k (omega (arith, below, many))))
+    (λ k below. tag_at lanes k ∙ each k (omega (arith, below, many))
+    ∙ sym (own_at index n k (omega (arith, below, many))))

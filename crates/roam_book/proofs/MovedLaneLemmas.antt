@@ -1,8 +1,8 @@
 -- Lanes that are moved have the cursors and the tags that they are to have, and tell the entries that stay.
-use Rattle.std.proofs.Common.{◌≡◌, ◌⊎◌, inl, inr, ◌==◌, ◌&&◌, ℕ, zero, suc, ◌+◌, ◌*◌, ◌<◌, ◌≤◌, Bool, true, false, List, [], ◌∷◌, length, map, get_or, Option, Some, None, is_some, option_map, refl, sym, ap, subst, ◌∙◌, arith, if◌then◌else◌}
+use Rattle.std.proofs.Common.{◌≡◌, ◌⊎◌, inl, inr, ◌==◌, ◌&&◌, ℕ, ◌+◌, ◌*◌, ◌<◌, ◌≤◌, Bool, true, false, List, [], ◌∷◌, length, get_or, Option, Some, None, is_some, option_map, refl, sym, ap, subst, ◌∙◌, arith, if◌then◌else◌}
 use Rattle.std.specs.List.{AllByRecursion, cons_option, filter_map}
 use Rattle.std.specs.Option.{option_and_then, option_map_or}
-use Rattle.std.proofs.lemmas.Bool.{cases_Bool, cases_eq, cases_lt}
+use Rattle.std.proofs.lemmas.Bool.{cases_Bool}
 use Rattle.std.proofs.lemmas.Bool.Decides.{nat_tests}
 use Rattle.std.proofs.lemmas.List.{get_or_past, length-map}
 use Rattle.std.proofs.lemmas.Option.{same_Some}
@@ -13,14 +13,13 @@ use Rattle.roam_ids.specs.Standing.{is_in_use, ticket_of}
 use Rattle.roam_ids.specs.declared.id_state.IdState.{IdState}
 use Rattle.roam_pending.specs.EntryList.{IsInOrder, find_ticket}
 use Rattle.roam_pending.specs.PlainEntry.{PlainEntry, PlainRequest, PlainStanding, waiting, done, same_link, stands_at, waits_at}
-use Rattle.roam_reload.specs.Kept.{keeps_coa, of_peer, same_out}
 use Rattle.roam_book.specs.Carrying.{HaveDistinctServers}
-use Rattle.roam_book.specs.Private.Moving.{AreMoved, IsLeft, StandsFor, if_stays, lane_before, staying}
+use Rattle.roam_book.specs.Private.Moving.{AreMoved, if_stays, staying}
 use Rattle.roam_book.specs.RealmConfig.{IsLink, RealmConfig, link_count, link_place}
 use Rattle.roam_book.specs.Reload.{cursor_then, cursors_then, entry_then, links_of, standing_then, way_before, way_then}
 use Rattle.roam_book.specs.Sound.{AreOwnLanes, IsEntry, LanesTell, StandsWell, TellsAt, cursors_of, is_parked, lane_of, marks_of, no_lane, waits_there}
 use Rattle.roam_book.proofs.ByTicketLemmas.{found_kept}
-use Rattle.roam_book.proofs.EntryThenLemmas.{due_stays, entry_parts}
+use Rattle.roam_book.proofs.EntryThenLemmas.{entry_parts}
 use Rattle.roam_book.proofs.LinkPlaceLemmas.{by_links, cursor_at, link_of_place, links_number, links_stand, made_at, tags_by}
 use Rattle.roam_book.proofs.LinkThenLemmas.{was_there, way_back, way_forth}
 use Rattle.roam_book.proofs.ReloadLemmas.{none_waits}
@@ -47,7 +46,8 @@ pub own_moved : (old new : RealmConfig) (before after : List LaneState) → AreM
 own_moved old new before after moved = record {
   tags = tags_by new.index (link_count new) after moved.count (λ k below.
       let at = link_of_place new k below in
-      subst (λ (n : ℕ). (get_or after n no_lane).tag ≡ new.index * 65536 + n) at.place (moved.each at.link at.is).tag);
+      subst (λ (n : ℕ). (get_or after n no_lane).tag ≡ new.index * 65536 + n) at.place
+      (moved.each at.link at.is).tag);
   servers = λ place below.
       let within : place < link_count new = omega (arith, below) in
       let at = link_of_place new place within in
@@ -58,7 +58,8 @@ own_moved old new before after moved = record {
 
 -- ---- an entry waits at a link then just where it waited at the one that this was
 
-same_by : (a b c d : Link) → (same_link a b ≡ true → same_link c d ≡ true) → (same_link c d ≡ true → same_link a b ≡ true)
+same_by : (a b c d : Link) → (same_link a b ≡ true → same_link c d ≡ true) → (same_link c d ≡ true
+    → same_link a b ≡ true)
     → same_link a b ≡ same_link c d
 same_by a b c d forth back =
     elim (cases_Bool (same_link a b)) as (λ _. same_link a b ≡ same_link c d) [
@@ -126,7 +127,8 @@ module _ (old new : RealmConfig) (once : HaveDistinctServers old new) where
   stands_then q (waiting l i forwarded sends_left deadline signs) after n id isn well stays =
       waiting_by l n i id forwarded sends_left deadline signs after (way_then old new l) well.link isn refl stays
   stands_then q (done reply deadline from) after n id isn well stays =
-      ap (stands_at n id) (sym (same_Some (done reply deadline (option_and_then (way_then old new) from)) after stays))
+      ap (stands_at n id) (sym (same_Some (done reply deadline (option_and_then
+      (way_then old new) from)) after stays))
       ∙ no_place (way_before old new n)
 
   waits_then : (next : ℕ) (before after : PlainEntry) (n : Link) (id : ℕ) → IsLink new n → IsEntry old next before
@@ -207,7 +209,8 @@ module _ (old new : RealmConfig) (once : HaveDistinctServers old new) where
     module _ (before : List LaneState) (count : length before ≡ link_count old)
         (tells : LanesTell old (staying old new es) before) where
       -- what waits on a link that was there, and on one that wasn't
-      told : (l : Link) (id t : ℕ) → id < 256 → IsLink old l ⊎ ((IsLink old l → ⊥) × (link_count old ≤ link_place old l))
+      told : (l : Link) (id t : ℕ) → id < 256 → IsLink old l ⊎ ((IsLink old l
+          → ⊥) × (link_count old ≤ link_place old l))
           → is_parked (lane_of old before l) id t ≡ waits_there l id t (staying old new es)
       told l id t octet at =
           elim at as (λ _. is_parked (lane_of old before l) id t ≡ waits_there l id t (staying old new es)) [
@@ -219,7 +222,8 @@ module _ (old new : RealmConfig) (once : HaveDistinctServers old new) where
                 ∙ sym (none_waits old next (staying old new es) l id t (all_stay es all) away.0))
           ]
 
-      none_out : (l : Link) (id : ℕ) → id < 256 → IsLink old l ⊎ ((IsLink old l → ⊥) × (link_count old ≤ link_place old l))
+      none_out : (l : Link) (id : ℕ) → id < 256 → IsLink old l ⊎ ((IsLink old l
+          → ⊥) × (link_count old ≤ link_place old l))
           → is_used (lane_of old before l) id ≡ is_some (ticket_at (lane_of old before l) id)
       none_out l id octet at =
           elim at as (λ _. is_used (lane_of old before l) id ≡ is_some (ticket_at (lane_of old before l) id)) [

@@ -1,5 +1,5 @@
 -- How servers' links rest, in the order of their places then.
-use Rattle.std.proofs.Common.{◌≡◌, true, false, inl, inr, ℕ, ◌+◌, ◌<◌, ◌≤◌, List, length, map, get_or, set, refl, sym, ap, subst, ◌∙◌, arith}
+use Rattle.std.proofs.Common.{◌≡◌, true, false, inl, inr, ℕ, ◌+◌, ◌<◌, ◌≤◌, List, length, map, get_or, set, refl, sym, ap, ◌∙◌, arith}
 use Rattle.std.proofs.lemmas.Bool.{cases_lt}
 use Rattle.std.proofs.lemmas.List.{get_or-set_other, get_or-set_same, length-set}
 use Rattle.roam_conf.specs.declared.place.Link.{Link}
@@ -52,6 +52,7 @@ pub rests_moved : (old new : RealmConfig) (before after : List Rest)
     → after ≡ map (rest_then old new before) (server_links_of new) → after ≡ rests_then old new before
 rests_moved old new before after other is = rw other is
 
-pub rests_kept : (old new : RealmConfig) (before : List Rest) → same_servers old.realm.servers new.realm.servers ≡ true
+pub rests_kept : (old new : RealmConfig) (before : List Rest)
+    → same_servers old.realm.servers new.realm.servers ≡ true
     → before ≡ rests_then old new before
 rests_kept old new before same = rw same refl

@@ -79,7 +79,8 @@ module _ (old new : RealmConfig) (first before after : List LaneState) (once : H
           | inl less ↦ h.moved n isn less
           | inr past ↦ (
               let same : m ≡ n = one_place new m n is isn (omega (arith, at, below, past)) in
-              subst (λ (x : Link). StandsFor new (link_place new x) (lane_before old new first x) (lane_of new after x)) same
+              subst (λ (x : Link). StandsFor new (link_place new x) (lane_before old new first x)
+              (lane_of new after x)) same
               (subst (λ (lane : LaneState). StandsFor new (link_place new m) lane (lane_of new after m))
               (sym (none_before old new first m once is count none))
               (h.fresh (link_place new m) (omega (arith, at)) (place_below new m is))))
@@ -102,14 +103,16 @@ module _ (old new : RealmConfig) (first before after : List LaneState) (once : H
 
     was_made : link_place new m < 2 * length new.realm.servers → (lane_of old first place.before).made ≡ true
     was_made below =
-        let stood = server_place old new m place.before once is below (link_of_way old new m place.before place.was) in
+        let stood = server_place old new m place.before once is below
+        (link_of_way old new m place.before place.was) in
         sym (made_at first (link_place old place.before)) ∙ own.servers (link_place old place.before) stood
 
     had : lane_before old new first m ≡ lane_of old first place.before
     had = ap (λ (o : Option Link). option_map_or (lane_of old first) o no_lane) place.was
 
     -- its lane goes there, and another one stands in its place
-    module _ (lane other : LaneState) (goes : lane ≡ with_tag (new.index * 65536 + k) (get_or before from no_lane)) where
+    module _ (lane other : LaneState) (goes : lane ≡ with_tag (new.index * 65536 + k)
+        (get_or before from no_lane)) where
       gone : lane ≡ with_tag (new.index * 65536 + k) (lane_before old new first m)
       gone = goes ∙ ap (with_tag (new.index * 65536 + k)) (untaken ∙ sym had)
 
@@ -128,7 +131,8 @@ module _ (old new : RealmConfig) (first before after : List LaneState) (once : H
       here : StandsFor new (link_place new m) (lane_before old new first m) (lane_of new (set after k lane) m)
       here =
           let set_there : get_or (set after k lane) k no_lane ≡ lane = get_or-set_same after k lane no_lane within in
-          subst (λ (n : ℕ). StandsFor new n (lane_before old new first m) (get_or (set after k lane) n no_lane)) (sym at)
+          subst (λ (n : ℕ). StandsFor new n (lane_before old new first m) (get_or (set after k lane) n no_lane))
+          (sym at)
           (subst (StandsFor new k (lane_before old new first m)) (sym set_there) stands)
 
       pub one_goes : IsMoving old new first (set before from other) (set after k lane) (k + 1)
@@ -136,7 +140,8 @@ module _ (old new : RealmConfig) (first before after : List LaneState) (once : H
         count_before = length-set before from other ∙ h.count_before;
         count_after = length-set after k lane ∙ h.count_after;
         moved = λ n isn below. elim (cases_lt (link_place new n) k)
-            as (λ _. StandsFor new (link_place new n) (lane_before old new first n) (lane_of new (set after k lane) n)) [
+            as (λ _. StandsFor new (link_place new n) (lane_before old new first n) (lane_of new
+            (set after k lane) n)) [
               | inl less ↦ subst (StandsFor new (link_place new n) (lane_before old new first n))
                   (sym (get_or-set_other after k (link_place new n) lane no_lane (λ same. omega (arith, same, less))))
                   (h.moved n isn less)

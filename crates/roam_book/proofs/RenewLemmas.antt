@@ -1,26 +1,24 @@
--- Lanes that stay where they are, of which some begin anew, with further ones behind them.
-use Rattle.std.proofs.Common.{◌≡◌, ◌≢◌, ◌⊎◌, inl, inr, ℕ, zero, suc, ◌+◌, ◌-◌, ◌*◌, ◌<◌, ◌≤◌, ◌&&◌, Bool, true, false, List, [], ◌∷◌, ◌++◌, length, map, get_or, set, take, replicate, Option, Some, None, refl, sym, ap, subst, ◌∙◌, arith, slice_get, add-one, if◌then◌else◌}
+-- Lanes that stay where they are, of which some begin anew.
+use Rattle.std.proofs.Common.{◌≡◌, ◌⊎◌, inl, inr, ℕ, zero, suc, ◌+◌, ◌*◌, ◌<◌, ◌≤◌, ◌&&◌, Bool, true, false, List, [], ◌∷◌, ◌++◌, length, map, get_or, set, take, Option, Some, refl, sym, ap, subst, ◌∙◌, arith, slice_get, add-one, if◌then◌else◌}
 use Rattle.std.specs.Cmp.Lexicographic.{as_long, pointwise}
-use Rattle.std.specs.Option.{option_map, option_map_or}
-use Rattle.std.proofs.lemmas.Bool.{cases_Bool, cases_eq, cases_lt}
-use Rattle.std.proofs.lemmas.List.{get_or-append_right, get_or-replicate, get_or-set_other, get_or-set_same, get_or-take, get_or_past, length-map, length-set}
+use Rattle.std.specs.Option.{option_map_or}
+use Rattle.std.proofs.lemmas.Bool.{cases_eq, cases_lt}
+use Rattle.std.proofs.lemmas.List.{get_or-set_other, get_or-set_same, length-set}
 use Rattle.roam_conf.specs.Config.{PeerView, ServerView}
 use Rattle.roam_conf.specs.declared.place.Link.{Link}
 use Rattle.roam_conf.specs.declared.place.Link.TheVariants as link
 use Rattle.roam_ids.specs.LaneState.{LaneState, place_at}
 use Rattle.roam_ids.specs.declared.id_state.IdState.TheVariants.{Free}
 use Rattle.roam_pending.specs.ListLaws.{IsIn}
-use Rattle.roam_reload.specs.Kept.{both_or_none, keeps_coa, of_peer, same_out, same_server, same_servers, server_then}
+use Rattle.roam_reload.specs.Kept.{both_or_none, keeps_coa, of_peer, same_server, server_then}
 use Rattle.roam_reload.specs.Reload.{peer_part}
 use Rattle.roam_reload.proofs.KeptLemmas.{coa_stays}
 use Rattle.roam_book.specs.Carrying.{AreChanged, StandAsBefore}
-use Rattle.roam_book.specs.Private.MoreLanes.{AreMoreLanes}
-use Rattle.roam_book.specs.Private.Moving.{AreMoved, AreRenewed, StandsFor, coa_place, lane_before}
-use Rattle.roam_book.specs.RealmConfig.{IsLink, RealmConfig, link_count, link_place}
+use Rattle.roam_book.specs.Private.Moving.{AreRenewed, StandsFor, coa_place}
+use Rattle.roam_book.specs.RealmConfig.{RealmConfig, link_count}
 use Rattle.roam_book.specs.Reload.{link_before, way_before}
-use Rattle.roam_book.specs.Sound.{AreOwnLanes, Mark, cursors_of, lane_of, marks_of, no_lane, own_tags}
-use Rattle.roam_book.proofs.LinkPlaceLemmas.{cursor_at, made_at, place_below, tag_of_lane, tags_by}
-use Rattle.roam_book.proofs.LinkThenLemmas.{other_way}
+use Rattle.roam_book.specs.Sound.{no_lane}
+use Rattle.roam_book.proofs.ServerThenLemmas.{other_way}
 
 -- ---- as many servers, each where it stood
 
@@ -39,11 +37,11 @@ same_at (x ∷ ss) [] s h = absurd (cc h)
 same_at (x ∷ ss) (t ∷ ts) zero h = other_way x t (both (same_server x t) (pointwise same_server ss ts) h).0
 same_at (x ∷ ss) (t ∷ ts) (suc s) h = same_at ss ts s (both (same_server x t) (pointwise same_server ss ts) h).1
 
-server_before : (old new : RealmConfig) (s : ℕ) → StandAsBefore old new
+pub server_before : (old new : RealmConfig) (s : ℕ) → StandAsBefore old new
     → server_then new.realm.servers old.realm.servers s ≡ Some s
 server_before old new s stand = rw (same_at old.realm.servers new.realm.servers s stand.servers) refl
 
-way_of : (old new : RealmConfig) (m : Link) → StandAsBefore old new → way_before old new m ≡ link_before old new m
+pub way_of : (old new : RealmConfig) (m : Link) → StandAsBefore old new → way_before old new m ≡ link_before old new m
 way_of old new m stand = rw stand.out refl
 
 -- ---- a peer whose table is the same keeps all
@@ -68,7 +66,7 @@ kept_past test (a ∷ old) new zero past = absurd (omega (arith, past))
 kept_past test (a ∷ old) [] (suc p) past = kept_past test old [] p (omega (arith, past))
 kept_past test (a ∷ old) (b ∷ new) (suc p) past = kept_past test old new p (omega (arith, past))
 
-coa_itself : (p : PeerView) → keeps_coa p p ≡ true
+pub coa_itself : (p : PeerView) → keeps_coa p p ≡ true
 coa_itself p = coa_stays (p ∷ []) (p ∷ []) (record { more = []; same = refl }) 0
 
 -- so one that doesn't keep all is told of
@@ -135,11 +133,13 @@ one_renewed old new peer lanes lane many count below no' tag cursor free =
       each = λ k. elim (cases_eq k place)
           as (λ _. (get_or (set lanes place lane) k no_lane ≡ get_or lanes k no_lane)
           ⊎ StandsFor new k no_lane (get_or (set lanes place lane) k no_lane)) [
-            | inl is ↦ inr (subst (λ (n : ℕ). StandsFor new n no_lane (get_or (set lanes place lane) n no_lane)) (sym is) here)
+            | inl is ↦ inr (subst (λ (n : ℕ). StandsFor new n no_lane (get_or (set lanes place lane) n no_lane))
+                (sym is) here)
             | inr ne ↦ inl (get_or-set_other lanes place k lane no_lane ne)
           ];
       renewed = λ p held below' no''. elim held
-          as (λ _. StandsFor new (coa_place old p) no_lane (get_or (set lanes place lane) (coa_place old p) no_lane)) [
+          as (λ _. StandsFor new (coa_place old p) no_lane (get_or (set lanes place lane)
+          (coa_place old p) no_lane)) [
             | inl is ↦ subst (λ (n : ℕ). StandsFor new (coa_place old n) no_lane
                 (get_or (set lanes place lane) (coa_place old n) no_lane)) is here
             | inr later ↦ absurd later
@@ -236,134 +236,3 @@ pub all_renewed : (old new : RealmConfig) (changed : List ℕ) (i : ℕ) (a b : 
     → AreRenewed old new (take i changed) a b → AreRenewed old new changed a b
 all_renewed old new changed i a b past h =
     subst (λ (l : List ℕ). AreRenewed old new l a b) (taken_all changed i past) h
-
--- ---- with further ones behind them each has what it had
-
-module _ (old new : RealmConfig) (changed : List ℕ) (first mid after : List LaneState) (stand : StandAsBefore old new)
-    (index : new.index ≡ old.index) (told : AreChanged old.peers new.peers changed)
-    (count : length first ≡ link_count old) (own : AreOwnLanes old (marks_of first))
-    (renewed : AreRenewed old new changed first mid) (more : AreMoreLanes new (link_count new) mid after) where
-  many : length old.realm.servers ≡ length new.realm.servers
-  many = as_many old new stand
-
-  mid_count : length mid ≡ link_count old
-  mid_count = renewed.count ∙ count
-
-  was_tag : (k : ℕ) → k < link_count old → (get_or first k no_lane).tag ≡ new.index * 65536 + k
-  was_tag k below =
-      tag_of_lane old.index (link_count old) k first own.tags below
-      ∙ ap (λ (n : ℕ). n * 65536 + k) (sym index)
-
-  mid_tag : (k : ℕ) → k < link_count old → (get_or mid k no_lane).tag ≡ new.index * 65536 + k
-  mid_tag k below =
-      elim (renewed.each k) as (λ _. (get_or mid k no_lane).tag ≡ new.index * 65536 + k) [
-        | inl same ↦ ap (λ (l : LaneState). l.tag) same ∙ was_tag k below
-        | inr fresh ↦ fresh.tag
-      ]
-
-  still : (k : ℕ) → k < link_count old → get_or after k no_lane ≡ get_or mid k no_lane
-  still k below =
-      sym (get_or-take (length mid) after k no_lane (omega (arith, mid_count, below)))
-      ∙ ap (λ (xs : List LaneState). get_or xs k no_lane) more.kept
-
-  tags_after : map (λ (m : Mark). m.tag) (marks_of after) ≡ own_tags new.index (link_count new)
-  tags_after =
-      more.tags (tags_by new.index (length mid) mid refl (λ k below. mid_tag k (omega (arith, mid_count, below))))
-
-  -- a server's
-  server_stands : (m : Link) (k : ℕ) → link_place new m ≡ k → link_place old m ≡ k
-      → k < 2 * length old.realm.servers → link_before old new m ≡ Some m
-      → StandsFor new (link_place new m) (lane_before old new first m) (lane_of new after m)
-  server_stands m k at was below before =
-      let within : k < link_count old = omega (arith, below) in
-      let now : lane_of new after m ≡ get_or first k no_lane =
-      ap (λ (n : ℕ). get_or after n no_lane) at ∙ still k within ∙ renewed.servers k below in
-      let then' : lane_before old new first m ≡ get_or first k no_lane =
-      ap (λ (o : Option Link). option_map_or (lane_of old first) o no_lane) (way_of old new m stand ∙ before)
-      ∙ ap (λ (n : ℕ). get_or first n no_lane) was in
-      let same : lane_of new after m ≡ lane_before old new first m = now ∙ sym then' in
-      record {
-        cursor = ap (λ (l : LaneState). l.cursor) same;
-        places = λ id. ap (λ (l : LaneState). place_at l id) same;
-        tag = ap (λ (l : LaneState). l.tag) now ∙ was_tag k within ∙ ap (λ (n : ℕ). new.index * 65536 + n) (sym at);
-        made = λ server. ap (λ (l : LaneState). l.made) now ∙ sym (made_at first k) ∙ own.servers k below;
-      }
-
-  -- a peer's that was there
-  peer_before : (p : ℕ) (b : Bool) → of_peer keeps_coa old.peers new.peers p ≡ b
-      → lane_before old new first (link.Coa p) ≡ (if b then lane_of old first (link.Coa p) else no_lane)
-  peer_before p true is = rw (stand.out, is) refl
-  peer_before p false is = rw (stand.out, is) refl
-
-  peer_stands : (p : ℕ) (b : Bool) → of_peer keeps_coa old.peers new.peers p ≡ b → p < length old.peers
-      → StandsFor new (coa_place new p) (lane_before old new first (link.Coa p)) (lane_of new after (link.Coa p))
-  peer_stands p true is below =
-      let k = coa_place old p in
-      let at : coa_place new p ≡ k = omega (arith, many) in
-      let within : k < link_count old = omega (arith, below) in
-      let now : lane_of new after (link.Coa p) ≡ get_or first k no_lane =
-      ap (λ (n : ℕ). get_or after n no_lane) at ∙ still k within ∙ renewed.kept p is in
-      let same : lane_of new after (link.Coa p) ≡ lane_before old new first (link.Coa p) =
-      now ∙ sym (peer_before p true is) in
-      record {
-        cursor = ap (λ (l : LaneState). l.cursor) same;
-        places = λ id. ap (λ (l : LaneState). place_at l id) same;
-        tag = ap (λ (l : LaneState). l.tag) now ∙ was_tag k within ∙ ap (λ (n : ℕ). new.index * 65536 + n) (sym at);
-        made = λ server. absurd (omega (arith, server));
-      }
-  peer_stands p false is below =
-      let k = coa_place old p in
-      let at : coa_place new p ≡ k = omega (arith, many) in
-      let within : k < link_count old = omega (arith, below) in
-      let one = is_told keeps_coa coa_itself (λ a b. refl) old.peers new.peers changed told p is in
-      let fresh = renewed.renewed p one.1 below is in
-      let now : lane_of new after (link.Coa p) ≡ get_or mid k no_lane =
-      ap (λ (n : ℕ). get_or after n no_lane) at ∙ still k within in
-      let stands : StandsFor new k no_lane (lane_of new after (link.Coa p)) =
-      subst (StandsFor new k no_lane) (sym now) fresh in
-      subst (λ (n : ℕ). StandsFor new n (lane_before old new first (link.Coa p)) (lane_of new after (link.Coa p))) (sym at)
-      (subst (λ (l : LaneState). StandsFor new k l (lane_of new after (link.Coa p))) (sym (peer_before p false is)) stands)
-
-  -- a further one's
-  further_stands : (p : ℕ) → length old.peers ≤ p → p < length new.peers
-      → StandsFor new (coa_place new p) (lane_before old new first (link.Coa p)) (lane_of new after (link.Coa p))
-  further_stands p past below =
-      let k = coa_place new p in
-      let behind : length mid ≤ k = omega (arith, mid_count, many, past) in
-      let within : k < link_count new = omega (arith, below) in
-      let kept = kept_past keeps_coa old.peers new.peers p past in
-      let none : lane_before old new first (link.Coa p) ≡ no_lane =
-      peer_before p true kept
-      ∙ get_or_past first (coa_place old p) no_lane (omega (arith, count, past)) in
-      let zero_cursor : get_or (cursors_of after) k 0 ≡ 0 =
-      ap (λ (ns : List ℕ). get_or ns k 0) more.cursors
-      ∙ get_or-append_right (cursors_of mid) (replicate (link_count new - length mid) 0) (length mid) k 0
-      (length-map mid (λ (l : LaneState). l.cursor)) behind
-      ∙ get_or-replicate (link_count new - length mid) (k - length mid) 0 0 (omega (arith, behind, within)) in
-      subst (λ (l : LaneState). StandsFor new k l (lane_of new after (link.Coa p))) (sym none) (record {
-        cursor = sym (cursor_at after k) ∙ zero_cursor;
-        places = λ id. more.free k id behind;
-        tag = tag_of_lane new.index (link_count new) k after tags_after within;
-        made = λ server. absurd (omega (arith, server));
-      })
-
-  pub keeps_moved : AreMoved old new first after
-  keeps_moved = record {
-    count = more.number;
-    each = λ m is. of_link m is;
-  }
-    where
-      of_link : (m : Link) → IsLink new m
-          → StandsFor new (link_place new m) (lane_before old new first m) (lane_of new after m)
-      of_link (link.Auth s) is =
-          server_stands (link.Auth s) s refl refl (omega (arith, many, is))
-          (ap (option_map (λ t. link.Auth t)) (server_before old new s stand))
-      of_link (link.Acct s) is =
-          server_stands (link.Acct s) (length new.realm.servers + s) refl (omega (arith, many)) (omega (arith, many, is))
-          (ap (option_map (λ t. link.Acct t)) (server_before old new s stand))
-      of_link (link.Coa p) is =
-          elim (cases_lt p (length old.peers))
-          as (λ _. StandsFor new (coa_place new p) (lane_before old new first (link.Coa p)) (lane_of new after (link.Coa p))) [
-            | inl was ↦ peer_stands p (of_peer keeps_coa old.peers new.peers p) refl was
-            | inr past ↦ further_stands p past is
-          ]

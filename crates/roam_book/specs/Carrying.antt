@@ -1,10 +1,7 @@
 -- What is at hand when a realm goes on under another part of a configuration: words of private functions alone (ours).
-use Rattle.std.specs.Prelude.{◌≡◌, ◌⊎◌, true, false, ℕ, ◌<◌, ◌≤◌, List, [], ◌∷◌, length, map, Option, Some, None, slice_get, vec_capacity}
-use Rattle.std.specs.Borrow.{Bor}
+use Rattle.std.specs.Prelude.{◌≡◌, ◌⊎◌, Bool, true, false, ℕ, ◌<◌, ◌≤◌, List, [], ◌∷◌, ◌++◌, if◌then◌else◌, length, map, Option, Some, None, slice_get, vec_capacity}
 use Rattle.std.specs.List.{AllByRecursion}
 use Rattle.roam_conf.specs.Config.{PeerView}
-use Rattle.roam_conf.specs.Parts.{shown_peer}
-use Rattle.roam_conf.specs.declared.peer.Peer.{Peer}
 use Rattle.roam_conf.specs.Duplicates.{has_pair_of_servers}
 use Rattle.roam_pending.specs.ListLaws.{IsIn}
 use Rattle.roam_reload.specs.Kept.{same_out, same_servers}
@@ -17,9 +14,14 @@ use Rattle.roam_book.specs.declared.rules.carried_lanes.FreshLanes.{FreshLanes}
 use Rattle.roam_book.specs.declared.rules.losses.Loss.{Loss}
 use Rattle.roam_book.specs.declared.state.realm_numbers.RealmNumbers.{RealmNumbers}
 
--- a peer that is looked at
-abbrev pub seen_peer : Bor Peer → PeerView
-seen_peer b = shown_peer b.now
+-- what holds where it isn't told otherwise
+abbrev pub Unless : Bool → Type 0 → Type 0
+Unless true P = Unit {0}
+Unless false P = P
+
+-- numbers, and one more where it counts
+abbrev pub noted : List ℕ → ℕ → Bool → List ℕ
+noted numbers number counts = if counts then numbers ++ number ∷ [] else numbers
 
 -- each is less than all that stand behind it
 abbrev pub AreRising : List ℕ → Type 0

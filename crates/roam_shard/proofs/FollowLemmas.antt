@@ -125,8 +125,8 @@ here_within config r is = there_within config.realms r (slice_get config.realms 
     there_within : (realms : List RealmTable) (r : ℕ) (o : Option RealmTable) → slice_get realms r ≡ o
         → option_map_or (λ r. not r.gone) (slice_get realms r) false ≡ true → r < length realms
     there_within realms r None at is =
-        absurd (let bad : false ≡ true = sym (ap (λ (o : Option RealmTable). option_map_or (λ r. not r.gone) o false) at)
-        ∙ is in cc)
+        absurd (let bad : false ≡ true =
+        sym (ap (λ (o : Option RealmTable). option_map_or (λ r. not r.gone) o false) at) ∙ is in cc)
     there_within realms r (Some x) at is = some_within realms r x at
 
 module _ {A : Type 0} where

@@ -29,6 +29,13 @@ use Rattle.roam_shard.proofs.FollowLemmas.{AreReady, Cleared, HasNumbersAt, begi
 use Rattle.roam_shard.proofs.OpeningLemmas.{sound_fresh, state_fresh}
 use Rattle.roam_shard.proofs.ShardLemmas.{length-states}
 
+-- what stands at a place, by what is left from there on
+pub next_made : {X : Type 0} (xs left : List X) (k : ℕ) (x : X)
+    → ((j : ℕ) → slice_get left j ≡ slice_get xs (k + j)) → slice_get left 0 ≡ Some x → slice_get xs k ≡ Some x
+next_made xs left k x behind first =
+    let e : k ≡ k + 0 = omega arith in
+    ap (slice_get xs) e ∙ sym (behind 0) ∙ first
+
 or_none : (a b : Bool) → (a || b) ≡ false → (a ≡ false) × (b ≡ false)
 or_none true b none = absurd (cc none)
 or_none false b none = (refl, none)
@@ -42,7 +49,8 @@ module _ {A : Type 0} (old new : ConfigView) (realm : ℕ) (there : Option (Opti
   pub sound_from : (lanes : Option (FreshLanes A)) → CanGoOver old new realm es there lanes → (n : RealmNumbers A)
       → there ≡ Some (Some n) → IsSound (realm_config old realm) es n
   sound_from lanes can n at =
-      subst (λ (x : RealmNumbers A). IsSound (realm_config old realm) es x) (are_those can.numbers n can.at at) can.sound
+      subst (λ (x : RealmNumbers A). IsSound (realm_config old realm) es x) (are_those can.numbers n can.at at)
+      can.sound
 
   pub ready_from : (lanes : Option (FreshLanes A)) → CanGoOver old new realm es there lanes → (n : RealmNumbers A)
       → there ≡ Some (Some n) → IsReadyToCarry (realm_config old realm) (realm_config new realm) n lanes
@@ -236,7 +244,8 @@ module _ {A : Type 0} (old new : ConfigView) (shard : ℕ) where
         let list : IsEntryList (E r) = cleared.lists are.lists r in
         record {
           own = ap (λ (x : Option (RealmNumbers A)). is_some x) then'.is ∙ sym goes.own;
-          list = subst IsEntryList (sym (ap (λ (s : RealmState). s.entries) then'.over.state)) (list_then b c (E r) list);
+          list = subst IsEntryList (sym (ap (λ (s : RealmState). s.entries) then'.over.state))
+              (list_then b c (E r) list);
           sound = λ n eq. (
               let both : Some after ≡ Some n = sym then'.is ∙ eq in let same : after ≡ n = cc in
               subst (λ (x : RealmNumbers A). IsSound c es x) same then'.over.sound);

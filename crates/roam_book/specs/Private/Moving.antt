@@ -91,7 +91,8 @@ pub record IsMoving (old new : RealmConfig) (first before after : List LaneState
   pub count_after : length after ≡ link_count new
   pub moved : (m : Link) → IsLink new m → link_place new m < k
       → StandsFor new (link_place new m) (lane_before old new first m) (lane_of new after m)
-  pub fresh : (place : ℕ) → k ≤ place → place < link_count new → StandsFor new place no_lane (slice_index_or after place no_lane)
+  pub fresh : (place : ℕ) → k ≤ place → place < link_count new
+      → StandsFor new place no_lane (slice_index_or after place no_lane)
   pub left : (l : Link) → IsLink old l
       → ((m : Link) → IsLink new m → way_before old new m ≡ Some l → k ≤ link_place new m)
       → lane_of old before l ≡ lane_of old first l

@@ -72,6 +72,7 @@ pub(crate) fn link_at(settings: &RealmSettings<'_>, place: usize) -> Link
 /// The place of the lane that a link had, if it was there and the same.
 fn place_before(old: &RealmSettings<'_>, new: &RealmSettings<'_>, link: Link) -> Option<usize>
     ensures some { IfSome result (λ place. IsPlaceBefore old.now new.now link place) }
+    ensures within { IfSome result (λ place. place < link_count old.now) }
     ensures none { IfNone result (IsLeft old.now new.now link) }
 {
     match way_before(old, new, link) {
@@ -189,7 +190,8 @@ fn renew_lanes<A: Allocator + Copy>(
 }
 
 impl<A: Allocator + Copy> RealmNumbers<A> {
-    /// Each lane stays where it is, those of peers begin anew whose `coa` isn't what it was, and further peers have one.
+    /// Each lane stays where it is, those of peers begin anew whose `coa` isn't what it was, and further peers have
+    /// one.
     fn keep_lanes(&mut self, old: &RealmSettings<'_>, new: &RealmSettings<'_>, changed: &[u16])
         requires index { new.now.index ≡ old.now.index }
         requires changed { AreChanged old.now.peers new.now.peers changed.now }

@@ -1,14 +1,14 @@
 //! A realm that goes on under another part of a configuration.
 
-ghost use Rattle.std.specs.Prelude.{◌≡◌, ◌≤◌, ◌^◌, IfOk, List, None, OnErr, OnOk, Some, false, length, map};
-ghost use Rattle.std.specs.Prelude.{option_map, true, vec_capacity};
+ghost use Rattle.std.specs.Prelude.{◌≡◌, ◌<◌, ◌≤◌, ◌^◌, IfOk, List, None, OnErr, OnOk, length, map, slice_get};
+ghost use Rattle.std.specs.Prelude.{true, vec_capacity};
 ghost use Rattle.roam_conf.specs.Parts.{shown_peer};
 ghost use Rattle.roam_conf.specs.Shown.{shown};
 ghost use Rattle.roam_pending.specs.PlainEntry.{PlainEntry};
 ghost use Rattle.roam_reload.specs.Reload.{IsCarried, peer_part};
 ghost use Rattle.roam_book.specs.BookView.{settings_of};
 ghost use Rattle.roam_book.specs.Carrying.{AreChanged, HaveDistinctServers, IsReadyToCarry, StandsAsItIs};
-ghost use Rattle.roam_book.specs.Carrying.{seen_peer};
+ghost use Rattle.roam_book.specs.Carrying.{Unless, noted};
 ghost use Rattle.roam_book.specs.Private.MoreLanes.{AreMoreLanes};
 ghost use Rattle.roam_book.specs.RealmConfig.{RealmConfig, link_count};
 ghost use Rattle.roam_book.specs.Reload.{AsIfNothingChanged, CarriedAddsNothing, CarriedHasPlaces, CarriedTakesNoMore};
@@ -45,15 +45,29 @@ fn add_lanes<A: Allocator + Copy>(
     }
 }
 
-/// Whether a peer's table is another one, or isn't there any more.
-fn is_changed(old: &Peer, new: Option<&Peer>) -> bool
-    ensures { result ≡ false
-        → option_map peer_part (option_map seen_peer new.entry) ≡ Some (peer_part (shown_peer old.now)) }
+/// Whether the table of a peer's number is another one, or isn't there any more.
+fn is_changed_at(old: &[Peer], new: &[Peer], i: usize) -> bool
+    requires { i < length old.now }
+    ensures { Unless result (slice_get (map peer_part (map shown_peer new.now)) i
+        ≡ slice_get (map peer_part (map shown_peer old.now)) i) }
 {
-    match new {
-        None => true,
-        Some(new) => peer_difference(old, new).is_some(),
+    if i >= new.len() {
+        return true;
     }
+    match peer_difference(&old[i], &new[i]) {
+        None => false,
+        Some(_) => true,
+    }
+}
+
+/// Notes a number, where it counts.
+fn note<A: Allocator>(numbers: &mut Vec<u16, A>, number: u16, counts: bool) -> Result<(), NoMemory>
+    ensures { OnOk result (numbers.new.items ≡ noted numbers.old.items number counts) }
+{
+    if counts {
+        numbers.push(number)?;
+    }
+    Ok(())
 }
 
 /// The peers whose tables aren't what they were, but for which of their Access-Requests need a Message-Authenticator:
@@ -68,9 +82,7 @@ pub fn changed_peers<A: Allocator + Copy>(
 {
     let mut changed = Vec::new(alloc);
     for i in 0..old.len() {
-        if is_changed(&old[i], new.get(i)) {
-            changed.push(i as u16)?;
-        }
+        note(&mut changed, i as u16, is_changed_at(old, new, i))?;
     }
     Ok(changed)
 }
@@ -136,7 +148,13 @@ pub(crate) fn is_untouched(
     requires { AreChanged old.now.peers new.now.peers changed.now }
     ensures { result ≡ true → StandsAsItIs old.now new.now }
 {
-    changed.is_empty() && realm_difference(old.realm(), new.realm()).is_none()
+    if !changed.is_empty() {
+        return false;
+    }
+    match realm_difference(old.realm(), new.realm()) {
+        None => true,
+        Some(_) => false,
+    }
 }
 
 /// Whether a realm goes on just as it stands: nothing of it is touched, and each lane stays where it is.

@@ -1,14 +1,10 @@
 -- One realm goes over after the other.
-use Rattle.std.proofs.Common.{◌≡◌, ◌≢◌, ◌∙◌, ℕ, suc, ◌+◌, ◌<◌, length, List, Some, refl, sym, subst, ap, arith}
+use Rattle.std.proofs.Common.{◌≡◌, ◌∙◌, ℕ, suc, ◌+◌, ◌<◌, length, List, refl, sym, subst, ap, arith}
 use Rattle.std.specs.Prelude.{slice_get}
 use Rattle.std.specs.Vec.Iter.{into_iter_items}
 use Rattle.roam_conf.specs.Shown.{shown}
-use Rattle.roam_pending.specs.PlainEntry.{PlainEntry}
 use Rattle.roam_tables.specs.Stands.{entries_in}
-use Rattle.roam_shard.specs.Pausing.{CanGoOver, GoesOn}
-use Rattle.roam_shard.proofs.OverLemmas.{all_over, can_still, none_over, one_over}
-use Rattle.roam_shard.proofs.following.all_over.Given.{Over}
-use Rattle.roam_shard.proofs.following.all_over.Goals.{In-Some}
+use Rattle.roam_shard.proofs.OverLemmas.{all_over, can_still, next_made, none_over, one_over}
 use Rattle.roam_shard.proofs.following.all_over.Goals as goal
 
 pub loop-realm-init : goal.loop-realm-init
@@ -27,15 +23,6 @@ loop-realm-init g c =
       room = c.requires.room;
     }
 
--- the memory of the realm that is next
-made : (g : Over) (c : In-Some g) → slice_get c.args.fresh.realms.items c.loop-realm.index ≡ Some c.in-Some.realm
-made g c =
-    let k = c.loop-realm.index in
-    let first : slice_get (into_iter_items c.loop-realm.realm-iterator) 0 ≡ Some c.in-Some.realm =
-    ap (λ (l : List _). slice_get l 0) c.in-Some.ensures.steps.0 in
-    let e : k + 0 ≡ k = omega arith in
-    ap (slice_get c.args.fresh.realms.items) (sym e) ∙ sym (c.loop-realm.invariant.behind 0) ∙ first
-
 pub go_over-after-requires-clause-configured : goal.go_over-after-requires-clause-configured
 go_over-after-requires-clause-configured g c =
     let inv = c.loop-realm.invariant in
@@ -49,10 +36,12 @@ go_over-after-requires-clause-within g c =
 
 pub go_over-after-requires-clause-can : goal.go_over-after-requires-clause-can
 go_over-after-requires-clause-can g c = λ goes.
+    let made = next_made c.args.fresh.realms.items (into_iter_items c.loop-realm.realm-iterator) c.loop-realm.index
+    c.in-Some.realm c.loop-realm.invariant.behind (ap (λ (l : List _). slice_get l 0) c.in-Some.ensures.steps.0) in
     can_still (shown c.args.change.from.now) (shown c.args.change.to.now) c.args.change.shard c.args.before.now.items
     c.loop-realm.before.items (entries_in c.args.entries.now) (entries_in c.loop-realm.entries)
     c.args.fresh.realms.items c.loop-realm.numbers.items c.loop-realm.index c.in-Some.realm
-    c.loop-realm.invariant.over c.requires.can (made g c) goes
+    c.loop-realm.invariant.over c.requires.can made goes
 
 pub push_reserved-requires : goal.push_reserved-requires
 push_reserved-requires g c =
@@ -67,12 +56,15 @@ loop-realm-preserved g c =
     let steps = c.in-Some.ensures.steps in
     let short = ap length steps.0 in
     let one = c.go_over-after.ensures in
+    let made = next_made c.args.fresh.realms.items (into_iter_items c.loop-realm.realm-iterator) k c.in-Some.realm
+    inv.behind (ap (λ (l : List _). slice_get l 0) steps.0) in
     record {
       over = rw c.push_reserved.ensures.items
           (one_over (shown c.args.change.from.now) (shown c.args.change.to.now) c.args.change.shard
-          c.args.before.now.items c.loop-realm.before.items c.go_over-after.new.before.items (entries_in c.args.entries.now)
+          c.args.before.now.items c.loop-realm.before.items c.go_over-after.new.before.items
+          (entries_in c.args.entries.now)
           (entries_in c.loop-realm.entries) (entries_in c.go_over-after.new.entries) c.args.fresh.realms.items
-          c.loop-realm.numbers.items k c.in-Some.realm c.go_over-after.result inv.over (made g c) one.over one.others
+          c.loop-realm.numbers.items k c.in-Some.realm c.go_over-after.result inv.over made one.over one.others
           one.before one.before_count);
       realms = one.realms ∙ inv.realms;
       behind = λ j. (

@@ -1,5 +1,5 @@
 -- A realm that goes on is configured in both, and its servers are distinct there.
-use Rattle.std.proofs.Common.{ℕ, ◌<◌, ◌∙◌, length, ap, subst, sym, arith}
+use Rattle.std.proofs.Common.{◌∙◌, ap, sym, arith}
 use Rattle.std.proofs.lemmas.List.{length-map}
 use Rattle.roam_conf.specs.Parts.{shown_realm}
 use Rattle.roam_conf.specs.Shown.{shown}
@@ -8,7 +8,6 @@ use Rattle.roam_book.specs.RealmConfig.{RealmConfig}
 use Rattle.roam_shard.proofs.FollowLemmas.{here_within}
 use Rattle.roam_shard.proofs.OverLemmas.{distinct_in, gone_by}
 use Rattle.roam_shard.proofs.ShardLemmas.{as_many}
-use Rattle.roam_shard.proofs.following.carried.Given.{Over}
 use Rattle.roam_shard.proofs.following.carried.Goals as goal
 
 pub new-old-requires : goal.new-old-requires

@@ -1,5 +1,5 @@
 -- The numbers of a realm that goes on go over with its entries.
-use Rattle.std.proofs.Common.{◌≡◌, ◌∙◌, Some, None, inl, inr, sym, subst, refl, ap}
+use Rattle.std.proofs.Common.{◌≡◌, ◌∙◌, Some, None, inl, inr, sym, refl, ap}
 use Rattle.std.specs.Prelude.{Option, slice_get, unwrap_or}
 use Rattle.roam_conf.specs.Shown.{shown}
 use Rattle.roam_tables.specs.Stands.{entries_in}
@@ -55,7 +55,8 @@ returns-in-None-clause-over g c =
     let at : Some None ≡ Some (Some can.numbers) = sym (get-read c.args.before.now.items c.args.realm
     c.index_mut.result.now (c.requires.within goes) c.index_mut.ensures.value
     ∙ ap Some (sym c.take.ensures.value ∙ c.in-None.is)) ∙ can.at in
-    absurd (let bad : None ≡ Some can.numbers = ap (λ (o : Option (Option (RealmNumbers _))). unwrap_or o None) at in cc)
+    absurd (let bad : None ≡ Some can.numbers =
+    ap (λ (o : Option (Option (RealmNumbers _))). unwrap_or o None) at in cc)
 
 pub returns-in-None-clause-before : goal.returns-in-None-clause-before
 returns-in-None-clause-before g c = λ r ne. get-set_other c.args.before.now.items c.args.realm r c.take.new.self ne

@@ -1,4 +1,4 @@
-use Rattle.std.proofs.Common.{◌∙◌, sym}
+use Rattle.std.proofs.Common.{sym}
 use Rattle.std.proofs.lemmas.Option.{IfSome_then}
 use Rattle.roam_pending.specs.Shown.{shown}
 use Rattle.roam_book.proofs.EntriesOverLemmas.{ends_found, none_found, none_then}

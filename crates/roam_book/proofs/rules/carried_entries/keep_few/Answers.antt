@@ -12,8 +12,8 @@ returns-then-keeps_fewer-clause-entries g c =
       others = become.others;
     }
 
-pub returns-clause-entries : goal.returns-clause-entries
-returns-clause-entries g c = record {
+pub returns-else-keeps_fewer-clause-entries : goal.returns-else-keeps_fewer-clause-entries
+returns-else-keeps_fewer-clause-entries g c = record {
   here = as_many_now c.args.old.now c.args.new.now
       (g.E.Entries.entries_of c.args.entries.now c.args.old.now.index)
       (c.keeps_fewer.ensures.as_many c.if-keeps_fewer.false);

@@ -1,4 +1,4 @@
-use Rattle.std.proofs.Common.{◌∙◌, ap, arith, refl, sym}
+use Rattle.std.proofs.Common.{◌∙◌, arith, refl, sym}
 use Rattle.roam_book.proofs.EntriesOverLemmas.{none_left}
 use Rattle.roam_book.proofs.FewLemmas.{one_fewer, turn}
 use Rattle.roam_book.proofs.rules.carried_entries.make_way.Goals as goal
@@ -12,12 +12,12 @@ loop-ticket-preserved g c =
     let first = g.E.Entries.entries_of c.args.entries.now c.args.realm in
     let cur = g.E.Entries.entries_of c.loop-ticket.entries c.args.realm in
     let go = c.in-Some.ensures.some in
-    let become = c.remove.ensures.entries in
+    let become = c.remove-gone.ensures.entries in
     record {
       left = rw become.here (turn c.args.most first cur c.in-Some.ticket c.in-Some.ensures.list.in_order go.0 go.1
           c.loop-ticket.invariant.left);
       others = λ r ne. become.others r ne ∙ c.loop-ticket.invariant.others r ne;
-      kept = c.remove.ensures.keeps ∙ c.loop-ticket.invariant.kept;
+      kept = c.remove-gone.ensures.keeps ∙ c.loop-ticket.invariant.kept;
     }
 
 pub loop-ticket-smaller : goal.loop-ticket-smaller
@@ -25,7 +25,7 @@ loop-ticket-smaller g c =
     let cur = g.E.Entries.entries_of c.loop-ticket.entries c.args.realm in
     let go = c.in-Some.ensures.some in
     let fewer = one_fewer cur c.in-Some.ticket c.in-Some.ensures.list.in_order go.0 in
-    rw c.remove.ensures.entries.here (omega (arith, fewer))
+    rw c.remove-gone.ensures.entries.here (omega (arith, fewer))
 
 -- none is left that makes way, or there are few enough
 pub returns-clause-entries : goal.returns-clause-entries

@@ -7,6 +7,12 @@ loop-place-init g c =
     none_moved c.args.old.now c.args.new.now c.args.before.now.items c.args.after.now.items c.requires.count
     c.requires.fresh
 
+pub fill_place-requires-clause-before : goal.fill_place-requires-clause-before
+fill_place-requires-clause-before g c = c.loop-place.invariant.count_before
+
+pub fill_place-requires-clause-after : goal.fill_place-requires-clause-after
+fill_place-requires-clause-after g c = c.loop-place.invariant.count_after
+
 pub loop-place-preserved : goal.loop-place-preserved
 loop-place-preserved g c =
     c.fill_place.ensures c.args.before.now.items c.requires.count c.requires.lanes c.loop-place.invariant

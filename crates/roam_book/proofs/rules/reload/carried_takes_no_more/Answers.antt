@@ -5,7 +5,8 @@ use Rattle.roam_book.proofs.CarriedOverLemmas.{carried_sound}
 use Rattle.roam_book.proofs.MovedRestLemmas.{all_rest}
 use Rattle.roam_book.proofs.MovingLemmas.{one_goes}
 use Rattle.roam_book.proofs.EndsLemmas.{held_on}
-use Rattle.roam_book.proofs.RenewLemmas.{keeps_moved}
+use Rattle.roam_book.proofs.EntriesOverLemmas.{first_none}
+use Rattle.roam_book.proofs.KeptLaneLemmas.{keeps_moved}
 use Rattle.roam_book.proofs.FewLemmas.{tells_left}
 use Rattle.roam_book.proofs.CarriedSessionLemmas.{newest_left}
 use Rattle.roam_book.proofs.rules.reload.carried_takes_no_more.Goals as goal

@@ -1,4 +1,4 @@
-use Rattle.std.proofs.Common.{◌∙◌, arith}
+use Rattle.std.proofs.Common.{arith}
 use Rattle.roam_book.specs.Reload.{Carries}
 use Rattle.roam_book.proofs.CarriedOverLemmas.{ready_none, untouched_state}
 use Rattle.roam_book.proofs.EntriesOverLemmas.{no_fewer}

@@ -4,6 +4,15 @@ use Rattle.roam_book.specs.Sound.{AreOwnLanes, Mark}
 use Rattle.roam_book.proofs.CarriedOverLemmas.{carried_sound, carried_state, still_ready}
 use Rattle.roam_book.proofs.rules.reload.carry_touched.Goals as goal
 
+pub carry_entries-requires-clause-each : goal.carry_entries-requires-clause-each
+carry_entries-requires-clause-each g c = c.requires.sound.each
+
+pub carry_entries-requires-clause-count : goal.carry_entries-requires-clause-count
+carry_entries-requires-clause-count g c = c.requires.sound.lane_count
+
+pub carry_entries-requires-clause-tells : goal.carry_entries-requires-clause-tells
+carry_entries-requires-clause-tells g c = c.requires.sound.lanes_tell
+
 pub carry_lanes-requires-clause-count : goal.carry_lanes-requires-clause-count
 carry_lanes-requires-clause-count g c = c.carry_entries.ensures.keeps.count ∙ c.requires.sound.lane_count
 

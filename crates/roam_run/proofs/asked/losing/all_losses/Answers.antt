@@ -1,5 +1,5 @@
 -- The peers whose tables are other ones than those of the hub's configuration.
-use Rattle.std.proofs.Common.{subst, sym}
+use Rattle.std.proofs.Common.{subst}
 use Rattle.roam_conf.specs.Config.{ConfigView}
 use Rattle.roam_conf.specs.Shown.{shown}
 use Rattle.roam_book.specs.Carrying.{AreChanged}

@@ -1,5 +1,5 @@
 -- A realm that goes on has numbers, which stand for the same with more room.
-use Rattle.std.proofs.Common.{◌≡◌, ◌∙◌, ◌<◌, Some, refl, arith}
+use Rattle.std.proofs.Common.{◌≡◌, ◌∙◌, Some, refl, arith}
 use Rattle.std.specs.Prelude.{slice_get}
 use Rattle.std.proofs.lemmas.Result.{IfOk-weaker}
 use Rattle.roam_conf.specs.Shown.{shown}

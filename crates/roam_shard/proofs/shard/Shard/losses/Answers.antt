@@ -1,5 +1,5 @@
 -- What goes of a realm is told as it stands.
-use Rattle.std.proofs.Common.{◌≡◌, ◌<◌, ◌∙◌, ℕ, Some, List, length, refl, ap, sym, subst, arith}
+use Rattle.std.proofs.Common.{◌∙◌, List, length, refl, ap, sym, subst, arith}
 use Rattle.std.specs.Prelude.{slice_get}
 use Rattle.std.proofs.lemmas.List.{length-map}
 use Rattle.std.proofs.lemmas.Option.{slice_get_within}
@@ -7,7 +7,6 @@ use Rattle.roam_conf.specs.Config.{ConfigView}
 use Rattle.roam_conf.specs.Parts.{shown_realm}
 use Rattle.roam_conf.specs.Shown.{shown}
 use Rattle.roam_book.specs.Carrying.{AreChanged}
-use Rattle.roam_book.specs.RealmConfig.{RealmConfig}
 use Rattle.roam_shard.specs.ShardView.{ShardView, shown_opening}
 use Rattle.roam_shard.proofs.FollowLemmas.{here_within}
 use Rattle.roam_shard.proofs.LookLemmas.{carried_lost, gone_lost}

@@ -1,4 +1,4 @@
-use Rattle.std.proofs.Common.{◌∙◌, ap, arith, sym}
+use Rattle.std.proofs.Common.{◌∙◌, arith, sym}
 use Rattle.roam_book.proofs.CarriedSessionLemmas.{told_alike, told_otherwise}
 use Rattle.roam_book.proofs.state.realm_numbers.RealmNumbers.carry_sessions.Goals as goal
 

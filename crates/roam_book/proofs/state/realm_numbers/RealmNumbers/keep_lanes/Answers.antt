@@ -1,6 +1,6 @@
-use Rattle.std.proofs.Common.{◌∙◌, arith}
+use Rattle.std.proofs.Common.{arith}
 use Rattle.roam_book.proofs.EntriesOverLemmas.{no_fewer}
-use Rattle.roam_book.proofs.RenewLemmas.{keeps_moved}
+use Rattle.roam_book.proofs.KeptLaneLemmas.{keeps_moved}
 use Rattle.roam_book.proofs.state.realm_numbers.RealmNumbers.keep_lanes.Goals as goal
 
 pub add_lanes-requires-clause-few : goal.add_lanes-requires-clause-few

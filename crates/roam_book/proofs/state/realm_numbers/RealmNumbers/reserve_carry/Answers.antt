@@ -1,4 +1,3 @@
-use Rattle.std.proofs.Common.{refl}
 use Rattle.roam_book.proofs.CarriedOverLemmas.{same_sound, same_state}
 use Rattle.roam_book.proofs.state.realm_numbers.RealmNumbers.reserve_carry.Goals as goal
 

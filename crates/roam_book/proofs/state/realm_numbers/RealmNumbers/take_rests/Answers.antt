@@ -15,8 +15,8 @@ returns-then-not-has_same_servers g c =
       sessions = refl;
     }
 
-pub returns : goal.returns
-returns g c =
+pub returns-else-not-has_same_servers : goal.returns-else-not-has_same_servers
+returns-else-not-has_same_servers g c =
     let test = rw (c.realm.ensures, c.realm-2.ensures) at c.has_same_servers.ensures in
     record {
       rests = rests_kept c.args.old.now c.args.new.now c.args.self.now.rests.items
