@@ -1,6 +1,6 @@
 //! The ledgers of sessions are kept from time to time while the others serve, and at the end.
 
-ghost use Rattle.std.specs.Prelude.{◌≡◌, IfOk, List, OnOk};
+ghost use Rattle.std.specs.Prelude.{◌≡◌, ◌<◌, IfOk, List, OnOk, vec_len};
 ghost use Rattle.roam_ledgers.specs.Ledgers.{SavedItem, ledgers_text};
 ghost use Rattle.roam_book.specs.Written.{GainsItems};
 
@@ -72,6 +72,25 @@ fn write_realm<R: Wait, G, N: Opened>(
     Ok(())
 }
 
+/// Writes the realm of an index and its sessions, where it is here.
+#[tactic(auto, using(crate::proofs::GainLemmas::gains_none))]
+fn write_if_here<R: Wait, G, N: Opened>(
+    rt: &R,
+    shared: &Shared<'_, '_, G, N>,
+    seat: &Seat<Global, N>,
+    index: usize,
+    writing: &mut Writing<Global>,
+) -> Result<(), AllocError>
+    requires { index < vec_len shared.now.config.now.realms }
+    ensures { OnOk result (GainsItems writing.old writing.new) }
+{
+    if shared.config.realms[index].gone {
+        return Ok(());
+    }
+    write_realm(rt, shared, seat, index as u16, writing)?;
+    Ok(())
+}
+
 /// The ledgers of all realms that are here, as a file keeps them.
 fn ledgers_of<R: Wait, G, N: Opened>(
     rt: &R,
@@ -82,9 +101,7 @@ fn ledgers_of<R: Wait, G, N: Opened>(
 {
     let mut writing = Writing::new(shared.alloc)?;
     for index in 0..shared.config.realms.len() {
-        if !shared.config.realms[index].gone {
-            write_realm(rt, shared, seat, index as u16, &mut writing)?;
-        }
+        write_if_here(rt, shared, seat, index, &mut writing)?;
     }
     let octets = writing.finish()?;
     Ok(octets)
