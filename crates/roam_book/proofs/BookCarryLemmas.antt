@@ -1,5 +1,6 @@
 -- What a configuration gives to a realm that is carried over from it, or to it.
 use Rattle.std.proofs.Common.{◌≡◌, ℕ, zero, suc, ◌<◌, Bool, true, false, not, List, [], ◌∷◌, Option, Some, None, refl, sym, ap, subst, ◌∙◌, length, slice_get, slice_index_or}
+use Rattle.std.specs.Prelude.{Err, Ok, OnErr, Result}
 use Rattle.std.specs.List.{list_any}
 use Rattle.std.specs.Option.{option_map_or}
 use Rattle.std.proofs.lemmas.Bool.{or_parts}
@@ -13,6 +14,7 @@ use Rattle.roam_reload.specs.Numbers.{is_here}
 use Rattle.roam_book.specs.BookView.{BookView, settings_of}
 use Rattle.roam_book.specs.Carrying.{AreChanged}
 use Rattle.roam_book.specs.RealmConfig.{RealmConfig, no_realm, realm_config}
+use Rattle.roam_book.specs.RealmState.{RealmState}
 use Rattle.roam_book.specs.Reload.{carried}
 use Rattle.roam_book.specs.Sound.{IsSound, state_of}
 use Rattle.roam_book.specs.declared.state.realm_numbers.RealmNumbers.{RealmNumbers}
@@ -77,3 +79,15 @@ peers-changed ps qs os ns changed items old new same h =
     subst (λ (l : List ℕ). AreChanged os ns l) (sym same)
     (subst (λ (l : List PeerView). AreChanged os l items) new
     (subst (λ (l : List PeerView). AreChanged l qs items) old h))
+
+-- what holds whatever was given
+pub whatever : {T E : Type 0} (r : Result T E) (P : Type 0) → P → OnErr r P
+whatever (Ok x) P holds = tt
+whatever (Err e) P holds = holds
+
+-- the book is as it was where its state is
+pub same-view : (config : ConfigView) (realm : ℕ) (s t : RealmState) (view : BookView) → s ≡ t
+    → record { config = config; realm = realm; state = t } ≡ view
+    → record { config = config; realm = realm; state = s } ≡ view
+same-view config realm s t view same is =
+    ap (λ (u : RealmState). let v : BookView = record { config = config; realm = realm; state = u } in v) same ∙ is

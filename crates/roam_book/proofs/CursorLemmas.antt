@@ -112,7 +112,7 @@ list_then_zeros xs count few =
       few,
       from_length (slice_index xs) 0 count,
       length-append xs zeros,
-      length-replicate (count - length xs) 0,
+      length-replicate {A = ℕ} (count - length xs) 0,
     ) in
     same_number_lists (from (slice_index xs) 0 count) (xs ++ zeros) size (λ i below. at i below)
   where

@@ -104,9 +104,9 @@ pub server_links_stand : (c : RealmConfig) → StandFrom c 0 (server_links_of c)
 server_links_stand c =
     let n = length c.realm.servers in
     stand_both c 0 n (server_links service.Authentication 0 c.realm.servers)
-    (server_links service.Accounting 0 c.realm.servers) (auths_stand c 0 c.realm.servers refl)
+    (server_links service.Accounting 0 c.realm.servers) (auths_stand c 0 c.realm.servers (omega arith))
     (omega (arith, servers_number service.Authentication 0 c.realm.servers))
-    (accts_stand c 0 n c.realm.servers refl (omega arith))
+    (accts_stand c 0 n c.realm.servers (omega arith) (omega arith))
 
 pub server_links_number : (c : RealmConfig) → length (server_links_of c) ≡ server_link_count c
 server_links_number c =
@@ -126,7 +126,7 @@ peers_number k (p ∷ ps) = ap suc (peers_number (k + 1) ps)
 pub links_stand : (c : RealmConfig) → StandFrom c 0 (links_of c)
 links_stand c =
     stand_both c 0 (server_link_count c) (server_links_of c) (peer_links 0 c.peers) (server_links_stand c)
-    (omega (arith, server_links_number c)) (coas_stand c 0 (server_link_count c) c.peers refl (omega arith))
+    (omega (arith, server_links_number c)) (coas_stand c 0 (server_link_count c) c.peers (omega arith) (omega arith))
 
 pub links_number : (c : RealmConfig) → length (links_of c) ≡ link_count c
 links_number c =
@@ -149,7 +149,7 @@ module _ {X : Type 0} (c : RealmConfig) (f : Link → X) (d : X) (xs : List X) w
       ap (λ (n : ℕ). get_or xs n d) (sym stand.1)
       ∙ at l stand.0 (omega (arith, count, stand.1)) in
       let rest : drop (suc k) xs ≡ map f ls = from_place (suc k) ls stand.2 (omega (arith, count)) at in
-      drop-cons xs k d below ∙ ap (λ (x : X). x ∷ drop (suc k) xs) here ∙ ap (λ (l : List X). f l ∷ l) rest
+      drop-cons xs k d below ∙ ap (λ (x : X). x ∷ drop (suc k) xs) here ∙ ap (λ (r : List X). f l ∷ r) rest
 
   pub by_links : (ls : List Link) → StandFrom c 0 ls → length xs ≡ length ls
       → ((l : Link) → IsLink c l → link_place c l < length xs → get_or xs (link_place c l) d ≡ f l)
@@ -189,7 +189,7 @@ own_at index (suc n) k below =
     let count = own_number index n in
     elim (cases_lt k n) as (λ _. get_or (own_tags index (suc n)) k 0 ≡ index * 65536 + k) [
       | inl before ↦ (
-          get_or_append_left (own_tags index n) (index * 65536 + n ∷ []) 0 k (omega (arith, count, before))
+          get_or_append_left (own_tags index n) ((index * 65536 + n) ∷ []) 0 k (omega (arith, count, before))
           ∙ own_at index n k before)
       | inr past ↦ (
           let here : k ≡ n = omega (arith, past, below) in

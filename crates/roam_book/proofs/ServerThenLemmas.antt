@@ -61,12 +61,12 @@ other_way a b h = same_again a b (are_same a b h)
 
 -- ---- where a server stands then
 
-record Stands (ss ts : List ServerView) (s t : ℕ) : Type 0 where
-  before : ServerView
-  after : ServerView
-  was : slice_get ss s ≡ Some before
-  is : slice_get ts t ≡ Some after
-  same : same_server before after ≡ true
+pub record Stands (ss ts : List ServerView) (s t : ℕ) : Type 0 where
+  pub before : ServerView
+  pub after : ServerView
+  pub was : slice_get ss s ≡ Some before
+  pub is : slice_get ts t ≡ Some after
+  pub same : same_server before after ≡ true
 
 one_more : {X : Type 0} (test : X → Bool) (k : ℕ) (x : X) (xs : List X) (t : ℕ)
     → ((i : ℕ) × (x : X) × (slice_get xs i ≡ Some x) × (test x ≡ true) × (t ≡ k + 1 + i))
@@ -170,8 +170,8 @@ some_then ss ts s t h =
 
 pub below_of : {X : Type 0} (xs : List X) (i : ℕ) (x : X) → slice_get xs i ≡ Some x → i < length xs
 below_of [] i x at = absurd (cc at)
-pub below_of (y ∷ ys) zero x at = omega arith
-pub below_of (y ∷ ys) (suc i) x at = let rest = below_of ys i x at in omega (arith, rest)
+below_of (y ∷ ys) zero x at = omega arith
+below_of (y ∷ ys) (suc i) x at = let rest = below_of ys i x at in omega (arith, rest)
 
 then_is : (ss ts : List ServerView) (s t : ℕ) → has_pair same_endpoint (server_endpoints ts) ≡ false
     → Stands ss ts s t → server_then ss ts s ≡ Some t

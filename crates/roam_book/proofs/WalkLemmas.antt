@@ -53,9 +53,9 @@ module _ (f : PlainEntry → Option PlainEntry)
   kept last x = if is_after last (due_at x) then Some x else as_was x
 
   -- of some entries these are there, changed up to the last one; and those that stay as they were
-  pub record IsWalk (es cur mid : List PlainEntry) (last : Option Due) : Type 0 where
-    pub cur : (t : ℕ) → find_ticket t cur ≡ option_and_then (part last) (find_ticket t es)
-    pub mid : (t : ℕ) → find_ticket t mid ≡ option_and_then (kept last) (find_ticket t es)
+  pub record IsWalk (es are stay : List PlainEntry) (last : Option Due) : Type 0 where
+    pub cur : (t : ℕ) → find_ticket t are ≡ option_and_then (part last) (find_ticket t es)
+    pub mid : (t : ℕ) → find_ticket t stay ≡ option_and_then (kept last) (find_ticket t es)
 
   all_there : (o : Option PlainEntry) → o ≡ option_and_then (part None) o
   all_there None = refl
@@ -264,16 +264,16 @@ fewer_pass p q (x ∷ xs) h =
 fewer_by_one : (p q : PlainEntry → Bool) (es : List PlainEntry) (e : PlainEntry) → IsIn e es
     → ((x : PlainEntry) → p x ≡ true → q x ≡ true) → p e ≡ false → q e ≡ true
     → length (filter p es) < length (filter q es)
-fewer_by_one p q [] e held h no yes' = absurd held
-fewer_by_one p q (x ∷ xs) e held h no yes' =
+fewer_by_one p q [] e held h away passes = absurd held
+fewer_by_one p q (x ∷ xs) e held h away passes =
     elim held as (λ _. length (filter p (x ∷ xs)) < length (filter q (x ∷ xs))) [
       | inl is ↦ (
-          let not_here : p x ≡ false = ap p is ∙ no in
-          let here : q x ≡ true = ap q is ∙ yes' in
+          let not_here : p x ≡ false = ap p is ∙ away in
+          let here : q x ≡ true = ap q is ∙ passes in
           let rest = fewer_pass p q xs h in
           rw (not_here, here) (omega (arith, rest)))
       | inr later ↦ (
-          let rest = fewer_by_one p q xs e later h no yes' in
+          let rest = fewer_by_one p q xs e later h away passes in
           elim (cases_Bool (p x)) as (λ _. length (filter p (x ∷ xs)) < length (filter q (x ∷ xs))) [
             | inl y ↦ rw (y, h x y) (omega (arith, rest))
             | inr n ↦ elim (cases_Bool (q x)) as (λ _. length (filter p (x ∷ xs)) < length (filter q (x ∷ xs))) [

@@ -8,3 +8,4 @@ pub mod SameTableLemmas
 pub mod SlotLemmas
 pub mod NumberLemmas
 pub mod SourceLemmas
+pub mod HoldsLemmas

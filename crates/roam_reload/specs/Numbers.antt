@@ -1,10 +1,11 @@
 -- Which numbers realms and peers have while a server runs (ours). A file that follows another one is laid out by it, so
 -- that an index is such a number, and the order in a file decides nothing.
-use Rattle.std.specs.Prelude.{◌≡◌, ◌⊎◌, ℕ, ◌<◌, ◌&&◌, not, Bool, true, false, List, [], ◌∷◌, ◌++◌, filter, length, map, Some, None, slice_get, unwrap_or}
+use Rattle.std.specs.Prelude.{◌≡◌, ◌↔◌, ◌⊎◌, Contains, ℕ, ◌<◌, ◌&&◌, not, Bool, true, false, List, [], ◌∷◌, ◌++◌, filter, length, map, Some, None, slice_get, unwrap_or}
 use Rattle.std.specs.List.{find, list_any}
 use Rattle.std.specs.Option.{option_map_or}
 use Rattle.std.specs.Str.{bytes_eq, str_eq_ignore_ascii_case}
 use Rattle.roam_conf.specs.Config.{ConfigView, PeerView, RealmView}
+use Rattle.roam_conf.specs.Consistent.{IsConsistent}
 
 -- two tables of one peer: by its name; of one realm: by its name without ASCII case
 abbrev pub same_peer_name : PeerView → PeerView → Bool
@@ -89,7 +90,18 @@ pub record KeepsNumbers (old new : ConfigView) : Type 0 where
 abbrev pub is_here : ConfigView → ℕ → Bool
 is_here config realm = option_map_or (λ r. not r.gone) (slice_get config.realms realm) false
 
--- what follows of files that are laid out, and is proved: numbers are kept, and whoever stands in the new file has just
--- one number
+-- what follows of a file that is laid out, and is proved: numbers are kept
 abbrev pub LaidOutKeepsNumbers : Type 0
 LaidOutKeepsNumbers = (old new : ConfigView) → KeepsNumbers old (laid_out old new)
+
+-- of two lists one has the tables of the other that are here, and no others that are
+abbrev pub HoldsJust : {X : Type 0} → (X → Bool) → List X → List X → Type 0
+HoldsJust {X = X} is_gone file laid = (x : X) → is_gone x ≡ false → Contains laid x ↔ Contains file x
+
+pub record HoldsFile (file laid : ConfigView) : Type 0 where
+  pub peers : HoldsJust (λ peer. peer.gone) file.peers laid.peers
+  pub realms : HoldsJust (λ realm. realm.gone) file.realms laid.realms
+
+-- and what is here is what stands in the file, where nothing stands there twice
+abbrev pub LaidOutHoldsFile : Type 0
+LaidOutHoldsFile = (old new : ConfigView) → IsConsistent new → HoldsFile new (laid_out old new)

@@ -69,13 +69,9 @@ pub fn lay_out(alloc: Global, old: &Config, new: Config) -> Result<ConfigParts, 
         peers,
         realms,
     } = new.into_parts();
-    let old_peers = old.peers.as_slice();
-    let old_realms = old.realms.as_slice();
-    let peers = laid_peers(alloc, old_peers, peers)?;
-    let realms = laid_realms(alloc, old_realms, realms)?;
-    let peer_count = peers.len();
-    let realm_count = realms.len();
-    have_numbers(peer_count, realm_count)?;
+    let peers = laid_peers(alloc, old.peers.as_slice(), peers)?;
+    let realms = laid_realms(alloc, old.realms.as_slice(), realms)?;
+    have_numbers(peers.len(), realms.len())?;
     Ok(ConfigParts {
         shards,
         seed: old.seed,

@@ -7,8 +7,8 @@
 //! # Proved
 //!
 //! - a configuration that is laid out by the one which it follows has each realm and each peer of both at the index
-//!   where it stood, leaves the place of one that went empty, and has new ones behind | `lay_out`, law
-//!   `laid_out_keeps_numbers`
+//!   where it stood, leaves the place of one that went empty, and has new ones behind; what is here in it is what
+//!   stands in the file | `lay_out`, laws `laid_out_keeps_numbers`, `laid_out_holds_file`
 //! - which realms go on, which of them are untouched, which begin and which went; whether it may follow, and if not,
 //!   why | `fate_of`, `is_carried`, `is_untouched`, `hindrance_of`
 //! - whether a peer's requests, what waits at its `coa` and its sessions stay; where a server stands then, and a
@@ -39,7 +39,7 @@ pub use kept::{
 };
 pub use keys::{PeerKey, REALM_KEYS, RealmKey};
 pub use kind::PlaceKind;
-pub use laws::laid_out_keeps_numbers;
+pub use laws::{laid_out_holds_file, laid_out_keeps_numbers};
 pub use laying_out::{LayFault, lay_out};
 pub use peers::{other_peer, peer_difference};
 pub use realms::{is_other_in, realm_difference};

@@ -11,7 +11,7 @@ use Rattle.roam_reload.proofs.laying_out.lay_out.Goals as goal
 -- no two peers of either have one name, nor two realms
 pub laid_peers-requires-clause-old : goal.laid_peers-requires-clause-old
 laid_peers-requires-clause-old c =
-    rw c.as_slice-old_peers.ensures.value
+    rw c.as_slice.ensures.value
     (peers_differ (map shown_peer c.args.old.now.peers.items) c.args.old.now.distinct_peers)
 
 pub laid_peers-requires-clause-new : goal.laid_peers-requires-clause-new
@@ -23,7 +23,7 @@ laid_peers-requires-clause-new c =
 pub laid_realms-requires-clause-old : goal.laid_realms-requires-clause-old
 laid_realms-requires-clause-old c =
     let old = c.args.old.now in
-    rw c.as_slice-old_realms.ensures.value
+    rw c.as_slice-2.ensures.value
     (realms_differ (map shown_realm old.realms.items) (map shown_pattern old.reject.items) old.distinct_realms)
 
 pub laid_realms-requires-clause-new : goal.laid_realms-requires-clause-new
@@ -41,19 +41,19 @@ returns-in_err-have_numbers-clause-err c = λ _.
     ≡ laid_by same_peer_name gone_peer (map shown_peer c.args.old.now.peers.items)
     (map shown_peer c.args.new.peers.items) =
     laid_alike same_peer_name gone_peer _ _ _ _ _ c.in_ok-peers.ensures
-    (ap (map shown_peer) c.as_slice-old_peers.ensures.value)
+    (ap (map shown_peer) c.as_slice.ensures.value)
     (ap (λ (v : ConfigView). v.peers) c.into_parts-shards.ensures) in
     let realms : map shown_realm c.in_ok-realms.realms.items
     ≡ laid_by same_realm_name gone_realm (map shown_realm c.args.old.now.realms.items)
     (map shown_realm c.args.new.realms.items) =
     laid_alike same_realm_name gone_realm _ _ _ _ _ c.in_ok-realms.ensures
-    (ap (map shown_realm) c.as_slice-old_realms.ensures.value)
+    (ap (map shown_realm) c.as_slice-2.ensures.value)
     (ap (λ (v : ConfigView). v.realms) c.into_parts-shards.ensures) in
     elim c.in_err-have_numbers.ensures.err [
       | inl many ↦ inl (omega (
         arith,
         many,
-        c.len-peer_count.ensures,
+        c.len.ensures,
         c.in_ok-peers.peers.ok,
         length-map c.in_ok-peers.peers.items shown_peer,
         ap length peers,
@@ -61,7 +61,7 @@ returns-in_err-have_numbers-clause-err c = λ _.
       | inr many ↦ inr (omega (
         arith,
         many,
-        c.len-realm_count.ensures,
+        c.len-2.ensures,
         c.in_ok-realms.realms.ok,
         length-map c.in_ok-realms.realms.items shown_realm,
         ap length realms,
@@ -73,14 +73,14 @@ pub invariant_of-result : goal.invariant_of-result
 invariant_of-result c =
     let parts = c.into_parts-shards.result in
     let old = c.args.old.now in
-    let peers : length (map shown_peer c.as_slice-old_peers.result.now)
+    let peers : length (map shown_peer c.as_slice.result.now)
     ≤ length (map shown_peer c.in_ok-peers.peers.items) =
     laid_long same_peer_name gone_peer _ _ _ c.in_ok-peers.ensures in
-    let realms : length (map shown_realm c.as_slice-old_realms.result.now)
+    let realms : length (map shown_realm c.as_slice-2.result.now)
     ≤ length (map shown_realm c.in_ok-realms.realms.items) =
     laid_long same_realm_name gone_realm _ _ _ c.in_ok-realms.ensures in
-    let old_peers = ap length c.as_slice-old_peers.ensures.value in
-    let old_realms = ap length c.as_slice-old_realms.ensures.value in
+    let old_peers = ap length c.as_slice.ensures.value in
+    let old_realms = ap length c.as_slice-2.ensures.value in
     record {
       shards_range = parts.shards_range;
       ports = parts.ports;
@@ -99,10 +99,10 @@ invariant_of-result c =
           peers,
           old_peers,
           c.in_ok-peers.peers.ok,
-          length-map c.as_slice-old_peers.result.now shown_peer,
+          length-map c.as_slice.result.now shown_peer,
           length-map c.in_ok-peers.peers.items shown_peer,
         ),
-        omega (arith, c.in_ok-have_numbers.ensures.ok, c.len-peer_count.ensures, c.in_ok-peers.peers.ok),
+        omega (arith, c.in_ok-have_numbers.ensures.ok, c.len.ensures, c.in_ok-peers.peers.ok),
       );
       realm_count = (
         omega (
@@ -112,9 +112,9 @@ invariant_of-result c =
           realms,
           old_realms,
           c.in_ok-realms.realms.ok,
-          length-map c.as_slice-old_realms.result.now shown_realm,
+          length-map c.as_slice-2.result.now shown_realm,
           length-map c.in_ok-realms.realms.items shown_realm,
         ),
-        omega (arith, c.in_ok-have_numbers.ensures.ok, c.len-realm_count.ensures, c.in_ok-realms.realms.ok),
+        omega (arith, c.in_ok-have_numbers.ensures.ok, c.len-2.ensures, c.in_ok-realms.realms.ok),
       );
     }

@@ -1,13 +1,15 @@
 -- Memory was taken, and the state is still the one before; then it is carried over.
+use Rattle.std.proofs.lemmas.List.{length-map}
 use Rattle.std.proofs.Common.{◌≡◌, ap, sym, subst, ◌∙◌, arith}
 use Rattle.roam_conf.specs.Duplicates.{has_pair_of_servers}
+use Rattle.roam_conf.specs.Parts.{shown_realm}
 use Rattle.roam_conf.specs.Shown.{shown}
 use Rattle.roam_pending.specs.PlainEntry.{PlainEntry}
 use Rattle.roam_pending.specs.Realms.{entries_in}
 use Rattle.roam_book.specs.RealmConfig.{RealmConfig}
 use Rattle.roam_book.specs.Sound.{IsSound}
 use Rattle.roam_book.proofs.BookLemmas.{held-entries, own-realm}
-use Rattle.roam_book.proofs.BookCarryLemmas.{carried-book, carried-sound, configured, peers-changed, servers-apart}
+use Rattle.roam_book.proofs.BookCarryLemmas.{carried-book, carried-sound, configured, peers-changed, same-view, servers-apart, whatever}
 use Rattle.roam_book.proofs.book.Book.carry_over.Goals as goal
 
 -- both are parts at the realm's index, with one seed
@@ -57,3 +59,29 @@ returns-clause-state g c =
     c.carry_over.new.entries b.numbers c.reserve_carry.new.self c.carry_over.new.numbers c.new-old.result
     c.new-new.result (sym c.self.view_is) c.new-old.ensures c.new-new.ensures inv.own_entries now
     (c.reserve_carry.ensures.state b.entries.entries) c.carry_over.ensures.state
+
+-- where memory was refused, the book is as it was
+pub returns-in_err-fresh-clause-err : goal.returns-in_err-fresh-clause-err
+returns-in_err-fresh-clause-err g c =
+    let b = c.self.inside in
+    whatever c.from_residual-in_err-fresh.result _
+    (same-view (shown b.config.now) b.realm _ _ c.args.self.now (c.reserve_carry.ensures.state b.entries.entries)
+    c.self.view_is)
+
+-- it is a book under the new configuration
+pub invariant_of-self-2 : goal.invariant_of-self-2
+invariant_of-self-2 g c =
+    let b = c.self.inside in
+    let inv = c.self.invariant in
+    let now = own-realm b.entries c.carry_over.new.entries b.realm inv.own_entries c.carry_over.ensures.kept in
+    let next = c.args.config.now in
+    let here = rw (← c.self.view_is) at c.requires.carried.is_here in
+    let within = configured (shown next) b.realm here in
+    record {
+      configured = omega (arith, within, length-map next.realms.items shown_realm, next.realms.ok.0);
+      own_entries = now;
+      sound = carried-sound (shown b.config.now) (shown next) b.realm c.carry_over.new.entries
+          c.carry_over.new.numbers c.new-old.result c.new-new.result c.new-old.ensures c.new-new.ensures now
+          c.carry_over.ensures.sound;
+      list = c.len-count.ensures.list;
+    }

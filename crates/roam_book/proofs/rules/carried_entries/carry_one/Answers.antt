@@ -2,8 +2,8 @@ use Rattle.roam_pending.specs.Realms.{with_ends}
 use Rattle.roam_book.proofs.CarryingLemmas.{ends_set, ends_tell}
 use Rattle.roam_book.proofs.rules.carried_entries.carry_one.Goals as goal
 
-pub ends_at-requires-clause-entry : goal.ends_at-requires-clause-entry
-ends_at-requires-clause-entry g c = λ e at. (c.requires.entry e at).request
+pub ends_at-requires : goal.ends_at-requires
+ends_at-requires g c = λ e at. (c.requires.entry e at).request
 
 -- its ends are set
 pub returns-in-Some-clause-entries : goal.returns-in-Some-clause-entries

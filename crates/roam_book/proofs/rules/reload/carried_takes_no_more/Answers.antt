@@ -1,14 +1,5 @@
 use Rattle.roam_book.proofs.CarriedEntriesLemmas.{carried_adds_nothing, carried_takes_no_more}
 use Rattle.roam_book.proofs.CarriedPlacesLemmas.{carried_has_places}
-use Rattle.roam_book.proofs.CarryingLemmas.{carried_tell}
-use Rattle.roam_book.proofs.CarriedOverLemmas.{carried_sound}
-use Rattle.roam_book.proofs.MovedRestLemmas.{all_rest}
-use Rattle.roam_book.proofs.MovingLemmas.{one_goes}
-use Rattle.roam_book.proofs.EndsLemmas.{held_on}
-use Rattle.roam_book.proofs.EntriesOverLemmas.{first_none}
-use Rattle.roam_book.proofs.KeptLaneLemmas.{keeps_moved}
-use Rattle.roam_book.proofs.FewLemmas.{tells_left}
-use Rattle.roam_book.proofs.CarriedSessionLemmas.{newest_left}
 use Rattle.roam_book.proofs.rules.reload.carried_takes_no_more.Goals as goal
 
 pub returns-clause-adds_nothing : goal.returns-clause-adds_nothing
