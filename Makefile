@@ -61,6 +61,7 @@ trials: scripts
 	packaging/tests/try-statements.py $(ROAM)
 	packaging/tests/try-control.py $(ROAM)
 	packaging/tests/try-reload.py $(ROAM)
+	packaging/tests/try-restart.py $(ROAM)
 	packaging/tests/try-exchanges.py $(ROAM)
 	packaging/tests/try-faults.py $(ROAM)
 	packaging/tests/try-blocked.py $(ROAM)

@@ -1,7 +1,7 @@
 #!/usr/bin/env python3
 """try-diagnoses.py PROGRAM [--table]
 
-Makes 132 mistakes in samples/visited-network.conf, one at a time, and runs `PROGRAM check` on each. The diagnosis
+Makes 134 mistakes in samples/visited-network.conf, one at a time, and runs `PROGRAM check` on each. The diagnosis
 must name the fault, and the line, the table and the key where the mistake was made, and what is wrong with it. No
 output may hold a secret of the file. --table prints a row for each.
 """
@@ -521,6 +521,8 @@ MISTAKES = [
     value(TOP, "status_server", '"yes"', '"yes" is neither true nor false'),
     value(TOP, "spread", "1", "1 is neither true nor false"),
     value(TOP, "log_station", '"md5"', '"md5" is neither "clear" nor "hmac"'),
+    value(TOP, "state", '""', '"" is not a path of 1..1024 octets'),
+    value(TOP, "state_every", "0", "0 is not in 1..86400"),
     value(TOP, "seed", "0", "is not a text of 64 hexadecimal digits"),
     value(TOP, "auth", "1812", "1812 " + ENDPOINT),
     value(ONE_PEER, "coa", '"192.0.2.1:03799"', '"192.0.2.1:03799" ' + ENDPOINT),

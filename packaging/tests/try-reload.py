@@ -7,8 +7,9 @@ the home servers. It fails unless
 
 1. no realm loses a request that a change doesn't take, and is sent none again, while a realm is added, a peer is added,
    one realm gets another home server and secret, and one goes; while all tables are turned about, a peer that asks for
-   another realm gets another secret and goes, a realm in front comes, goes and comes back, and while a realm's own `wait`,
-   `hold` and `max_sessions` change, it gets a server more, and loses one that it doesn't use;
+   another realm gets another secret and goes, a realm in front comes, goes and comes back, while a realm's own `wait`,
+   `hold` and `max_sessions` change, it gets a server more, and loses one that it doesn't use, and while `spread` changes
+   and the broker's endpoints come from 0.0.0.0 to an address;
 2. what is added or changed serves at once, a session that was opened before is disconnected after and a reply that was held
    is sent again, counts of what stays go on, and a file with a fault changes nothing and is told of as `roam check` tells
    of it;
@@ -43,10 +44,10 @@ PORT, HOME = 17120, 27120
 HERE = '127.0.0.1'
 HEAD = '''shards = {shards}
 seed = "{seed}"
-auth = "127.0.0.1:{auth}"
-acct = "127.0.0.1:{acct}"
+auth = "{address}:{auth}"
+acct = "{address}:{acct}"
 trace_limit = 100000
-spread = true
+spread = {spread}
 log_exchanges = false
 control = "{control}"
 '''
@@ -270,7 +271,7 @@ class Server:
         self.program, self.work = program, work
         self.path, self.conf = os.path.join(work, 'control'), os.path.join(work, 'roam.conf')
         self.peers = [('nas1', HERE, NAS_SECRET.decode(), f'coa = "127.0.0.1:{PORT + 400}"\nnas_ip = "192.0.2.1"\n')]
-        self.realms, self.shards = realms, 2
+        self.realms, self.shards, self.spread, self.address = realms, 2, 'true', '0.0.0.0'
         self.write()
         self.log = open(os.path.join(work, 'log'), 'w+')
         self.process = subprocess.Popen([program, 'serve', self.conf], stdout=subprocess.DEVNULL, stderr=self.log)
@@ -285,7 +286,8 @@ class Server:
             return file.read()
 
     def text(self):
-        return (HEAD.format(shards=self.shards, seed='0' * 64, auth=PORT, acct=PORT + 1, control=self.path)
+        return (HEAD.format(shards=self.shards, seed='0' * 64, address=self.address, auth=PORT, acct=PORT + 1,
+                            spread=self.spread, control=self.path)
                 + ''.join(PEER.format(name=n, ip=i, secret=s, more=m) for n, i, s, m in self.peers)
                 + ''.join(map(str, self.realms)))
 
@@ -451,6 +453,26 @@ def try_what_others_change(server):
     server.realms.sort(key=lambda one: one.words['name'])
 
 
+def try_sockets(server):
+    """Other sockets at the same ports, under load: one for all workers, one for each, and at an address of every one's."""
+    for spread in ('false', 'true'):
+        server.spread = spread
+        want(server.reload().returncode == 0, f'spread = {spread} follows')
+        time.sleep(.5)
+    server.address = HERE
+    want(server.reload().returncode == 0, '127.0.0.1 follows 0.0.0.0')
+    time.sleep(.5)
+    taken = socket.socket(socket.AF_INET, socket.SOCK_DGRAM)
+    taken.bind(('127.0.0.3', PORT))
+    server.address = '0.0.0.0'
+    result = server.reload()
+    want(result.returncode == 1 and f'0.0.0.0:{PORT}' in result.stdout and f'127.0.0.1:{PORT} is served' in result.stdout,
+         'where the system lets no second one be bound, both endpoints are named')
+    taken.close()
+    server.address = HERE
+    want(server.reload().returncode == 0, 'and all is served as before')
+
+
 def faults(server):
     """Texts that may not follow, each with a word of what is said of it."""
     good = server.text()
@@ -552,6 +574,7 @@ def try_all(server, homes, rate):
     quiet = time.monotonic(), time.sleep(5), time.monotonic()
     try_changes(server)
     try_what_others_change(server)
+    try_sockets(server)
     try_check(server)
     try_fifty(server)
     often = time.monotonic()

@@ -18,7 +18,6 @@ pub fn print_hindrance<W: Write>(writer: &mut W, hindrance: Option<Hindrance>) -
         None => writer.write_all(b"may follow\n"),
         Some(Hindrance::Seed) => writer.write_all(b"may not follow: seed\n"),
         Some(Hindrance::Shards) => writer.write_all(b"may not follow: shards\n"),
-        Some(Hindrance::Spread) => writer.write_all(b"may not follow: spread\n"),
         Some(Hindrance::Numbers) => print_no_number(writer),
         Some(Hindrance::Endpoint(endpoint)) => {
             writeln!(

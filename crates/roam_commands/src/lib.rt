@@ -28,6 +28,7 @@ mod reload;
 mod restating;
 mod serving;
 mod simulation;
+mod state_file;
 mod statement;
 mod station_key;
 mod watch;

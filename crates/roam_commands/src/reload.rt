@@ -6,12 +6,13 @@ ghost use Rattle.roam_reload.specs.Reload.{MayFollow};
 ghost use Rattle.roam_commands.specs.CommandFaults.{IsPrinted};
 
 use crate::changes::{print_changes, print_hindrance, print_no_number};
+use crate::state_file::{is_put_aside, keep_at, kept_at, manner_of};
 use crate::station_key::stations_of;
 use roam_conf::Config;
 use roam_conf_reader::{Settings, following_config, read_config, read_settings};
 use roam_diagnosis::{Lines, diagnose};
 use roam_reload::{LayFault, hindrance_of};
-use roam_serve::{Following, ServeFault, Source, StationForm};
+use roam_serve::{Following, Reason, ServeFault, Source, StationForm};
 use roam_words::{Fault, TextFile};
 use std::alloc::Global;
 use std::io;
@@ -140,12 +141,14 @@ fn following<R: Files + AllocGlobal>(
     {
         return Err(text_of(alloc, Fault::Memory, &Lines::new(alloc)));
     }
-    Ok(Following {
-        config,
-        told_exchanges: settings.log_exchanges,
-        stations,
-        report,
-    })
+    match manner_of(alloc, &settings, stations) {
+        Ok(manner) => Ok(Following {
+            config,
+            manner,
+            report,
+        }),
+        Err(_) => Err(text_of(alloc, Fault::Memory, &Lines::new(alloc))),
+    }
 }
 
 impl<R: Files + AllocGlobal> Source for Reread<'_, R> {
@@ -160,5 +163,17 @@ impl<R: Files + AllocGlobal> Source for Reread<'_, R> {
     fn words_of(&mut self, fault: ServeFault) -> Vec<u8> {
         let alloc = self.rt.alloc();
         text_of(alloc, Fault::of_server(fault), &Lines::new(alloc))
+    }
+
+    fn kept(&mut self, path: &str) -> Result<Option<Vec<u8>>, Reason> {
+        kept_at(self.rt, path)
+    }
+
+    fn keep(&mut self, path: &str, octets: &[u8]) -> Result<(), Reason> {
+        keep_at(self.rt, path, octets)
+    }
+
+    fn put_aside(&mut self, path: &str) -> bool {
+        is_put_aside(self.rt, path)
     }
 }

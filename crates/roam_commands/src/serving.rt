@@ -10,13 +10,14 @@ ghost use Rattle.roam_commands.specs.CommandFaults.{text_in, ServeFails};
 ghost use Rattle.roam_commands.specs.Outcomes.{Prevents};
 
 use crate::reload::Reread;
+use crate::state_file::manner_of;
 use crate::station_key::told_stations;
 use log::Log;
 use roam_conf::Config;
 use roam_conf_reader::{Settings, read_config, read_settings};
 use roam_diagnosis::{Lines, diagnose};
 use roam_serve::{
-    Build, ControlSocket, Counters, Open, ServeFault, ServeOptions, SocketPath, StationForm, Watch,
+    Build, ControlSocket, Counters, Manner, Open, ServeFault, ServeOptions, SocketPath, Watch,
     descriptors_wanted, reason_of, serve, with_drawn_seed,
 };
 use roam_words::{Fault, TextFile};
@@ -60,14 +61,12 @@ fn remove<R: Files>(rt: &R, socket: &Option<ControlSocket>, settings: &Settings)
 /// How a configuration is served.
 fn options<'s>(
     watch: Option<Watch<'s>>,
-    settings: &Settings,
-    stations: StationForm,
+    manner: Manner,
     milliseconds: Option<u64>,
 ) -> ServeOptions<'s, Open> {
     ServeOptions {
         watch,
-        told_exchanges: settings.log_exchanges,
-        stations,
+        manner,
         milliseconds,
         gate: &Open,
     }
@@ -84,9 +83,10 @@ fn serve_watched<R: Files + AllocGlobal + Threads + Wait + Clock + Net + RandomS
     ensures { IfErr result (IsFaultOf (shown config)) }
 {
     let stations = told_stations(rt, path, settings);
+    let manner = manner_of(rt.alloc(), settings, stations)?;
     let mut source = Reread { rt, path, settings };
     if settings.metrics.is_none() && settings.control.is_none() {
-        let options = options(None, settings, stations, milliseconds);
+        let options = options(None, manner, milliseconds);
         return serve(rt, rt.alloc(), config, options, &mut source);
     }
     let counters = Counters::new(rt.alloc(), &config)?;
@@ -97,7 +97,7 @@ fn serve_watched<R: Files + AllocGlobal + Threads + Wait + Clock + Net + RandomS
         control: socket.as_ref(),
         build: Build::Roam,
     };
-    let options = options(Some(watch), settings, stations, milliseconds);
+    let options = options(Some(watch), manner, milliseconds);
     let ended = serve(rt, rt.alloc(), config, options, &mut source);
     remove(rt, &socket, settings);
     ended

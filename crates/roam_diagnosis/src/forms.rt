@@ -23,8 +23,8 @@ pub(crate) enum ValueForm {
     Endpoint,
     /// A text of 1 to so many octets.
     Text(usize),
-    /// A text of 1 to 107 octets, none of them 0.
-    SocketPath,
+    /// A text of 1 to so many octets, none of them 0.
+    Path(usize),
     /// A text of 1 to 64 octets, which is never shown.
     Secret,
     /// 1 to 64 of ASCII letters, digits, `.`, `-` and `_`.
@@ -75,13 +75,13 @@ fn is_seed(text: &str) -> bool {
     text.len() == 64
 }
 
-fn is_socket_path(text: &str) -> bool {
+fn is_path(text: &str, most: usize) -> bool {
     for octet in text.bytes() {
         if octet == 0 {
             return false;
         }
     }
-    !text.is_empty() && text.len() <= 107
+    !text.is_empty() && text.len() <= most
 }
 
 /// Whether the text is `*`, `*.` and a realm's name, or such a name.
@@ -111,7 +111,7 @@ fn text_fits(form: ValueForm, text: &str) -> bool {
         ValueForm::Address => address(text).is_some(),
         ValueForm::Endpoint => Endpoint::from_text(text).is_some(),
         ValueForm::Text(most) => !text.is_empty() && text.len() <= most,
-        ValueForm::SocketPath => is_socket_path(text),
+        ValueForm::Path(most) => is_path(text, most),
         ValueForm::Secret => !text.is_empty() && text.len() <= 64,
         ValueForm::PeerName => is_name(text, 64, true),
         ValueForm::RealmName => is_name(text, 253, false),
@@ -239,7 +239,7 @@ impl fmt::Display for ValueForm {
                 f.write_str("is no IPv4 address with a port of 1..65535, as \"192.0.2.1:1812\"")
             }
             ValueForm::Text(most) => write!(f, "is not a text of 1..{most} octets"),
-            ValueForm::SocketPath => f.write_str("is not a path of 1..107 octets"),
+            ValueForm::Path(most) => write!(f, "is not a path of 1..{most} octets"),
             ValueForm::Secret => f.write_str("is not a text of 1..64 octets"),
             ValueForm::PeerName => f.write_str("is not 1..64 of ASCII letters, digits, . - and _"),
             ValueForm::RealmName => {

@@ -45,6 +45,8 @@
 //!   changed. Of a realm that is new, or went, that it has nothing | law `realms_over_changes`: `carried`, `untouched`,
 //!   `others`
 //! - what goes of a realm by a change is told as its state is where a history of its own shard ends | `Hub::losses`
+//! - of a realm's ledger those sessions alone are written into a file of ledgers that are open where a history of its own
+//!   shard ends. That none is missing is tested (`packaging/tests/try-restart.py`) | `Hub::begin_saving`, `save`
 //! - in a history that begins in any states each realm is isolated too, and ends where its own written broker
 //!   does | law `realms_from_any_states`
 //! - a look at a realm gives numbers of its entries and sessions where a history of its own shard ends, no

@@ -1,5 +1,8 @@
 //! The ledgers of a hub's realms as octets, written while it answers.
 
+ghost use Rattle.std.specs.Prelude.{OnOk};
+ghost use Rattle.roam_hub.specs.Written.{BeginsRealm, SavesThen};
+
 use crate::hub::Hub;
 use crate::locking::wait_for;
 use roam_audit::Seat;
@@ -22,7 +25,9 @@ impl<A: Allocator + Copy, N: Opened> Hub<'_, A, N> {
         realm: u16,
         tickets: &mut Vec<u64, A>,
         writing: &mut Writing<A>,
-    ) -> Result<(), NoMemory> {
+    ) -> Result<(), NoMemory>
+        ensures { OnOk result (BeginsRealm N.opening realm writing.old writing.new) }
+    {
         let shard = self.config.shard_of(realm);
         let lock = wait_for(rt, &self.locks[usize::from(shard)]);
         lock.begin_saving(seat, shard, realm, tickets, writing)
@@ -37,7 +42,9 @@ impl<A: Allocator + Copy, N: Opened> Hub<'_, A, N> {
         realm: u16,
         tickets: &[u64],
         writing: &mut Writing<A>,
-    ) -> Result<(), AllocError> {
+    ) -> Result<(), AllocError>
+        ensures { OnOk result (SavesThen N.opening realm seat.now writing.old writing.new) }
+    {
         let shard = self.config.shard_of(realm);
         let lock = wait_for(rt, &self.locks[usize::from(shard)]);
         lock.save(seat, shard, realm, tickets, writing)

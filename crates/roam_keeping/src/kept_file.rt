@@ -26,12 +26,31 @@ fn named_new(alloc: Global, path: &str) -> Result<String, AllocError>
     Ok(beside)
 }
 
+/// A path with `.old` behind it.
+fn named_old(alloc: Global, path: &str) -> Result<String, AllocError>
+    ensures { IfOk result (λ aside. aside.bytes.items ≡ path.now ++ codes ".old") }
+{
+    let mut aside = String::from_str(alloc, path)?;
+    aside.push_str(".old")?;
+    Ok(aside)
+}
+
 /// The path of a file that is written, beside the one that it takes the place of.
 fn beside<R: AllocGlobal>(rt: &R, path: &str) -> io::Result<String>
     ensures { IfOk result (λ beside. beside.bytes.items ≡ path.now ++ codes ".new") }
 {
     match named_new(rt.alloc(), path) {
         Ok(beside) => Ok(beside),
+        Err(_) => Err(io::Error::from(ErrorKind::OutOfMemory)),
+    }
+}
+
+/// The path of a file that is put aside.
+fn aside<R: AllocGlobal>(rt: &R, path: &str) -> io::Result<String>
+    ensures { IfOk result (λ aside. aside.bytes.items ≡ path.now ++ codes ".old") }
+{
+    match named_old(rt.alloc(), path) {
+        Ok(aside) => Ok(aside),
         Err(_) => Err(io::Error::from(ErrorKind::OutOfMemory)),
     }
 }
@@ -89,4 +108,14 @@ pub fn kept<R: Files + AllocGlobal>(rt: &R, path: &str) -> io::Result<Option<Vec
             }
         }
     }
+}
+
+/// Gives the file of a path the same name with `.old` behind it, in place of what had that.
+///
+/// # Errors
+///
+/// The system's: it has its name then.
+pub fn put_aside<R: Files + AllocGlobal>(rt: &R, path: &str) -> io::Result<()> {
+    let aside = aside(rt, path)?;
+    fs::rename(rt, path, aside.as_str())
 }

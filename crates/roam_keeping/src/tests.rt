@@ -40,8 +40,8 @@ fn is_own(rt: &HostRuntime, path: &str) -> bool {
     }
 }
 
-/// What is so of a file that is kept twice, the second time beside what another run left behind.
-fn turns(rt: &HostRuntime, path: &str, beside: &str) -> [bool; 8] {
+/// What is so of a file that is kept twice, the second time beside what another run left behind, and then put aside.
+fn turns(rt: &HostRuntime, path: &str, beside: &str, aside: &str) -> [bool; 10] {
     [
         is_none(rt, path),
         keep(rt, path, b"one").is_ok() && is_kept(rt, path, b"one"),
@@ -49,8 +49,10 @@ fn turns(rt: &HostRuntime, path: &str, beside: &str) -> [bool; 8] {
         keep(rt, path, b"two").is_ok() && is_kept(rt, path, b"two"),
         is_none(rt, beside),
         is_own(rt, path),
-        fs::remove_file(rt, path).is_ok(),
+        put_aside(rt, path).is_ok(),
         is_none(rt, path),
+        is_kept(rt, aside, b"two"),
+        fs::remove_file(rt, aside).is_ok(),
     ]
 }
 
@@ -58,7 +60,11 @@ fn turns(rt: &HostRuntime, path: &str, beside: &str) -> [bool; 8] {
 fn a_file_is_kept(rt: HostRuntime) -> Result<(), Fail> {
     let path = path_of(&rt, "ledgers").expect(&rt, "a path");
     let beside = path_of(&rt, "ledgers.new").expect(&rt, "a path");
-    assert_eq!(rt; turns(&rt, path.as_str(), beside.as_str()), [true; 8]);
+    let aside = path_of(&rt, "ledgers.old").expect(&rt, "a path");
+    assert_eq!(rt;
+        turns(&rt, path.as_str(), beside.as_str(), aside.as_str()),
+        [true; 10]
+    );
     Ok(())
 }
 

@@ -79,6 +79,5 @@ pub record HasMoved (old new : ConfigView) (endpoint : Endpoint) : Type 0 where
 abbrev pub Hinders : ConfigView → ConfigView → Hindrance → Type 0
 Hinders old new hindrance.Seed = new.seed ≢ old.seed
 Hinders old new hindrance.Shards = new.shards ≢ old.shards
-Hinders old new hindrance.Spread = new.spread ≢ old.spread
 Hinders old new hindrance.Numbers = ¬ KeepsNumbers old new
 Hinders old new (hindrance.Endpoint endpoint) = HasMoved old new endpoint

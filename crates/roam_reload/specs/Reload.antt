@@ -65,9 +65,9 @@ KeepsKinds old new = (before after : PlaceKind) (endpoint : Endpoint)
     → after ≡ before
 
 -- ## May follow
--- A configuration may follow another while the broker serves where seed, `shards` and `spread` are equal, each number
--- is the same realm's or peer's, or its place is empty, and an endpoint that both have as one of the broker's own
--- places is at a place of one kind: `auth`, `acct`, an `out` or a `reverse`.
+-- A configuration may follow another while the broker serves where seed and `shards` are equal, each number is the same
+-- realm's or peer's, or its place is empty, and an endpoint that both have as one of the broker's own places is at a
+-- place of one kind: `auth`, `acct`, an `out` or a `reverse`.
 -- Source: ours
 -- Rules out: a socket kept open in whose buffer lie packets of another kind; random words drawn from another
 -- seed; a realm that comes where another stood
@@ -76,6 +76,5 @@ KeepsKinds old new = (before after : PlaceKind) (endpoint : Endpoint)
 pub record MayFollow (old new : ConfigView) : Type 0 where
   pub seed : new.seed ≡ old.seed
   pub shards : new.shards ≡ old.shards
-  pub spread : new.spread ≡ old.spread
   pub numbers : KeepsNumbers old new
   pub kinds : KeepsKinds old new

@@ -20,8 +20,6 @@ pub enum Hindrance {
     Seed,
     /// It has another number of shards.
     Shards,
-    /// One spreads its requests over sockets of each worker, and the other doesn't.
-    Spread,
     /// An index isn't the same realm's, or the same peer's: it isn't laid out by the other one.
     Numbers,
     /// This endpoint is one of the broker's own places in both, and of another kind.
@@ -83,9 +81,6 @@ pub fn hindrance_of(old: &Config, new: &Config) -> Option<Hindrance>
     }
     if new.shards != old.shards {
         return Some(Hindrance::Shards);
-    }
-    if new.spread != old.spread {
-        return Some(Hindrance::Spread);
     }
     if !keeps_numbers(old, new) {
         return Some(Hindrance::Numbers);

@@ -3,3 +3,4 @@
 pub mod attending;
 pub mod losing;
 pub mod overview;
+pub mod saving;

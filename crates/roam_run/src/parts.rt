@@ -171,6 +171,14 @@ impl Served {
 }
 
 impl HubEnd {
+    /// Whether the server ends.
+    pub fn is_over(&self) -> bool {
+        match self {
+            HubEnd::Over => true,
+            HubEnd::Failed(_, _) | HubEnd::Follows(_) => false,
+        }
+    }
+
     /// Whether what serves couldn't be started.
     pub fn has_failed(&self) -> bool {
         match self {

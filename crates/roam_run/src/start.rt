@@ -157,7 +157,8 @@ impl<N: Opened> ResultRoom<N> {
 
 /// Runs the threads until they have ended, or until a configuration comes that is to follow. Once all run it is told
 /// that this one is served, also to who asked for it. Until the end this thread answers who asks for something. Where
-/// one can't be started, the others are ended.
+/// one can't be started, the others are ended. Where the server ends, the ledgers of sessions are kept as they stand
+/// then.
 pub fn run_threads<
     's,
     'c,
@@ -192,6 +193,9 @@ pub fn run_threads<
             shared.end_all();
             for handle in handles {
                 let _is_kept = ends.push(handle.join(rt)).is_ok();
+            }
+            if end.is_over() {
+                attendant.keep_ledgers(source);
             }
             shared.logger.unpark();
             end

@@ -13,3 +13,4 @@ pub mod TickLemmas
 pub mod AcrossLemmas
 pub mod LostLemmas
 pub mod FewLemmas
+pub mod TakenUpLemmas

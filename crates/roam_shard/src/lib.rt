@@ -22,6 +22,8 @@
 //!   goes on in what is carried over of its state, and any other has nothing, at the place of its random words and
 //!   the ticket where the realm of its index stood; no allocation can fail there | `Paused::follow`: `stands`,
 //!   `follow`
+//! - a paused shard takes up what a file of ledgers has of its own realms, by their names, and nothing else of it changes |
+//!   `Paused::restore`: `stands`, `states`
 //! - what is looked at of a shard, for the log and the counts, is what stands there: the entry that waits on a link
 //!   with an Identifier, that of a key and that of a ticket, the next one that is due, and of how many entries and
 //!   sessions, of each realm that is its own. That the threads note the one that ends, and log of it what it was, is

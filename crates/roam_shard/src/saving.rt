@@ -1,14 +1,23 @@
 //! Ledgers that outlast a shard: what is written of them, and what a shard takes up at its start.
 
-ghost use Rattle.std.specs.Prelude.{◌≡◌};
+ghost use Rattle.std.specs.Prelude.{◌≡◌, ◌⊎◌, ◌≤◌, ◌==◌, ◌&&◌, OnOk, ℕ, false, length, map, not};
+ghost use Rattle.std.specs.Str.{str_eq_ignore_ascii_case};
+ghost use Rattle.std.specs.Option.{option_map_or};
+ghost use Rattle.roam_conf.specs.Lookup.{first_place};
+ghost use Rattle.roam_conf.specs.Parts.{shown_realm};
 ghost use Rattle.roam_conf.specs.Shown.{shown};
-ghost use Rattle.roam_shard.specs.Pausing.{StandsUnder};
+ghost use Rattle.roam_ledgers.specs.Shown.{shown_items, shown_session, shown_text};
+ghost use Rattle.roam_book.specs.RealmConfig.{realm_config};
+ghost use Rattle.roam_book.specs.Written.{GainsOpen, GainsRealm};
+ghost use Rattle.roam_core.specs.ManyRealms.{state_at};
+ghost use Rattle.roam_shard.specs.Pausing.{StandsUnder, states_under};
+ghost use Rattle.roam_shard.specs.Restoring.{is_named, restored_states, with_one};
 
 use crate::look::numbers_at;
 use crate::paused::Paused;
 use crate::shard::Shard;
 use roam_book::{RealmSettings, save_realm};
-use roam_conf::{Config, is_same_name};
+use roam_conf::{Config, Realm, is_same_name};
 use roam_ledgers::{Item, SessionItem, Text, Writing};
 use roam_wire::NoMemory;
 use std::alloc::{AllocError, Allocator};
@@ -27,13 +36,15 @@ impl<A: Allocator + Copy> Shard<'_, A> {
     }
 
     /// Writes that the sessions of a realm follow.
-    pub fn save_realm(&self, realm: u16, writing: &mut Writing<A>) -> Result<(), AllocError> {
-        match numbers_at(&self.numbers, realm) {
-            Some(_numbers) => {
-                save_realm(&RealmSettings::new(self.opening.config, realm), writing)
-            }
-            None => Ok(()),
-        }
+    pub fn save_realm(&self, realm: u16, writing: &mut Writing<A>) -> Result<(), AllocError>
+        ensures { OnOk result ((writing.new ≡ writing.old)
+            ⊎ GainsRealm (realm_config self.now.opening.config realm) writing.old writing.new) }
+    {
+        let Some(_numbers) = numbers_at(&self.numbers, realm) else {
+            return Ok(());
+        };
+        let settings = RealmSettings::new(self.opening.config, realm);
+        save_realm(&settings, writing)
     }
 
     /// Writes the sessions of a realm that have these tickets.
@@ -42,29 +53,56 @@ impl<A: Allocator + Copy> Shard<'_, A> {
         realm: u16,
         tickets: &[u64],
         writing: &mut Writing<A>,
-    ) -> Result<(), AllocError> {
-        match numbers_at(&self.numbers, realm) {
-            Some(numbers) => {
-                let settings = RealmSettings::new(self.opening.config, realm);
-                numbers.save(&settings, tickets, writing)
-            }
-            None => Ok(()),
-        }
+    ) -> Result<(), AllocError>
+        ensures { OnOk result (GainsOpen (realm_config self.now.opening.config realm)
+            (state_at self.now.states realm).sessions writing.old writing.new) }
+    {
+        let Some(numbers) = numbers_at(&self.numbers, realm) else {
+            return Ok(());
+        };
+        let settings = RealmSettings::new(self.opening.config, realm);
+        numbers.save(&settings, tickets, writing)
     }
 }
 
-/// The realm that is here and has a name, and tells its sessions so.
-fn realm_named(config: &Config, name: Text<'_>, own_sessions: bool) -> Option<u16> {
-    for (index, realm) in config.realms.iter().enumerate() {
-        if !realm.gone && is_same_name(realm.name.as_bytes(), name.octets) {
-            return if realm.own_sessions == own_sessions {
-                Some(index as u16)
-            } else {
-                None
-            };
+/// Whether a realm is here and has a name, without ASCII case.
+fn has_name(realm: &Realm, name: &[u8]) -> bool
+    ensures { result ≡ (not (shown_realm realm.now).gone
+        && str_eq_ignore_ascii_case (shown_realm realm.now).name name.now) }
+{
+    !realm.gone && is_same_name(realm.name.as_bytes(), name)
+}
+
+/// The first realm that is here and has a name.
+fn index_named(realms: &[Realm], name: &[u8]) -> Option<u16>
+    requires { length realms.now ≤ 1024 }
+    ensures { result ≡ first_place (λ r. not r.gone && str_eq_ignore_ascii_case r.name name.now)
+        (map shown_realm realms.now) }
+{
+    for (index, realm) in realms.iter().enumerate() {
+        if has_name(realm, name) {
+            return Some(index as u16);
         }
     }
     None
+}
+
+/// The realm that is here and has a name, if it tells its sessions so.
+fn realm_named(config: &Config, name: Text<'_>, own_sessions: bool) -> Option<u16>
+    ensures { (index : ℕ) → is_named (shown config.now) index (shown_text name) own_sessions
+        ≡ option_map_or (λ realm. index == realm) result false }
+{
+    let Some(index) = index_named(config.realms.as_slice(), name.octets) else {
+        return None;
+    };
+    let Some(realm) = config.realms.get(usize::from(index)) else {
+        return None;
+    };
+    if realm.own_sessions == own_sessions {
+        Some(index)
+    } else {
+        None
+    }
 }
 
 impl<A: Allocator + Copy> Paused<A> {
@@ -73,6 +111,9 @@ impl<A: Allocator + Copy> Paused<A> {
     pub fn restore(&mut self, config: &Config, items: &[Item<'_>]) -> Result<(), NoMemory>
         requires { StandsUnder (shown config.now) self.old }
         ensures stands { StandsUnder (shown config.now) self.new }
+        ensures states { OnOk result (states_under (shown config.now) self.new
+            ≡ restored_states (shown config.now) self.old.shard (shown_items items.now)
+            (states_under (shown config.now) self.old)) }
         ensures shard { self.new.shard ≡ self.old.shard }
     {
         let mut own = None;
@@ -100,6 +141,9 @@ impl<A: Allocator + Copy> Paused<A> {
     ) -> Result<(), NoMemory>
         requires { StandsUnder (shown config.now) self.old }
         ensures stands { StandsUnder (shown config.now) self.new }
+        ensures states { OnOk result (states_under (shown config.now) self.new
+            ≡ with_one (shown config.now) self.old.shard realm (shown_session session.entry)
+            (states_under (shown config.now) self.old)) }
         ensures shard { self.new.shard ≡ self.old.shard }
     {
         if usize::from(realm) >= self.numbers.len() {

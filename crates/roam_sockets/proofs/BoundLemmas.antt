@@ -1,6 +1,6 @@
 -- Sockets come in behind others, and each place has one of its own.
 use Rattle.std.proofs.Common.{◌≡◌, inl, inr, ℕ, zero, suc, ◌+◌, ◌*◌, ◌<◌, List, [], ◌∷◌, ◌++◌, length}
-use Rattle.std.proofs.Common.{◌↔◌, Bool, true, IsTrue}
+use Rattle.std.proofs.Common.{true}
 use Rattle.std.proofs.Common.{Contains, Some, None, option_and_then, slice_get, refl, ap, sym, subst, ◌∙◌, append_assoc, append-nil, arith}
 use Rattle.std.proofs.lemmas.Bool.{cases_lt}
 use Rattle.std.proofs.lemmas.List.{length-append}
@@ -54,24 +54,36 @@ pub same_is : (a b : Endpoint) → same_endpoint a b ≡ true → a ≡ b
 same_is a b test = (endpoint_decides a b).0 test
 
 -- of those that are open one more is taken
-abbrev pub AreTaken : Place → Endpoint → List BoundSocket → List BoundSocket → Bool → Type 0
-AreTaken at e old new are_open = (n : ℕ) × Gains at e old new n × (IsTrue are_open ↔ 0 < n)
+pub taken_one : (at : Place) (e : Endpoint) (old mid new : List BoundSocket) (n m : ℕ) (b : BoundSocket)
+    → Gains at e old mid n → new ≡ mid ++ b ∷ [] → m ≡ n + 1 → b.place ≡ at → true ≡ same_endpoint b.endpoint e
+    → Gains at e old new m
+taken_one at e old mid new n m b before behind counted place_is same =
+    subst (Gains at e old new) (sym counted)
+    (gains_more at e old mid new n b before behind place_is (same_is b.endpoint e (sym same)))
 
-pub taken_one : (at : Place) (e : Endpoint) (old mid new : List BoundSocket) (was now : Bool) (b : BoundSocket)
-    → AreTaken at e old mid was → new ≡ mid ++ b ∷ [] → now ≡ true → b.place ≡ at → true ≡ same_endpoint b.endpoint e
-    → AreTaken at e old new now
-taken_one at e old mid new was now b before behind opened place_is same = (
-  before.0 + 1,
-  gains_more at e old mid new before.0 b before.1 behind place_is (same_is b.endpoint e (sym same)),
-  ((λ is. omega arith), (λ lt. opened)),
-)
+pub taken_as_before : (at : Place) (e : Endpoint) (old mid new : List BoundSocket) (n m : ℕ) →
+    Gains at e old mid n → new ≡ mid → m ≡ n → Gains at e old new m
+taken_as_before at e old mid new n m before same as_was =
+    subst (λ (l : List BoundSocket). Gains at e old l m) (sym same) (subst (Gains at e old mid) (sym as_was) before)
 
-pub taken_as_before : (at : Place) (e : Endpoint) (old mid new : List BoundSocket) (was now : Bool) →
-    AreTaken at e old mid was
-    → new ≡ mid → now ≡ was → AreTaken at e old new now
-taken_as_before at e old mid new was now before same as_was =
-    subst (λ (l : List BoundSocket). AreTaken at e old l now) (sym same)
-    (subst (AreTaken at e old mid) (sym as_was) before)
+-- further ones come in behind those
+pub gains_then : (at : Place) (e : Endpoint) (old mid new : List BoundSocket) (n m : ℕ) → 0 < n
+    → Gains at e old mid n → Gains at e mid new m → GainsSome at e old new
+gains_then at e old mid new n m some first more = record {
+  count = n + m;
+  gains = record {
+    more = first.more ++ more.more;
+    behind = more.behind
+        ∙ (ap (λ (l : List BoundSocket). l ++ more.more) first.behind ∙ append_assoc old first.more more.more);
+    each = λ b h. (elim (Contains-append_cases first.more more.more b h) [
+      | inl was ↦ first.each b was
+      | inr comes ↦ more.each b comes
+    ]);
+    as_many = (let long = length-append first.more more.more in
+        let one = first.as_many in let two = more.as_many in omega (arith, long, one, two));
+  };
+  some = omega (arith, some);
+}
 
 -- a number is one place's
 pub same_place : (a b : Place) → socket_number a ≡ socket_number b → a ≡ b

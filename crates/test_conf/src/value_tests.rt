@@ -62,7 +62,7 @@ const OUTSIDE: [Change; 19] = [
 ];
 
 /// The ends of the ranges of keys that may be absent, and one past each.
-const OPTIONAL_NUMBERS: [Change; 25] = [
+const OPTIONAL_NUMBERS: [Change; 27] = [
     ("shards = 1", "shards = 1\nmax_hops = 1", None),
     ("shards = 1", "shards = 1\nmax_hops = 100", None),
     ("shards = 1", "shards = 1\nmax_hops = 0", BAD_VALUE),
@@ -87,6 +87,8 @@ const OPTIONAL_NUMBERS: [Change; 25] = [
     ("shards = 1", "shards = 1\nstatus_server = true", None),
     ("shards = 1", "shards = 1\nspread = true", None),
     ("shards = 1", "shards = 1\nlog_station = \"hmac\"", None),
+    ("shards = 1", "shards = 1\nstate = \"sessions\"", None),
+    ("shards = 1", "shards = 1\nstate_every = 86400", None),
     (
         "secret = \"h1\"",
         "secret = \"h1\"\nrequire_seal = true",
@@ -115,7 +117,7 @@ const OPTIONAL_NUMBERS: [Change; 25] = [
 ];
 
 /// Keys that may be absent, with a value of a wrong type, or in a table that doesn't have them.
-const BAD_OPTIONAL_VALUES: [Change; 26] = [
+const BAD_OPTIONAL_VALUES: [Change; 29] = [
     ("shards = 1", "shards = 1\nmax_hops = \"1\"", BAD_VALUE),
     ("shards = 1", "shards = 1\nmax_hops = true", BAD_VALUE),
     ("shards = 1", "shards = 1\ntrace_octets = 1.0", BAD_VALUE),
@@ -123,6 +125,9 @@ const BAD_OPTIONAL_VALUES: [Change; 26] = [
     ("shards = 1", "shards = 1\nspread = \"true\"", BAD_VALUE),
     ("shards = 1", "shards = 1\nlog_station = \"md5\"", BAD_VALUE),
     ("shards = 1", "shards = 1\nlog_station = true", BAD_VALUE),
+    ("shards = 1", "shards = 1\nstate = \"\"", BAD_VALUE),
+    ("shards = 1", "shards = 1\nstate_every = 0", BAD_VALUE),
+    ("shards = 1", "shards = 1\nstate_every = 86401", BAD_VALUE),
     ("tries = 2", "tries = 2\nrest = \"0\"", BAD_VALUE),
     ("tries = 2", "tries = 2\nrest_after = [1]", BAD_VALUE),
     (

@@ -3,8 +3,8 @@
 use crate::ends::{Arrival, Ends, hear, local};
 use crate::exchange::{SENDS, Verdict, complete, repeat};
 use crate::packets::{
-    ACCESS, ACCOUNTING, DISCONNECT, Exchange, FAILED_OVER, LEDGER, OTHER_FORWARDED, OTHER_START,
-    SECOND_ACCESS, SECOND_ACCOUNTING,
+    ACCESS, ACCOUNTING, DISCONNECT, Exchange, FAILED_OVER, FIRST_DISCONNECT, LEDGER,
+    OTHER_FORWARDED, OTHER_START, SECOND_ACCESS, SECOND_ACCOUNTING,
 };
 use crate::stage::Stage;
 use std::net::{SocketAddr, UdpSocket};
@@ -53,6 +53,11 @@ pub(crate) fn let_go(ends: &Ends) -> Verdict {
     alone(ends, local(11812), &ends.home, &SECOND_ACCESS)?;
     alone(ends, local(11813), &ends.acct_home, &SECOND_ACCOUNTING)?;
     alone(ends, local(13000), &ends.coa, &DISCONNECT)
+}
+
+/// A session that an earlier server kept is known: a Disconnect for it reaches its access server.
+pub(crate) fn restored(ends: &Ends) -> Verdict {
+    alone(ends, local(13000), &ends.coa, &FIRST_DISCONNECT)
 }
 
 /// An exchange, and what else comes of a request that was sent more than once.

@@ -23,11 +23,11 @@ mod stage;
 
 use crate::ends::Ends;
 use crate::exchange::Verdict;
-use crate::reload::Next;
+use crate::reload::{Next, kept_before, manner, state_file};
 use crate::row::{ROWS, Row, TAKEN};
 use crate::stage::{Stage, Turnstile};
-use roam_conf::ExchangeLines;
-use roam_serve::{Build, ControlSocket, ServeFault, ServeOptions, StationForm, Watch, serve};
+use roam_serve::{Build, ControlSocket, ServeFault, ServeOptions, Watch, serve};
+use std::alloc::Global;
 use std::sync::atomic::AtomicU64;
 use std::{io, thread};
 
@@ -53,11 +53,11 @@ fn options<'s, 't, R>(
     stage: &'s Stage<'t, R>,
     row: Row,
     watch: Option<Watch<'s>>,
+    alloc: Global,
 ) -> ServeOptions<'s, Turnstile<'t, R>> {
     ServeOptions {
         watch,
-        told_exchanges: ExchangeLines::OfAll,
-        stations: StationForm::Clear,
+        manner: manner(state_file(row, alloc)),
         milliseconds: Some(row.milliseconds()),
         gate: &stage.turnstile,
     }
@@ -86,6 +86,7 @@ fn main(rt: HostRuntime) -> io::Result<()> {
         let mut next = Next {
             alloc,
             config: row.following(&rt, alloc),
+            kept: kept_before(row, alloc),
         };
         let control = row.control(&rt);
         let control = control.as_ref();
@@ -95,7 +96,7 @@ fn main(rt: HostRuntime) -> io::Result<()> {
                 let (acted, served) = thread::scope(thread::scope_env(), &rt, |scope| {
                     let server = scope.spawn(move || {
                         let watch = watch(stage, row, control);
-                        let options = options(stage, row, watch);
+                        let options = options(stage, row, watch, alloc);
                         let served = serve(stage, alloc, config, options, &mut next);
                         stage.note_end();
                         served
@@ -106,8 +107,10 @@ fn main(rt: HostRuntime) -> io::Result<()> {
                             let none = &mut Next {
                                 alloc,
                                 config: None,
+                                kept: None,
                             };
-                            Some(serve(stage, alloc, config, options(stage, row, None), none))
+                            let options = options(stage, row, None, alloc);
+                            Some(serve(stage, alloc, config, options, none))
                         }
                         None => None,
                     };

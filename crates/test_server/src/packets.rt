@@ -169,3 +169,22 @@ pub(crate) const DISCONNECT: Exchange = Exchange {
         41, 34, 0, 20, 238, 120, 7, 138, 150, 115, 214, 245, 4, 171, 213, 147, 193, 246, 246, 193,
     ],
 };
+
+/// The same as the first request of the realm.
+pub(crate) const FIRST_DISCONNECT: Exchange = Exchange {
+    request: DISCONNECT.request,
+    forwarded: &[
+        40, 0, 0, 40, 75, 103, 144, 213, 120, 52, 24, 91, 150, 184, 24, 174, 120, 65, 225, 214, 32,
+        6, 110, 97, 115, 49, 44, 4, 48, 49, 33, 10, 0, 0, 0, 0, 0, 0, 0, 0,
+    ],
+    reply: &[
+        41, 0, 0, 20, 157, 111, 64, 243, 86, 82, 11, 79, 148, 112, 204, 162, 11, 38, 37, 16,
+    ],
+    returned: DISCONNECT.returned,
+};
+
+/// A file of ledgers: session 01 of `nas1` in `a.example`.
+pub(crate) const KEPT: &[u8] = &[
+    114, 111, 97, 109, 32, 108, 101, 100, 103, 101, 114, 115, 32, 49, 10, 1, 0, 9, 97, 46, 101,
+    120, 97, 109, 112, 108, 101, 2, 4, 110, 97, 115, 49, 0, 0, 2, 48, 49, 0,
+];

@@ -4,16 +4,20 @@ use crate::acts::{alone, send_until_heard};
 use crate::ends::{Ends, hear, local};
 use crate::exchange::{SENDS, Verdict, is_returned, repeat};
 use crate::packets::{
-    ACCESS, DISCONNECT, Exchange, LEDGER, OTHER_FORWARDED, OTHER_START, SECOND_ACCESS,
+    ACCESS, DISCONNECT, Exchange, KEPT, LEDGER, OTHER_FORWARDED, OTHER_START, SECOND_ACCESS,
     SECOND_ACCOUNTING,
 };
+use crate::row::Row;
 use roam_conf::{Config, ExchangeLines};
+use roam_conf_reader::read_config;
 use roam_reload::hindrance_of;
-use roam_serve::{Following, ServeFault, Source, StationForm};
+use roam_serve::{Following, Manner, Reason, ServeFault, Source, StateFile, StationForm};
 use std::alloc::Global;
+use std::fs;
 use std::io::{Read, Write};
 use std::net::{Net, SocketAddr};
 use std::os::unix::net::UnixStream;
+use std::rt::Files;
 use std::time::Duration;
 
 /// Where a server is asked: a socket of the folder in which the program runs.
@@ -23,11 +27,47 @@ pub(crate) const CONTROL: &str = "control";
 const RELOAD: &[u8] =
     b"POST /reload HTTP/1.1\r\nHost: roam\r\nContent-Length: 0\r\nConnection: close\r\n\r\n";
 
+/// Reads a configuration of the folder in which the program runs.
+pub(crate) fn read<R: Files>(rt: &R, alloc: Global, path: &str) -> Option<Config> {
+    let text = fs::read_to_string(&(rt, alloc), path).ok()?;
+    read_config(alloc, text.as_str()).ok()
+}
+
+/// What an earlier server kept, in the row in which one did; none too where memory is refused.
+pub(crate) fn kept_before(row: Row, alloc: Global) -> Option<Vec<u8>> {
+    match row {
+        Row::Restored => Vec::from_slice(alloc, KEPT).ok(),
+        _ => None,
+    }
+}
+
+/// How a configuration is served, whose ledgers outlast the server in this file, if in any.
+pub(crate) fn manner(state: Option<StateFile>) -> Manner {
+    Manner {
+        told_exchanges: ExchangeLines::OfAll,
+        stations: StationForm::Clear,
+        state,
+    }
+}
+
+/// The file in which ledgers outlast the server, in the row in which they do; none too where memory is refused.
+pub(crate) fn state_file(row: Row, alloc: Global) -> Option<StateFile> {
+    if row != Row::Restored {
+        return None;
+    }
+    Some(StateFile {
+        path: String::from_str(alloc, "sessions").ok()?,
+        every: 60_000,
+    })
+}
+
 /// The configuration that follows the first one, where there is one; no other follows.
 #[derive(Drop)]
 pub(crate) struct Next {
     pub(crate) alloc: Global,
     pub(crate) config: Option<Config>,
+    /// What an earlier server kept, where one did.
+    pub(crate) kept: Option<Vec<u8>>,
 }
 
 impl Source for Next {
@@ -38,8 +78,7 @@ impl Source for Next {
         match hindrance_of(old, &config) {
             None => Ok(Following {
                 config,
-                told_exchanges: ExchangeLines::OfAll,
-                stations: StationForm::Clear,
+                manner: manner(None),
                 report: Vec::new(self.alloc),
             }),
             Some(_) => Err(Vec::new(self.alloc)),
@@ -48,6 +87,18 @@ impl Source for Next {
 
     fn words_of(&mut self, _fault: ServeFault) -> Vec<u8> {
         Vec::new(self.alloc)
+    }
+
+    fn kept(&mut self, _path: &str) -> Result<Option<Vec<u8>>, Reason> {
+        Ok(self.kept.take())
+    }
+
+    fn keep(&mut self, _path: &str, _octets: &[u8]) -> Result<(), Reason> {
+        Ok(())
+    }
+
+    fn put_aside(&mut self, _path: &str) -> bool {
+        true
     }
 }
 

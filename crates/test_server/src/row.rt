@@ -3,14 +3,12 @@
 use crate::asked::METRICS;
 use crate::ends::Ends;
 use crate::exchange::Verdict;
-use crate::reload::CONTROL;
+use crate::reload::{CONTROL, read};
 use crate::stage::Stage;
 use crate::{acts, asked, burst, counted, crowd, hostile, reload};
 use roam_conf::{Config, Endpoint};
-use roam_conf_reader::read_config;
 use roam_serve::{ControlSocket, Counters, Reason, ServeFault, with_drawn_seed};
 use std::alloc::Global;
-use std::fs;
 use std::net::Net;
 use std::random::RandomSource;
 use std::rt::Files;
@@ -35,6 +33,8 @@ pub(crate) enum Row {
     LetGo,
     /// A configuration that follows the first one.
     Reload,
+    /// A session that was kept over a restart.
+    Restored,
     /// A request of one shard while a call of the other is held.
     Held,
     /// A socket at which every receive fails.
@@ -64,7 +64,7 @@ pub(crate) enum Row {
 }
 
 /// All rows. The last one takes standard error away.
-pub(crate) const ROWS: [Row; 20] = [
+pub(crate) const ROWS: [Row; 21] = [
     Row::Accounting,
     Row::Hostile,
     Row::Flood,
@@ -72,6 +72,7 @@ pub(crate) const ROWS: [Row; 20] = [
     Row::Taken,
     Row::LetGo,
     Row::Reload,
+    Row::Restored,
     Row::Held,
     Row::Deaf,
     Row::Unreachable,
@@ -104,12 +105,6 @@ const REVERSE: Endpoint = Endpoint {
     ip: [127, 0, 0, 1],
     port: 13000,
 };
-
-/// Reads a configuration of the folder in which the program runs.
-fn read<R: Files>(rt: &R, alloc: Global, path: &str) -> Option<Config> {
-    let text = fs::read_to_string(&(rt, alloc), path).ok()?;
-    read_config(alloc, text.as_str()).ok()
-}
 
 impl Row {
     /// What is served; none where it can't be read.
@@ -151,6 +146,7 @@ impl Row {
             Row::Taken => "a port that is taken",
             Row::LetGo => "requests on both sides of steps that are let go of",
             Row::Reload => "a configuration that follows, with a request that waits across it",
+            Row::Restored => "a session that was kept over a restart",
             Row::Held => "a request of one shard while a call of the other is held",
             Row::Deaf => "a socket at which every receive fails, beside one that is busy",
             Row::Unreachable => "a server to which nothing can be sent",
@@ -266,6 +262,7 @@ impl Row {
             Row::Metrics => asked::metrics(stage, ends, alloc),
             Row::LetGo => acts::let_go(ends),
             Row::Reload => reload::reload(rt, ends),
+            Row::Restored => acts::restored(ends),
             Row::Burst => burst::burst(stage, ends, alloc),
             Row::Spread => burst::spread(stage, ends),
             Row::Drawn | Row::DrawnAgain => acts::drawn(stage, ends),

@@ -1,6 +1,7 @@
 //! What lies under a shard's lock is written as ledgers.
 
-ghost use Rattle.std.specs.Prelude.{◌<◌};
+ghost use Rattle.std.specs.Prelude.{◌<◌, OnOk};
+ghost use Rattle.roam_hub.specs.Written.{BeginsRealm, SavesOrNothing};
 
 use crate::locked_trace::LockedTrace;
 use roam_audit::Seat;
@@ -20,13 +21,16 @@ impl<A: Allocator + Copy, N: Opened> LockedTrace<'_, A, N> {
         writing: &mut Writing<A>,
     ) -> Result<(), NoMemory>
         requires { shard < N.opening.config.shards }
+        ensures { OnOk result (BeginsRealm N.opening realm writing.old writing.new) }
     {
         if !self.goes_on(seat, shard) {
             return Ok(());
         }
-        let shard = self.traced.shard();
-        shard.add_session_tickets(realm, tickets)?;
-        shard.save_realm(realm, writing).map_err(|_| NoMemory)
+        self.traced.shard().add_session_tickets(realm, tickets)?;
+        match self.traced.shard().save_realm(realm, writing) {
+            Ok(()) => Ok(()),
+            Err(_) => Err(NoMemory),
+        }
     }
 
     /// Writes the sessions of a realm that have these tickets; nothing where this is another shard's trace.
@@ -39,6 +43,7 @@ impl<A: Allocator + Copy, N: Opened> LockedTrace<'_, A, N> {
         writing: &mut Writing<A>,
     ) -> Result<(), AllocError>
         requires { shard < N.opening.config.shards }
+        ensures { OnOk result (SavesOrNothing N.opening shard realm seat.now writing.old writing.new) }
     {
         if !self.goes_on(seat, shard) {
             return Ok(());

@@ -3,6 +3,7 @@
 ghost use Rattle.roam_conf.specs.Shown.{shown};
 ghost use Rattle.roam_book.specs.Carrying.{AreChanged};
 
+use crate::asked::attending::Attendant;
 use crate::change::next::out_of_memory;
 use log::Log;
 use roam_book::{Loss, changed_peers};
@@ -107,24 +108,59 @@ fn tell_losses<R: Log>(rt: &R, config: &Config, losses: &[Loss]) {
     }
 }
 
-/// Why a configuration isn't followed by which something would be lost, unless that is agreed to: then it is told
-/// what goes.
-pub fn objection<R: Wait + Log, G, N: Opened>(
+/// Why a configuration isn't followed to which nobody agreed: something would be lost by it.
+pub fn objection<R: Wait, G, N: Opened>(
     rt: &R,
     shared: &Shared<'_, '_, G, N>,
     seat: &Seat<Global, N>,
     next: &Config,
-    is_agreed: bool,
 ) -> Option<Reply> {
     let Ok(losses) = all_losses(rt, shared, seat, next) else {
         return Some(out_of_memory(shared.alloc));
     };
-    if is_agreed {
-        tell_losses(rt, shared.config, losses.as_slice());
-        return None;
-    }
     match why_not(shared.alloc, shared.config, losses.as_slice()) {
         Some(text) => Some(plain_reply(Course::Declined, text)),
         None => None,
+    }
+}
+
+/// Tells what goes by a change that was agreed to, where there is memory for that.
+pub fn tell_what_goes<R: Wait + Log, G, N: Opened>(
+    rt: &R,
+    shared: &Shared<'_, '_, G, N>,
+    seat: &Seat<Global, N>,
+    next: &Config,
+) {
+    if let Ok(losses) = all_losses(rt, shared, seat, next) {
+        tell_losses(rt, shared.config, losses.as_slice());
+    }
+}
+
+impl<R: Wait + Log, G, N: Opened> Attendant<'_, '_, R, G, N> {
+    /// Tells what of the realm of an index is dropped for this cause.
+    fn tell_dropped_of(&self, index: u16, cause: DropCause) {
+        let shared = self.shared;
+        let Some(realm) = shared.config.realms.get(usize::from(index)) else {
+            return;
+        };
+        if realm.gone {
+            return;
+        }
+        if let Some(gauges) = shared.hub.look(self.rt, &self.seat, index) {
+            let dropped = DroppedText {
+                cause,
+                realm: realm.name.as_str(),
+                waiting: gauges.in_use as u64,
+                sessions: gauges.sessions as u64,
+            };
+            tell_dropped(self.rt, dropped);
+        }
+    }
+
+    /// Tells what all realms drop, since the server ends.
+    pub fn tell_dropped_at_end(&self) {
+        for index in 0..self.shared.config.realms.len() {
+            self.tell_dropped_of(index as u16, DropCause::End);
+        }
     }
 }

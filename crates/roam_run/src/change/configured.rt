@@ -1,19 +1,16 @@
 //! A configuration that is served, with what belongs to it alone.
 
-use roam_conf::{Config, ExchangeLines};
+use crate::change::manner::Manner;
+use roam_conf::Config;
 use roam_control::Reply;
 use roam_sockets::BoundSocket;
-use roam_stations::StationForm;
 use roam_telling::Counters;
 
 /// A configuration that is served, with its sockets and its counts.
 pub struct Configured {
     pub config: Config,
     pub sockets: Vec<BoundSocket>,
-    /// Of which exchanges that end a line tells.
-    pub told_exchanges: ExchangeLines,
-    /// How these lines have a station.
-    pub stations: StationForm,
+    pub manner: Manner,
     /// What is counted; none where nothing is, or where the counts are those of whoever watches the server.
     pub counters: Option<Counters>,
 }

@@ -6,7 +6,6 @@ pub returns-in-None-clause-none : goal.returns-in-None-clause-none
 returns-in-None-clause-none c = record {
   seed = search rules;
   shards = search rules;
-  spread = search rules;
   numbers = search rules;
   kinds = c.in-None.ensures.none;
 }

@@ -1,11 +1,17 @@
 -- A realm of the shard has numbers, which take up a session.
-use Rattle.std.proofs.Common.{◌∙◌, Some, ap, arith}
+use Rattle.std.proofs.Common.{◌≡◌, ◌∙◌, ◌∷◌, [], ℕ, Some, ap, arith, subst, sym}
 use Rattle.std.proofs.lemmas.List.{length-map}
 use Rattle.roam_conf.specs.Parts.{shown_realm}
 use Rattle.roam_conf.specs.Shown.{shown}
 use Rattle.roam_tables.proofs.RealmLemmas.{get-read}
-use Rattle.roam_shard.specs.Pausing.{opening_under}
+use Rattle.roam_shard.specs.Pausing.{opening_under, states_under}
+use Rattle.roam_shard.specs.Restoring.{with_one}
+use Rattle.roam_book.specs.RealmConfig.{RealmConfig, realm_config}
+use Rattle.roam_book.specs.Saving.{taken_up}
+use Rattle.roam_ledgers.specs.Shown.{shown_session}
+use Rattle.roam_book.proofs.WrittenLemmas.{on_one}
 use Rattle.roam_shard.proofs.RestoredLemmas.{restored_shard}
+use Rattle.roam_shard.proofs.TakenUpLemmas.{numbers-taken}
 use Rattle.roam_shard.proofs.paused.Paused.restore_one.Goals as goal
 
 pub new-requires : goal.new-requires
@@ -38,3 +44,20 @@ returns-in-Some-clause-stands g c =
     c.index_mut.ensures.value ∙ ap Some c.in-Some.is in
     restored_shard (opening_under (shown c.args.config.now) p) p.entries ns c.requires c.from-2.result c.in-Some.numbers
     c.restore.new.self at c.restore.ensures.keeps
+
+pub returns-in-Some-clause-states : goal.returns-in-Some-clause-states
+returns-in-Some-clause-states g c =
+    let p = c.args.self.now in
+    let ns = p.numbers.items in
+    let at = get-read ns c.from-2.result c.index_mut.result.now
+    (omega (arith, c.from.ensures, c.from-2.ensures, c.if-from-len.false, p.numbers.ok.0))
+    c.index_mut.ensures.value ∙ ap Some c.in-Some.is in
+    let config = shown c.args.config.now in
+    let n = c.in-Some.numbers in
+    let m = c.restore.new.self in
+    let s = shown_session c.args.session in
+    let is = c.new.ensures ∙ ap (realm_config config) (sym c.from-2.ensures) in
+    on_one _ c.restore.ensures.sessions (λ sessions.
+    numbers-taken (opening_under config p) p.entries ns c.from-2.result n m s c.requires at c.restore.ensures.keeps
+    (subst (λ (x : RealmConfig). m.sessions.sessions ≡ taken_up x (s ∷ []) n.sessions.sessions) is sessions)
+    ∙ ap (λ (k : ℕ). with_one config p.shard k s (states_under config p)) c.from-2.ensures)

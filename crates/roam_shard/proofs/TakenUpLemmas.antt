@@ -1,0 +1,280 @@
+-- A shard's realms take up sessions that were saved, one item of the file after the other.
+use Rattle.std.proofs.Common.{◌≡◌, ◌≢◌, ℕ, zero, suc, ◌+◌, ◌==◌, ◌≤◌, Bool, true, false, List, [], ◌∷◌, ◌++◌, ◌∙◌, Option, Some, None, set, refl, ap, sym, arith}
+use Rattle.std.specs.Prelude.{if◌then◌else◌, slice_get}
+use Rattle.std.specs.Option.{option_map_or}
+use Rattle.std.proofs.lemmas.Option.{slice_get-get_or, slice_get_within}
+use Rattle.roam_conf.specs.Config.{ConfigView}
+use Rattle.roam_ledgers.specs.Ledgers.{SavedItem, SavedSession, realm, session}
+use Rattle.roam_book.specs.RealmConfig.{RealmConfig, realm_config}
+use Rattle.roam_book.specs.RealmState.{RealmState}
+use Rattle.roam_book.specs.Saving.{taken_up}
+use Rattle.roam_book.specs.Sound.{cursors_of, state_of}
+use Rattle.roam_book.specs.Stays.{KeepsButSessions}
+use Rattle.roam_book.specs.declared.state.realm_numbers.RealmNumbers.{RealmNumbers}
+use Rattle.roam_reverse.specs.Sessions.{Session}
+use Rattle.roam_pending.specs.PlainEntry.{PlainEntry}
+use Rattle.roam_tables.specs.Stands.{RealmView, entries_in}
+use Rattle.roam_core.specs.Events.{is_in_shard}
+use Rattle.roam_core.specs.ManyRealms.{no_state}
+use Rattle.roam_shard.specs.ShardView.{IsShard, OpeningView, states_in}
+use Rattle.roam_shard.proofs.ShardLemmas.{length-states, state-seen, states-set}
+use Rattle.roam_shard.specs.Restoring.{is_named, saved_of, sessions_behind, with_one, with_saved, with_saved_from}
+
+either-way : {X : Type 0} (b : Bool) (x : X) → (if b then x else x) ≡ x
+either-way true x = refl
+either-way false x = refl
+
+twice : {X : Type 0} (b : Bool) (f : X → X) (x y : X)
+    → (if b then f (if b then x else y) else (if b then x else y)) ≡ (if b then f x else y)
+twice true f x y = refl
+twice false f x y = refl
+
+-- What a file has of a realm, with one item more
+
+-- whether the realm that stands last passes
+here-after : (List ℕ → Bool → Bool) → Bool → List SavedItem → Bool
+here-after passes here [] = here
+here-after passes here (realm name own ∷ more) = here-after passes (passes name own) more
+here-after passes here (session s ∷ more) = here-after passes here more
+
+behind-realm : (passes : List ℕ → Bool → Bool) (here : Bool) (items : List SavedItem) (name : List ℕ) (own : Bool)
+    → sessions_behind passes here (items ++ realm name own ∷ []) ≡ sessions_behind passes here items
+behind-realm passes here [] name own = refl
+behind-realm passes here (realm n o ∷ items) name own = behind-realm passes (passes n o) items name own
+behind-realm passes true (session s ∷ items) name own =
+    ap (λ (l : List SavedSession). s ∷ l) (behind-realm passes true items name own)
+behind-realm passes false (session s ∷ items) name own = behind-realm passes false items name own
+
+here-realm : (passes : List ℕ → Bool → Bool) (here : Bool) (items : List SavedItem) (name : List ℕ) (own : Bool)
+    → here-after passes here (items ++ realm name own ∷ []) ≡ passes name own
+here-realm passes here [] name own = refl
+here-realm passes here (realm n o ∷ items) name own = here-realm passes (passes n o) items name own
+here-realm passes here (session s ∷ items) name own = here-realm passes here items name own
+
+behind-session : (passes : List ℕ → Bool → Bool) (here : Bool) (items : List SavedItem) (s : SavedSession)
+    → sessions_behind passes here (items ++ session s ∷ [])
+    ≡ sessions_behind passes here items ++ (if here-after passes here items then s ∷ [] else [])
+behind-session passes true [] s = refl
+behind-session passes false [] s = refl
+behind-session passes here (realm n o ∷ items) s = behind-session passes (passes n o) items s
+behind-session passes true (session t ∷ items) s =
+    ap (λ (l : List SavedSession). t ∷ l) (behind-session passes true items s)
+behind-session passes false (session t ∷ items) s = behind-session passes false items s
+
+here-session : (passes : List ℕ → Bool → Bool) (here : Bool) (items : List SavedItem) (s : SavedSession)
+    → here-after passes here (items ++ session s ∷ []) ≡ here-after passes here items
+here-session passes here [] s = refl
+here-session passes here (realm n o ∷ items) s = here-session passes (passes n o) items s
+here-session passes here (session t ∷ items) s = here-session passes here items s
+
+-- What realms take up, in two parts
+
+taken-then : (c : RealmConfig) (first more : List SavedSession) (ss : List Session)
+    → taken_up c (first ++ more) ss ≡ taken_up c more (taken_up c first ss)
+taken-then c [] more ss = refl
+taken-then c (s ∷ first) more ss = taken-then c first more _
+
+saved-then : (config : ConfigView) (index : ℕ) (first more : List SavedSession) (s : RealmState)
+    → with_saved config index more (with_saved config index first s) ≡ with_saved config index (first ++ more) s
+saved-then config index first more s =
+    ap (λ (l : List Session). record s { sessions = l })
+    (sym (taken-then (realm_config config index) first more s.sessions))
+
+from-then : (config : ConfigView) (shard : ℕ) (first more : ℕ → List SavedSession) (index : ℕ)
+    (states : List RealmState)
+    → with_saved_from config shard more index (with_saved_from config shard first index states)
+    ≡ with_saved_from config shard (λ i. first i ++ more i) index states
+from-then config shard first more index [] = refl
+from-then config shard first more index (s ∷ ss) =
+    let own = is_in_shard config shard index in
+    let rest = with_saved_from config shard more (index + 1) (with_saved_from config shard first (index + 1) ss) in
+    ap (λ (t : RealmState). t ∷ rest)
+    (twice own (with_saved config index (more index)) (with_saved config index (first index) s) s)
+    ∙ ap (λ (t : RealmState). (if own then t else s) ∷ rest) (saved-then config index (first index) (more index) s)
+    ∙ ap (λ (l : List RealmState). (if own then with_saved config index (first index ++ more index) s else s) ∷ l)
+    (from-then config shard first more (index + 1) ss)
+
+-- the same sessions of each realm
+from-same : (config : ConfigView) (shard : ℕ) (one other : ℕ → List SavedSession) (index : ℕ)
+    (states : List RealmState) → ((i : ℕ) → one i ≡ other i)
+    → with_saved_from config shard one index states ≡ with_saved_from config shard other index states
+from-same config shard one other index states same =
+    ap (λ (f : ℕ → List SavedSession). with_saved_from config shard f index states) (λ j i. same i j)
+
+-- none of any realm
+from-none : (config : ConfigView) (shard : ℕ) (saved : ℕ → List SavedSession) (index : ℕ) (states : List RealmState)
+    → ((i : ℕ) → index ≤ i → saved i ≡ []) → with_saved_from config shard saved index states ≡ states
+from-none config shard saved index [] none = refl
+from-none config shard saved index (s ∷ ss) none =
+    let own = is_in_shard config shard index in
+    ap (λ (l : List SavedSession). (if own then with_saved config index l s else s)
+    ∷ with_saved_from config shard saved (index + 1) ss) (none index (omega arith))
+    ∙ ap (λ (t : RealmState). t ∷ with_saved_from config shard saved (index + 1) ss) (either-way own s)
+    ∙ ap (λ (l : List RealmState). s ∷ l)
+    (from-none config shard saved (index + 1) ss (λ i le. none i (omega (arith, le))))
+
+-- one of one realm of the shard
+from-one : (config : ConfigView) (shard : ℕ) (saved : ℕ → List SavedSession) (index k : ℕ) (states : List RealmState)
+    (x : RealmState) (s : SavedSession) → slice_get states k ≡ Some x → is_in_shard config shard (index + k) ≡ true
+    → saved (index + k) ≡ s ∷ [] → ((i : ℕ) → i ≢ index + k → saved i ≡ [])
+    → with_saved_from config shard saved index states ≡ set states k (with_saved config (index + k) (s ∷ []) x)
+from-one config shard saved index k [] x s at own is others = absurd (let bad : None ≡ Some x = at in cc)
+from-one config shard saved index zero (y ∷ ys) x s at own is others =
+    let e : index + 0 ≡ index = omega arith in
+    let same : Some y ≡ Some x = at in
+    let was : y ≡ x = cc in
+    let rest = with_saved_from config shard saved (index + 1) ys in
+    ap (λ (b : Bool). (if b then with_saved config index (saved index) y else y) ∷ rest)
+    (ap (is_in_shard config shard) (sym e) ∙ own)
+    ∙ ap (λ (l : List SavedSession). with_saved config index l y ∷ rest) (ap saved (sym e) ∙ is)
+    ∙ ap (λ (z : RealmState). with_saved config index (s ∷ []) z ∷ rest) was
+    ∙ ap (λ (n : ℕ). with_saved config n (s ∷ []) x ∷ rest) (sym e)
+    ∙ ap (λ (l : List RealmState). with_saved config (index + 0) (s ∷ []) x ∷ l)
+    (from-none config shard saved (index + 1) ys (λ i le. others i (λ same. absurd (omega (arith, same, le)))))
+from-one config shard saved index (suc k) (y ∷ ys) x s at own is others =
+    let e : index + 1 + k ≡ index + suc k = omega arith in
+    let here = is_in_shard config shard index in
+    ap (λ (l : List SavedSession). (if here then with_saved config index l y else y)
+    ∷ with_saved_from config shard saved (index + 1) ys) (others index (λ is. absurd (omega (arith, is))))
+    ∙ ap (λ (t : RealmState). t ∷ with_saved_from config shard saved (index + 1) ys) (either-way here y)
+    ∙ ap (λ (l : List RealmState). y ∷ l) (from-one config shard saved (index + 1) k ys x s at
+    (ap (is_in_shard config shard) e ∙ own) (ap saved e ∙ is) (λ i ne. others i (λ is. ne (is ∙ sym e))))
+    ∙ ap (λ (n : ℕ). y ∷ set ys k (with_saved config n (s ∷ []) x)) e
+
+-- one of a realm that isn't the shard's
+from-foreign : (config : ConfigView) (shard : ℕ) (saved : ℕ → List SavedSession) (index k : ℕ)
+    (states : List RealmState) → is_in_shard config shard (index + k) ≡ false
+    → ((i : ℕ) → i ≢ index + k → saved i ≡ []) → with_saved_from config shard saved index states ≡ states
+from-foreign config shard saved index k [] own others = refl
+from-foreign config shard saved index zero (y ∷ ys) own others =
+    let e : index + 0 ≡ index = omega arith in
+    ap (λ (b : Bool). (if b then with_saved config index (saved index) y else y)
+    ∷ with_saved_from config shard saved (index + 1) ys) (ap (is_in_shard config shard) (sym e) ∙ own)
+    ∙ ap (λ (l : List RealmState). y ∷ l)
+    (from-none config shard saved (index + 1) ys (λ i le. others i (λ same. absurd (omega (arith, same, le)))))
+from-foreign config shard saved index (suc k) (y ∷ ys) own others =
+    let e : index + 1 + k ≡ index + suc k = omega arith in
+    let here = is_in_shard config shard index in
+    ap (λ (l : List SavedSession). (if here then with_saved config index l y else y)
+    ∷ with_saved_from config shard saved (index + 1) ys) (others index (λ is. absurd (omega (arith, is))))
+    ∙ ap (λ (t : RealmState). t ∷ with_saved_from config shard saved (index + 1) ys) (either-way here y)
+    ∙ ap (λ (l : List RealmState). y ∷ l) (from-foreign config shard saved (index + 1) k ys
+    (ap (is_in_shard config shard) e ∙ own) (λ i ne. others i (λ is. ne (is ∙ sym e))))
+
+equal-test : (n : ℕ) → (n == n) ≡ true
+equal-test zero = refl
+equal-test (suc n) = equal-test n
+
+other-test : (n m : ℕ) → n ≢ m → (n == m) ≡ false
+other-test zero zero ne = absurd (ne refl)
+other-test zero (suc m) ne = refl
+other-test (suc n) zero ne = refl
+other-test (suc n) (suc m) ne = other-test n m (λ is. ne (ap suc is))
+
+-- a session of a realm of the shard
+pub one-taken : (config : ConfigView) (shard k : ℕ) (s : SavedSession) (states : List RealmState) (x : RealmState)
+    → slice_get states k ≡ Some x → is_in_shard config shard k ≡ true
+    → with_one config shard k s states ≡ set states k (with_saved config k (s ∷ []) x)
+one-taken config shard k s states x at own =
+    let e : 0 + k ≡ k = omega arith in
+    let saved : ℕ → List SavedSession = λ other. if other == k then s ∷ [] else [] in
+    from-one config shard saved 0 k states x s at (ap (is_in_shard config shard) e ∙ own)
+    (ap saved e ∙ ap (λ (b : Bool). if b then s ∷ [] else []) (equal-test k))
+    (λ i ne. ap (λ (b : Bool). if b then s ∷ [] else []) (other-test i k (λ is. ne (is ∙ sym e))))
+    ∙ ap (λ (n : ℕ). set states k (with_saved config n (s ∷ []) x)) e
+
+-- a session of a realm that isn't
+pub none-taken : (config : ConfigView) (shard k : ℕ) (s : SavedSession) (states : List RealmState)
+    → is_in_shard config shard k ≡ false → with_one config shard k s states ≡ states
+none-taken config shard k s states own =
+    let e : 0 + k ≡ k = omega arith in
+    from-foreign config shard (λ other. if other == k then s ∷ [] else []) 0 k states
+    (ap (is_in_shard config shard) e ∙ own)
+    (λ i ne. ap (λ (b : Bool). if b then s ∷ [] else []) (other-test i k (λ is. ne (is ∙ sym e))))
+
+module _ {A : Type 0} where
+  -- the numbers of a realm took it up
+  state-then : (config : ConfigView) (k : ℕ) (es : List PlainEntry) (n m : RealmNumbers A) (s : SavedSession)
+      → KeepsButSessions n m
+      → m.sessions.sessions ≡ taken_up (realm_config config k) (s ∷ []) n.sessions.sessions
+      → state_of es m ≡ with_saved config k (s ∷ []) (state_of es n)
+  state-then config k es n m s keeps sessions = λ j. record {
+    entries = es;
+    ticket = keeps.ticket j;
+    cursors = cursors_of (keeps.lanes j);
+    stream_position = keeps.stream_position j;
+    sessions = sessions j;
+    rests = keeps.rests j;
+  }
+
+  pub numbers-taken : (o : OpeningView) (tables : List RealmView) (ns : List (Option (RealmNumbers A))) (k : ℕ)
+      (n m : RealmNumbers A) (s : SavedSession) → IsShard o tables ns → slice_get ns k ≡ Some (Some n)
+      → KeepsButSessions n m
+      → m.sessions.sessions ≡ taken_up (realm_config o.config k) (s ∷ []) n.sessions.sessions
+      → states_in o tables (set ns k (Some m)) ≡ with_one o.config o.shard k s (states_in o tables ns)
+  numbers-taken o tables ns k n m s are at keeps sessions =
+      let E = entries_in tables in
+      let own : is_in_shard o.config o.shard k ≡ true = sym (are.own k (Some n) at) in
+      let lt = slice_get_within ns k (Some n) at in
+      let long = length-states o E 0 ns in
+      let there : slice_get (states_in o tables ns) k ≡ Some (state_of (E k) n) =
+      slice_get-get_or (states_in o tables ns) k no_state (omega (arith, lt, long))
+      ∙ ap Some (state-seen o E k ns (Some n) at) in
+      states-set o E E k ns m (λ q ne. refl)
+      ∙ ap (set (states_in o tables ns) k) (state-then o.config k (E k) n m s keeps sessions)
+      ∙ sym (one-taken o.config o.shard k s (states_in o tables ns) (state_of (E k) n) there own)
+
+-- The items so far, and whose sessions come now
+
+pub record AreTakenUp (config : ConfigView) (shard : ℕ) (items : List SavedItem) (own : Option ℕ)
+    (before after : List RealmState) : Type 0 where
+  pub states : after ≡ with_saved_from config shard (saved_of config items) 0 before
+  pub whose : (r : ℕ) → here-after (is_named config r) false items ≡ option_map_or (λ k. r == k) own false
+
+pub nothing-so-far : (config : ConfigView) (shard : ℕ) (states : List RealmState)
+    → AreTakenUp config shard [] None states states
+nothing-so-far config shard states = record {
+  states = sym (from-none config shard (saved_of config []) 0 states (λ i le. refl));
+  whose = λ r. refl;
+}
+
+pub realm-follows : (config : ConfigView) (shard : ℕ) (items : List SavedItem) (own next : Option ℕ)
+    (before after : List RealmState) (name : List ℕ) (own_sessions : Bool)
+    → AreTakenUp config shard items own before after
+    → ((r : ℕ) → is_named config r name own_sessions ≡ option_map_or (λ k. r == k) next false)
+    → AreTakenUp config shard (items ++ realm name own_sessions ∷ []) next before after
+realm-follows config shard items own next before after name own_sessions are named = record {
+  states = are.states ∙ sym (from-same config shard (saved_of config (items ++ realm name own_sessions ∷ []))
+      (saved_of config items) 0 before (λ r. behind-realm (is_named config r) false items name own_sessions));
+  whose = λ r. here-realm (is_named config r) false items name own_sessions ∙ named r;
+}
+
+pub session-follows : (config : ConfigView) (shard : ℕ) (items : List SavedItem) (k : ℕ)
+    (before after later : List RealmState) (s : SavedSession)
+    → AreTakenUp config shard items (Some k) before after → later ≡ with_one config shard k s after
+    → AreTakenUp config shard (items ++ session s ∷ []) (Some k) before later
+session-follows config shard items k before after later s are taken = record {
+  states = taken ∙ ap (with_one config shard k s) are.states
+      ∙ from-then config shard (saved_of config items) (λ other. if other == k then s ∷ [] else []) 0 before
+      ∙ from-same config shard (λ r. saved_of config items r ++ (if r == k then s ∷ [] else []))
+      (saved_of config (items ++ session s ∷ [])) 0 before
+      (λ r. ap (λ (b : Bool). saved_of config items r ++ (if b then s ∷ [] else [])) (sym (are.whose r))
+      ∙ sym (behind-session (is_named config r) false items s));
+  whose = λ r. here-session (is_named config r) false items s ∙ are.whose r;
+}
+
+append-nothing : {X : Type 0} (xs : List X) → xs ++ [] ≡ xs
+append-nothing [] = refl
+append-nothing (x ∷ xs) = ap (λ (l : List _). x ∷ l) (append-nothing xs)
+
+pub session-passed : (config : ConfigView) (shard : ℕ) (items : List SavedItem) (before after : List RealmState)
+    (s : SavedSession) → AreTakenUp config shard items None before after
+    → AreTakenUp config shard (items ++ session s ∷ []) None before after
+session-passed config shard items before after s are = record {
+  states = are.states ∙ sym (from-same config shard (saved_of config (items ++ session s ∷ []))
+      (saved_of config items) 0 before
+      (λ r. behind-session (is_named config r) false items s
+      ∙ ap (λ (b : Bool). saved_of config items r ++ (if b then s ∷ [] else [])) (are.whose r)
+      ∙ append-nothing (saved_of config items r)));
+  whose = λ r. here-session (is_named config r) false items s ∙ are.whose r;
+}
