@@ -1,7 +1,8 @@
 -- A shard's realms take up sessions that were saved, one item of the file after the other.
-use Rattle.std.proofs.Common.{◌≡◌, ◌≢◌, ℕ, zero, suc, ◌+◌, ◌==◌, ◌≤◌, Bool, true, false, List, [], ◌∷◌, ◌++◌, ◌∙◌, Option, Some, None, set, refl, ap, sym, arith}
+use Rattle.std.proofs.Common.{◌≡◌, ◌≢◌, ℕ, zero, suc, ◌+◌, ◌==◌, ◌<◌, ◌≤◌, Bool, true, false, List, [], ◌∷◌, ◌++◌, ◌∙◌, Option, Some, None, is_some, get_or, length, set, refl, ap, sym, arith}
 use Rattle.std.specs.Prelude.{if◌then◌else◌, slice_get}
 use Rattle.std.specs.Option.{option_map_or}
+use Rattle.std.proofs.lemmas.List.{set-get_or}
 use Rattle.std.proofs.lemmas.Option.{slice_get-get_or, slice_get_within}
 use Rattle.roam_conf.specs.Config.{ConfigView}
 use Rattle.roam_ledgers.specs.Ledgers.{SavedItem, SavedSession, realm, session}
@@ -14,8 +15,10 @@ use Rattle.roam_book.specs.declared.state.realm_numbers.RealmNumbers.{RealmNumbe
 use Rattle.roam_reverse.specs.Sessions.{Session}
 use Rattle.roam_pending.specs.PlainEntry.{PlainEntry}
 use Rattle.roam_tables.specs.Stands.{RealmView, entries_in}
+use Rattle.roam_tables.proofs.RealmLemmas.{get-read}
 use Rattle.roam_core.specs.Events.{is_in_shard}
 use Rattle.roam_core.specs.ManyRealms.{no_state}
+use Rattle.roam_core.proofs.PacketLemmas.{other_index, same_index}
 use Rattle.roam_shard.specs.ShardView.{IsShard, OpeningView, states_in}
 use Rattle.roam_shard.proofs.ShardLemmas.{length-states, state-seen, states-set}
 use Rattle.roam_shard.specs.Restoring.{is_named, saved_of, sessions_behind, with_one, with_saved, with_saved_from}
@@ -32,7 +35,7 @@ twice false f x y = refl
 -- What a file has of a realm, with one item more
 
 -- whether the realm that stands last passes
-here-after : (List ℕ → Bool → Bool) → Bool → List SavedItem → Bool
+abbrev pub here-after : (List ℕ → Bool → Bool) → Bool → List SavedItem → Bool
 here-after passes here [] = here
 here-after passes here (realm name own ∷ more) = here-after passes (passes name own) more
 here-after passes here (session s ∷ more) = here-after passes here more
@@ -103,15 +106,16 @@ from-same config shard one other index states same =
 
 -- none of any realm
 from-none : (config : ConfigView) (shard : ℕ) (saved : ℕ → List SavedSession) (index : ℕ) (states : List RealmState)
-    → ((i : ℕ) → index ≤ i → saved i ≡ []) → with_saved_from config shard saved index states ≡ states
+    → ((i : ℕ) → index ≤ i → i < index + length states → saved i ≡ [])
+    → with_saved_from config shard saved index states ≡ states
 from-none config shard saved index [] none = refl
 from-none config shard saved index (s ∷ ss) none =
     let own = is_in_shard config shard index in
     ap (λ (l : List SavedSession). (if own then with_saved config index l s else s)
-    ∷ with_saved_from config shard saved (index + 1) ss) (none index (omega arith))
+    ∷ with_saved_from config shard saved (index + 1) ss) (none index (omega arith) (omega arith))
     ∙ ap (λ (t : RealmState). t ∷ with_saved_from config shard saved (index + 1) ss) (either-way own s)
     ∙ ap (λ (l : List RealmState). s ∷ l)
-    (from-none config shard saved (index + 1) ss (λ i le. none i (omega (arith, le))))
+    (from-none config shard saved (index + 1) ss (λ i le lt. none i (omega (arith, le)) (omega (arith, lt))))
 
 -- one of one realm of the shard
 from-one : (config : ConfigView) (shard : ℕ) (saved : ℕ → List SavedSession) (index k : ℕ) (states : List RealmState)
@@ -130,7 +134,7 @@ from-one config shard saved index zero (y ∷ ys) x s at own is others =
     ∙ ap (λ (z : RealmState). with_saved config index (s ∷ []) z ∷ rest) was
     ∙ ap (λ (n : ℕ). with_saved config n (s ∷ []) x ∷ rest) (sym e)
     ∙ ap (λ (l : List RealmState). with_saved config (index + 0) (s ∷ []) x ∷ l)
-    (from-none config shard saved (index + 1) ys (λ i le. others i (λ same. absurd (omega (arith, same, le)))))
+    (from-none config shard saved (index + 1) ys (λ i le lt. others i (λ same. absurd (omega (arith, same, le)))))
 from-one config shard saved index (suc k) (y ∷ ys) x s at own is others =
     let e : index + 1 + k ≡ index + suc k = omega arith in
     let here = is_in_shard config shard index in
@@ -151,7 +155,7 @@ from-foreign config shard saved index zero (y ∷ ys) own others =
     ap (λ (b : Bool). (if b then with_saved config index (saved index) y else y)
     ∷ with_saved_from config shard saved (index + 1) ys) (ap (is_in_shard config shard) (sym e) ∙ own)
     ∙ ap (λ (l : List RealmState). y ∷ l)
-    (from-none config shard saved (index + 1) ys (λ i le. others i (λ same. absurd (omega (arith, same, le)))))
+    (from-none config shard saved (index + 1) ys (λ i le lt. others i (λ same. absurd (omega (arith, same, le)))))
 from-foreign config shard saved index (suc k) (y ∷ ys) own others =
     let e : index + 1 + k ≡ index + suc k = omega arith in
     let here = is_in_shard config shard index in
@@ -161,16 +165,6 @@ from-foreign config shard saved index (suc k) (y ∷ ys) own others =
     ∙ ap (λ (l : List RealmState). y ∷ l) (from-foreign config shard saved (index + 1) k ys
     (ap (is_in_shard config shard) e ∙ own) (λ i ne. others i (λ is. ne (is ∙ sym e))))
 
-equal-test : (n : ℕ) → (n == n) ≡ true
-equal-test zero = refl
-equal-test (suc n) = equal-test n
-
-other-test : (n m : ℕ) → n ≢ m → (n == m) ≡ false
-other-test zero zero ne = absurd (ne refl)
-other-test zero (suc m) ne = refl
-other-test (suc n) zero ne = refl
-other-test (suc n) (suc m) ne = other-test n m (λ is. ne (ap suc is))
-
 -- a session of a realm of the shard
 pub one-taken : (config : ConfigView) (shard k : ℕ) (s : SavedSession) (states : List RealmState) (x : RealmState)
     → slice_get states k ≡ Some x → is_in_shard config shard k ≡ true
@@ -179,8 +173,8 @@ one-taken config shard k s states x at own =
     let e : 0 + k ≡ k = omega arith in
     let saved : ℕ → List SavedSession = λ other. if other == k then s ∷ [] else [] in
     from-one config shard saved 0 k states x s at (ap (is_in_shard config shard) e ∙ own)
-    (ap saved e ∙ ap (λ (b : Bool). if b then s ∷ [] else []) (equal-test k))
-    (λ i ne. ap (λ (b : Bool). if b then s ∷ [] else []) (other-test i k (λ is. ne (is ∙ sym e))))
+    (ap saved e ∙ ap (λ (b : Bool). if b then s ∷ [] else []) (same_index k k refl))
+    (λ i ne. ap (λ (b : Bool). if b then s ∷ [] else []) (other_index i k (λ is. ne (is ∙ sym e))))
     ∙ ap (λ (n : ℕ). set states k (with_saved config n (s ∷ []) x)) e
 
 -- a session of a realm that isn't
@@ -190,7 +184,15 @@ none-taken config shard k s states own =
     let e : 0 + k ≡ k = omega arith in
     from-foreign config shard (λ other. if other == k then s ∷ [] else []) 0 k states
     (ap (is_in_shard config shard) e ∙ own)
-    (λ i ne. ap (λ (b : Bool). if b then s ∷ [] else []) (other-test i k (λ is. ne (is ∙ sym e))))
+    (λ i ne. ap (λ (b : Bool). if b then s ∷ [] else []) (other_index i k (λ is. ne (is ∙ sym e))))
+
+-- a session of a realm that isn't there
+pub past-taken : (config : ConfigView) (shard k : ℕ) (s : SavedSession) (states : List RealmState)
+    → length states ≤ k → with_one config shard k s states ≡ states
+past-taken config shard k s states past =
+    from-none config shard (λ other. if other == k then s ∷ [] else []) 0 states
+    (λ i le lt. ap (λ (b : Bool). if b then s ∷ [] else [])
+    (other_index i k (λ is. absurd (omega (arith, is, lt, past)))))
 
 module _ {A : Type 0} where
   -- the numbers of a realm took it up
@@ -224,6 +226,17 @@ module _ {A : Type 0} where
       ∙ ap (set (states_in o tables ns) k) (state-then o.config k (E k) n m s keeps sessions)
       ∙ sym (one-taken o.config o.shard k s (states_in o tables ns) (state_of (E k) n) there own)
 
+  -- a realm that isn't the shard's has no numbers
+  pub no-numbers : (o : OpeningView) (tables : List RealmView) (ns : List (Option (RealmNumbers A))) (k : ℕ)
+      (x : Option (RealmNumbers A)) (s : SavedSession) → IsShard o tables ns → k < length ns → x ≡ get_or ns k x
+      → x ≡ None → states_in o tables (set ns k x) ≡ with_one o.config o.shard k s (states_in o tables ns)
+  no-numbers o tables ns k x s are lt at none =
+      let own : is_in_shard o.config o.shard k ≡ false =
+      sym (are.own k x (get-read ns k x lt at)) ∙ ap (λ (y : Option (RealmNumbers A)). is_some y) none in
+      ap (λ (l : List (Option (RealmNumbers A))). states_in o tables l)
+      (ap (λ (y : Option (RealmNumbers A)). set ns k y) at ∙ set-get_or ns k x)
+      ∙ sym (none-taken o.config o.shard k s (states_in o tables ns) own)
+
 -- The items so far, and whose sessions come now
 
 pub record AreTakenUp (config : ConfigView) (shard : ℕ) (items : List SavedItem) (own : Option ℕ)
@@ -234,7 +247,7 @@ pub record AreTakenUp (config : ConfigView) (shard : ℕ) (items : List SavedIte
 pub nothing-so-far : (config : ConfigView) (shard : ℕ) (states : List RealmState)
     → AreTakenUp config shard [] None states states
 nothing-so-far config shard states = record {
-  states = sym (from-none config shard (saved_of config []) 0 states (λ i le. refl));
+  states = sym (from-none config shard (saved_of config []) 0 states (λ i le lt. refl));
   whose = λ r. refl;
 }
 

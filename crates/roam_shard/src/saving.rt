@@ -1,6 +1,6 @@
 //! Ledgers that outlast a shard: what is written of them, and what a shard takes up at its start.
 
-ghost use Rattle.std.specs.Prelude.{◌≡◌, ◌⊎◌, ◌≤◌, ◌==◌, ◌&&◌, OnOk, ℕ, false, length, map, not};
+ghost use Rattle.std.specs.Prelude.{◌≡◌, ◌⊎◌, ◌<◌, ◌≤◌, ◌==◌, ◌&&◌, IfSome, OnOk, ℕ, false, length, map, not};
 ghost use Rattle.std.specs.Str.{str_eq_ignore_ascii_case};
 ghost use Rattle.std.specs.Option.{option_map_or};
 ghost use Rattle.roam_conf.specs.Lookup.{first_place};
@@ -76,8 +76,9 @@ fn has_name(realm: &Realm, name: &[u8]) -> bool
 /// The first realm that is here and has a name.
 fn index_named(realms: &[Realm], name: &[u8]) -> Option<u16>
     requires { length realms.now ≤ 1024 }
-    ensures { result ≡ first_place (λ r. not r.gone && str_eq_ignore_ascii_case r.name name.now)
+    ensures first { result ≡ first_place (λ r. not r.gone && str_eq_ignore_ascii_case r.name name.now)
         (map shown_realm realms.now) }
+    ensures within { IfSome result (λ index. index < length realms.now) }
 {
     for (index, realm) in realms.iter().enumerate() {
         if has_name(realm, name) {
@@ -89,15 +90,13 @@ fn index_named(realms: &[Realm], name: &[u8]) -> Option<u16>
 
 /// The realm that is here and has a name, if it tells its sessions so.
 fn realm_named(config: &Config, name: Text<'_>, own_sessions: bool) -> Option<u16>
-    ensures { (index : ℕ) → is_named (shown config.now) index (shown_text name) own_sessions
+    ensures { (index : ℕ) → is_named (shown config.now) index (shown_text name.entry) own_sessions
         ≡ option_map_or (λ realm. index == realm) result false }
 {
     let Some(index) = index_named(config.realms.as_slice(), name.octets) else {
         return None;
     };
-    let Some(realm) = config.realms.get(usize::from(index)) else {
-        return None;
-    };
+    let realm = &config.realms[usize::from(index)];
     if realm.own_sessions == own_sessions {
         Some(index)
     } else {
