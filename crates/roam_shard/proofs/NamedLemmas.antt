@@ -6,7 +6,7 @@ use Rattle.roam_conf.specs.Config.{ConfigView}
 use Rattle.roam_reload.specs.Kept.{same_values}
 use Rattle.roam_reload.proofs.KeptLemmas.{values_itself}
 use Rattle.roam_book.specs.RealmConfig.{realm_config}
-use Rattle.roam_core.proofs.PacketLemmas.{other_index, same_index}
+use Rattle.roam_core.proofs.PacketLemmas.{other_index}
 use Rattle.roam_shard.specs.Restoring.{index_of_name, is_named}
 
 and_true : (b : Bool) → (b && true) ≡ b

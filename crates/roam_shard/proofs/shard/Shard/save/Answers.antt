@@ -1,5 +1,5 @@
 -- The sessions that are written are open in the realm as it stands.
-use Rattle.std.proofs.Common.{arith, ◌≡◌, ◌∙◌, List, length, ap, subst}
+use Rattle.std.proofs.Common.{arith, ◌∙◌, List, length, ap, subst}
 use Rattle.std.proofs.lemmas.List.{length-map}
 use Rattle.std.proofs.lemmas.Option.{slice_get_within}
 use Rattle.roam_conf.specs.Parts.{shown_realm}

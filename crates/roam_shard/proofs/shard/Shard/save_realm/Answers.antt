@@ -1,5 +1,5 @@
 -- The realm's name is written, or nothing.
-use Rattle.std.proofs.Common.{arith, ◌⊎◌, ◌≡◌, ◌∙◌, inl, inr, refl, List, length, ap, subst}
+use Rattle.std.proofs.Common.{arith, ◌∙◌, inl, inr, refl, List, length, ap, subst}
 use Rattle.std.proofs.lemmas.List.{length-map}
 use Rattle.std.proofs.lemmas.Option.{slice_get_within}
 use Rattle.roam_conf.specs.Config.{ConfigView}
