@@ -353,10 +353,6 @@ def disconnect():
         home.close()
 
 
-def says(result, *lines):
-    return result.returncode == 0 and all(line in result.stdout.splitlines() for line in lines)
-
-
 COUNT = 'roam_realm_requests_total{realm="a.example",code="access_request",}'
 
 

@@ -1,5 +1,5 @@
 -- What a configuration gives to a realm that is carried over from it, or to it.
-use Rattle.std.proofs.Common.{◌≡◌, ℕ, zero, suc, ◌<◌, Bool, true, false, not, List, [], ◌∷◌, Option, Some, None, Result, Ok, Err, refl, sym, ap, subst, ◌∙◌, length, slice_get, slice_index_or}
+use Rattle.std.proofs.Common.{◌≡◌, ℕ, zero, suc, ◌<◌, true, false, not, List, [], ◌∷◌, Option, Some, None, Result, Ok, Err, refl, sym, ap, subst, ◌∙◌, length, slice_get, slice_index_or}
 use Rattle.std.specs.Prelude.{OnErr}
 use Rattle.std.specs.List.{list_any}
 use Rattle.std.specs.Option.{option_map_or}
@@ -69,7 +69,8 @@ pub carried-sound :
     → old ≡ realm_config config realm → new ≡ realm_config next realm → after.realm ≡ realm
     → IsSound new (entries_in after old.index) m → IsSound (realm_config next realm) after.entries m
 carried-sound config next realm after m old new of is now sound =
-    subst (λ (es : List PlainEntry). IsSound (realm_config next realm) es m) (held-entries after realm old config of now)
+    subst (λ (es : List PlainEntry). IsSound (realm_config next realm) es m)
+    (held-entries after realm old config of now)
     (subst (λ (k : RealmConfig). IsSound k (entries_in after old.index) m) is sound)
 
 -- the peers of both, as they are looked at

@@ -123,7 +123,8 @@ begins (x ∷ xs) (y ∷ ys) each =
 
 pub none-noted : (changed : List ℕ) → eqb (length changed) 0 ≡ true → changed ≡ []
 none-noted [] is = refl
-none-noted (n ∷ ns) is = let zero_long : length (n ∷ ns) ≡ 0 = grind (arith, nat_tests, is) in absurd (omega (arith, zero_long))
+none-noted (n ∷ ns) is =
+    let zero_long : length (n ∷ ns) ≡ 0 = grind (arith, nat_tests, is) in absurd (omega (arith, zero_long))
 
 within : (old : List PeerView) (i : ℕ) → i < length (map peer_part old) → i < length old
 within old i less = omega (arith, less, length-map old peer_part)

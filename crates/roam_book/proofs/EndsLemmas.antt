@@ -72,10 +72,6 @@ no_request : (ticket : ℕ) (s : Option PlainStanding) → entry_of ticket None 
 no_request ticket None = refl
 no_request ticket (Some s) = refl
 
-no_standing : (ticket : ℕ) (q : Option PlainRequest) → entry_of ticket q None ≡ None
-no_standing ticket None = refl
-no_standing ticket (Some q) = refl
-
 pub goes_by_request : (old new : RealmConfig) (e : PlainEntry) → request_then old new e.request ≡ None
     → entry_then old new e ≡ None
 goes_by_request old new e is =

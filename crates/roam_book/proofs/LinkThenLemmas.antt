@@ -157,13 +157,6 @@ server_place old new (link.Acct s) l once is below h =
     subst (λ (x : Link). link_place old x < 2 * length old.realm.servers) (sym k.1) (omega (arith, k.2))
 server_place old new (link.Coa p) l once is below h = absurd (omega (arith, below))
 
--- and it was there
-pub server_there : (old new : RealmConfig) (m l : Link) → HaveDistinctServers old new → IsLink new m
-    → link_place new m < 2 * length new.realm.servers → link_before old new m ≡ Some l → IsLink old l
-server_there old new (link.Auth s) l once is below h = server_was old new s l once is h
-server_there old new (link.Acct s) l once is below h = account_was old new s l once is h
-server_there old new (link.Coa p) l once is below h = absurd (omega (arith, below))
-
 pub link_of_way : (old new : RealmConfig) (m l : Link) → way_before old new m ≡ Some l
     → link_before old new m ≡ Some l
 link_of_way old new m l h =

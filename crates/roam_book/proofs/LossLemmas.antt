@@ -1,6 +1,6 @@
 -- A walk over all entries of a realm, in order of deadline and ticket: how many of those that were read pass a test.
-use Rattle.std.proofs.Common.{◌≡◌, ◌⊎◌, ℕ, suc, ◌+◌, ◌<◌, ◌≤◌, ◌&&◌, Bool, true, false, not, List, [], ◌∷◌, Option, Some, None, refl, sym, ap, subst, ◌∙◌, arith, inl, inr, length, eqb, unwrap_or}
-use Rattle.std.specs.List.{AllByRecursion, filter}
+use Rattle.std.proofs.Common.{◌≡◌, ◌⊎◌, ℕ, ◌+◌, ◌<◌, ◌≤◌, ◌&&◌, Bool, true, false, not, List, [], ◌∷◌, Option, Some, None, refl, sym, ap, subst, ◌∙◌, arith, inl, inr, length}
+use Rattle.std.specs.List.{AllByRecursion}
 use Rattle.std.specs.Option.{option_map_or}
 use Rattle.std.proofs.lemmas.Bool.{cases_Bool}
 use Rattle.std.proofs.lemmas.Bool.Decides.{nat_tests}
@@ -88,7 +88,8 @@ one_apart :
 one_apart p q [] e order at off each = absurd at
 one_apart p q (y ∷ ys) e order (inl is) off each =
     let others : (x : PlainEntry) → IsIn x ys → q x ≡ p x = λ x there. elim (each x (inr there)) as (λ _. q x ≡ p x) [
-      | inl also ↦ absurd (omega (arith, behind y ys x order.0 there, ap (λ (z : PlainEntry). z.ticket) (is ∙ sym also)))
+      | inl also ↦
+          absurd (omega (arith, behind y ys x order.0 there, ap (λ (z : PlainEntry). z.ticket) (is ∙ sym also)))
       | inr same ↦ same
     ] in
     let rest = same_counts p q ys others in
@@ -173,7 +174,8 @@ pub more_read : (p : PlainEntry → Bool) (last : Option Due) (es : List PlainEn
 more_read p last es d order next =
     let e = next.entry in
     let each : (x : PlainEntry) → IsIn x es
-    → (x ≡ e) ⊎ ((p x && is_read (Some d) x) ≡ (p x && is_read last x)) = λ x at. elim (told_apart last es d order next x at)
+    → (x ≡ e) ⊎ ((p x && is_read (Some d) x) ≡ (p x && is_read last x)) = λ x at.
+    elim (told_apart last es d order next x at)
     as (λ _. (x ≡ e) ⊎ ((p x && is_read (Some d) x) ≡ (p x && is_read last x))) [
       | inl is ↦ inl is
       | inr same ↦ inr (ap (λ (b : Bool). p x && not b) same)
@@ -208,7 +210,8 @@ pub fewer_left : (last : Option Due) (es : List PlainEntry) (d : Due) → IsInOr
 fewer_left last es d order next =
     let e = next.entry in
     let each : (x : PlainEntry) → IsIn x es
-    → (x ≡ e) ⊎ (is_after last (due_at x) ≡ is_after (Some d) (due_at x)) = λ x at. elim (told_apart last es d order next x at)
+    → (x ≡ e) ⊎ (is_after last (due_at x) ≡ is_after (Some d) (due_at x)) = λ x at.
+    elim (told_apart last es d order next x at)
     as (λ _. (x ≡ e) ⊎ (is_after last (due_at x) ≡ is_after (Some d) (due_at x))) [
       | inl is ↦ inl is
       | inr same ↦ inr (sym same)

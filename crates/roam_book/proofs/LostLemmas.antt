@@ -1,8 +1,7 @@
 -- What is counted of a realm's entries that go by a change is as many as there are fewer then.
-use Rattle.std.proofs.Common.{◌≡◌, ℕ, zero, suc, ◌+◌, ◌-◌, ◌<◌, ◌≤◌, ◌&&◌, Bool, true, false, not, List, [], ◌∷◌, Option, Some, None, option_map, refl, sym, ap, subst, ◌∙◌, arith, inl, inr, length, min, is_some, nat_lt, unwrap_or, if◌then◌else◌}
+use Rattle.std.proofs.Common.{◌≡◌, ℕ, zero, suc, ◌+◌, ◌-◌, ◌≤◌, ◌&&◌, Bool, true, false, not, List, [], ◌∷◌, Option, Some, None, option_map, refl, sym, ap, ◌∙◌, arith, length, min, is_some, nat_lt, unwrap_or, if◌then◌else◌}
 use Rattle.std.specs.List.{cons_option, filter_map}
 use Rattle.std.specs.Prelude.{option_and_then}
-use Rattle.std.proofs.lemmas.Bool.{le-ltb, lt-ltb}
 use Rattle.roam_conf.specs.declared.place.Link.{Link}
 use Rattle.roam_pending.specs.PlainEntry.{PlainEntry, PlainRequest, PlainStanding, waiting, done, is_done, stands_done}
 use Rattle.roam_book.specs.RealmConfig.{RealmConfig}
@@ -159,13 +158,3 @@ pub few_go : (old new : RealmConfig) (es : List PlainEntry) → counted (held_an
 few_go old new es = omega (arith, all_are old new (λ b. b) es)
 
 -- ---- where fewer may be pending, or not
-
-pub held_stay : (old new : RealmConfig) (es : List PlainEntry) (waits held : ℕ)
-    → old.realm.max_pending ≤ new.realm.max_pending → held ≡ held_lost old new es waits held
-held_stay old new es waits held few = rw (le-ltb new.realm.max_pending old.realm.max_pending few) refl
-
-pub held_way : (old new : RealmConfig) (es : List PlainEntry) (waits held n : ℕ)
-    → new.realm.max_pending < old.realm.max_pending
-    → n ≡ held + min (length es - waits - held - new.realm.max_pending) (count_held es - held)
-    → n ≡ held_lost old new es waits held
-held_way old new es waits held n less is = rw (lt-ltb new.realm.max_pending old.realm.max_pending less) is

@@ -1,14 +1,14 @@
 -- What is counted of a realm's sessions that go by a change is as many as there are fewer then.
-use Rattle.std.proofs.Common.{◌≡◌, ◌⊎◌, ℕ, ◌+◌, ◌-◌, ◌<◌, ◌≤◌, ◌==◌, ◌||◌, Bool, true, false, not, List, [], ◌∷◌, Option, Some, None, option_map, refl, sym, ap, subst, ◌∙◌, arith, inl, inr, length, map, drop, length-drop, nat_lt, slice_get, unwrap_or, if◌then◌else◌}
+use Rattle.std.proofs.Common.{◌≡◌, ℕ, ◌+◌, ◌-◌, ◌<◌, ◌≤◌, ◌==◌, ◌||◌, Bool, true, false, not, List, [], ◌∷◌, Option, Some, None, option_map, refl, sym, ap, subst, ◌∙◌, arith, inl, inr, length, map, drop, length-drop, nat_lt, slice_get, unwrap_or, if◌then◌else◌}
 use Rattle.std.specs.List.{AllByRecursion, filter}
 use Rattle.std.specs.Option.{option_map_or}
-use Rattle.std.proofs.lemmas.Bool.{cases_Bool, le-ltb, lt-ltb}
+use Rattle.std.proofs.lemmas.Bool.{cases_Bool}
 use Rattle.std.proofs.lemmas.Bool.Decides.{nat_tests}
 use Rattle.std.proofs.lemmas.Option.{slice_get-map, slice_get_within}
 use Rattle.roam_conf.specs.Config.{PeerView}
 use Rattle.roam_pending.specs.ListLaws.{IsIn}
 use Rattle.roam_pending.proofs.TestLemmas.{differs, same}
-use Rattle.roam_reload.specs.Kept.{keeps_sessions, of_peer, same_sessions, same_values}
+use Rattle.roam_reload.specs.Kept.{keeps_sessions, of_peer, same_sessions}
 use Rattle.roam_reload.specs.Reload.{peer_part}
 use Rattle.roam_reverse.specs.Sessions.{Session, count_of_peer}
 use Rattle.roam_book.specs.Carrying.{AreChanged, AreRising}
@@ -68,14 +68,16 @@ kept_at : (old new : List PeerView) (peer : ℕ) (o : Option PeerView) → slice
     → slice_get (map peer_part new) peer ≡ slice_get (map peer_part old) peer
     → of_peer keeps_sessions old new peer ≡ true
 kept_at old new peer None there part =
-    ap (λ (o : Option PeerView). option_map_or (λ p. option_map_or (keeps_sessions p) (slice_get new peer) false) o true)
+    ap
+    (λ (o : Option PeerView). option_map_or (λ p. option_map_or (keeps_sessions p) (slice_get new peer) false) o true)
     there
 kept_at old new peer (Some p) there part =
     let was : slice_get (map peer_part old) peer ≡ Some (peer_part p) =
     slice_get-map peer_part old peer ∙ ap (option_map peer_part) there in
     let is : option_map peer_part (slice_get new peer) ≡ Some (peer_part p) =
     sym (slice_get-map peer_part new peer) ∙ part ∙ was in
-    ap (λ (o : Option PeerView). option_map_or (λ q. option_map_or (keeps_sessions q) (slice_get new peer) false) o true)
+    ap
+    (λ (o : Option PeerView). option_map_or (λ q. option_map_or (keeps_sessions q) (slice_get new peer) false) o true)
     there ∙ kept_by p (slice_get new peer) is
 
 -- ---- each goes once, or stays
@@ -132,7 +134,8 @@ was_there : (old new : List PeerView) (peer : ℕ) (o : Option PeerView) → sli
     → of_peer keeps_sessions old new peer ≡ false → peer < length old
 was_there old new peer None there goes =
     let stays : of_peer keeps_sessions old new peer ≡ true =
-    ap (λ (o : Option PeerView). option_map_or (λ p. option_map_or (keeps_sessions p) (slice_get new peer) false) o true)
+    ap
+    (λ (o : Option PeerView). option_map_or (λ p. option_map_or (keeps_sessions p) (slice_get new peer) false) o true)
     there in
     absurd (let k : true ≡ false = sym stays ∙ goes in cc)
 was_there old new peer (Some p) there goes = slice_get_within old peer p there
@@ -208,39 +211,3 @@ pub few_gone : (old new : List PeerView) (ss : List Session) → counted (is_of_
 few_gone old new ss = few_count (is_of_gone old new) ss
 
 -- ---- where they are told otherwise, or fewer are kept
-
-apart-values : (a b : Bool) → (a ≡ b → ⊥) → same_values a b ≡ false
-apart-values true true differ = absurd (differ refl)
-apart-values true false differ = refl
-apart-values false true differ = refl
-apart-values false false differ = absurd (differ refl)
-
-equal-values : (a b : Bool) → a ≡ b → same_values a b ≡ true
-equal-values true true is = refl
-equal-values true false is = sym is
-equal-values false true is = absurd (cc is)
-equal-values false false is = refl
-
-pub all_go : (old new : RealmConfig) (ss : List Session) → (old.realm.own_sessions ≡ new.realm.own_sessions → ⊥) →
-    length ss ≡ sessions_lost old new ss
-all_go old new ss differ = rw (apart-values old.realm.own_sessions new.realm.own_sessions differ) refl
-
-pub peers_go : (old new : RealmConfig) (ss : List Session) (n : ℕ)
-    → old.realm.own_sessions ≡ new.realm.own_sessions → old.realm.max_sessions ≤ new.realm.max_sessions
-    → n ≡ counted (is_of_gone old.peers new.peers) ss → n ≡ sessions_lost old new ss
-peers_go old new ss n same few is =
-    rw (
-      equal-values old.realm.own_sessions new.realm.own_sessions same,
-      le-ltb new.realm.max_sessions old.realm.max_sessions few,
-    ) is
-
-pub oldest_go : (old new : RealmConfig) (ss : List Session) (n : ℕ)
-    → old.realm.own_sessions ≡ new.realm.own_sessions → new.realm.max_sessions < old.realm.max_sessions
-    → n ≡ counted (is_of_gone old.peers new.peers) ss
-    + (length ss - counted (is_of_gone old.peers new.peers) ss - new.realm.max_sessions)
-    → n ≡ sessions_lost old new ss
-oldest_go old new ss n same less is =
-    rw (
-      equal-values old.realm.own_sessions new.realm.own_sessions same,
-      lt-ltb new.realm.max_sessions old.realm.max_sessions less,
-    ) is

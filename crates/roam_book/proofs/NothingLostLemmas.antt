@@ -32,7 +32,8 @@ pub nothing_lost : (old new : RealmConfig) → StandsAsItIs old new → (s : Rea
 nothing_lost old new h s =
     let waits : 0 ≡ count_waiting s.entries - count_waiting (entries_then old new s.entries) =
     none (count_waiting s.entries)
-    ∙ ap (λ (es : List PlainEntry). count_waiting s.entries - count_waiting es) (sym (entries_stand old new h s.entries)) in
+    ∙ ap (λ (es : List PlainEntry). count_waiting s.entries - count_waiting es)
+    (sym (entries_stand old new h s.entries)) in
     let held : 0 ≡ count_held s.entries - count_held (entries_then old new s.entries) =
     none (count_held s.entries)
     ∙ ap (λ (es : List PlainEntry). count_held s.entries - count_held es) (sym (entries_stand old new h s.entries)) in

@@ -145,8 +145,8 @@ not_there b q (waiting k i forwarded sends_left deadline signs) l id w away = by
     by false e = rw e refl
     by true e = absurd (away (subst (λ (x : Link). IsLink b x) (same_link-equal k l e) w.link))
 
-pub none_waits : (b : RealmConfig) (n : ℕ) (es : List PlainEntry) (l : Link) (id t : ℕ) → AllByRecursion (IsEntry b n) es
-    → (IsLink b l → ⊥) → waits_there l id t es ≡ false
+pub none_waits : (b : RealmConfig) (n : ℕ) (es : List PlainEntry) (l : Link) (id t : ℕ)
+    → AllByRecursion (IsEntry b n) es → (IsLink b l → ⊥) → waits_there l id t es ≡ false
 none_waits b n [] l id t all away = refl
 none_waits b n (e ∷ es) l id t all away =
     elim (cases_Bool (has_ticket t e)) [

@@ -1,5 +1,5 @@
 -- Where a server of one list stands in another: it is one relation, read from its two ends.
-use Rattle.std.proofs.Common.{◌≡◌, ℕ, zero, suc, ◌+◌, ◌<◌, ◌&&◌, Bool, true, false, List, [], ◌∷◌, length, Option, Some, None, refl, sym, ap, subst, ◌∙◌, arith, inl, inr, slice_get, if◌then◌else◌}
+use Rattle.std.proofs.Common.{◌≡◌, ℕ, zero, suc, ◌+◌, ◌<◌, ◌&&◌, Bool, true, false, List, [], ◌∷◌, length, Option, Some, None, refl, sym, ap, subst, ◌∙◌, arith, inl, inr, slice_get}
 use Rattle.std.specs.List.{position_from}
 use Rattle.std.specs.Option.{option_and_then}
 use Rattle.std.specs.Str.{bytes_eq}
@@ -10,7 +10,6 @@ use Rattle.roam_conf.specs.Config.{ServerView}
 use Rattle.roam_conf.specs.Duplicates.{has_pair, same_endpoint, server_endpoints}
 use Rattle.roam_conf.specs.Lookup.{first_place}
 use Rattle.roam_conf.specs.declared.endpoint.Endpoint.{Endpoint}
-use Rattle.roam_conf.specs.declared.place.Link.TheVariants as link
 use Rattle.roam_conf.proofs.EqualPartsLemmas.{endpoint_decides}
 use Rattle.roam_conf.proofs.OneServerLemmas.{one_server, part_of}
 use Rattle.roam_reload.specs.Kept.{both_or_none, same_server, server_then}

@@ -10,7 +10,6 @@ use Rattle.roam_route.specs.Admission.{PlainOut}
 use Rattle.roam_pending.specs.ListLaws.{IsIn}
 use Rattle.roam_pending.specs.PlainEntry.{PlainRequest}
 use Rattle.roam_pending.proofs.TestLemmas.{compared}
-use Rattle.roam_book.specs.RealmConfig.{RealmConfig}
 use Rattle.roam_book.specs.OnRequest.{draws}
 use Rattle.roam_book.specs.OneRealm.{RealmEvent, request_came, tick_came}
 use Rattle.roam_core.specs.Draws.{drawn_by}

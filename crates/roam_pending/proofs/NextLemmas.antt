@@ -151,7 +151,8 @@ pub next-turn : {A : Type 0} (last best : Option Due) (es : List (Entry A)) (i :
     → IsNextAfter last (shown_all (take (i + 1) es)) (earlier best (due_past last (shown e)))
 next-turn last best es i e lt at h =
     subst (λ (l : List PlainEntry). IsNextAfter last l (earlier best (due_past last (shown e))))
-    (sym (ap (λ (n : ℕ). shown_all (take n es)) (add-one i) ∙ taken-one es i e lt at)) (one-more last best (shown_all (take i es)) (shown e) h)
+    (sym (ap (λ (n : ℕ). shown_all (take n es)) (add-one i) ∙ taken-one es i e lt at))
+    (one-more last best (shown_all (take i es)) (shown e) h)
 
 taken-all : {A : Type 0} (es : List (Entry A)) (i : ℕ) → length es ≤ i → take i es ≡ es
 taken-all [] zero past = refl

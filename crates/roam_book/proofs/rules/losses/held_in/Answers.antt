@@ -1,4 +1,4 @@
-use Rattle.std.proofs.Common.{◌≡◌, Option, false, sym, ap, ◌∙◌, arith}
+use Rattle.std.proofs.Common.{Option, false, sym, ap, ◌∙◌, arith}
 use Rattle.std.specs.Option.{option_map_or}
 use Rattle.roam_pending.specs.EntryList.{find_ticket}
 use Rattle.roam_pending.specs.PlainEntry.{PlainEntry, is_done}

@@ -1,4 +1,4 @@
-use Rattle.std.proofs.Common.{◌≡◌, ℕ, ap, ◌∙◌, arith}
+use Rattle.std.proofs.Common.{ℕ, ap, ◌∙◌, arith}
 use Rattle.roam_book.specs.Private.Lost.{held_lost}
 use Rattle.roam_book.specs.Sound.{state_of}
 use Rattle.roam_book.proofs.LostLemmas.{few_go, held_goes, waiting_goes}

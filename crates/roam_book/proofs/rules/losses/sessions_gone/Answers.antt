@@ -1,4 +1,4 @@
-use Rattle.std.proofs.Common.{◌≡◌, ◌+◌, ℕ, List, arith, map, drop, get_or}
+use Rattle.std.proofs.Common.{◌≡◌, ◌+◌, arith, map, drop, get_or}
 use Rattle.std.proofs.lemmas.List.{at_drop_all, at_drop_more}
 use Rattle.roam_conf.specs.Parts.{shown_peer}
 use Rattle.roam_book.specs.Private.Lost.{of_one_peer}

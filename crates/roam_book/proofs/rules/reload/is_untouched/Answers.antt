@@ -1,4 +1,4 @@
-use Rattle.std.proofs.Common.{◌≡◌, ℕ, List, true, false, ap, sym, subst, ◌∙◌}
+use Rattle.std.proofs.Common.{ℕ, List, false, ap, sym, subst, ◌∙◌}
 use Rattle.roam_reload.specs.Reload.{realm_part}
 use Rattle.roam_book.specs.Carrying.{AreChanged}
 use Rattle.roam_book.proofs.ChangedLemmas.{keeps-peers, none-noted}
