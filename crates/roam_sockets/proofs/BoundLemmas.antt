@@ -1,6 +1,6 @@
 -- Sockets come in behind others, and each place has one of its own.
 use Rattle.std.proofs.Common.{◌≡◌, inl, inr, ℕ, zero, suc, ◌+◌, ◌*◌, ◌<◌, List, [], ◌∷◌, ◌++◌, length}
-use Rattle.std.proofs.Common.{true}
+use Rattle.std.proofs.Common.{true, Result, Ok, Err, OnOk}
 use Rattle.std.proofs.Common.{Contains, Some, None, option_and_then, slice_get, refl, ap, sym, subst, ◌∙◌, append_assoc, append-nil, arith}
 use Rattle.std.proofs.lemmas.Bool.{cases_lt}
 use Rattle.std.proofs.lemmas.List.{length-append}
@@ -66,6 +66,14 @@ pub taken_as_before : (at : Place) (e : Endpoint) (old mid new : List BoundSocke
 taken_as_before at e old mid new n m before same as_was =
     subst (λ (l : List BoundSocket). Gains at e old l m) (sym same) (subst (Gains at e old mid) (sym as_was) before)
 
+none_long : {X : Type 0} (xs : List X) → length xs ≡ 0 → xs ≡ []
+none_long [] none = refl
+none_long (x ∷ xs) none = absurd (omega (arith, none))
+
+positive : (n : ℕ) → (n ≡ 0 → ⊥) → 0 < n
+positive zero some = absurd (some refl)
+positive (suc n) some = omega arith
+
 -- further ones come in behind those
 pub gains_then : (at : Place) (e : Endpoint) (old mid new : List BoundSocket) (n m : ℕ) → 0 < n
     → Gains at e old mid n → Gains at e mid new m → GainsSome at e old new
@@ -84,6 +92,27 @@ gains_then at e old mid new n m some first more = record {
   };
   some = omega (arith, some);
 }
+
+-- none were there
+pub gains_only : {T E : Type 0} (at : Place) (e : Endpoint) (old mid new : List BoundSocket) (n : ℕ) (r : Result T E)
+    → n ≡ 0 → Gains at e old mid n → OnOk r (GainsSome at e mid new) → OnOk r (GainsSome at e old new)
+gains_only at e old mid new n r none gains some =
+    let empty : length gains.more ≡ 0 = gains.as_many ∙ none in
+    let same : mid ≡ old = gains.behind ∙ (ap (λ (l : List BoundSocket). old ++ l) (none_long gains.more empty)
+    ∙ append-nil old) in
+    subst (λ (l : List BoundSocket). OnOk r (GainsSome at e l new)) same some
+
+-- those that were there are enough
+pub gains_enough : (at : Place) (e : Endpoint) (old new : List BoundSocket) (n : ℕ) → (n ≡ 0 → ⊥)
+    → Gains at e old new n → GainsSome at e old new
+gains_enough at e old new n some gains = record { count = n; gains = gains; some = positive n some }
+
+-- further ones come in behind those, where they can be bound
+pub gains_rest : {T E : Type 0} (at : Place) (e : Endpoint) (old mid new : List BoundSocket) (n m : ℕ) (r : Result T E)
+    → (n ≡ 0 → ⊥) → Gains at e old mid n → OnOk r (Gains at e mid new m) → OnOk r (GainsSome at e old new)
+gains_rest at e old mid new n m (Ok x) some first more =
+    gains_then at e old mid new n m (positive n some) first more
+gains_rest at e old mid new n m (Err f) some first more = tt
 
 -- a number is one place's
 pub same_place : (a b : Place) → socket_number a ≡ socket_number b → a ≡ b

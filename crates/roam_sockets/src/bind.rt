@@ -1,6 +1,6 @@
 //! The broker's sockets are bound.
 
-ghost use Rattle.std.specs.Prelude.{◌-◌, Contains, IfErr, IfOk, OnOk};
+ghost use Rattle.std.specs.Prelude.{◌-◌, ◌≤◌, Contains, IfErr, IfOk, OnOk};
 ghost use Rattle.roam_conf.specs.Shown.{shown};
 ghost use Rattle.roam_port.specs.Sockets.{socket_endpoints};
 ghost use Rattle.roam_sockets.specs.Bound.{AreBoundFor, Gains, GainsSome};
@@ -90,7 +90,8 @@ impl Sockets {
         first: usize,
         wanted: usize,
     ) -> Result<(), ServeFault>
-        requires { Contains (socket_endpoints (shown config.now)) endpoint }
+        requires own { Contains (socket_endpoints (shown config.now)) endpoint }
+        requires some { first ≤ wanted }
         ensures ok { OnOk result (Gains place endpoint self.old.bound.items self.new.bound.items
             (wanted - first)) }
         ensures err { IfErr result (IsFaultOf (shown config.now)) }
@@ -229,11 +230,11 @@ impl Sockets {
             return self.bind_place(rt, config, place, endpoint, beside);
         }
         let wanted = wanted_at(config, place);
-        if there < wanted {
-            share(open, endpoint, true);
+        if there >= wanted {
+            return Ok(());
         }
-        self.bind_rest(config, place, endpoint, there, wanted)?;
-        Ok(())
+        share(open, endpoint, true);
+        self.bind_rest(config, place, endpoint, there, wanted)
     }
 }
 
