@@ -15,5 +15,4 @@ pub mod AcrossLemmas
 pub mod LostLemmas
 pub mod FewLemmas
 pub mod TakenUpLemmas
-pub mod NamedLemmas
 pub mod ItemLemmas
