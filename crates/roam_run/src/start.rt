@@ -194,9 +194,7 @@ pub fn run_threads<
             for handle in handles {
                 let _is_kept = ends.push(handle.join(rt)).is_ok();
             }
-            if end.is_over() {
-                attendant.keep_ledgers(source);
-            }
+            attendant.keep_at_end(&end, source);
             shared.logger.unpark();
             end
         },

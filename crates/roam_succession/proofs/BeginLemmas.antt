@@ -1,6 +1,6 @@
 -- How a server begins.
-use Rattle.std.proofs.Common.{◌≡◌, ◌⊎◌, ℕ, zero, suc, ◌+◌, ◌<◌, ◌≤◌, Bool, true, false, List, [], ◌∷◌, ◌++◌, ◌∙◌, length, set, Some, None, inl, inr, refl, ap, sym, subst, arith}
-use Rattle.std.specs.Prelude.{if◌then◌else◌, slice_get, slice_index_or}
+use Rattle.std.proofs.Common.{◌≡◌, ◌⊎◌, ℕ, zero, suc, ◌+◌, ◌<◌, ◌≤◌, Bool, true, false, List, [], ◌∷◌, ◌++◌, ◌∙◌, length, set, Some, None, Ok, Err, inl, inr, refl, ap, sym, subst, arith}
+use Rattle.std.specs.Prelude.{OnOk, Result, if◌then◌else◌, slice_get, slice_index_or}
 use Rattle.std.proofs.Math.ListN.{length-set}
 use Rattle.std.proofs.lemmas.Bool.{cases_eq}
 use Rattle.std.proofs.lemmas.List.{length-append}
@@ -10,8 +10,10 @@ use Rattle.roam_ledgers.specs.Ledgers.{SavedItem}
 use Rattle.roam_book.specs.RealmState.{RealmState}
 use Rattle.roam_tables.proofs.RealmLemmas.{get-set_other, get-set_same}
 use Rattle.roam_core.specs.Events.{is_in_shard}
-use Rattle.roam_core.specs.Openings.{fresh}
-use Rattle.roam_shard.specs.Pausing.{states_under}
+use Rattle.roam_book.specs.declared.state.start.Start.{Start}
+use Rattle.roam_core.specs.Openings.{fresh, fresh_starts, openings}
+use Rattle.roam_shard.specs.ShardView.{OpeningView, ShardView}
+use Rattle.roam_shard.specs.Pausing.{StandsUnder, states_under}
 use Rattle.roam_shard.specs.Restoring.{restored_states, saved_of, with_saved_from}
 use Rattle.roam_shard.specs.declared.paused.Paused.{Paused}
 use Rattle.roam_follow.specs.Paused.{ArePaused, IsPaused}
@@ -48,6 +50,24 @@ restored-none : (config : ConfigView) (shard : ℕ) (states : List RealmState)
 restored-none config shard states = none-from config shard 0 states
 
 module _ {A : Type 0} where
+  -- a shard that was opened and taken from its configuration
+  pub opened-paused : (config : ConfigView) (number : ℕ) (starts : List Start) (s : ShardView) (p : Paused A)
+      → s.opening ≡ record { shard = number; config = config; starts = starts } → p.shard ≡ s.opening.shard
+      → StandsUnder s.opening.config p → IsPaused config number p
+  opened-paused config number starts s p opens shard stands = record {
+    shard = shard ∙ ap (λ (o : OpeningView). o.shard) opens;
+    stands = subst (λ (o : OpeningView). StandsUnder o.config p) opens stands;
+  }
+
+  -- and its realms at their first start
+  pub opened-fresh : (config : ConfigView) (number : ℕ) (starts : List Start) (s : ShardView) (p : Paused A)
+      → s.opening ≡ record { shard = number; config = config; starts = starts }
+      → states_under s.opening.config p ≡ s.states → s.states ≡ openings config starts
+      → starts ≡ fresh_starts config → states_under config p ≡ fresh config
+  opened-fresh config number starts s p opens states begins first =
+      subst (λ (o : OpeningView). states_under o.config p ≡ fresh config) opens
+      (states ∙ begins ∙ ap (openings config) first)
+
   -- so many shards began
   pub record HaveBegunSoFar (config : ConfigView) (shards : List (Paused A)) (count : ℕ) : Type 0 where
     pub number : length shards ≡ count
@@ -143,6 +163,13 @@ module _ {A : Type 0} where
         let lt = slice_get_within shards k q also in let number = are.number in
         (are.done k p q (omega (arith, lt, number, all)) at also).1);
   }
+
+  -- these items are some
+  pub some-taken : {X E : Type 0} (r : Result X E) (config : ConfigView) (items : List SavedItem)
+      (before after : List (Paused A)) → OnOk r (HaveTakenUp config items before after)
+      → OnOk r ((some : List SavedItem) × HaveTakenUp config some before after)
+  some-taken (Ok x) config items before after taken = (items, taken)
+  some-taken (Err e) config items before after taken = tt
 
   -- nothing is taken up
   pub nothing-taken : (config : ConfigView) (shards : List (Paused A)) → ArePaused config shards

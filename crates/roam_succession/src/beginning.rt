@@ -11,7 +11,7 @@ ghost use Rattle.roam_sockets.specs.Faults.{IsAfterBinding};
 use log::Log;
 use roam_conf::Config;
 use roam_ledgers::{Item, ReadError, read};
-use roam_run::{Configured, ServerParts, Source, StateFile};
+use roam_run::{Configured, ServerParts, Source};
 use roam_shard::{Paused, Shard, first_starts};
 use roam_sockets::ServeFault;
 use roam_telling::{tell_read, tell_refused_state, tell_unreadable};
@@ -98,6 +98,27 @@ fn restore<R: Log, G, S: Source>(
     }
 }
 
+/// Shards that began, with the sessions that the file of a path has of their realms, where there is one.
+fn with_kept<R: Log, G, S: Source>(
+    parts: &mut ServerParts<'_, R, G, S>,
+    config: &Config,
+    path: &str,
+    mut shards: Vec<Paused<Global>>,
+) -> Result<Vec<Paused<Global>>, ServeFault>
+    requires { HaveBegun (shown config.now) [] shards.items }
+    ensures ok { IfOk result (λ shards. (items : List SavedItem)
+        × HaveBegun (shown config.now) items shards.items) }
+    ensures err { IfErr result IsAfterBinding }
+{
+    match kept(parts, path) {
+        Some(octets) => {
+            restore(parts, config, path, octets.as_slice(), &mut shards)?;
+            Ok(shards)
+        }
+        None => Ok(shards),
+    }
+}
+
 /// The shards with which a server begins, by number: each realm is at its first start, and has the sessions that a file
 /// of ledgers has of it, where there is one.
 pub fn beginning<R: Log, G, S: Source>(
@@ -109,12 +130,9 @@ pub fn beginning<R: Log, G, S: Source>(
     ensures err { IfErr result IsAfterBinding }
 {
     let config = &configured.config;
-    let mut shards = first_shards(parts.alloc, config)?;
-    let Some(StateFile { path, .. }) = &configured.manner.state else {
-        return Ok(shards);
-    };
-    if let Some(octets) = kept(parts, path.as_str()) {
-        restore(parts, config, path.as_str(), octets.as_slice(), &mut shards)?;
+    let shards = first_shards(parts.alloc, config)?;
+    match &configured.manner.state {
+        Some(file) => with_kept(parts, config, file.path.as_str(), shards),
+        None => Ok(shards),
     }
-    Ok(shards)
 }

@@ -6,8 +6,9 @@
 //! # Proved
 //!
 //! - of each shard, over all changes of the configuration: spans of one history from the first hub's opening, in which
-//!   each realm has the sessions that a file of ledgers has of it, each of which goes on where the one before it ended. Which spans, nobody outside could compare: the clauses below it pin
-//!   them, that what is handed on are the states in which the audited histories end | `serve_all`: `ok`; `change`
+//!   each realm has the sessions that a file of ledgers has of it, each of which goes on where the one before it ended.
+//!   Which spans, nobody outside could compare: the clauses below it pin them, that what is handed on are the states in
+//!   which the audited histories end | `serve_all`: `ok`; `change`
 #![tactic(auto)]
 
 mod again;

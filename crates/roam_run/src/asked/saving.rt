@@ -6,6 +6,7 @@ ghost use Rattle.roam_book.specs.Written.{GainsItems};
 
 use crate::asked::attending::Attendant;
 use crate::change::source::Source;
+use crate::parts::HubEnd;
 use log::Log;
 use roam_hub::{Opened, SESSIONS_AT_ONCE, Seat};
 use roam_ledgers::Writing;
@@ -110,7 +111,7 @@ fn ledgers_of<R: Wait, G, N: Opened>(
 impl<R: Wait + Clock + Log, G, N: Opened> Attendant<'_, '_, R, G, N> {
     /// Keeps the ledgers of all realms as they stand, where they are to outlast the server. Where that can't be it is
     /// told, and the file stays as it was.
-    pub fn keep_ledgers<S: Source>(&self, source: &mut S) {
+    fn keep_ledgers<S: Source>(&self, source: &mut S) {
         let Some(file) = self.state else {
             return;
         };
@@ -133,6 +134,13 @@ impl<R: Wait + Clock + Log, G, N: Opened> Attendant<'_, '_, R, G, N> {
         self.now = now(self.rt, self.shared.start, self.now);
         if self.due <= self.now {
             self.due = self.now.saturating_add(file.every);
+            self.keep_ledgers(source);
+        }
+    }
+
+    /// Keeps them as they stand then, where the server ends.
+    pub fn keep_at_end<S: Source>(&self, end: &HubEnd, source: &mut S) {
+        if end.is_over() {
             self.keep_ledgers(source);
         }
     }

@@ -21,12 +21,12 @@ impl Drop for Configured {
         let Self {
             config,
             sockets,
-            told_exchanges: _,
-            stations: _,
+            manner,
             counters,
         } = self;
         drop(config);
         drop(sockets);
+        drop(manner);
         drop(counters);
     }
 }

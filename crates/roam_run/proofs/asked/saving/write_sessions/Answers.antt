@@ -7,4 +7,5 @@ loop-few-init g c = gains_none _
 
 pub loop-few-preserved : goal.loop-few-preserved
 loop-few-preserved g c =
-    gains_then _ _ _ c.loop-few.invariant (gains_saved _ _ _ _ _ c.in_ok-save.ensures)
+    gains_then _ _ _ c.loop-few.invariant
+    (gains_saved g.N.Opened.opening c.args.realm c.args.seat.now _ _ c.in_ok-save.ensures)
