@@ -7,6 +7,7 @@ pub mod OpeningLemmas
 pub mod CarriedListLemmas
 pub mod FollowLemmas
 pub mod OverLemmas
+pub mod FollowedLemmas
 pub mod RestoredLemmas
 pub mod RoomLemmas
 pub mod TickLemmas
@@ -14,3 +15,4 @@ pub mod AcrossLemmas
 pub mod LostLemmas
 pub mod FewLemmas
 pub mod TakenUpLemmas
+pub mod ItemLemmas

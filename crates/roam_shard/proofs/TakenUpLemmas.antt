@@ -1,10 +1,10 @@
--- A shard's realms take up sessions that were saved, one item of the file after the other.
-use Rattle.std.proofs.Common.{◌≡◌, ◌≢◌, ℕ, zero, suc, ◌+◌, ◌==◌, ◌≤◌, Bool, true, false, List, [], ◌∷◌, ◌++◌, ◌∙◌, Option, Some, None, set, refl, ap, sym, arith}
+-- A shard's realms take up sessions that were saved.
+use Rattle.std.proofs.Common.{◌≡◌, ◌≢◌, ℕ, zero, suc, ◌+◌, ◌==◌, ◌<◌, ◌≤◌, Bool, true, false, List, [], ◌∷◌, ◌++◌, ◌∙◌, Option, Some, None, is_some, get_or, length, set, refl, ap, sym, arith}
 use Rattle.std.specs.Prelude.{if◌then◌else◌, slice_get}
-use Rattle.std.specs.Option.{option_map_or}
+use Rattle.std.proofs.lemmas.List.{set-get_or}
 use Rattle.std.proofs.lemmas.Option.{slice_get-get_or, slice_get_within}
 use Rattle.roam_conf.specs.Config.{ConfigView}
-use Rattle.roam_ledgers.specs.Ledgers.{SavedItem, SavedSession, realm, session}
+use Rattle.roam_ledgers.specs.Ledgers.{SavedSession}
 use Rattle.roam_book.specs.RealmConfig.{RealmConfig, realm_config}
 use Rattle.roam_book.specs.RealmState.{RealmState}
 use Rattle.roam_book.specs.Saving.{taken_up}
@@ -14,11 +14,13 @@ use Rattle.roam_book.specs.declared.state.realm_numbers.RealmNumbers.{RealmNumbe
 use Rattle.roam_reverse.specs.Sessions.{Session}
 use Rattle.roam_pending.specs.PlainEntry.{PlainEntry}
 use Rattle.roam_tables.specs.Stands.{RealmView, entries_in}
+use Rattle.roam_tables.proofs.RealmLemmas.{get-read}
 use Rattle.roam_core.specs.Events.{is_in_shard}
 use Rattle.roam_core.specs.ManyRealms.{no_state}
+use Rattle.roam_core.proofs.PacketLemmas.{other_index, same_index}
 use Rattle.roam_shard.specs.ShardView.{IsShard, OpeningView, states_in}
 use Rattle.roam_shard.proofs.ShardLemmas.{length-states, state-seen, states-set}
-use Rattle.roam_shard.specs.Restoring.{is_named, saved_of, sessions_behind, with_one, with_saved, with_saved_from}
+use Rattle.roam_shard.specs.Restoring.{with_one, with_saved, with_saved_from}
 
 either-way : {X : Type 0} (b : Bool) (x : X) → (if b then x else x) ≡ x
 either-way true x = refl
@@ -28,44 +30,6 @@ twice : {X : Type 0} (b : Bool) (f : X → X) (x y : X)
     → (if b then f (if b then x else y) else (if b then x else y)) ≡ (if b then f x else y)
 twice true f x y = refl
 twice false f x y = refl
-
--- What a file has of a realm, with one item more
-
--- whether the realm that stands last passes
-here-after : (List ℕ → Bool → Bool) → Bool → List SavedItem → Bool
-here-after passes here [] = here
-here-after passes here (realm name own ∷ more) = here-after passes (passes name own) more
-here-after passes here (session s ∷ more) = here-after passes here more
-
-behind-realm : (passes : List ℕ → Bool → Bool) (here : Bool) (items : List SavedItem) (name : List ℕ) (own : Bool)
-    → sessions_behind passes here (items ++ realm name own ∷ []) ≡ sessions_behind passes here items
-behind-realm passes here [] name own = refl
-behind-realm passes here (realm n o ∷ items) name own = behind-realm passes (passes n o) items name own
-behind-realm passes true (session s ∷ items) name own =
-    ap (λ (l : List SavedSession). s ∷ l) (behind-realm passes true items name own)
-behind-realm passes false (session s ∷ items) name own = behind-realm passes false items name own
-
-here-realm : (passes : List ℕ → Bool → Bool) (here : Bool) (items : List SavedItem) (name : List ℕ) (own : Bool)
-    → here-after passes here (items ++ realm name own ∷ []) ≡ passes name own
-here-realm passes here [] name own = refl
-here-realm passes here (realm n o ∷ items) name own = here-realm passes (passes n o) items name own
-here-realm passes here (session s ∷ items) name own = here-realm passes here items name own
-
-behind-session : (passes : List ℕ → Bool → Bool) (here : Bool) (items : List SavedItem) (s : SavedSession)
-    → sessions_behind passes here (items ++ session s ∷ [])
-    ≡ sessions_behind passes here items ++ (if here-after passes here items then s ∷ [] else [])
-behind-session passes true [] s = refl
-behind-session passes false [] s = refl
-behind-session passes here (realm n o ∷ items) s = behind-session passes (passes n o) items s
-behind-session passes true (session t ∷ items) s =
-    ap (λ (l : List SavedSession). t ∷ l) (behind-session passes true items s)
-behind-session passes false (session t ∷ items) s = behind-session passes false items s
-
-here-session : (passes : List ℕ → Bool → Bool) (here : Bool) (items : List SavedItem) (s : SavedSession)
-    → here-after passes here (items ++ session s ∷ []) ≡ here-after passes here items
-here-session passes here [] s = refl
-here-session passes here (realm n o ∷ items) s = here-session passes (passes n o) items s
-here-session passes here (session t ∷ items) s = here-session passes here items s
 
 -- What realms take up, in two parts
 
@@ -80,7 +44,7 @@ saved-then config index first more s =
     ap (λ (l : List Session). record s { sessions = l })
     (sym (taken-then (realm_config config index) first more s.sessions))
 
-from-then : (config : ConfigView) (shard : ℕ) (first more : ℕ → List SavedSession) (index : ℕ)
+pub from-then : (config : ConfigView) (shard : ℕ) (first more : ℕ → List SavedSession) (index : ℕ)
     (states : List RealmState)
     → with_saved_from config shard more index (with_saved_from config shard first index states)
     ≡ with_saved_from config shard (λ i. first i ++ more i) index states
@@ -95,23 +59,24 @@ from-then config shard first more index (s ∷ ss) =
     (from-then config shard first more (index + 1) ss)
 
 -- the same sessions of each realm
-from-same : (config : ConfigView) (shard : ℕ) (one other : ℕ → List SavedSession) (index : ℕ)
+pub from-same : (config : ConfigView) (shard : ℕ) (one other : ℕ → List SavedSession) (index : ℕ)
     (states : List RealmState) → ((i : ℕ) → one i ≡ other i)
     → with_saved_from config shard one index states ≡ with_saved_from config shard other index states
 from-same config shard one other index states same =
     ap (λ (f : ℕ → List SavedSession). with_saved_from config shard f index states) (λ j i. same i j)
 
 -- none of any realm
-from-none : (config : ConfigView) (shard : ℕ) (saved : ℕ → List SavedSession) (index : ℕ) (states : List RealmState)
-    → ((i : ℕ) → index ≤ i → saved i ≡ []) → with_saved_from config shard saved index states ≡ states
+pub from-none : (config : ConfigView) (shard : ℕ) (saved : ℕ → List SavedSession) (index : ℕ) (states : List RealmState)
+    → ((i : ℕ) → index ≤ i → i < index + length states → saved i ≡ [])
+    → with_saved_from config shard saved index states ≡ states
 from-none config shard saved index [] none = refl
 from-none config shard saved index (s ∷ ss) none =
     let own = is_in_shard config shard index in
     ap (λ (l : List SavedSession). (if own then with_saved config index l s else s)
-    ∷ with_saved_from config shard saved (index + 1) ss) (none index (omega arith))
+    ∷ with_saved_from config shard saved (index + 1) ss) (none index (omega arith) (omega arith))
     ∙ ap (λ (t : RealmState). t ∷ with_saved_from config shard saved (index + 1) ss) (either-way own s)
     ∙ ap (λ (l : List RealmState). s ∷ l)
-    (from-none config shard saved (index + 1) ss (λ i le. none i (omega (arith, le))))
+    (from-none config shard saved (index + 1) ss (λ i le lt. none i (omega (arith, le)) (omega (arith, lt))))
 
 -- one of one realm of the shard
 from-one : (config : ConfigView) (shard : ℕ) (saved : ℕ → List SavedSession) (index k : ℕ) (states : List RealmState)
@@ -130,7 +95,7 @@ from-one config shard saved index zero (y ∷ ys) x s at own is others =
     ∙ ap (λ (z : RealmState). with_saved config index (s ∷ []) z ∷ rest) was
     ∙ ap (λ (n : ℕ). with_saved config n (s ∷ []) x ∷ rest) (sym e)
     ∙ ap (λ (l : List RealmState). with_saved config (index + 0) (s ∷ []) x ∷ l)
-    (from-none config shard saved (index + 1) ys (λ i le. others i (λ same. absurd (omega (arith, same, le)))))
+    (from-none config shard saved (index + 1) ys (λ i le lt. others i (λ same. absurd (omega (arith, same, le)))))
 from-one config shard saved index (suc k) (y ∷ ys) x s at own is others =
     let e : index + 1 + k ≡ index + suc k = omega arith in
     let here = is_in_shard config shard index in
@@ -151,7 +116,7 @@ from-foreign config shard saved index zero (y ∷ ys) own others =
     ap (λ (b : Bool). (if b then with_saved config index (saved index) y else y)
     ∷ with_saved_from config shard saved (index + 1) ys) (ap (is_in_shard config shard) (sym e) ∙ own)
     ∙ ap (λ (l : List RealmState). y ∷ l)
-    (from-none config shard saved (index + 1) ys (λ i le. others i (λ same. absurd (omega (arith, same, le)))))
+    (from-none config shard saved (index + 1) ys (λ i le lt. others i (λ same. absurd (omega (arith, same, le)))))
 from-foreign config shard saved index (suc k) (y ∷ ys) own others =
     let e : index + 1 + k ≡ index + suc k = omega arith in
     let here = is_in_shard config shard index in
@@ -161,16 +126,6 @@ from-foreign config shard saved index (suc k) (y ∷ ys) own others =
     ∙ ap (λ (l : List RealmState). y ∷ l) (from-foreign config shard saved (index + 1) k ys
     (ap (is_in_shard config shard) e ∙ own) (λ i ne. others i (λ is. ne (is ∙ sym e))))
 
-equal-test : (n : ℕ) → (n == n) ≡ true
-equal-test zero = refl
-equal-test (suc n) = equal-test n
-
-other-test : (n m : ℕ) → n ≢ m → (n == m) ≡ false
-other-test zero zero ne = absurd (ne refl)
-other-test zero (suc m) ne = refl
-other-test (suc n) zero ne = refl
-other-test (suc n) (suc m) ne = other-test n m (λ is. ne (ap suc is))
-
 -- a session of a realm of the shard
 pub one-taken : (config : ConfigView) (shard k : ℕ) (s : SavedSession) (states : List RealmState) (x : RealmState)
     → slice_get states k ≡ Some x → is_in_shard config shard k ≡ true
@@ -179,8 +134,8 @@ one-taken config shard k s states x at own =
     let e : 0 + k ≡ k = omega arith in
     let saved : ℕ → List SavedSession = λ other. if other == k then s ∷ [] else [] in
     from-one config shard saved 0 k states x s at (ap (is_in_shard config shard) e ∙ own)
-    (ap saved e ∙ ap (λ (b : Bool). if b then s ∷ [] else []) (equal-test k))
-    (λ i ne. ap (λ (b : Bool). if b then s ∷ [] else []) (other-test i k (λ is. ne (is ∙ sym e))))
+    (ap saved e ∙ ap (λ (b : Bool). if b then s ∷ [] else []) (same_index k k refl))
+    (λ i ne. ap (λ (b : Bool). if b then s ∷ [] else []) (other_index i k (λ is. ne (is ∙ sym e))))
     ∙ ap (λ (n : ℕ). set states k (with_saved config n (s ∷ []) x)) e
 
 -- a session of a realm that isn't
@@ -190,7 +145,15 @@ none-taken config shard k s states own =
     let e : 0 + k ≡ k = omega arith in
     from-foreign config shard (λ other. if other == k then s ∷ [] else []) 0 k states
     (ap (is_in_shard config shard) e ∙ own)
-    (λ i ne. ap (λ (b : Bool). if b then s ∷ [] else []) (other-test i k (λ is. ne (is ∙ sym e))))
+    (λ i ne. ap (λ (b : Bool). if b then s ∷ [] else []) (other_index i k (λ is. ne (is ∙ sym e))))
+
+-- a session of a realm that isn't there
+pub past-taken : (config : ConfigView) (shard k : ℕ) (s : SavedSession) (states : List RealmState)
+    → length states ≤ k → with_one config shard k s states ≡ states
+past-taken config shard k s states past =
+    from-none config shard (λ other. if other == k then s ∷ [] else []) 0 states
+    (λ i le lt. ap (λ (b : Bool). if b then s ∷ [] else [])
+    (other_index i k (λ is. absurd (omega (arith, is, lt, past)))))
 
 module _ {A : Type 0} where
   -- the numbers of a realm took it up
@@ -224,57 +187,13 @@ module _ {A : Type 0} where
       ∙ ap (set (states_in o tables ns) k) (state-then o.config k (E k) n m s keeps sessions)
       ∙ sym (one-taken o.config o.shard k s (states_in o tables ns) (state_of (E k) n) there own)
 
--- The items so far, and whose sessions come now
-
-pub record AreTakenUp (config : ConfigView) (shard : ℕ) (items : List SavedItem) (own : Option ℕ)
-    (before after : List RealmState) : Type 0 where
-  pub states : after ≡ with_saved_from config shard (saved_of config items) 0 before
-  pub whose : (r : ℕ) → here-after (is_named config r) false items ≡ option_map_or (λ k. r == k) own false
-
-pub nothing-so-far : (config : ConfigView) (shard : ℕ) (states : List RealmState)
-    → AreTakenUp config shard [] None states states
-nothing-so-far config shard states = record {
-  states = sym (from-none config shard (saved_of config []) 0 states (λ i le. refl));
-  whose = λ r. refl;
-}
-
-pub realm-follows : (config : ConfigView) (shard : ℕ) (items : List SavedItem) (own next : Option ℕ)
-    (before after : List RealmState) (name : List ℕ) (own_sessions : Bool)
-    → AreTakenUp config shard items own before after
-    → ((r : ℕ) → is_named config r name own_sessions ≡ option_map_or (λ k. r == k) next false)
-    → AreTakenUp config shard (items ++ realm name own_sessions ∷ []) next before after
-realm-follows config shard items own next before after name own_sessions are named = record {
-  states = are.states ∙ sym (from-same config shard (saved_of config (items ++ realm name own_sessions ∷ []))
-      (saved_of config items) 0 before (λ r. behind-realm (is_named config r) false items name own_sessions));
-  whose = λ r. here-realm (is_named config r) false items name own_sessions ∙ named r;
-}
-
-pub session-follows : (config : ConfigView) (shard : ℕ) (items : List SavedItem) (k : ℕ)
-    (before after later : List RealmState) (s : SavedSession)
-    → AreTakenUp config shard items (Some k) before after → later ≡ with_one config shard k s after
-    → AreTakenUp config shard (items ++ session s ∷ []) (Some k) before later
-session-follows config shard items k before after later s are taken = record {
-  states = taken ∙ ap (with_one config shard k s) are.states
-      ∙ from-then config shard (saved_of config items) (λ other. if other == k then s ∷ [] else []) 0 before
-      ∙ from-same config shard (λ r. saved_of config items r ++ (if r == k then s ∷ [] else []))
-      (saved_of config (items ++ session s ∷ [])) 0 before
-      (λ r. ap (λ (b : Bool). saved_of config items r ++ (if b then s ∷ [] else [])) (sym (are.whose r))
-      ∙ sym (behind-session (is_named config r) false items s));
-  whose = λ r. here-session (is_named config r) false items s ∙ are.whose r;
-}
-
-append-nothing : {X : Type 0} (xs : List X) → xs ++ [] ≡ xs
-append-nothing [] = refl
-append-nothing (x ∷ xs) = ap (λ (l : List _). x ∷ l) (append-nothing xs)
-
-pub session-passed : (config : ConfigView) (shard : ℕ) (items : List SavedItem) (before after : List RealmState)
-    (s : SavedSession) → AreTakenUp config shard items None before after
-    → AreTakenUp config shard (items ++ session s ∷ []) None before after
-session-passed config shard items before after s are = record {
-  states = are.states ∙ sym (from-same config shard (saved_of config (items ++ session s ∷ []))
-      (saved_of config items) 0 before
-      (λ r. behind-session (is_named config r) false items s
-      ∙ ap (λ (b : Bool). saved_of config items r ++ (if b then s ∷ [] else [])) (are.whose r)
-      ∙ append-nothing (saved_of config items r)));
-  whose = λ r. here-session (is_named config r) false items s ∙ are.whose r;
-}
+  -- a realm that isn't the shard's has no numbers
+  pub no-numbers : (o : OpeningView) (tables : List RealmView) (ns : List (Option (RealmNumbers A))) (k : ℕ)
+      (x : Option (RealmNumbers A)) (s : SavedSession) → IsShard o tables ns → k < length ns → x ≡ get_or ns k x
+      → x ≡ None → states_in o tables (set ns k x) ≡ with_one o.config o.shard k s (states_in o tables ns)
+  no-numbers o tables ns k x s are lt at none =
+      let own : is_in_shard o.config o.shard k ≡ false =
+      sym (are.own k x (get-read ns k x lt at)) ∙ ap (λ (y : Option (RealmNumbers A)). is_some y) none in
+      ap (λ (l : List (Option (RealmNumbers A))). states_in o tables l)
+      (ap (λ (y : Option (RealmNumbers A)). set ns k y) at ∙ set-get_or ns k x)
+      ∙ sym (none-taken o.config o.shard k s (states_in o tables ns) own)

@@ -11,12 +11,11 @@ ghost use Rattle.roam_book.specs.Sound.{IsSound};
 ghost use Rattle.roam_shard.specs.Follow.{AllFollow};
 ghost use Rattle.roam_shard.specs.Pausing.{AllCanGoOver, AreLanesReady, AreOver, CanGoOver, GoesOn, HasGoneOver};
 ghost use Rattle.roam_shard.specs.Pausing.{IsOver, IsReady, IsReadyAt, KeepsOthers, StandsStill, StandsUnder};
-ghost use Rattle.roam_shard.specs.Pausing.{begin_at, states_under};
+ghost use Rattle.roam_shard.specs.Pausing.{states_under};
 
-use crate::look::numbers_at;
 use crate::paused::Paused;
-use crate::realm_numbers::opened_at;
-use roam_book::{FreshLanes, RealmNumbers, RealmSettings, Start, carry_over, changed_peers};
+use crate::realm_numbers::{begin_at, opened_at};
+use roam_book::{FreshLanes, RealmNumbers, RealmSettings, carry_over, changed_peers};
 use roam_conf::Config;
 use roam_reload::is_carried;
 use roam_tables::Tables;
@@ -56,20 +55,6 @@ fn goes_on(change: Succession<'_, '_>, realm: u16) -> bool
         ↔ GoesOn (shown change.entry.from.now) (shown change.entry.to.now) change.entry.shard realm }
 {
     change.to.shard_of(realm) == change.shard && is_carried(change.from, change.to, realm)
-}
-
-/// Where a realm that doesn't go on begins: where its numbers stand, or where there are none, at place 0 of its random
-/// words and ticket 0.
-fn begin_at<A: Allocator + Copy>(numbers: &[Option<RealmNumbers<A>>], realm: u16) -> Start
-    ensures { result ≡ begin_at numbers.now realm }
-{
-    match numbers_at(numbers, realm) {
-        Some(numbers) => numbers.start(),
-        None => Start {
-            place: 0,
-            ticket: 0,
-        },
-    }
 }
 
 /// Takes out the entries of each realm that doesn't go on. Takes no memory.

@@ -1,16 +1,17 @@
 //! Ledgers that outlast a shard: what is written of them, and what a shard takes up at its start.
 
-ghost use Rattle.std.specs.Prelude.{◌≡◌, ◌⊎◌, ◌≤◌, ◌==◌, ◌&&◌, OnOk, ℕ, false, length, map, not};
+ghost use Rattle.std.specs.Prelude.{◌≡◌, ◌⊎◌, ◌<◌, ◌≤◌, ◌==◌, ◌&&◌, IfOk, IfSome, OnOk, ℕ, false, length, map, not};
 ghost use Rattle.std.specs.Str.{str_eq_ignore_ascii_case};
 ghost use Rattle.std.specs.Option.{option_map_or};
 ghost use Rattle.roam_conf.specs.Lookup.{first_place};
 ghost use Rattle.roam_conf.specs.Parts.{shown_realm};
 ghost use Rattle.roam_conf.specs.Shown.{shown};
-ghost use Rattle.roam_ledgers.specs.Shown.{shown_items, shown_session, shown_text};
+ghost use Rattle.roam_ledgers.specs.Shown.{shown_item, shown_items, shown_session, shown_text};
 ghost use Rattle.roam_book.specs.RealmConfig.{realm_config};
 ghost use Rattle.roam_book.specs.Written.{GainsOpen, GainsRealm};
 ghost use Rattle.roam_core.specs.ManyRealms.{state_at};
 ghost use Rattle.roam_shard.specs.Pausing.{StandsUnder, states_under};
+ghost use Rattle.roam_shard.specs.Private.Items.{TakesUp};
 ghost use Rattle.roam_shard.specs.Restoring.{is_named, restored_states, with_one};
 
 use crate::look::numbers_at;
@@ -76,8 +77,9 @@ fn has_name(realm: &Realm, name: &[u8]) -> bool
 /// The first realm that is here and has a name.
 fn index_named(realms: &[Realm], name: &[u8]) -> Option<u16>
     requires { length realms.now ≤ 1024 }
-    ensures { result ≡ first_place (λ r. not r.gone && str_eq_ignore_ascii_case r.name name.now)
+    ensures first { result ≡ first_place (λ r. not r.gone && str_eq_ignore_ascii_case r.name name.now)
         (map shown_realm realms.now) }
+    ensures within { IfSome result (λ index. index < length realms.now) }
 {
     for (index, realm) in realms.iter().enumerate() {
         if has_name(realm, name) {
@@ -89,15 +91,13 @@ fn index_named(realms: &[Realm], name: &[u8]) -> Option<u16>
 
 /// The realm that is here and has a name, if it tells its sessions so.
 fn realm_named(config: &Config, name: Text<'_>, own_sessions: bool) -> Option<u16>
-    ensures { (index : ℕ) → is_named (shown config.now) index (shown_text name) own_sessions
+    ensures { (index : ℕ) → is_named (shown config.now) index (shown_text name.entry) own_sessions
         ≡ option_map_or (λ realm. index == realm) result false }
 {
     let Some(index) = index_named(config.realms.as_slice(), name.octets) else {
         return None;
     };
-    let Some(realm) = config.realms.get(usize::from(index)) else {
-        return None;
-    };
+    let realm = &config.realms[usize::from(index)];
     if realm.own_sessions == own_sessions {
         Some(index)
     } else {
@@ -118,21 +118,37 @@ impl<A: Allocator + Copy> Paused<A> {
     {
         let mut own = None;
         for item in items {
-            match item {
-                Item::Realm(name, own_sessions) => {
-                    own = realm_named(config, *name, *own_sessions);
-                }
-                Item::Session(session) => {
-                    if let Some(realm) = own {
-                        self.restore_one(config, realm, *session)?;
-                    }
-                }
-            }
+            own = self.take_up(config, own, *item)?;
         }
         Ok(())
     }
 
-    /// Takes up one of them, where the realm is one of the shard's own.
+    /// Takes up one item: the realm whose sessions come then, or a session of the realm whose sessions come now.
+    fn take_up(
+        &mut self,
+        config: &Config,
+        own: Option<u16>,
+        item: Item<'_>,
+    ) -> Result<Option<u16>, NoMemory>
+        requires { StandsUnder (shown config.now) self.old }
+        ensures stands { StandsUnder (shown config.now) self.new }
+        ensures states { IfOk result (λ next. TakesUp (shown config.now) self.old.shard (shown_item item.entry) own next
+            (states_under (shown config.now) self.old) (states_under (shown config.now) self.new)) }
+        ensures shard { self.new.shard ≡ self.old.shard }
+    {
+        match item {
+            Item::Realm(name, own_sessions) => Ok(realm_named(config, name, own_sessions)),
+            Item::Session(session) => match own {
+                Some(realm) => {
+                    self.restore_one(config, realm, session)?;
+                    Ok(Some(realm))
+                }
+                None => Ok(None),
+            },
+        }
+    }
+
+    /// Takes up a session, where the realm is one of the shard's own.
     fn restore_one(
         &mut self,
         config: &Config,

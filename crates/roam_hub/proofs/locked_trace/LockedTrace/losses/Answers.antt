@@ -11,7 +11,7 @@ use Rattle.roam_core.specs.ManyRealms.{state_at}
 use Rattle.roam_shard.specs.Looks.{IsLoss}
 use Rattle.roam_shard.specs.ShardView.{OpeningView}
 use Rattle.roam_hub.specs.Keeping.{KeptView}
-use Rattle.roam_hub.proofs.KeptLemmas.{loses_in}
+use Rattle.roam_hub.proofs.EndLemmas.{loses_in}
 use Rattle.roam_hub.proofs.locked_trace.LockedTrace.losses.Goals as goal
 
 pub losses-requires : goal.losses-requires

@@ -10,7 +10,7 @@ use Rattle.roam_book.proofs.WrittenLemmas.{on_one}
 use Rattle.roam_core.specs.ManyRealms.{state_at}
 use Rattle.roam_shard.specs.ShardView.{OpeningView}
 use Rattle.roam_hub.specs.Keeping.{KeptView}
-use Rattle.roam_hub.proofs.SavedLemmas.{saves_in}
+use Rattle.roam_hub.proofs.EndLemmas.{saves_in}
 use Rattle.roam_hub.proofs.locked_trace.LockedTrace.save.Goals as goal
 
 pub returns-then-not-goes_on : goal.returns-then-not-goes_on

@@ -3,6 +3,7 @@ use Rattle.std.proofs.Common.{◌≡◌, ◌∙◌, ◌∷◌, [], ℕ, Some, ap
 use Rattle.std.proofs.lemmas.List.{length-map}
 use Rattle.roam_conf.specs.Parts.{shown_realm}
 use Rattle.roam_conf.specs.Shown.{shown}
+use Rattle.roam_tables.specs.Stands.{entries_in}
 use Rattle.roam_tables.proofs.RealmLemmas.{get-read}
 use Rattle.roam_shard.specs.Pausing.{opening_under, states_under}
 use Rattle.roam_shard.specs.Restoring.{with_one}
@@ -11,7 +12,8 @@ use Rattle.roam_book.specs.Saving.{taken_up}
 use Rattle.roam_ledgers.specs.Shown.{shown_session}
 use Rattle.roam_book.proofs.WrittenLemmas.{on_one}
 use Rattle.roam_shard.proofs.RestoredLemmas.{restored_shard}
-use Rattle.roam_shard.proofs.TakenUpLemmas.{numbers-taken}
+use Rattle.roam_shard.proofs.ShardLemmas.{length-states}
+use Rattle.roam_shard.proofs.TakenUpLemmas.{no-numbers, numbers-taken, past-taken}
 use Rattle.roam_shard.proofs.paused.Paused.restore_one.Goals as goal
 
 pub new-requires : goal.new-requires
@@ -61,3 +63,21 @@ returns-in-Some-clause-states g c =
     numbers-taken (opening_under config p) p.entries ns c.from-2.result n m s c.requires at c.restore.ensures.keeps
     (subst (λ (x : RealmConfig). m.sessions.sessions ≡ taken_up x (s ∷ []) n.sessions.sessions) is sessions)
     ∙ ap (λ (k : ℕ). with_one config p.shard k s (states_under config p)) c.from-2.ensures)
+
+pub returns-in-None-clause-states : goal.returns-in-None-clause-states
+returns-in-None-clause-states g c =
+    let p = c.args.self.now in
+    let config = shown c.args.config.now in
+    let s = shown_session c.args.session in
+    no-numbers (opening_under config p) p.entries p.numbers.items c.from-2.result c.index_mut.result.now s c.requires
+    (omega (arith, c.from.ensures, c.from-2.ensures, c.if-from-len.false, p.numbers.ok.0)) c.index_mut.ensures.value
+    c.in-None.is
+    ∙ ap (λ (k : ℕ). with_one config p.shard k s (states_under config p)) c.from-2.ensures
+
+pub returns-then-from-len-clause-states : goal.returns-then-from-len-clause-states
+returns-then-from-len-clause-states g c =
+    let p = c.args.self.now in
+    let config = shown c.args.config.now in
+    let long = length-states (opening_under config p) (entries_in p.entries) 0 p.numbers.items in
+    sym (past-taken config p.shard c.args.realm (shown_session c.args.session) (states_under config p)
+    (omega (arith, c.from.ensures, c.len.ensures, c.if-from-len.true, long, p.numbers.ok.0)))

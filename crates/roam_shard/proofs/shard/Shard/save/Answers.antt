@@ -1,5 +1,5 @@
 -- The sessions that are written are open in the realm as it stands.
-use Rattle.std.proofs.Common.{arith, ◌≡◌, ◌∙◌, List, length, ap, subst}
+use Rattle.std.proofs.Common.{arith, ◌∙◌, List, length, ap, subst}
 use Rattle.std.proofs.lemmas.List.{length-map}
 use Rattle.std.proofs.lemmas.Option.{slice_get_within}
 use Rattle.roam_conf.specs.Parts.{shown_realm}
@@ -7,6 +7,7 @@ use Rattle.roam_reverse.specs.Sessions.{Session}
 use Rattle.roam_book.specs.RealmConfig.{RealmConfig, realm_config}
 use Rattle.roam_book.specs.Written.{GainsOpen}
 use Rattle.roam_book.proofs.WrittenLemmas.{gains_none, on_one}
+use Rattle.roam_core.specs.ManyRealms.{state_at}
 use Rattle.roam_shard.specs.ShardView.{ShardView, shown_opening}
 use Rattle.roam_shard.proofs.LookLemmas.{sessions-seen}
 use Rattle.roam_shard.proofs.shard.Shard.save.Goals as goal
@@ -33,5 +34,5 @@ returns g c =
     let seen = sessions-seen (shown_opening i.opening) i.entries i.numbers.items c.args.self.now c.self.view_is
     c.deref.result.now c.deref.ensures.value realm c.in-Some.numbers.now c.in-Some.ensures.some in
     on_one _ c.save.ensures
-    (λ gains. subst (λ (x : RealmConfig). GainsOpen x _ old new) is
+    (λ gains. subst (λ (x : RealmConfig). GainsOpen x (state_at c.args.self.now.states realm).sessions old new) is
     (subst (λ (ss : List Session). GainsOpen c.new-settings.result ss old new) seen gains))

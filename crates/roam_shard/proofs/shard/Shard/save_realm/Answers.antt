@@ -1,8 +1,7 @@
 -- The realm's name is written, or nothing.
-use Rattle.std.proofs.Common.{arith, ◌⊎◌, ◌≡◌, ◌∙◌, inl, inr, refl, List, length, ap, subst}
+use Rattle.std.proofs.Common.{arith, ◌∙◌, inl, inr, refl, List, length, ap, subst}
 use Rattle.std.proofs.lemmas.List.{length-map}
 use Rattle.std.proofs.lemmas.Option.{slice_get_within}
-use Rattle.roam_conf.specs.Config.{ConfigView}
 use Rattle.roam_conf.specs.Parts.{shown_realm}
 use Rattle.roam_book.specs.RealmConfig.{RealmConfig, realm_config}
 use Rattle.roam_book.specs.Written.{GainsRealm}
