@@ -59,6 +59,7 @@ trials: scripts
 	packaging/tests/try-diagnoses.py $(ROAM)
 	packaging/tests/try-samples.py $(ROAM)
 	packaging/tests/try-statements.py $(ROAM)
+	packaging/tests/try-words.py $(ROAM)
 	packaging/tests/try-configurations.py $(ROAM)
 	packaging/tests/try-control.py $(ROAM)
 	packaging/tests/try-reload.py $(ROAM)
