@@ -61,6 +61,7 @@ trials: scripts
 	packaging/tests/try-statements.py $(ROAM)
 	packaging/tests/try-words.py $(ROAM)
 	packaging/tests/try-configurations.py $(ROAM)
+	packaging/tests/try-serve.py $(ROAM)
 	packaging/tests/try-control.py $(ROAM)
 	packaging/tests/try-reload.py $(ROAM)
 	packaging/tests/try-exchanges.py $(ROAM)
