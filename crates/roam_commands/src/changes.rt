@@ -83,18 +83,35 @@ fn print_peer<W: Write>(writer: &mut W, old: &Peer, new: &Peer) -> io::Result<()
     writeln!(writer, "peer {name}: {key}: {taken}")
 }
 
+/// Prints what becomes of a peer, or that it is new.
+fn print_peer_since<W: Write>(writer: &mut W, old: Option<&Peer>, new: &Peer) -> io::Result<()>
+    ensures { OnOk result (IsPrinted (W.contents writer.old) (W.contents writer.new)) }
+{
+    match old {
+        Some(before) => print_peer(writer, before, new),
+        None => {
+            let name = new.name.as_str();
+            writeln!(writer, "peer {name}: new")
+        }
+    }
+}
+
 /// Prints what becomes of each peer that isn't as it was.
 fn print_peers<W: Write>(writer: &mut W, old: &[Peer], new: &[Peer]) -> io::Result<()>
     ensures { OnOk result (IsPrinted (W.contents writer.old) (W.contents writer.new)) }
 {
     for (index, peer) in new.iter().enumerate() {
-        match old.get(index) {
-            Some(before) => print_peer(writer, before, peer)?,
-            None => {
-                let name = peer.name.as_str();
-                writeln!(writer, "peer {name}: new")?;
-            }
-        }
+        print_peer_since(writer, old.get(index), peer)?;
+    }
+    Ok(())
+}
+
+/// Prints what becomes of each realm.
+fn print_realms<W: Write>(writer: &mut W, old: &Config, new: &Config) -> io::Result<()>
+    ensures { OnOk result (IsPrinted (W.contents writer.old) (W.contents writer.new)) }
+{
+    for realm in 0..new.realms.len() {
+        print_realm(writer, old, new, realm as u16)?;
     }
     Ok(())
 }
@@ -106,8 +123,5 @@ pub fn print_changes<W: Write>(writer: &mut W, old: &Config, new: &Config) -> io
     print_endpoint(writer, "auth", old.auth, new.auth)?;
     print_endpoint(writer, "acct", old.acct, new.acct)?;
     print_peers(writer, old.peers.as_slice(), new.peers.as_slice())?;
-    for realm in 0..new.realms.len() {
-        print_realm(writer, old, new, realm as u16)?;
-    }
-    Ok(())
+    print_realms(writer, old, new)
 }

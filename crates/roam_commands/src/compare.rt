@@ -1,6 +1,7 @@
 //! What a configuration takes that follows another.
 
 ghost use Rattle.std.specs.Prelude.{◌≡◌, List, ℕ, Option, IfErr, IfOk, MatchResult, OnOk};
+ghost use Rattle.roam_conf.specs.Config.{ConfigView};
 ghost use Rattle.roam_conf.specs.Shown.{shown};
 ghost use Rattle.roam_reload.specs.Numbers.{laid_out};
 ghost use Rattle.roam_reload.specs.Reload.{MayFollow};
@@ -75,6 +76,32 @@ fn not_following<'a>(path: &'a str, printed: io::Result<()>) -> Fault<'a>
     }
 }
 
+/// Prints whether a configuration that is laid out by the old one may follow it, and what that takes.
+///
+/// # Errors
+///
+/// `MayNotFollow`, and why is printed; `Write`.
+fn print_laid_out<'a, W: Write>(
+    writer: &mut W,
+    next: &TextFile<'a>,
+    old: &Config,
+    laid: &Config,
+) -> Result<(), Fault<'a>>
+    ensures may { OnOk result (MayFollow (shown old.now) (shown laid.now)) }
+    ensures printed { OnOk result (IsPrinted (W.contents writer.old) (W.contents writer.new)) }
+    ensures err { (first : TextFile) → (after : ConfigView) → IsConfiguration (text_in first) (shown old.now)
+        → IsConfiguration (text_in next.now) after → shown laid.now ≡ laid_out (shown old.now) after
+        → IfErr result (CompareFails first next.now (W.contents writer.old) (W.contents writer.new)) }
+{
+    match hindrance_of(old, laid) {
+        None => print_following(writer, old, laid),
+        Some(hindrance) => {
+            let printed = print_why_not(writer, hindrance);
+            Err(not_following(next.path, printed))
+        }
+    }
+}
+
 /// Prints whether the configuration of the next file may follow the old one, laid out by it, and what that takes.
 ///
 /// # Errors
@@ -93,20 +120,13 @@ fn print_comparison<'a, W: Write>(
         → IsConfiguration (text_in next.now) (shown new)
         → IfErr result (CompareFails first next.now (W.contents writer.old) (W.contents writer.new)) }
 {
-    let new = match following_config(alloc, old, new) {
-        Ok(new) => new,
-        Err(LayFault::Memory) => return Err(Fault::Memory),
+    match following_config(alloc, old, new) {
+        Err(LayFault::Memory) => Err(Fault::Memory),
         Err(LayFault::Numbers) => {
             let printed = print_no_room(writer);
-            return Err(not_following(next.path, printed));
-        }
-    };
-    match hindrance_of(old, &new) {
-        None => print_following(writer, old, &new),
-        Some(hindrance) => {
-            let printed = print_why_not(writer, hindrance);
             Err(not_following(next.path, printed))
         }
+        Ok(laid) => print_laid_out(writer, next, old, &laid),
     }
 }
 

@@ -1,6 +1,6 @@
 -- Sockets come in behind others, and each place has one of its own.
 use Rattle.std.proofs.Common.{◌≡◌, inl, inr, ℕ, zero, suc, ◌+◌, ◌*◌, ◌<◌, List, [], ◌∷◌, ◌++◌, length}
-use Rattle.std.proofs.Common.{true, Result, Ok, Err, OnOk}
+use Rattle.std.proofs.Common.{true, Option, Result, Ok, Err, OnOk}
 use Rattle.std.proofs.Common.{Contains, Some, None, option_and_then, slice_get, refl, ap, sym, subst, ◌∙◌, append_assoc, append-nil, arith}
 use Rattle.std.proofs.lemmas.Bool.{cases_lt}
 use Rattle.std.proofs.lemmas.List.{length-append}

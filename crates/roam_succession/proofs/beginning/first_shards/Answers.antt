@@ -13,9 +13,10 @@ loop-shard-preserved c =
     let begun = c.in_ok-begun in
     rw c.in_ok-push.ensures.items
     (one-more-begun config c.loop-shard.shards.items c.loop-shard.shard c.pause.result c.loop-shard.invariant
-    (opened-paused config _ _ _ _ begun.ensures.opening c.pause.ensures.shard c.pause.ensures.stands)
-    (opened-fresh config _ _ _ _ begun.ensures.opening c.pause.ensures.states begun.ensures.states
-    c.in_ok-starts.ensures.starts))
+    (opened-paused config _ _ begun.begun c.pause.result begun.ensures.opening c.pause.ensures.shard
+    c.pause.ensures.stands)
+    (opened-fresh config _ _ begun.begun c.pause.result begun.ensures.opening c.pause.ensures.states
+    begun.ensures.states (c.as_slice.ensures.value ∙ c.in_ok-starts.ensures.starts)))
 
 pub returns-clause-ok : goal.returns-clause-ok
 returns-clause-ok c =

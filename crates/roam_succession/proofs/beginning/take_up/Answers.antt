@@ -45,7 +45,7 @@ loop-number-preserved c =
       taken = one-more-taken config items c.args.shards.now.items shards k p q inv.taken (omega (arith, lt, number)) at
           (record { shard = c.restore.ensures.shard ∙ its.shard; stands = c.restore.ensures.stands })
           (subst (λ (n : ℕ). states_under config q ≡ restored_states config n items (states_under config p)) its.shard
-          c.restore.ensures.states);
+          c.in_ok-restore.ensures.states);
       count = inv.count;
     }
 
