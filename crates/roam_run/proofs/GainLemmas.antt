@@ -3,7 +3,7 @@ use Rattle.std.proofs.Common.{◌≡◌, inl, inr, ℕ, List, [], ◌∷◌, ◌
 use Rattle.std.specs.List.{flat_map}
 use Rattle.std.proofs.lemmas.List.Concat.{flat_map-append}
 use Rattle.roam_ledgers.specs.Ledgers.{SavedItem, end_text, head, item_text, ledgers_text, realm, session}
-use Rattle.roam_book.specs.RealmConfig.{RealmConfig}
+use Rattle.roam_book.specs.RealmConfig.{RealmConfig, realm_config}
 use Rattle.roam_book.specs.Written.{GainsItems, GainsRealm}
 use Rattle.roam_history.specs.HubOpening.{HubOpening}
 use Rattle.roam_audit.specs.Seats.{SeatView}
@@ -32,7 +32,7 @@ gains_realm c old new is = (
 pub gains_begun : (o : HubOpening) (index : ℕ) (old new : List ℕ) → BeginsRealm o index old new → GainsItems old new
 gains_begun o index old new begins = elim begins [
   | inl same ↦ gains_same old new same
-  | inr is ↦ gains_realm _ old new is
+  | inr is ↦ gains_realm (realm_config o.config index) old new is
 ]
 
 pub gains_saved : (o : HubOpening) (index : ℕ) (seat : SeatView) (old new : List ℕ) → SavesThen o index seat old new

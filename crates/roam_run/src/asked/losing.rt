@@ -1,5 +1,6 @@
 //! What a change takes of each realm: told where it is made; and why it isn't made, where nobody agreed to lose that.
 
+ghost use Rattle.std.specs.Prelude.{IfOk};
 ghost use Rattle.roam_conf.specs.Shown.{shown};
 ghost use Rattle.roam_book.specs.Carrying.{AreChanged};
 
@@ -38,6 +39,21 @@ fn loss_at<R: Wait, G, N: Opened>(
     }
 }
 
+/// The peers that have other tables in a configuration that follows.
+fn changed_of<G, N: Opened>(
+    shared: &Shared<'_, '_, G, N>,
+    next: &Config,
+) -> Result<Vec<u16>, AllocError>
+    ensures { IfOk result (λ changed.
+        AreChanged N.opening.config.peers (shown next.now).peers changed.items) }
+{
+    let alloc = shared.alloc;
+    match changed_peers(alloc, shared.config.peers.as_slice(), next.peers.as_slice()) {
+        Ok(changed) => Ok(changed),
+        Err(_) => Err(AllocError),
+    }
+}
+
 /// What goes of each realm where a configuration follows.
 fn all_losses<R: Wait, G, N: Opened>(
     rt: &R,
@@ -45,13 +61,9 @@ fn all_losses<R: Wait, G, N: Opened>(
     seat: &Seat<Global, N>,
     next: &Config,
 ) -> Result<Vec<Loss>, AllocError> {
-    let config = shared.config;
-    let peers = config.peers.as_slice();
-    let Ok(changed) = changed_peers(shared.alloc, peers, next.peers.as_slice()) else {
-        return Err(AllocError);
-    };
+    let changed = changed_of(shared, next)?;
     let mut losses = Vec::new(shared.alloc);
-    for realm in 0..config.realms.len() {
+    for realm in 0..shared.config.realms.len() {
         let loss = loss_at(rt, shared, seat, realm as u16, next, changed.as_slice());
         losses.push(loss)?;
     }

@@ -24,11 +24,11 @@ returns-in-Err-Numbers-clause-err g c = λ first read read_next.
     })
 
 -- it is laid out, and looked at
-pub returns-clause-may : goal.returns-clause-may
-returns-clause-may g c =
+pub returns-in-Ok-clause-may : goal.returns-in-Ok-clause-may
+returns-in-Ok-clause-may g c =
     subst (λ (v : ConfigView). OnOk c.print_laid_out.result (MayFollow (shown c.args.old.now) v)) c.in-Ok.ensures.ok
     c.print_laid_out.ensures.may
 
-pub returns-clause-err : goal.returns-clause-err
-returns-clause-err g c = λ first read read_next.
+pub returns-in-Ok-clause-err : goal.returns-in-Ok-clause-err
+returns-in-Ok-clause-err g c = λ first read read_next.
     c.print_laid_out.ensures.err first (shown c.args.new) read read_next c.in-Ok.ensures.ok

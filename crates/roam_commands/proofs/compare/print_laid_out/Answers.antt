@@ -17,8 +17,8 @@ returns-in-None-clause-err g c = λ first after read read_next is.
     follow_refused first c.args.next.now _ _ c.print_following.result c.print_following.ensures.err
 
 -- there is one
-pub returns-clause-err : goal.returns-clause-err
-returns-clause-err g c = λ first after read read_next is.
+pub returns-in-Some-clause-err : goal.returns-in-Some-clause-err
+returns-in-Some-clause-err g c = λ first after read read_next is.
     let before = shown c.args.old.now in
     not_followed first c.args.next.now _ _ c.not_following.result c.print_why_not-printed.result c.not_following.ensures
     c.print_why_not-printed.ensures

@@ -9,7 +9,7 @@ pub loop-index-init : goal.loop-index-init
 loop-index-init g c = subst (GainsItems head) (sym c.in_ok-writing.ensures) (gains_none head)
 
 pub loop-index-preserved : goal.loop-index-preserved
-loop-index-preserved g c = gains_then _ _ _ c.loop-index.invariant c.in_ok-write_if_here.ensures
+loop-index-preserved g c = gains_then head _ _ c.loop-index.invariant c.in_ok-write_if_here.ensures
 
 pub returns : goal.returns
 returns g c = whole_file _ _ c.loop-index.invariant c.in_ok-octets.ensures
