@@ -4,7 +4,7 @@ use Rattle.roam_succession.proofs.ServedLemmas.{all-served, served-begun}
 use Rattle.roam_succession.proofs.serving.serve_all.Goals as goal
 
 pub serve_once-requires-clause-paused : goal.serve_once-requires-clause-paused
-serve_once-requires-clause-paused g c = c.in_ok-begun.ensures.ok.1.paused
+serve_once-requires-clause-paused g c lives outlives = c.in_ok-begun.ensures.ok.1.paused
 
 pub loop-init : goal.loop-init
 loop-init g c =
