@@ -9,18 +9,18 @@ const OCTETS: [u8; 33] = [
 
 /// How many octets of the file are refused where it is cut behind them, and how many sessions the whole has.
 fn refused_and_sessions(rt: &HostRuntime) -> [usize; 2] {
-    let mut refused = 0;
+    let mut refused = 0_usize;
     for end in 0..OCTETS.len() {
         if read(rt.alloc(), &OCTETS[..end]).is_err() {
-            refused += 1;
+            refused = refused.saturating_add(1);
         }
     }
-    let mut sessions = 0;
+    let mut sessions = 0_usize;
     if let Ok(items) = read(rt.alloc(), &OCTETS) {
         for item in &items {
             if let Item::Session(session) = item {
                 if session.id.octets == b"01".as_slice() && session.identifier.is_none() {
-                    sessions += 1;
+                    sessions = sessions.saturating_add(1);
                 }
             }
         }
