@@ -39,11 +39,22 @@ FILES = {
 }
 
 
-def file_text(name):
-    script, configuration, first, count = FILES[name]
-    source = script.__module__
-    lines = [f"# Random: written by oracle/{source}.py and answered by oracle/broker.py, seeds {first} to "
-             f"{first + count - 1}."]
-    for seed in range(first, first + count):
+# How many scripts of each file, the first ones, stand among the rows whose growths are refused: that costs the square of a
+# row's length. The others are played with memory alone.
+REFUSED = 5
+
+
+def seeds(name, is_refused):
+    """The seeds of a file's scripts whose growths are refused, or those of the others."""
+    first, count = FILES[name][2:]
+    return range(first, first + REFUSED) if is_refused else range(first + REFUSED, first + count)
+
+
+def file_text(name, is_refused):
+    script, configuration = FILES[name][:2]
+    these, source = seeds(name, is_refused), script.__module__
+    lines = [f"# Random: written by oracle/{source}.py and answered by oracle/broker.py, seeds {these[0]} to "
+             f"{these[-1]}."]
+    for seed in these:
         lines += script(configuration, seed).lines
     return "".join(line + "\n" for line in lines)

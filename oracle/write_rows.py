@@ -22,7 +22,8 @@ DATA = ROWS.parent / "crates" / "test_rows" / "data"
 def written():
     """The text of each file that is written."""
     files = {DATA / "rows" / f"{row.name}.row": row.text() for row in Row.rows}
-    files |= {DATA / "random" / f"{name}.rows": file_text(name) for name in FILES}
+    for folder, is_refused in (("rows", True), ("random", False)):
+        files |= {DATA / folder / f"{name}.rows": file_text(name, is_refused) for name in FILES}
     there = [path.read_text() for path in DATA.glob("r*/*") if path not in files]
     named = {name for text in [*files.values(), *there] for name, _ in parts_of(text)}
     files |= {DATA / "configurations" / f"{name}.conf": CONFIGURATIONS[name] for name in sorted(named)}

@@ -13,13 +13,19 @@ import sys
 ROOT = pathlib.Path(__file__).resolve().parent.parent
 
 
+def rows() -> list[str]:
+    """The text of each file of rows."""
+    return [path.read_text(encoding="utf-8") for path in (ROOT / "crates" / "test_rows" / "data").glob("r*/*")]
+
+
 def lines_that_begin(*words: str) -> int:
     """How many lines of the rows begin so."""
-    found = 0
-    for folder in ("rows", "random"):
-        for path in (ROOT / "crates" / "test_rows" / "data" / folder).iterdir():
-            found += sum(line.startswith(words) for line in path.read_text(encoding="utf-8").split("\n"))
-    return found
+    return sum(line.startswith(words) for text in rows() for line in text.split("\n"))
+
+
+def signed_anew() -> int:
+    """How many mutated datagrams are sealed and signed anew."""
+    return sum(text.count(", signed anew") for text in rows())
 
 
 def diagnosed() -> int:
@@ -39,6 +45,7 @@ def crates() -> int:
 COUNTS = {
     r"([\d,]+) rows of\s+events": lambda: lines_that_begin("#@ "),
     r"([\d,]+) mutated\s+datagrams": lambda: lines_that_begin("# mutated"),
+    r"([\d,]+) of (?:these|them are) sealed and signed anew": signed_anew,
     r"(\d+) mistakes(?= in a sample| \(`packaging)|(?<=Makes )(\d+) mistakes": diagnosed,
     r"(\d+) crates\b": crates,
     r"(\d+) (?:must-fail )?edits\b": lambda: len(list(ROOT.glob("crates/*/must-fail/*.edit"))),

@@ -598,7 +598,7 @@ def written():
     """The page."""
     sources, lines = Sources(), lines_of(*RUN)
     book = Book(sources)
-    headline = clauses(lines, ["isolated_from_start"])
+    headline = clauses(lines, ["isolated_from_start", "lost_for_itself"])
     book.read("Each realm is isolated", "For every list of arrivals and timer events, and for every realm: the packets for that "
               "realm are, in order and octet for octet, those that the written broker of that one realm sends when it is given "
               "that realm's own events alone.", roots_of(sources, lines, headline),

@@ -532,6 +532,8 @@ MISTAKES = [
     value(TOP, "status_server", '"yes"', '"yes" is neither true nor false'),
     value(TOP, "spread", "1", "1 is neither true nor false"),
     value(TOP, "log_station", '"md5"', '"md5" is neither "clear" nor "hmac"'),
+    value(TOP, "state", '""', '"" is not a path of 1..1024 octets'),
+    value(TOP, "state_every", "0", "0 is not in 1..86400"),
     value(TOP, "seed", "0", "is not a text of 64 hexadecimal digits"),
     value(TOP, "auth", "1812", "1812 " + ENDPOINT),
     value(ONE_PEER, "coa", '"192.0.2.1:03799"', '"192.0.2.1:03799" ' + ENDPOINT),

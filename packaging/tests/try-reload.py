@@ -5,15 +5,20 @@ Serves eight realms with a control socket on loopback, and has `roam ctl .. relo
 under load: RATE exchanges a second (10,000) over all realms. Two processes ask, each in four realms, and two others are
 the home servers. It fails unless
 
-1. a realm that a change doesn't touch loses no request and is sent none again, while a realm is added, a peer is added,
-   one realm gets another home server and secret, and one is retired by a name that nobody uses;
-2. what is added or changed serves at once, a session that was opened before is disconnected after, counts of what stays
-   go on, and a file with a fault changes nothing and is told of as `roam check` tells of it;
-3. fifty changes, half of them with faults (syntax, a port that is taken, an endpoint twice, another number of shards),
+1. no realm loses a request that a change doesn't take, and is sent none again, while a realm is added, a peer is added,
+   one realm gets another home server and secret, and one goes; while all tables are turned about, a peer that asks for
+   another realm gets another secret and goes, a realm in front comes, goes and comes back, while a realm's own `wait`,
+   `hold` and `max_sessions` change, it gets a server more, and loses one that it doesn't use, and while `spread` changes
+   and the broker's endpoints come from 0.0.0.0 to an address;
+2. what is added or changed serves at once, a session that was opened before is disconnected after and a reply that was held
+   is sent again, counts of what stays go on, and a file with a fault changes nothing and is told of as `roam check` tells
+   of it;
+3. a change by which something would be lost is made only where that is agreed to, and it is said what is lost;
+4. fifty changes, half of them with faults (syntax, a port that is taken, an endpoint twice, another number of shards),
    leave memory and descriptors as they were;
-4. under 60 limits of memory, from less than it has to more than it wants, a change is made or declined for want of
+5. under 60 limits of memory, from less than it has to more than it wants, a change is made or declined for want of
    memory, and it serves on;
-5. the server stops after all that, audited.
+6. the server stops after all that, audited.
 
 It prints the times of answers with and without changes, and how long a request waited at most around each change. What a
 busy machine drops since a buffer is full counts as lost too, and is said: net.core.rmem_max is to be 4194304.
@@ -21,6 +26,7 @@ busy machine drops since a buffer is full counts as lost too, and is said: net.c
 import array
 import collections
 import hashlib
+import heapq
 import multiprocessing
 import os
 import resource
@@ -39,10 +45,10 @@ PORT, HOME = 17120, 27120
 HERE = '127.0.0.1'
 HEAD = '''shards = {shards}
 seed = "{seed}"
-auth = "127.0.0.1:{auth}"
-acct = "127.0.0.1:{acct}"
+auth = "{address}:{auth}"
+acct = "{address}:{acct}"
 trace_limit = 100000
-spread = true
+spread = {spread}
 log_exchanges = false
 control = "{control}"
 '''
@@ -52,6 +58,12 @@ name = "{name}"
 ip = "{ip}"
 secret = "{secret}"
 {more}'''
+SERVER = '''
+[[realm.server]]
+auth = "127.0.0.1:{home}"
+acct = "127.0.0.1:{acct}"
+secret = "{secret}"
+'''
 REALM = '''
 [[realm]]
 name = "{name}"
@@ -59,16 +71,11 @@ out = "127.0.0.1:{out}"
 reverse = "127.0.0.1:{reverse}"
 tries = 2
 wait = {wait}
-hold = 2000
+hold = {hold}
 max_pending = 4096
-max_sessions = 100
+max_sessions = {sessions}
 rest = 0
-
-[[realm.server]]
-auth = "127.0.0.1:{home}"
-acct = "127.0.0.1:{acct}"
-secret = "{secret}"
-'''
+''' + SERVER
 
 
 def attributes(packet):
@@ -124,8 +131,8 @@ def all_of(one):
 
 
 class HomeServers(multiprocessing.Process):
-    """Accepts each Access-Request, in every second realm 10 ms after it came, and answers accounting. `told` says how many
-    came in each realm, and how many of them again."""
+    """Accepts each Access-Request, in every second realm 10 ms after it came, in realm 7 a quarter of a second after, so that
+    some always wait there, and answers accounting. `told` says how many came in each realm, and how many of them again."""
 
     def __init__(self, realms):
         super().__init__(daemon=True)
@@ -134,14 +141,14 @@ class HomeServers(multiprocessing.Process):
         for realm, secret in realms:
             for port in HOME + realm, HOME + 100 + realm:
                 one = bound(port)
-                self.homes[one.fileno()] = one, realm, secret, 0 if realm % 2 else .01
+                self.homes[one.fileno()] = one, realm, secret, .25 if realm == 7 else 0 if realm % 2 else .01
 
     def told(self):
         self.near.send(None)
         return self.near.recv()
 
     def run(self):
-        waiting, seen, again = collections.deque(), collections.defaultdict(set), collections.Counter()
+        waiting, seen, again = [], collections.defaultdict(set), collections.Counter()
         poll = select.epoll()
         for at in [*self.homes, self.far.fileno()]:
             poll.register(at, select.EPOLLIN)
@@ -157,12 +164,12 @@ class HomeServers(multiprocessing.Process):
                     again[realm] += key in seen[realm]
                     seen[realm].add(key)
                     if delay:
-                        waiting.append((time.monotonic() + delay, one, answer(packet[0] + 1, packet, secret), source))
+                        heapq.heappush(waiting, (time.monotonic() + delay, at, answer(packet[0] + 1, packet, secret), source))
                     else:
                         one.sendto(answer(packet[0] + 1, packet, secret), source)
             while waiting and waiting[0][0] <= time.monotonic():
-                _, one, packet, source = waiting.popleft()
-                one.sendto(packet, source)
+                _, at, packet, source = heapq.heappop(waiting)
+                self.homes[at][0].sendto(packet, source)
 
 
 class Requests:
@@ -251,11 +258,13 @@ def want(holds, what):
 class Realm:
     def __init__(self, number, **more):
         self.words = {'name': '%c.example' % (97 + number), 'out': PORT + 200 + number, 'reverse': PORT + 300 + number,
-                      'wait': 4000, 'home': HOME + number, 'acct': HOME + 100 + number, 'secret': SECRET.decode()}
+                      'wait': 4000, 'hold': 2000, 'sessions': 100, 'home': HOME + number, 'acct': HOME + 100 + number,
+                      'secret': SECRET.decode(), 'further': []}
         self.words.update(more)
 
     def __str__(self):
-        return REALM.format(**self.words)
+        return REALM.format(**self.words) + ''.join(
+            SERVER.format(home=home, acct=home + 100, secret=SECRET.decode()) for home in self.words['further'])
 
 
 class Server:
@@ -263,7 +272,7 @@ class Server:
         self.program, self.work = program, work
         self.path, self.conf = os.path.join(work, 'control'), os.path.join(work, 'roam.conf')
         self.peers = [('nas1', HERE, NAS_SECRET.decode(), f'coa = "127.0.0.1:{PORT + 400}"\nnas_ip = "192.0.2.1"\n')]
-        self.realms, self.shards = realms, 2
+        self.realms, self.shards, self.spread, self.address = realms, 2, 'true', '0.0.0.0'
         self.write()
         self.log = open(os.path.join(work, 'log'), 'w+')
         self.process = subprocess.Popen([program, 'serve', self.conf], stdout=subprocess.DEVNULL, stderr=self.log)
@@ -278,7 +287,8 @@ class Server:
             return file.read()
 
     def text(self):
-        return (HEAD.format(shards=self.shards, seed='0' * 64, auth=PORT, acct=PORT + 1, control=self.path)
+        return (HEAD.format(shards=self.shards, seed='0' * 64, address=self.address, auth=PORT, acct=PORT + 1,
+                            spread=self.spread, control=self.path)
                 + ''.join(PEER.format(name=n, ip=i, secret=s, more=m) for n, i, s, m in self.peers)
                 + ''.join(map(str, self.realms)))
 
@@ -287,12 +297,12 @@ class Server:
             file.write(self.text() if text is None else text)
         os.replace(self.conf + '.new', self.conf)
 
-    def ctl(self, order):
-        return subprocess.run([self.program, 'ctl', self.path, order], capture_output=True, text=True, timeout=60)
+    def ctl(self, *order):
+        return subprocess.run([self.program, 'ctl', self.path, *order], capture_output=True, text=True, timeout=60)
 
-    def reload(self, text=None):
+    def reload(self, text=None, lose=()):
         self.write(text)
-        return self.ctl('reload')
+        return self.ctl('reload', *lose)
 
     def count(self, line):
         told = [int(one.split()[-1]) for one in self.ctl('metrics').stdout.splitlines() if one.startswith(line)]
@@ -344,10 +354,6 @@ def disconnect():
         home.close()
 
 
-def says(result, *lines):
-    return result.returncode == 0 and all(line in result.stdout.splitlines() for line in lines)
-
-
 COUNT = 'roam_realm_requests_total{realm="a.example",code="access_request",}'
 
 
@@ -355,27 +361,113 @@ def says(result, *lines):
     return result.returncode == 0 and all(line in result.stdout.splitlines() for line in lines)
 
 
+LOSE = ('--lose',)
+
+
 def try_changes(server):
     """One change after the other, under load."""
     want(open_session(), 'a session is opened')
     before = server.count(COUNT)
     server.realms.append(Realm(8))
-    want(says(server.reload(), 'realm a.example: carried over', 'realm h.example: carried over', 'realm i.example: added'),
+    want(says(server.reload(), 'realm a.example: unchanged', 'realm h.example: unchanged', 'realm i.example: new'),
          'a realm is added')
     want(asks_once(b'i.example'), 'and serves at once')
     server.peers.append(('nas2', '127.0.0.2', NAS_SECRET.decode(), ''))
-    want(says(server.reload(), 'realm a.example: carried over', 'realm i.example: carried over'), 'a peer is added')
+    want(says(server.reload(), 'peer nas2: new', 'realm a.example: unchanged', 'realm i.example: unchanged'), 'a peer is added')
     want(asks_once(b'a.example', '127.0.0.2'), 'and is served at once')
     server.realms[7] = Realm(7, home=HOME + 9, acct=HOME + 109, secret=NEW_SECRET.decode())
-    want(says(server.reload(), 'realm a.example: carried over', 'realm h.example: begins anew: server'),
+    declined = server.reload()
+    want(declined.returncode == 1 and 'realm h.example: would lose' in declined.stdout,
+         'another home server and secret is declined while requests wait')
+    want(says(server.reload(lose=LOSE), 'realm a.example: unchanged',
+              'realm h.example: carried: keys 1 server, peers 0, servers 1',
+              f'realm h.example: loses what waits at 127.0.0.1:{HOME + 7}'),
          'a realm gets another home server and secret')
     want(asks_once(b'h.example'), 'and asks it at once')
-    server.realms[8] = Realm(8, name='retired.invalid')
-    want(says(server.reload(), 'realm a.example: carried over', 'realm retired.invalid: carried over'), 'a realm is retired')
+    server.realms.pop()
+    want(says(server.reload(lose=LOSE), 'realm a.example: unchanged', 'realm i.example: gone: loses all'), 'a realm goes')
     want(not asks_once(b'i.example'), 'and asks its home server no more')
     after = server.count(COUNT)
     want(after > before > 0, f'the counts of a realm go on ({before}, {after})')
     want(disconnect(), 'a session of before is disconnected after')
+
+
+class Held:
+    """A request whose reply is held."""
+
+    def __init__(self, realm):
+        self.socket = socket.socket(socket.AF_INET, socket.SOCK_DGRAM)
+        self.socket.connect((HERE, PORT))
+        self.socket.settimeout(2)
+        body = attribute(1, b'held@' + realm) + attribute(4, bytes([192, 0, 2, 1]))
+        self.packet = struct.pack('!BBH', 1, 77, 20 + len(body)) + b'held-held-held-h' + body
+        self.reply = self.ask()
+
+    def ask(self):
+        self.socket.send(self.packet)
+        try:
+            return self.socket.recv(4096)
+        except TimeoutError:
+            return None
+
+    def is_held(self):
+        return self.reply is not None and self.ask() == self.reply
+
+
+def follow(server, what, *lines, lose=()):
+    """A change that takes nothing of realm b."""
+    result = server.reload(lose=lose)
+    want(says(result, *lines), f'{what} ({result.stdout.splitlines()[-1] if result.returncode else "followed"})')
+
+
+def try_what_others_change(server):
+    """Changes that take nothing of realm b, and those of its own keys, under load."""
+    realm = 'realm b.example: '
+    server.realms[1] = Realm(1, hold=60000)
+    follow(server, "b's hold", realm + 'carried: keys 1 hold, peers 0, servers 0')
+    held = Held(b'b.example')
+    server.realms.reverse()
+    server.peers.reverse()
+    follow(server, 'all tables are turned about', realm + 'unchanged')
+    name, ip, _, more = next(peer for peer in server.peers if peer[0] == 'nas2')
+    server.peers = [peer for peer in server.peers if peer[0] != 'nas2'] + [(name, ip, 'another-secret', more)]
+    follow(server, 'a peer gets another secret', 'peer nas2: secret: loses its requests, and what waits at its coa', lose=LOSE)
+    server.peers = [peer for peer in server.peers if peer[0] != 'nas2']
+    follow(server, 'and goes', 'peer nas2: gone: loses its requests and sessions', lose=LOSE)
+    for count in range(2):
+        server.realms.insert(0, Realm(8))
+        follow(server, 'a realm comes in front', 'realm i.example: new', realm + 'unchanged')
+        want(asks_once(b'i.example'), 'and serves')
+        server.realms.pop(0)
+        follow(server, 'and goes', 'realm i.example: gone: loses all', realm + 'unchanged', lose=LOSE)
+    place = next(at for at, one in enumerate(server.realms) if one.words['name'] == 'b.example')
+    for what, more in (('wait', {'wait': 3000}), ('max_sessions', {'sessions': 200}), ('server', {'further': [HOME + 2]}),
+                       ('server', {'further': []})):
+        server.realms[place] = Realm(1, hold=60000, **more)
+        want(server.reload().returncode == 0, f"b's {what} changes without a loss: {more}")
+    want(held.is_held(), 'the reply that was held is sent again')
+    want(disconnect(), 'and a session of before is disconnected')
+    server.realms.sort(key=lambda one: one.words['name'])
+
+
+def try_sockets(server):
+    """Other sockets at the same ports, under load: one for all workers, one for each, and at an address of every one's."""
+    for spread in ('false', 'true'):
+        server.spread = spread
+        want(server.reload().returncode == 0, f'spread = {spread} follows')
+        time.sleep(.5)
+    server.address = HERE
+    want(server.reload().returncode == 0, '127.0.0.1 follows 0.0.0.0')
+    time.sleep(.5)
+    taken = socket.socket(socket.AF_INET, socket.SOCK_DGRAM)
+    taken.bind(('127.0.0.3', PORT))
+    server.address = '0.0.0.0'
+    result = server.reload()
+    want(result.returncode == 1 and f'0.0.0.0:{PORT}' in result.stdout and f'127.0.0.1:{PORT} is served' in result.stdout,
+         'where the system lets no second one be bound, both endpoints are named')
+    taken.close()
+    server.address = HERE
+    want(server.reload().returncode == 0, 'and all is served as before')
 
 
 def faults(server):
@@ -402,7 +494,7 @@ def try_fifty(server):
             begin = time.monotonic()
             result = server.reload()
             slowest = max(slowest, time.monotonic() - begin)
-            if not says(result, 'realm a.example: carried over', 'realm g.example: begins anew: wait'):
+            if not says(result, 'realm a.example: unchanged', 'realm g.example: carried: keys 1 wait, peers 0, servers 0'):
                 want(False, f'change {number}: {result}')
         time.sleep(.1)
         sizes.append(server.size())
@@ -478,6 +570,8 @@ def try_all(server, homes, rate):
     time.sleep(1)
     quiet = time.monotonic(), time.sleep(5), time.monotonic()
     try_changes(server)
+    try_what_others_change(server)
+    try_sockets(server)
     try_check(server)
     try_fifty(server)
     often = time.monotonic()
@@ -486,18 +580,18 @@ def try_all(server, homes, rate):
     told = {realm: what for one in loads for realm, what in one.told().items()}
     again = sum((home.told()[1] for home in homes), collections.Counter())
     print(f'     the system dropped {dropped()} datagrams, for which a buffer had no room')
-    same = [told[realm] for realm in range(6)]
+    same = [told[realm] for realm in range(7)]
     sent, answered, overtaken = (sum(one[at] for one in same) for at in range(3))
     every = sum(one[1] for one in told.values()) / told[0][5]
-    print(f'     six realms that no change touched: {sent} requests, {answered} answered, '
-          f'{sum(again[realm] for realm in range(6))} sent again; over all eight {every:.0f} answered a second')
+    print(f'     seven realms of which no change takes anything: {sent} requests, {answered} answered, '
+          f'{sum(again[realm] for realm in range(7))} sent again; over all eight {every:.0f} answered a second')
     at_once = [one for realm in (1, 3, 5) for one in zip(told[realm][3], told[realm][4])]
     tell_times('without changes', at_once, quiet[0], quiet[2])
     tell_times('with four a second', at_once, often, done)
     tell_pauses(at_once, changes)
     want(sent == answered > 0 and not overtaken, 'none of theirs is lost')
-    want(not any(again[realm] for realm in range(6)), 'and none is sent again')
-    print(f'     the two that were changed: {told[6][0] + told[7][0]} requests, {told[6][1] + told[7][1]} answered')
+    want(not any(again[realm] for realm in range(7)), 'and none is sent again')
+    print(f'     the one that got another home server: {told[7][0]} requests, {told[7][1]} answered')
     try_refused(server)
     result = server.ctl('stop')
     want(result.returncode == 0 and server.process.wait(timeout=40) == 0 and 'audited' in server.said(),

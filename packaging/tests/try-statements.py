@@ -20,7 +20,7 @@ ROOT = os.path.dirname(os.path.dirname(os.path.dirname(os.path.abspath(__file__)
 FOLDERS = ("packaging/samples", "examples")
 # What counts where one of these is absent can't be written.
 WITHOUT_DEFAULT = {"max_hops", "metrics", "control", "coa", "nas_ip", "nas_id", "reverse", "operator_name", "peers", "share", "acct", "max_attributes", "fresh",
-                   "peer_share", "coa_client"}
+                   "peer_share", "coa_client", "state"}
 USAGE = "usage: roam check CONF\n"
 
 
@@ -76,7 +76,7 @@ def look_at_file(program, path, keys, folder):
     status, fates, said = run(program, "check", path, again)
     want((status, said) == (0, "") and fates.startswith("may follow\n"), f"{path}: what is printed may not follow")
     for line in fates.splitlines()[1:]:
-        want(line.endswith(": carried over"), f"{path}: {line}")
+        want(line.endswith(": unchanged"), f"{path}: {line}")
 
 
 def look_at_faults(program, folder):
@@ -114,8 +114,12 @@ def look_at_faults(program, folder):
     old = os.path.join(samples, "visited-network.conf")
     with open(old, "rb") as file:
         fewer = write("fewer.conf", re.sub(rb"\n\[\[realm\]\].*?(?=\n\[\[realm\]\])", b"", file.read(), count=1, flags=re.S))
-    wanted = (1, "may not follow: fewer realms\n", f"roam: {fewer}: may not follow\n")
-    want(run(program, "check", old, fewer) == wanted, f"fewer realms: {run(program, 'check', old, fewer)}")
+    gone = run(program, "check", old, fewer)
+    want((gone[0], gone[2]) == (0, "") and re.match(r"may follow\nrealm \S+: gone: loses all\n", gone[1]), f"fewer realms: {gone}")
+    with open(old, "rb") as file:
+        shards = write("shards.conf", b"shards = 2\n" + re.sub(rb"(?m)^shards = .*\n", b"", file.read()))
+    status, printed, said = run(program, "check", old, shards)
+    want((status, said) == (1, f"roam: {shards}: may not follow\n") and printed.startswith("may not follow: "), f"shards: {status} {printed}{said}")
 
 
 def main():

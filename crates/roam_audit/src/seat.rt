@@ -13,12 +13,25 @@ use std::marker::Model;
 
 /// Seat: what one caller counts of its recorded calls, for each shard, how often it let go of the stored steps, and
 /// what it has seen of that shard's one history. Contracts see these and the entries that it has seen, by shard.
-#[derive(Drop)]
 pub struct Seat<A: Allocator, N: Opened> {
     tallies: Vec<Tally, A>,
     /// How often it let go of the stored steps, by shard.
     times: Vec<u64, A>,
     fronts: Vec<Front<N>, A>,
+}
+
+// By hand, so that a proof sees one call wherever it ends, and not each of its parts.
+impl<A: Allocator, N: Opened> Drop for Seat<A, N> {
+    fn drop(self) {
+        let Self {
+            tallies,
+            times,
+            fronts,
+        } = self;
+        drop(tallies);
+        drop(times);
+        drop(fronts);
+    }
 }
 
 impl<A: Allocator, N: Opened> Model for Seat<A, N> {

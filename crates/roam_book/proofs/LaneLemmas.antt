@@ -35,7 +35,7 @@ done-stands_nowhere l id (waiting link i forwarded sends_left deadline signs) h 
     absurd (let k : false ≡ true = h in cc)
 done-stands_nowhere l id (done reply deadline from) h = refl
 
-done-waits_nowhere :
+pub done-waits_nowhere :
     (l : Link) (id : ℕ) (e : PlainEntry) → is_done e ≡ true → waits_at l id e ≡ false
 done-waits_nowhere l id e h = done-stands_nowhere l id e.standing h
 

@@ -16,7 +16,7 @@ use Rattle.roam_ids.specs.declared.id_state.IdState.TheVariants.{Free}
 use Rattle.roam_pending.specs.declared.key.Requester.{Requester}
 use Rattle.roam_pending.specs.declared.key.Requester.TheVariants as requester
 use Rattle.roam_pending.specs.PlainEntry.{PlainEntry, PlainRequest, PlainStanding, waiting, done, has_ticket, same_link, stands_at}
-use Rattle.roam_reload.specs.Reload.{IsCarried, peer_part, realm_part}
+use Rattle.roam_reload.specs.Reload.{IsUntouched, peer_part, realm_part}
 use Rattle.roam_book.specs.RealmConfig.{RealmConfig, IsLink, IsRequester, link_count, link_place, no_realm, realm_config}
 use Rattle.roam_book.specs.Private.MoreLanes.{AreMoreLanes}
 use Rattle.roam_book.specs.Reload.{Carries}
@@ -97,7 +97,8 @@ by_parts : (peer : Option PeerView) (realm : RealmView)
 by_parts None realm = refl
 by_parts (Some peer) realm = refl
 
-shaping_stays : (b c : RealmConfig) → Carries b c → (i : ℕ) → i < length b.peers → shaping_from c i ≡ shaping_from b i
+pub shaping_stays : (b c : RealmConfig) → Carries b c → (i : ℕ) → i < length b.peers →
+    shaping_from c i ≡ shaping_from b i
 shaping_stays b c k i there =
     let within : i < length (map peer_part b.peers) = omega (arith, there, length-map b.peers peer_part) in
     let part : slice_get (map peer_part c.peers) i ≡ slice_get (map peer_part b.peers) i =
@@ -144,8 +145,8 @@ not_there b q (waiting k i forwarded sends_left deadline signs) l id w away = by
     by false e = rw e refl
     by true e = absurd (away (subst (λ (x : Link). IsLink b x) (same_link-equal k l e) w.link))
 
-none_waits : (b : RealmConfig) (n : ℕ) (es : List PlainEntry) (l : Link) (id t : ℕ) → AllByRecursion (IsEntry b n) es
-    → (IsLink b l → ⊥) → waits_there l id t es ≡ false
+pub none_waits : (b : RealmConfig) (n : ℕ) (es : List PlainEntry) (l : Link) (id t : ℕ)
+    → AllByRecursion (IsEntry b n) es → (IsLink b l → ⊥) → waits_there l id t es ≡ false
 none_waits b n [] l id t all away = refl
 none_waits b n (e ∷ es) l id t all away =
     elim (cases_Bool (has_ticket t e)) [
@@ -274,7 +275,7 @@ part_of [] r = refl
 part_of (x ∷ xs) zero = refl
 part_of (x ∷ xs) (suc r) = part_of xs r
 
-pub go_on : (old new : ConfigView) (r : ℕ) → new.seed ≡ old.seed → IsCarried old new r →
+pub go_on : (old new : ConfigView) (r : ℕ) → new.seed ≡ old.seed → IsUntouched old new r →
     Carries (realm_config old r) (realm_config new r)
 go_on old new r seed is = record {
   seed = seed;

@@ -240,14 +240,19 @@ up-first c now rests cursors entries links up =
 set-count : (rests : List Rest) (i n : ℕ) (r : Rest) → length rests ≡ n → length (set rests i r) ≡ n
 set-count rests i n r is = length-set rests i r ∙ is
 
-pub access-servers : AccessServersNeverStandBack
-access-servers c start events now peer =
-    let n = server_link_count c in
-    let rests = (one_realm_run c (opening c start) events).state.rests in
-    let count : length rests ≡ n =
+-- events leave as many rests as there are
+pub rests-stay : (c : RealmConfig) (n : ℕ) (s : RealmState) (events : List RealmEvent) → length s.rests ≡ n
+    → length (one_realm_run c s events).state.rests ≡ n
+rests-stay c n =
     events-keep c (λ (r : List Rest). length r ≡ n)
     (λ m r l is. set-count r (link_place c l) n _ is)
     (λ m r l signs is. either (λ (x : List Rest). length x ≡ n) (is_silence c r l signs) _ _
     (set-count r (link_place c l) n _ is) is)
-    (λ r l is. set-count r (link_place c l) n _ is) (opening c start) events (length-replicate n awake) in
+    (λ r l is. set-count r (link_place c l) n _ is)
+
+pub access-servers : AccessServersNeverStandBack
+access-servers c start events now peer =
+    let n = server_link_count c in
+    let rests = (one_realm_run c (opening c start) events).state.rests in
+    let count : length rests ≡ n = rests-stay c n (opening c start) events (length-replicate n awake) in
     ap (is_resting now) (get_or_past rests (link_place c (link.Coa peer)) awake (omega arith))

@@ -18,6 +18,10 @@ pub mod BookView
 pub mod LostTicks
 pub mod RealmTurn
 pub mod Reload
+pub mod Losses
+pub mod Carrying
+pub mod Saving
+pub mod Written
 pub mod Rooms
 pub mod Sound
 pub mod Stays

@@ -35,6 +35,7 @@ nowhere = record { ip = UNSPECIFIED; port = 0 }
 -- what stands for a realm that isn't configured: it has no servers
 abbrev pub no_realm : RealmView
 no_realm = record {
+  gone = false;
   name = [];
   out = nowhere;
   reverse = None;

@@ -28,7 +28,7 @@ room g r = g.room_for r.entries.now r.settings.now.index
 -- realms' entries. Where the answer is wanted twice, each of the two is that turn's.
 -- Source: ours
 -- Rules out: a rule that reaches another realm's entries; a copy that isn't equal
--- Stands in: `roam_book` `RealmTurn.antt`: `IsRealm`, `Keeps`, `Turns`, `TurnsTwice`; the methods of `Realm`
+-- Stands in: `roam_book` `RealmTurn.antt`: `IsRealm`, `Keeps`, `Turns`, `TurnsTwice`; the methods of `RealmBroker`
 --
 -- its entries are kept there, in order of ticket with distinct keys, and fit its numbers
 pub record IsRealm {A E : Type 0} (g : Ghosts E A) (r : RealmBroker A E) : Type 0 where

@@ -1,5 +1,5 @@
 -- What stays of what a realm keeps besides its entries, where one thing of it changes (ours).
-use Rattle.std.specs.Prelude.{◌≡◌, List, [], length, replicate}
+use Rattle.std.specs.Prelude.{◌≡◌, List, [], length, replicate, vec_capacity}
 use Rattle.roam_book.specs.RealmConfig.{RealmConfig, link_count}
 use Rattle.roam_book.specs.Rests.{all_awake}
 use Rattle.roam_book.specs.Sound.{AreOwnLanes, LanesTell, cursors_of, marks_of}
@@ -28,9 +28,10 @@ pub record RestsBecome {A : Type 0} (are : List Rest) (old new : RealmNumbers A)
   pub stream_position : new.stream_position ≡ old.stream_position
   pub sessions : new.sessions ≡ old.sessions
 
--- the lanes are as many as before, and all but them is as it was
+-- the lanes are as many as before, with as much room, and all but them is as it was
 pub record KeepsButLanes {A : Type 0} (old new : RealmNumbers A) : Type 0 where
   pub count : length new.lanes.items ≡ length old.lanes.items
+  pub capacity : vec_capacity new.lanes ≡ vec_capacity old.lanes
   pub ticket : new.ticket ≡ old.ticket
   pub stream_position : new.stream_position ≡ old.stream_position
   pub rests : new.rests.items ≡ old.rests.items

@@ -6,6 +6,7 @@ ghost use Rattle.roam_book.specs.BookView.{EventIsTaken};
 ghost use Rattle.roam_book.specs.LeastFirst.{LeastDueFirst, NoneIsDueAfter};
 ghost use Rattle.roam_book.specs.LostTicks.{NothingIsLost, OnlyDoneGo};
 ghost use Rattle.roam_book.specs.RestLaws.{AccessServersNeverStandBack, UpTheFirstIsChosen, WithoutRestAllStayUp};
+ghost use Rattle.roam_book.specs.Saving.{RestoredIsSaved};
 ghost use Rattle.roam_book.specs.Silence.{ChoiceIsNeverWorse, LinksHaveOwnPlaces, RestsOnlyWhenSilent};
 
 /// A tick takes the least due entry, until none is due. Each due entry is taken once, since what waits
@@ -43,4 +44,9 @@ pub fn rests()
 pub fn lost_ticks()
     ensures nothing { NothingIsLost }
     ensures only_done { OnlyDoneGo }
+{}
+
+/// What a file of ledgers has of a realm is taken up as the ledger that was saved, where peers and realm are the same.
+pub fn restored_is_saved()
+    ensures { RestoredIsSaved }
 {}

@@ -8,40 +8,40 @@
 //!
 //! # Proved
 //!
-//! - requests, replies and ticks get the written answers, whatever their code: packets, refusal and new state,
-//!   in which are the position of the random words and the ledger of sessions | `Book::request`, `reply`,
-//!   `tick`
+//! - requests, replies and ticks get the written answers, whatever their code: packets, refusal and new state, in
+//!   which are the position of the random words and the ledger of sessions | `Book::request`, `reply`, `tick`
 //! - a peer's request is forwarded as the lists of the peer and of the realm, its Operator-Name and its question for
-//!   a Chargeable-User-Identity shape it; an Access reply is returned to it, and a CoA-Request forwarded to it, without
-//!   what these lists name, but that what names a session stays | the same: `turn`
-//! - a request whose name's share is taken is refused, after `Exhausted` and before `NoIdentifier`; the entry of its key
-//!   isn't counted | `Book::request`: `turn`
-//! - out of memory leaves the state unchanged, the ledger too; no memory is needed by a request or reply that
-//!   sends nothing, or by a tick at which each entry that is due was answered, so that they only go, or whose
-//!   time is refused | the same: `turn`, `succeeds`, `only_done`, `too_late`
-//! - silent servers: which home server a request goes to is one choice, for a new request and at failover; a
-//!   link stands back only where `rest_after` of its requests were given up, and no reply from it was taken and
-//!   returned since; and a target is chosen just where some link has a free Identifier, whichever links stand
-//!   back | the same; law `rests`: `silent`, `choice`
-//! - a tick that is lost for want of memory loses nothing for a realm of which no entry is due; where each due
-//!   entry was answered, a tick sends nothing, and they alone go | law `lost_ticks`: `nothing`, `only_done`
-//! - without `rest` no link ever rests, and where none rests the first with a free Identifier is chosen; an
-//!   access server never rests | law `silent_servers`
+//!   a Chargeable-User-Identity shape it; an Access reply is returned to it, and a CoA-Request forwarded to it,
+//!   without what these lists name, but that what names a session stays | the same: `turn`
+//! - a request whose name's share is taken is refused, after `Exhausted` and before `NoIdentifier`; the entry of its
+//!   key isn't counted | `Book::request`: `turn`
+//! - out of memory leaves the state unchanged, the ledger too; no memory is needed by a request or reply that sends
+//!   nothing, or by a tick at which each entry that is due was answered, so that they only go, or whose time is
+//!   refused | the same: `turn`, `succeeds`, `only_done`, `too_late`
+//! - silent servers: which home server a request goes to is one choice, for a new request and at failover; a link
+//!   stands back only where `rest_after` of its requests were given up, and no reply from it was taken and returned
+//!   since; and a target is chosen just where some link has a free Identifier, whichever links stand back | the same;
+//!   law `rests`: `silent`, `choice`
+//! - a tick that is lost for want of memory loses nothing for a realm of which no entry is due; where each due entry
+//!   was answered, a tick sends nothing, and they alone go | law `lost_ticks`: `nothing`, `only_done`
+//! - without `rest` no link ever rests, and where none rests the first with a free Identifier is chosen; an access
+//!   server never rests | law `silent_servers`
 //! - the rules are those over whatever keeps the entries; the other realms' entries stay as they are |
 //!   `RealmBroker::on_request`, `on_reply`, `on_tick`
-//! - an answer can be had twice, each of that very turn: one to send, one to keep |
-//!   `RealmBroker::on_request_twice`, `on_reply_twice`, `on_tick_twice`
+//! - an answer can be had twice, each of that very turn: one to send, one to keep | `RealmBroker::on_request_twice`,
+//!   `on_reply_twice`, `on_tick_twice`
 //! - with its memory in hand a tick always answers | `tick_room`, `Book::tick_reserved`
-//! - a tick is the least due entry, taken until none is left, and then none is due (where `wait` is at least 1,
-//!   as in each configuration) | law `ticks_take_the_least_due_first`
-//! - a realm that another configuration carries over goes on under it as it stands: its state is the one
-//!   before, with a cursor 0 for each further peer, or memory is refused and nothing changed |
-//!   `Book::carry_over`; `RealmNumbers::carry_over`: `state`, `sound`; law `carried_realms_go_on`: `parts`
-//! - where no peer is added, nothing changes for it: in any state and for any events its written broker is the
-//!   same, so over both configurations it sends what it would have sent under the first | law
-//!   `carried_realms_go_on`: `same`, `over_both`
-//! - what admission gives to a realm is what its rules take: a request that can be forwarded, from one with
-//!   whom a secret is shared, or a packet from a link | law `events`
+//! - a tick is the least due entry, taken until none is left, and then none is due (where `wait` is at least 1, as in
+//!   each configuration) | law `ticks_take_the_least_due_first`
+//! - a realm that goes on under another configuration does so in what is carried over of its state, or memory is
+//!   refused and nothing changed | `Book::carry_over`; `carry_over`: `state`, `sound`
+//! - nothing comes by a change, and nothing goes whose sender and link stay | law `carried_takes_no_more`
+//! - where a change doesn't touch it, it goes on as it stands, and where no peer is new it sends over both
+//!   configurations what it would have sent under the first | law `untouched_realms_go_on`
+//! - the ledger that is taken up from a file is the one that was saved, where the configuration is the same | law
+//!   `restored_is_saved`
+//! - what admission gives to a realm is what its rules take: a request that can be forwarded, from one with whom a
+//!   secret is shared, or a packet from a link | law `events`
 #![tactic(auto)]
 
 mod book;
@@ -51,13 +51,16 @@ mod rules;
 mod state;
 
 pub use book::{Book, request_of_job};
-pub use laws::{events, silent_servers, ticks_take_the_least_due_first};
+pub use laws::{events, restored_is_saved, silent_servers, ticks_take_the_least_due_first};
 pub use packets::answer::{Answer, Twin, refused};
 pub use packets::forwarding::RequestRef;
 pub use packets::tick_memory::{Room, room_for};
+pub use rules::carried_lanes::FreshLanes;
 pub use rules::evict_done::only_done_due;
-pub use rules::reload::carried_realms_go_on;
+pub use rules::losses::{Loss, all_of, losses_of};
+pub use rules::reload::{carried_takes_no_more, carry_over, changed_peers, untouched_realms_go_on};
 pub use rules::requests::LATEST;
+pub use rules::saving::save_realm;
 pub use state::gauges::{Gauges, SERVER_LINKS, waiting_at};
 pub use state::hash_key::{HASH_STREAM, hash_key};
 pub use state::realm_broker::RealmBroker;

@@ -3,13 +3,14 @@ use Rattle.std.proofs.Common.{◌≡◌, inl, inr, ℕ, List, [], ◌++◌, Opti
 use Rattle.std.proofs.KnownBytes.{Appends-kept, Appends-nil, Appends-trans}
 use Rattle.std.specs.Io.KnownBytes.{Keeps}
 use Rattle.roam_conf.specs.Config.{ConfigView}
+use Rattle.roam_reload.specs.Numbers.{laid_out}
 use Rattle.roam_reload.specs.Reload.{MayFollow}
 use Rattle.roam_sim.specs.Simulation.{IsConfiguration}
 use Rattle.roam_words.specs.CommandLine.{to_compare}
 use Rattle.roam_words.specs.declared.text_file.TextFile.{TextFile}
 use Rattle.roam_words.specs.declared.report.Fault.{Fault}
 use Rattle.roam_words.specs.declared.report.Fault.TheVariants as fault
-use Rattle.roam_commands.specs.CommandFaults.{text_in, with_seed_of, CheckFails, CompareFails, DoesNotFollow, Follows, IsPrinted}
+use Rattle.roam_commands.specs.CommandFaults.{text_in, CheckFails, CompareFails, DoesNotFollow, Follows, IsPrinted}
 use Rattle.roam_commands.specs.Outcomes.{IsDone}
 
 pub printed_none : (a : Option (List ℕ)) → IsPrinted a a
@@ -95,7 +96,7 @@ on_ok P (Err e) holds = tt
 -- both texts state configurations, of which the second may follow the first
 pub follows : {T E : Type 0} (text next_text : List ℕ) (before after : ConfigView) (r : Result T E)
     → IsConfiguration text before → IsConfiguration next_text after
-    → OnOk r (MayFollow before (with_seed_of before after))
+    → OnOk r (MayFollow before (laid_out before after))
     → OnOk r (Follows text next_text)
 follows text next_text before after (Ok x) read read_next may = record {
   before = before;

@@ -7,6 +7,7 @@ use Rattle.roam_conf.specs.Config.{ConfigView}
 use Rattle.roam_port.specs.Sockets.{socket_endpoints}
 use Rattle.roam_conf_reader.specs.declared.fault.ConfFault.{ConfFault}
 use Rattle.roam_conf_reader.specs.Faults.{IsFirstFault}
+use Rattle.roam_reload.specs.Numbers.{TooMany, laid_out}
 use Rattle.roam_reload.specs.Reload.{MayFollow}
 use Rattle.roam_reload.specs.Differences.{Hinders}
 use Rattle.roam_reload.specs.declared.hindrance.Hindrance.{Hindrance}
@@ -198,17 +199,14 @@ StateFails file old new fault.Write = IsAccepted (text_in file)
 StateFails file old new fault.Memory = Keeps old new
 StateFails file old new _ = ⊥
 
--- the second of two configurations with the seed of the first, which a server keeps
-abbrev pub with_seed_of : ConfigView → ConfigView → ConfigView
-with_seed_of before after = record after { seed = before.seed }
-
--- it may not follow the first
+-- a configuration that is laid out by another one may not follow it, or is larger than one may be
 abbrev pub IsHindered : ConfigView → ConfigView → Type 0
-IsHindered before after = (hindrance : Hindrance) × Hinders before (with_seed_of before after) hindrance
+IsHindered before after =
+    TooMany (laid_out before after) ⊎ ((hindrance : Hindrance) × Hinders before (laid_out before after) hindrance)
 
 -- ## Compared
--- Both texts are accepted, and the second configuration, with the seed of the first, may follow the first; or it may
--- not, which is a fault.
+-- Both texts are accepted, and the second configuration, laid out by the first, may follow it; or it may not, which is
+-- a fault.
 -- Source: ours
 -- Rules out: a success where a reload would be declined
 -- Stands in: `roam_commands` `CommandFaults.antt`: `Follows`, `DoesNotFollow`, `CompareFails`; `compare`
@@ -219,7 +217,7 @@ pub record Follows (text next_text : List ℕ) : Type 0 where
   pub after : ConfigView
   pub read : IsConfiguration text before
   pub read_next : IsConfiguration next_text after
-  pub may : MayFollow before (with_seed_of before after)
+  pub may : MayFollow before (laid_out before after)
 
 -- the texts state configurations of which the second may not follow the first
 pub record DoesNotFollow (text next_text : List ℕ) : Type 0 where

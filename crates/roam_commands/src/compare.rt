@@ -1,117 +1,33 @@
-//! What becomes of each realm when a configuration follows another.
+//! What a configuration takes that follows another.
 
 ghost use Rattle.std.specs.Prelude.{◌≡◌, List, ℕ, Option, IfErr, IfOk, MatchResult, OnOk};
+ghost use Rattle.roam_conf.specs.Config.{ConfigView};
 ghost use Rattle.roam_conf.specs.Shown.{shown};
+ghost use Rattle.roam_reload.specs.Numbers.{laid_out};
 ghost use Rattle.roam_reload.specs.Reload.{MayFollow};
 ghost use Rattle.roam_sim.specs.Simulation.{IsConfiguration};
 ghost use Rattle.roam_words.specs.CommandLine.{Asks, to_compare};
 ghost use Rattle.roam_words.specs.declared.text_file.TextFile.{TextFile};
-ghost use Rattle.roam_commands.specs.CommandFaults.{text_in, with_seed_of, CheckFails, CompareFails, Follows, IsPrinted};
+ghost use Rattle.roam_commands.specs.CommandFaults.{text_in, CheckFails, CompareFails, Follows, IsPrinted};
 ghost use Rattle.roam_commands.specs.Outcomes.{IsDone, Prevents};
 
+use crate::changes::{print_changes, print_hindrance, print_no_number};
 use roam_conf::Config;
-use roam_conf_reader::read_config;
+use roam_conf_reader::{following_config, read_config};
 use roam_diagnosis::{Lines, diagnose};
-use roam_reload::{Fate, Hindrance, fate_of, hindrance_of, peer_difference};
+use roam_reload::{Hindrance, LayFault, hindrance_of};
 use roam_words::{Fault, TextFile};
 use std::alloc::Global;
 use std::io;
 use std::io::Write;
 use std::rt::Files;
 
-/// Prints whether a configuration may follow another, and if not, why.
-pub fn print_hindrance<W: Write>(writer: &mut W, hindrance: Option<Hindrance>) -> io::Result<()>
-    ensures { OnOk result (IsPrinted (W.contents writer.old) (W.contents writer.new)) }
-{
-    match hindrance {
-        None => writer.write_all(b"may follow\n"),
-        Some(Hindrance::Seed) => writer.write_all(b"may not follow: seed\n"),
-        Some(Hindrance::Shards) => writer.write_all(b"may not follow: shards\n"),
-        Some(Hindrance::Spread) => writer.write_all(b"may not follow: spread\n"),
-        Some(Hindrance::Realms) => writer.write_all(b"may not follow: fewer realms\n"),
-        Some(Hindrance::Endpoint(endpoint)) => {
-            writeln!(
-                writer,
-                "may not follow: {endpoint} is a place of another kind"
-            )
-        }
-    }
-}
-
-/// The name of the realm of an index, in the newer of two configurations that has one.
-fn name_of<'a>(old: &'a Config, new: &'a Config, realm: u16) -> &'a str {
-    match new.realms.get(usize::from(realm)) {
-        Some(realm) => realm.name.as_str(),
-        None => match old.realms.get(usize::from(realm)) {
-            Some(realm) => realm.name.as_str(),
-            None => "",
-        },
-    }
-}
-
-/// Prints that a realm begins anew, since this peer went or has another table.
-fn print_peer<W: Write>(
-    writer: &mut W,
-    name: &str,
-    old: &Config,
-    new: &Config,
-    peer: usize,
-) -> io::Result<()>
-    ensures { OnOk result (IsPrinted (W.contents writer.old) (W.contents writer.new)) }
-{
-    let Some(before) = old.peers.get(peer) else {
-        return writeln!(writer, "realm {name}: begins anew: a peer");
-    };
-    let of = before.name.as_str();
-    let Some(after) = new.peers.get(peer) else {
-        return writeln!(writer, "realm {name}: begins anew: peer {of} isn't there");
-    };
-    match peer_difference(before, after) {
-        Some(key) => {
-            let key = key.name();
-            writeln!(writer, "realm {name}: begins anew: peer {of}: {key}")
-        }
-        None => writeln!(writer, "realm {name}: begins anew: peer {of}"),
-    }
-}
-
-/// Prints what becomes of the realm of an index.
-fn print_fate<W: Write>(writer: &mut W, old: &Config, new: &Config, realm: u16) -> io::Result<()>
-    ensures { OnOk result (IsPrinted (W.contents writer.old) (W.contents writer.new)) }
-{
-    let name = name_of(old, new, realm);
-    match fate_of(old, new, realm) {
-        Fate::CarriedOver => writeln!(writer, "realm {name}: carried over"),
-        Fate::OtherTable(key) => {
-            let key = key.name();
-            writeln!(writer, "realm {name}: begins anew: {key}")
-        }
-        Fate::OtherPeer(peer) => print_peer(writer, name, old, new, peer),
-        Fate::Added => writeln!(writer, "realm {name}: added"),
-        Fate::Removed => writeln!(writer, "realm {name}: removed"),
-    }
-}
-
-/// Prints what becomes of each realm, by its index.
-pub fn print_fates<W: Write>(writer: &mut W, old: &Config, new: &Config) -> io::Result<()>
-    ensures { OnOk result (IsPrinted (W.contents writer.old) (W.contents writer.new)) }
-{
-    let mut count = new.realms.len();
-    if old.realms.len() > count {
-        count = old.realms.len();
-    }
-    for realm in 0..count {
-        print_fate(writer, old, new, realm as u16)?;
-    }
-    Ok(())
-}
-
 /// Prints that a configuration may follow another one, and what becomes of each realm.
 fn print_fates_of<W: Write>(writer: &mut W, old: &Config, new: &Config) -> io::Result<()>
     ensures { OnOk result (IsPrinted (W.contents writer.old) (W.contents writer.new)) }
 {
     print_hindrance(writer, None)?;
-    print_fates(writer, old, new)?;
+    print_changes(writer, old, new)?;
     writer.flush()
 }
 
@@ -142,6 +58,14 @@ fn print_why_not<W: Write>(writer: &mut W, hindrance: Hindrance) -> io::Result<(
     writer.flush()
 }
 
+/// The same where realms or peers are more than have a number.
+fn print_no_room<W: Write>(writer: &mut W) -> io::Result<()>
+    ensures { OnOk result (IsPrinted (W.contents writer.old) (W.contents writer.new)) }
+{
+    print_no_number(writer)?;
+    writer.flush()
+}
+
 /// What the program ends with where one may not follow, once that could be printed.
 fn not_following<'a>(path: &'a str, printed: io::Result<()>) -> Fault<'a>
     ensures { MatchResult printed (λ done. result ≡ Fault.MayNotFollow path.entry) (λ why. result ≡ Fault.Write) }
@@ -152,32 +76,57 @@ fn not_following<'a>(path: &'a str, printed: io::Result<()>) -> Fault<'a>
     }
 }
 
-/// Prints whether the configuration of the next file may follow the old one, with its seed, and what becomes of each
-/// realm then.
+/// Prints whether a configuration that is laid out by the old one may follow it, and what that takes.
 ///
 /// # Errors
 ///
 /// `MayNotFollow`, and why is printed; `Write`.
+fn print_laid_out<'a, W: Write>(
+    writer: &mut W,
+    next: &TextFile<'a>,
+    old: &Config,
+    laid: &Config,
+) -> Result<(), Fault<'a>>
+    ensures may { OnOk result (MayFollow (shown old.now) (shown laid.now)) }
+    ensures printed { OnOk result (IsPrinted (W.contents writer.old) (W.contents writer.new)) }
+    ensures err { (first : TextFile) → (after : ConfigView) → IsConfiguration (text_in first) (shown old.now)
+        → IsConfiguration (text_in next.now) after → shown laid.now ≡ laid_out (shown old.now) after
+        → IfErr result (CompareFails first next.now (W.contents writer.old) (W.contents writer.new)) }
+{
+    match hindrance_of(old, laid) {
+        None => print_following(writer, old, laid),
+        Some(hindrance) => {
+            let printed = print_why_not(writer, hindrance);
+            Err(not_following(next.path, printed))
+        }
+    }
+}
+
+/// Prints whether the configuration of the next file may follow the old one, laid out by it, and what that takes.
+///
+/// # Errors
+///
+/// `MayNotFollow`, and why is printed; `Write`; `Memory`, and nothing is printed.
 fn print_comparison<'a, W: Write>(
+    alloc: Global,
     writer: &mut W,
     next: &TextFile<'a>,
     old: &Config,
     new: Config,
 ) -> Result<(), Fault<'a>>
-    ensures may { OnOk result (MayFollow (shown old.now) (with_seed_of (shown old.now) (shown new))) }
+    ensures may { OnOk result (MayFollow (shown old.now) (laid_out (shown old.now) (shown new))) }
     ensures printed { OnOk result (IsPrinted (W.contents writer.old) (W.contents writer.new)) }
     ensures err { (first : TextFile) → IsConfiguration (text_in first) (shown old.now)
         → IsConfiguration (text_in next.now) (shown new)
         → IfErr result (CompareFails first next.now (W.contents writer.old) (W.contents writer.new)) }
 {
-    let mut new = new;
-    new.seed = old.seed;
-    match hindrance_of(old, &new) {
-        None => print_following(writer, old, &new),
-        Some(hindrance) => {
-            let printed = print_why_not(writer, hindrance);
+    match following_config(alloc, old, new) {
+        Err(LayFault::Memory) => Err(Fault::Memory),
+        Err(LayFault::Numbers) => {
+            let printed = print_no_room(writer);
             Err(not_following(next.path, printed))
         }
+        Ok(laid) => print_laid_out(writer, next, old, &laid),
     }
 }
 
@@ -226,7 +175,7 @@ fn compare<'a, W: Write>(
         Err(fault) => Err(fault),
         Ok(old) => match configuration_in(alloc, next, lines) {
             Err(fault) => Err(fault),
-            Ok(new) => print_comparison(writer, next, &old, new),
+            Ok(new) => print_comparison(alloc, writer, next, &old, new),
         },
     }
 }

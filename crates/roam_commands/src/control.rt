@@ -50,6 +50,9 @@ fn question(order: ControlOrder) -> &'static [u8] {
         ControlOrder::Reload => {
             b"POST /reload HTTP/1.1\r\nHost: roam\r\nContent-Length: 0\r\nConnection: close\r\n\r\n"
         }
+        ControlOrder::ReloadAndLose => {
+            b"POST /reload?lose HTTP/1.1\r\nHost: roam\r\nContent-Length: 0\r\nConnection: close\r\n\r\n"
+        }
     }
 }
 

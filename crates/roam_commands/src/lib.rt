@@ -17,15 +17,18 @@
 #![tactic(auto)]
 
 mod basic_string;
+mod changes;
 mod check;
 mod compare;
 mod control;
 mod looking;
 mod program;
+mod realm_changes;
 mod reload;
 mod restating;
 mod serving;
 mod simulation;
+mod state_file;
 mod statement;
 mod station_key;
 mod watch;

@@ -5,13 +5,14 @@ ghost use Rattle.roam_conf.specs.Shown.{shown};
 ghost use Rattle.roam_reload.specs.Reload.{MayFollow};
 ghost use Rattle.roam_commands.specs.CommandFaults.{IsPrinted};
 
-use crate::compare::{print_fates, print_hindrance};
+use crate::changes::{print_changes, print_hindrance, print_no_number};
+use crate::state_file::{is_put_aside, keep_at, kept_at, manner_of};
 use crate::station_key::stations_of;
 use roam_conf::Config;
-use roam_conf_reader::{Settings, read_config, read_settings};
+use roam_conf_reader::{Settings, following_config, read_config, read_settings};
 use roam_diagnosis::{Lines, diagnose};
-use roam_reload::hindrance_of;
-use roam_serve::{Following, ServeFault, Source, StationForm};
+use roam_reload::{LayFault, hindrance_of};
+use roam_serve::{Following, Reason, ServeFault, Source, StationForm};
 use roam_words::{Fault, TextFile};
 use std::alloc::Global;
 use std::io;
@@ -56,7 +57,7 @@ fn print_kept<W: Write>(writer: &mut W, old: &Settings, new: &Settings) -> io::R
     )
 }
 
-/// Prints what becomes of each realm, and which keys wait for a restart.
+/// Prints what a change takes, and which keys wait for a restart.
 fn print_report<W: Write>(
     writer: &mut W,
     old: &Config,
@@ -66,7 +67,7 @@ fn print_report<W: Write>(
 ) -> io::Result<()>
     ensures { OnOk result (IsPrinted (W.contents writer.old) (W.contents writer.new)) }
 {
-    print_fates(writer, old, new)?;
+    print_changes(writer, old, new)?;
     print_kept(writer, before, after)
 }
 
@@ -89,14 +90,25 @@ fn text_of(alloc: Global, fault: Fault<'_>, lines: &Lines) -> Vec<u8> {
     text
 }
 
-/// The configuration of a text, with the seed of the one that is served, and its settings.
+/// A configuration laid out by the one that is served, or what is said of why it isn't.
+fn laid_out(alloc: Global, old: &Config, new: Config) -> Result<Config, Vec<u8>> {
+    match following_config(alloc, old, new) {
+        Ok(config) => Ok(config),
+        Err(LayFault::Memory) => Err(text_of(alloc, Fault::Memory, &Lines::new(alloc))),
+        Err(LayFault::Numbers) => {
+            let mut report = Vec::new(alloc);
+            let _is_said = print_no_number(&mut report).is_ok();
+            Err(report)
+        }
+    }
+}
+
+/// The configuration of a text, laid out by the one that is served, and its settings.
 fn read(alloc: Global, file: &TextFile<'_>, old: &Config) -> Result<(Config, Settings), Vec<u8>> {
     let text = file.text.as_str();
     match (read_config(alloc, text), read_settings(alloc, text)) {
         (Ok(config), Ok(settings)) => {
-            let mut config = config;
-            let seed = old.seed;
-            config.seed = seed;
+            let config = laid_out(alloc, old, config)?;
             Ok((config, settings))
         }
         (Err(fault), _) | (_, Err(fault)) => {
@@ -129,12 +141,14 @@ fn following<R: Files + AllocGlobal>(
     {
         return Err(text_of(alloc, Fault::Memory, &Lines::new(alloc)));
     }
-    Ok(Following {
-        config,
-        told_exchanges: settings.log_exchanges,
-        stations,
-        report,
-    })
+    match manner_of(alloc, &settings, stations) {
+        Ok(manner) => Ok(Following {
+            config,
+            manner,
+            report,
+        }),
+        Err(_) => Err(text_of(alloc, Fault::Memory, &Lines::new(alloc))),
+    }
 }
 
 impl<R: Files + AllocGlobal> Source for Reread<'_, R> {
@@ -149,5 +163,17 @@ impl<R: Files + AllocGlobal> Source for Reread<'_, R> {
     fn words_of(&mut self, fault: ServeFault) -> Vec<u8> {
         let alloc = self.rt.alloc();
         text_of(alloc, Fault::of_server(fault), &Lines::new(alloc))
+    }
+
+    fn kept(&mut self, path: &str) -> Result<Option<Vec<u8>>, Reason> {
+        kept_at(self.rt, path)
+    }
+
+    fn keep(&mut self, path: &str, octets: &[u8]) -> Result<(), Reason> {
+        keep_at(self.rt, path, octets)
+    }
+
+    fn put_aside(&mut self, path: &str) -> bool {
+        is_put_aside(self.rt, path)
     }
 }

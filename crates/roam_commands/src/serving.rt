@@ -1,7 +1,8 @@
 //! Serving a configuration.
 
-ghost use Rattle.std.specs.Prelude.{ℕ, List, Option, OnOk, IfErr};
+ghost use Rattle.std.specs.Prelude.{◌≡◌, ℕ, List, Option, OnOk, IfErr, IfOk};
 ghost use Rattle.roam_conf.specs.Shown.{shown};
+ghost use Rattle.roam_port.specs.Sockets.{socket_endpoints};
 ghost use Rattle.roam_sockets.specs.Faults.{IsFaultOf};
 ghost use Rattle.roam_sim.specs.Simulation.{IsAccepted};
 ghost use Rattle.roam_words.specs.CommandLine.{AsksToServeIt};
@@ -9,13 +10,14 @@ ghost use Rattle.roam_commands.specs.CommandFaults.{text_in, ServeFails};
 ghost use Rattle.roam_commands.specs.Outcomes.{Prevents};
 
 use crate::reload::Reread;
+use crate::state_file::manner_of;
 use crate::station_key::told_stations;
 use log::Log;
 use roam_conf::Config;
 use roam_conf_reader::{Settings, read_config, read_settings};
 use roam_diagnosis::{Lines, diagnose};
 use roam_serve::{
-    Build, ControlSocket, Counters, Open, ServeFault, ServeOptions, SocketPath, StationForm, Watch,
+    Build, ControlSocket, Counters, Manner, Open, ServeFault, ServeOptions, SocketPath, Watch,
     descriptors_wanted, reason_of, serve, with_drawn_seed,
 };
 use roam_words::{Fault, TextFile};
@@ -59,14 +61,12 @@ fn remove<R: Files>(rt: &R, socket: &Option<ControlSocket>, settings: &Settings)
 /// How a configuration is served.
 fn options<'s>(
     watch: Option<Watch<'s>>,
-    settings: &Settings,
-    stations: StationForm,
+    manner: Manner,
     milliseconds: Option<u64>,
 ) -> ServeOptions<'s, Open> {
     ServeOptions {
         watch,
-        told_exchanges: settings.log_exchanges,
-        stations,
+        manner,
         milliseconds,
         gate: &Open,
     }
@@ -83,9 +83,10 @@ fn serve_watched<R: Files + AllocGlobal + Threads + Wait + Clock + Net + RandomS
     ensures { IfErr result (IsFaultOf (shown config)) }
 {
     let stations = told_stations(rt, path, settings);
+    let manner = manner_of(rt.alloc(), settings, stations)?;
     let mut source = Reread { rt, path, settings };
     if settings.metrics.is_none() && settings.control.is_none() {
-        let options = options(None, settings, stations, milliseconds);
+        let options = options(None, manner, milliseconds);
         return serve(rt, rt.alloc(), config, options, &mut source);
     }
     let counters = Counters::new(rt.alloc(), &config)?;
@@ -96,10 +97,26 @@ fn serve_watched<R: Files + AllocGlobal + Threads + Wait + Clock + Net + RandomS
         control: socket.as_ref(),
         build: Build::Roam,
     };
-    let options = options(Some(watch), settings, stations, milliseconds);
+    let options = options(Some(watch), manner, milliseconds);
     let ended = serve(rt, rt.alloc(), config, options, &mut source);
     remove(rt, &socket, settings);
     ended
+}
+
+/// The configuration with the seed that it is served with: its own, or one that is drawn.
+fn to_serve<R: RandomSource>(
+    rt: &R,
+    config: Config,
+    has_seed_of_file: bool,
+) -> Result<Config, ServeFault>
+    ensures ok { IfOk result (λ c. socket_endpoints (shown c) ≡ socket_endpoints (shown config)) }
+    ensures err { IfErr result (IsFaultOf (shown config)) }
+{
+    if has_seed_of_file {
+        Ok(config)
+    } else {
+        with_drawn_seed(rt, config)
+    }
 }
 
 /// Serves a configuration as its text states that it is served, with its own seed or with one that is drawn.
@@ -113,15 +130,13 @@ fn serve_stated<R: Files + AllocGlobal + Threads + Wait + Clock + Net + RandomSo
     ensures { IfErr result (IsFaultOf (shown config)) }
 {
     // Where there is a configuration there are settings too, unless memory is wanting.
-    let Ok(settings) = read_settings(rt.alloc(), file.text.as_str()) else {
-        return Err(ServeFault::Memory);
-    };
-    let config = if has_seed_of_file {
-        config
-    } else {
-        with_drawn_seed(rt, config)?
-    };
-    serve_watched(rt, file.path, config, &settings, milliseconds)
+    match read_settings(rt.alloc(), file.text.as_str()) {
+        Ok(settings) => match to_serve(rt, config, has_seed_of_file) {
+            Ok(config) => serve_watched(rt, file.path, config, &settings, milliseconds),
+            Err(fault) => Err(fault),
+        },
+        Err(_) => Err(ServeFault::Memory),
+    }
 }
 
 /// Reads a configuration, and serves it for so many milliseconds, or without end. Where it is refused, `lines` are

@@ -142,7 +142,9 @@ fn state_settings(text: &mut String, settings: &Settings) -> Result<(), AllocErr
     text.push_str(match settings.log_station {
         StationWord::Clear => "log_station = \"clear\"\n",
         StationWord::Hmac => "log_station = \"hmac\"\n",
-    })
+    })?;
+    state_text(text, "state", &settings.state)?;
+    writeln!(text, "state_every = {}", settings.state_every)
 }
 
 /// States the NAS-IPv6-Address of a peer, where it has one.

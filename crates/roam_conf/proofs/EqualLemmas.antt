@@ -31,7 +31,8 @@ client_eq a b =
 
 abbrev pub peer_eq : Peer → Peer → Bool
 peer_eq a b =
-    string_eq a.name b.name &&
+    beq a.gone b.gone &&
+    (string_eq a.name b.name &&
     (prefix_eq a.ip b.ip &&
     (string_eq a.secret b.secret &&
     (option_eq endpoint_eq a.coa b.coa &&
@@ -44,7 +45,7 @@ peer_eq a b =
     (option_eq string_eq a.operator_name b.operator_name &&
     (beq a.ask_cui b.ask_cui &&
     (pointwise removed_eq a.request_without.items b.request_without.items &&
-    (pointwise removed_eq a.reply_without.items b.reply_without.items)))))))))))))
+    (pointwise removed_eq a.reply_without.items b.reply_without.items))))))))))))))
 
 pub server_decides : (a b : Server) → Decides (server_eq a b) (shown_server a ≡ shown_server b)
 server_decides a b =
@@ -90,54 +91,59 @@ pub peer_decides : (a b : Peer) → Decides (peer_eq a b) (shown_peer a ≡ show
 peer_decides a b =
     let v = shown_peer a in
     let w = shown_peer b in
-    Decides-like {P = (v.name ≡ w.name) × ((v.ip ≡ w.ip) × ((v.secret ≡ w.secret) × ((v.coa ≡ w.coa)
-    × ((v.nas_ip ≡ w.nas_ip) × ((v.nas_ipv6 ≡ w.nas_ipv6) × ((v.nas_id ≡ w.nas_id) × ((v.nas_ids ≡ w.nas_ids)
-    × ((v.require_seal ≡ w.require_seal) × ((v.limit_proxy_state ≡ w.limit_proxy_state)
-    × ((v.operator_name ≡ w.operator_name) × ((v.ask_cui ≡ w.ask_cui) × ((v.request_without ≡ w.request_without)
-    × ((v.reply_without ≡ w.reply_without))))))))))))))} _
+    Decides-like {P = (v.gone ≡ w.gone) × ((v.name ≡ w.name) × ((v.ip ≡ w.ip) × ((v.secret ≡ w.secret)
+    × ((v.coa ≡ w.coa) × ((v.nas_ip ≡ w.nas_ip) × ((v.nas_ipv6 ≡ w.nas_ipv6) × ((v.nas_id ≡ w.nas_id)
+    × ((v.nas_ids ≡ w.nas_ids) × ((v.require_seal ≡ w.require_seal)
+    × ((v.limit_proxy_state ≡ w.limit_proxy_state) × ((v.operator_name ≡ w.operator_name)
+    × ((v.ask_cui ≡ w.ask_cui) × ((v.request_without ≡ w.request_without)
+    × ((v.reply_without ≡ w.reply_without)))))))))))))))} _
     (λ p. λ i. record {
-      name = p.0 i;
-      ip = p.1.0 i;
-      secret = p.1.1.0 i;
-      coa = p.1.1.1.0 i;
-      nas_ip = p.1.1.1.1.0 i;
-      nas_ipv6 = p.1.1.1.1.1.0 i;
-      nas_id = p.1.1.1.1.1.1.0 i;
-      nas_ids = p.1.1.1.1.1.1.1.0 i;
-      require_seal = p.1.1.1.1.1.1.1.1.0 i;
-      limit_proxy_state = p.1.1.1.1.1.1.1.1.1.0 i;
-      operator_name = p.1.1.1.1.1.1.1.1.1.1.0 i;
-      ask_cui = p.1.1.1.1.1.1.1.1.1.1.1.0 i;
-      request_without = p.1.1.1.1.1.1.1.1.1.1.1.1.0 i;
-      reply_without = p.1.1.1.1.1.1.1.1.1.1.1.1.1 i;
+      gone = p.0 i;
+      name = p.1.0 i;
+      ip = p.1.1.0 i;
+      secret = p.1.1.1.0 i;
+      coa = p.1.1.1.1.0 i;
+      nas_ip = p.1.1.1.1.1.0 i;
+      nas_ipv6 = p.1.1.1.1.1.1.0 i;
+      nas_id = p.1.1.1.1.1.1.1.0 i;
+      nas_ids = p.1.1.1.1.1.1.1.1.0 i;
+      require_seal = p.1.1.1.1.1.1.1.1.1.0 i;
+      limit_proxy_state = p.1.1.1.1.1.1.1.1.1.1.0 i;
+      operator_name = p.1.1.1.1.1.1.1.1.1.1.1.0 i;
+      ask_cui = p.1.1.1.1.1.1.1.1.1.1.1.1.0 i;
+      request_without = p.1.1.1.1.1.1.1.1.1.1.1.1.1.0 i;
+      reply_without = p.1.1.1.1.1.1.1.1.1.1.1.1.1.1 i;
     })
     (λ e. (
-      ap (λ (x : PeerView). x.name) e,
+      ap (λ (x : PeerView). x.gone) e,
       (
-        ap (λ (x : PeerView). x.ip) e,
+        ap (λ (x : PeerView). x.name) e,
         (
-          ap (λ (x : PeerView). x.secret) e,
+          ap (λ (x : PeerView). x.ip) e,
           (
-            ap (λ (x : PeerView). x.coa) e,
+            ap (λ (x : PeerView). x.secret) e,
             (
-              ap (λ (x : PeerView). x.nas_ip) e,
+              ap (λ (x : PeerView). x.coa) e,
               (
-                ap (λ (x : PeerView). x.nas_ipv6) e,
+                ap (λ (x : PeerView). x.nas_ip) e,
                 (
-                  ap (λ (x : PeerView). x.nas_id) e,
+                  ap (λ (x : PeerView). x.nas_ipv6) e,
                   (
-                    ap (λ (x : PeerView). x.nas_ids) e,
+                    ap (λ (x : PeerView). x.nas_id) e,
                     (
-                      ap (λ (x : PeerView). x.require_seal) e,
+                      ap (λ (x : PeerView). x.nas_ids) e,
                       (
-                        ap (λ (x : PeerView). x.limit_proxy_state) e,
+                        ap (λ (x : PeerView). x.require_seal) e,
                         (
-                          ap (λ (x : PeerView). x.operator_name) e,
+                          ap (λ (x : PeerView). x.limit_proxy_state) e,
                           (
-                            ap (λ (x : PeerView). x.ask_cui) e,
+                            ap (λ (x : PeerView). x.operator_name) e,
                             (
-                              ap (λ (x : PeerView). x.request_without) e,
-                              ap (λ (x : PeerView). x.reply_without) e,
+                              ap (λ (x : PeerView). x.ask_cui) e,
+                              (
+                                ap (λ (x : PeerView). x.request_without) e,
+                                ap (λ (x : PeerView). x.reply_without) e,
+                              ),
                             ),
                           ),
                         ),
@@ -151,6 +157,7 @@ peer_decides a b =
         ),
       ),
     ))
+    (Decides-and _ _ (booleans_Decides a.gone b.gone)
     (Decides-and _ _ (text_decides a.name b.name)
     (Decides-and _ _ (prefix_decides a.ip b.ip)
     (Decides-and _ _ (text_decides a.secret b.secret)
@@ -164,4 +171,4 @@ peer_decides a b =
     (Decides-and _ _ (option_decides string_eq string_bytes text_decides a.operator_name b.operator_name)
     (Decides-and _ _ (booleans_Decides a.ask_cui b.ask_cui)
     (Decides-and _ _ (whole_list_decides removed_eq removed_decides a.request_without.items b.request_without.items)
-    (whole_list_decides removed_eq removed_decides a.reply_without.items b.reply_without.items))))))))))))))
+    (whole_list_decides removed_eq removed_decides a.reply_without.items b.reply_without.items)))))))))))))))

@@ -19,7 +19,8 @@ use Rattle.roam_conf.proofs.EqualPartsLemmas.{list_decides, whole_list_decides, 
 -- the tests as the derives write them
 abbrev pub realm_eq : Realm → Realm → Bool
 realm_eq a b =
-    string_eq a.name b.name &&
+    beq a.gone b.gone &&
+    (string_eq a.name b.name &&
     (pointwise pattern_eq a.also.items b.also.items &&
     (option_eq names_eq a.peers b.peers &&
     (beq a.loop_prevention b.loop_prevention &&
@@ -41,7 +42,7 @@ realm_eq a b =
     (eqb a.max_sessions b.max_sessions &&
     (eqb a.rest b.rest &&
     (eqb a.rest_after b.rest_after &&
-    (pointwise server_eq a.servers.items b.servers.items))))))))))))))))))))))
+    (pointwise server_eq a.servers.items b.servers.items)))))))))))))))))))))))
 
 abbrev pub config_eq : Config → Config → Bool
 config_eq a b =
@@ -67,84 +68,88 @@ pub realm_decides : (a b : Realm) → Decides (realm_eq a b) (shown_realm a ≡ 
 realm_decides a b =
     let v = shown_realm a in
     let w = shown_realm b in
-    Decides-like {P = (v.name ≡ w.name) × ((v.also ≡ w.also) × ((v.peers ≡ w.peers)
+    Decides-like {P = (v.gone ≡ w.gone) × ((v.name ≡ w.name) × ((v.also ≡ w.also) × ((v.peers ≡ w.peers)
     × ((v.loop_prevention ≡ w.loop_prevention) × ((v.accounting ≡ w.accounting)
     × ((v.request_without ≡ w.request_without) × ((v.reply_without ≡ w.reply_without) × ((v.share ≡ w.share)
     × ((v.peer_share ≡ w.peer_share) × ((v.own_names ≡ w.own_names) × ((v.conversations ≡ w.conversations)
     × ((v.own_sessions ≡ w.own_sessions) × ((v.coa_clients ≡ w.coa_clients) × ((v.out ≡ w.out)
     × ((v.reverse ≡ w.reverse) × ((v.tries ≡ w.tries) × ((v.wait ≡ w.wait) × ((v.hold ≡ w.hold)
     × ((v.max_pending ≡ w.max_pending) × ((v.max_sessions ≡ w.max_sessions) × ((v.rest ≡ w.rest)
-    × ((v.rest_after ≡ w.rest_after) × ((v.servers ≡ w.servers)))))))))))))))))))))))} _
+    × ((v.rest_after ≡ w.rest_after) × ((v.servers ≡ w.servers))))))))))))))))))))))))} _
     (λ p. λ i. record {
-      name = p.0 i;
-      also = p.1.0 i;
-      peers = p.1.1.0 i;
-      loop_prevention = p.1.1.1.0 i;
-      accounting = p.1.1.1.1.0 i;
-      request_without = p.1.1.1.1.1.0 i;
-      reply_without = p.1.1.1.1.1.1.0 i;
-      share = p.1.1.1.1.1.1.1.0 i;
-      peer_share = p.1.1.1.1.1.1.1.1.0 i;
-      own_names = p.1.1.1.1.1.1.1.1.1.0 i;
-      conversations = p.1.1.1.1.1.1.1.1.1.1.0 i;
-      own_sessions = p.1.1.1.1.1.1.1.1.1.1.1.0 i;
-      coa_clients = p.1.1.1.1.1.1.1.1.1.1.1.1.0 i;
-      out = p.1.1.1.1.1.1.1.1.1.1.1.1.1.0 i;
-      reverse = p.1.1.1.1.1.1.1.1.1.1.1.1.1.1.0 i;
-      tries = p.1.1.1.1.1.1.1.1.1.1.1.1.1.1.1.0 i;
-      wait = p.1.1.1.1.1.1.1.1.1.1.1.1.1.1.1.1.0 i;
-      hold = p.1.1.1.1.1.1.1.1.1.1.1.1.1.1.1.1.1.0 i;
-      max_pending = p.1.1.1.1.1.1.1.1.1.1.1.1.1.1.1.1.1.1.0 i;
-      max_sessions = p.1.1.1.1.1.1.1.1.1.1.1.1.1.1.1.1.1.1.1.0 i;
-      rest = p.1.1.1.1.1.1.1.1.1.1.1.1.1.1.1.1.1.1.1.1.0 i;
-      rest_after = p.1.1.1.1.1.1.1.1.1.1.1.1.1.1.1.1.1.1.1.1.1.0 i;
-      servers = p.1.1.1.1.1.1.1.1.1.1.1.1.1.1.1.1.1.1.1.1.1.1 i;
+      gone = p.0 i;
+      name = p.1.0 i;
+      also = p.1.1.0 i;
+      peers = p.1.1.1.0 i;
+      loop_prevention = p.1.1.1.1.0 i;
+      accounting = p.1.1.1.1.1.0 i;
+      request_without = p.1.1.1.1.1.1.0 i;
+      reply_without = p.1.1.1.1.1.1.1.0 i;
+      share = p.1.1.1.1.1.1.1.1.0 i;
+      peer_share = p.1.1.1.1.1.1.1.1.1.0 i;
+      own_names = p.1.1.1.1.1.1.1.1.1.1.0 i;
+      conversations = p.1.1.1.1.1.1.1.1.1.1.1.0 i;
+      own_sessions = p.1.1.1.1.1.1.1.1.1.1.1.1.0 i;
+      coa_clients = p.1.1.1.1.1.1.1.1.1.1.1.1.1.0 i;
+      out = p.1.1.1.1.1.1.1.1.1.1.1.1.1.1.0 i;
+      reverse = p.1.1.1.1.1.1.1.1.1.1.1.1.1.1.1.0 i;
+      tries = p.1.1.1.1.1.1.1.1.1.1.1.1.1.1.1.1.0 i;
+      wait = p.1.1.1.1.1.1.1.1.1.1.1.1.1.1.1.1.1.0 i;
+      hold = p.1.1.1.1.1.1.1.1.1.1.1.1.1.1.1.1.1.1.0 i;
+      max_pending = p.1.1.1.1.1.1.1.1.1.1.1.1.1.1.1.1.1.1.1.0 i;
+      max_sessions = p.1.1.1.1.1.1.1.1.1.1.1.1.1.1.1.1.1.1.1.1.0 i;
+      rest = p.1.1.1.1.1.1.1.1.1.1.1.1.1.1.1.1.1.1.1.1.1.0 i;
+      rest_after = p.1.1.1.1.1.1.1.1.1.1.1.1.1.1.1.1.1.1.1.1.1.1.0 i;
+      servers = p.1.1.1.1.1.1.1.1.1.1.1.1.1.1.1.1.1.1.1.1.1.1.1 i;
     })
     (λ e. (
-      ap (λ (x : RealmView). x.name) e,
+      ap (λ (x : RealmView). x.gone) e,
       (
-        ap (λ (x : RealmView). x.also) e,
+        ap (λ (x : RealmView). x.name) e,
         (
-          ap (λ (x : RealmView). x.peers) e,
+          ap (λ (x : RealmView). x.also) e,
           (
-            ap (λ (x : RealmView). x.loop_prevention) e,
+            ap (λ (x : RealmView). x.peers) e,
             (
-              ap (λ (x : RealmView). x.accounting) e,
+              ap (λ (x : RealmView). x.loop_prevention) e,
               (
-                ap (λ (x : RealmView). x.request_without) e,
+                ap (λ (x : RealmView). x.accounting) e,
                 (
-                  ap (λ (x : RealmView). x.reply_without) e,
+                  ap (λ (x : RealmView). x.request_without) e,
                   (
-                    ap (λ (x : RealmView). x.share) e,
+                    ap (λ (x : RealmView). x.reply_without) e,
                     (
-                      ap (λ (x : RealmView). x.peer_share) e,
+                      ap (λ (x : RealmView). x.share) e,
                       (
-                        ap (λ (x : RealmView). x.own_names) e,
+                        ap (λ (x : RealmView). x.peer_share) e,
                         (
-                          ap (λ (x : RealmView). x.conversations) e,
+                          ap (λ (x : RealmView). x.own_names) e,
                           (
-                            ap (λ (x : RealmView). x.own_sessions) e,
+                            ap (λ (x : RealmView). x.conversations) e,
                             (
-                              ap (λ (x : RealmView). x.coa_clients) e,
+                              ap (λ (x : RealmView). x.own_sessions) e,
                               (
-                                ap (λ (x : RealmView). x.out) e,
+                                ap (λ (x : RealmView). x.coa_clients) e,
                                 (
-                                  ap (λ (x : RealmView). x.reverse) e,
+                                  ap (λ (x : RealmView). x.out) e,
                                   (
-                                    ap (λ (x : RealmView). x.tries) e,
+                                    ap (λ (x : RealmView). x.reverse) e,
                                     (
-                                      ap (λ (x : RealmView). x.wait) e,
+                                      ap (λ (x : RealmView). x.tries) e,
                                       (
-                                        ap (λ (x : RealmView). x.hold) e,
+                                        ap (λ (x : RealmView). x.wait) e,
                                         (
-                                          ap (λ (x : RealmView). x.max_pending) e,
+                                          ap (λ (x : RealmView). x.hold) e,
                                           (
-                                            ap (λ (x : RealmView). x.max_sessions) e,
+                                            ap (λ (x : RealmView). x.max_pending) e,
                                             (
-                                              ap (λ (x : RealmView). x.rest) e,
+                                              ap (λ (x : RealmView). x.max_sessions) e,
                                               (
-                                                ap (λ (x : RealmView). x.rest_after) e,
-                                                ap (λ (x : RealmView). x.servers) e,
+                                                ap (λ (x : RealmView). x.rest) e,
+                                                (
+                                                  ap (λ (x : RealmView). x.rest_after) e,
+                                                  ap (λ (x : RealmView). x.servers) e,
+                                                ),
                                               ),
                                             ),
                                           ),
@@ -167,6 +172,7 @@ realm_decides a b =
         ),
       ),
     ))
+    (Decides-and _ _ (booleans_Decides a.gone b.gone)
     (Decides-and _ _ (text_decides a.name b.name)
     (Decides-and _ _ (list_decides pattern_eq shown_pattern pattern_decides a.also.items b.also.items)
     (Decides-and _ _ (option_decides names_eq shown_names names_decides a.peers b.peers)
@@ -189,7 +195,7 @@ realm_decides a b =
     (Decides-and _ _ (Decides-eqb a.max_sessions b.max_sessions)
     (Decides-and _ _ (Decides-eqb a.rest b.rest)
     (Decides-and _ _ (Decides-eqb a.rest_after b.rest_after)
-    (list_decides server_eq shown_server server_decides a.servers.items b.servers.items)))))))))))))))))))))))
+    (list_decides server_eq shown_server server_decides a.servers.items b.servers.items))))))))))))))))))))))))
 
 -- what is always true tells nothing more
 still_decides : {P : Type 0} (b : Bool) → Decides b P → Decides (b && true) P

@@ -1,5 +1,5 @@
 -- The laws of the look-up of names.
-use Rattle.std.proofs.Common.{◌≡◌, ◌≢◌, ℕ, ◌+◌, ◌<◌, ◌==◌, Bool, true, false, ◌||◌, List, [], ◌∷◌, ◌++◌, length, Option, Some, None, refl, ap, ◌∙◌, inl, inr, arith}
+use Rattle.std.proofs.Common.{◌≡◌, ◌≢◌, ℕ, ◌+◌, ◌<◌, ◌==◌, Bool, true, false, not, cond, ◌&&◌, ◌||◌, List, [], ◌∷◌, ◌++◌, length, Option, Some, None, refl, ap, ◌∙◌, inl, inr, arith}
 use Rattle.std.proofs.lemmas.Bool.{cases_eq}
 use Rattle.std.proofs.lemmas.Bool.Decides.{nat_tests}
 use Rattle.std.proofs.lemmas.List.{length-append}
@@ -10,7 +10,7 @@ use Rattle.std.specs.Prelude.{⊤, nat_lt, if◌then◌else◌}
 use Rattle.std.specs.Str.{str_eq_ignore_ascii_case}
 use Rattle.roam_conf.specs.Config.{PatternView, whole, suffix, any, RealmView, ConfigView}
 use Rattle.roam_conf.specs.Lookup.{EndsIn, NoSuffix, first_place, owner_in, owner_with, pattern_lists, realm_owning, realm_owned, realm_named, may_fit, patterns_for, further_patterns, first_answer, after_dots}
-use Rattle.roam_conf.specs.Patterns.{same_pattern}
+use Rattle.roam_conf.specs.Patterns.{patterns_of, same_pattern}
 use Rattle.roam_conf.proofs.IndexLemmas.{or_none}
 use Rattle.roam_conf.proofs.NameLemmas.{answers_of_suffixes, named_whole, named_further, named_alone, within}
 
@@ -147,18 +147,44 @@ or_false : (b : Bool) → b || false ≡ b
 or_false true = refl
 or_false false = refl
 
+-- the realm is here, and has the name
+abbrev is_named : List ℕ → RealmView → Bool
+is_named name realm = not realm.gone && str_eq_ignore_ascii_case name realm.name
+
+name_alone : (name : List ℕ) (r : RealmView) → HasNone r →
+    list_any (same_pattern (whole name)) (patterns_of r) ≡ is_named name r
+name_alone name r none =
+    ap (λ also. list_any (same_pattern (whole name)) (if r.gone then [] else whole r.name ∷ also)) none ∙ by_gone r.gone
+  where
+    by_gone : (gone : Bool) → list_any (same_pattern (whole name)) (if gone then [] else whole r.name ∷ [])
+        ≡ (not gone && str_eq_ignore_ascii_case name r.name)
+    by_gone true = refl
+    by_gone false = or_false (str_eq_ignore_ascii_case name r.name)
+
 whole_place : (name : List ℕ) (n : ℕ) (realms : List RealmView) → AllByRecursion HasNone realms →
     position_from (list_any (same_pattern (whole name))) n (pattern_lists realms [])
-    ≡ position_from (λ realm. str_eq_ignore_ascii_case name realm.name) n realms
+    ≡ position_from (is_named name) n realms
 whole_place name n [] all = refl
 whole_place name n (r ∷ rs) all =
-    rw (all.0, or_false (str_eq_ignore_ascii_case name r.name), whole_place name (n + 1) rs all.1) refl
+    ap (λ b. cond b (Some n) (position_from (list_any (same_pattern (whole name))) (n + 1) (pattern_lists rs [])))
+    (name_alone name r all.0) ∙ ap (cond (is_named name r) (Some n)) (whole_place name (n + 1) rs all.1)
+
+none_but_names : (p : PatternView) → ((name : List ℕ) → same_pattern p (whole name) ≡ false) →
+    (r : RealmView) → HasNone r → list_any (same_pattern p) (patterns_of r) ≡ false
+none_but_names p never r none =
+    ap (λ also. list_any (same_pattern p) (if r.gone then [] else whole r.name ∷ also)) none ∙ by_gone r.gone
+  where
+    by_gone : (gone : Bool) → list_any (same_pattern p) (if gone then [] else whole r.name ∷ []) ≡ false
+    by_gone true = refl
+    by_gone false = or_false (same_pattern p (whole r.name)) ∙ never r.name
 
 no_place : (p : PatternView) → ((name : List ℕ) → same_pattern p (whole name) ≡ false) →
     (n : ℕ) (realms : List RealmView) → AllByRecursion HasNone realms →
     position_from (list_any (same_pattern p)) n (pattern_lists realms []) ≡ None
 no_place p never n [] all = refl
-no_place p never n (r ∷ rs) all = rw (all.0, never r.name) (no_place p never (n + 1) rs all.1)
+no_place p never n (r ∷ rs) all =
+    ap (λ b. cond b (Some n) (position_from (list_any (same_pattern p)) (n + 1) (pattern_lists rs [])))
+    (none_but_names p never r all.0) ∙ no_place p never (n + 1) rs all.1
 
 module _ (config : ConfigView) (all : AllByRecursion HasNone config.realms) (none : config.reject ≡ []) where
   nobody : (p : PatternView) → ((name : List ℕ) → same_pattern p (whole name) ≡ false) → owner_with config p ≡ None
@@ -190,12 +216,12 @@ module _ (config : ConfigView) (all : AllByRecursion HasNone config.realms) (non
       rw inside refl
 
   pub names_alone : (name : List ℕ) →
-      realm_named config name ≡ first_place (λ realm. str_eq_ignore_ascii_case name realm.name) config.realms
+      realm_named config name ≡ first_place (is_named name) config.realms
   names_alone name =
       let owner : first_answer (owner_with config) (patterns_for config name)
-      ≡ first_place (λ realm. str_eq_ignore_ascii_case name realm.name) config.realms =
+      ≡ first_place (is_named name) config.realms =
       ap (option_or (owner_with config (whole name))) (no_more name (may_fit config name))
       ∙ or_none (owner_with config (whole name))
       ∙ ap (λ l. owner_in (pattern_lists config.realms l) (whole name)) none
       ∙ whole_place name 0 config.realms all in
-      means config name _ owner ∙ owned_place (λ realm. str_eq_ignore_ascii_case name realm.name) _ refl
+      means config name _ owner ∙ owned_place (is_named name) _ refl

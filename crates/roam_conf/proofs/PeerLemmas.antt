@@ -1,5 +1,5 @@
 -- What the index of peers finds is what the look-up of a peer says.
-use Rattle.std.proofs.Common.{◌≡◌, ℕ, ◌+◌, ◌<◌, ◌≤◌, Bool, false, not, inl, inr, cond, List, [], ◌∷◌, length, map, get_or, drop, drop-cons, suc, Option, Some, None, option_map, refl, sym, ap, ◌∙◌, arith}
+use Rattle.std.proofs.Common.{◌≡◌, ℕ, ◌+◌, ◌<◌, ◌≤◌, ◌&&◌, Bool, true, false, not, inl, inr, cond, List, [], ◌∷◌, length, map, get_or, drop, drop-cons, suc, Option, Some, None, option_map, refl, sym, ap, ◌∙◌, arith}
 use Rattle.std.proofs.Math.ListN.{drop_of_length-le}
 use Rattle.std.proofs.lemmas.Bool.{cases_Bool}
 use Rattle.std.proofs.lemmas.Option.{slice_get-map, slice_get_read, slice_get_past}
@@ -26,6 +26,21 @@ position_at test peers i peer within is =
     ∙ ap (λ n. get_or peers i peer ∷ drop n peers) next ∙ ap (λ p. p ∷ drop (i + 1) peers) (sym is) in
     sym (ap (λ ps. position_from test i (map shown_peer ps)) here)
 
+-- one that isn't meant is passed over
+pub position_over : (test : PeerView → Bool) (peers : List Peer) (i : ℕ) (peer : Peer) → i < length peers →
+    peer ≡ get_or peers i peer → test (shown_peer peer) ≡ false →
+    position_from test (i + 1) (map shown_peer (drop (i + 1) peers))
+    ≡ position_from test i (map shown_peer (drop i peers))
+position_over test peers i peer within is other =
+    ap (λ b. cond b (Some i) (position_from test (i + 1) (map shown_peer (drop (i + 1) peers)))) (sym other)
+    ∙ position_at test peers i peer within is
+
+pub here_alone : (gone test : Bool) → gone ≡ false → test ≡ (not gone && test)
+here_alone gone test here = rw here refl
+
+pub gone_never : (gone test : Bool) → gone ≡ true → (not gone && test) ≡ false
+gone_never gone test gone_is = rw gone_is refl
+
 -- behind the last peer is none
 pub position_past : (test : PeerView → Bool) (peers : List Peer) (i : ℕ) (found : Option ℕ) → length peers ≤ i →
     found ≡ option_or found (position_from test i (map shown_peer (drop i peers)))
@@ -45,14 +60,16 @@ none_found test n (p ∷ ps) =
     ]
 
 other_way : (name : List ℕ) (peers : List PeerView) →
-    list_any (λ peer. bytes_eq peer.name name) peers ≡ list_any (λ peer. bytes_eq name peer.name) peers
+    list_any (λ peer. not peer.gone && bytes_eq peer.name name) peers
+    ≡ list_any (λ peer. not peer.gone && bytes_eq name peer.name) peers
 other_way name [] = refl
 other_way name (p ∷ ps) = rw (same_both_ways p.name name, other_way name ps) refl
 
 module _ (peers : List PeerView) (entries : List (List ℕ × ℕ)) (found : (name : List ℕ) →
-    owner_of entries name ≡ first_place (λ peer. bytes_eq peer.name name) peers) where
+    owner_of entries name ≡ first_place (λ peer. not peer.gone && bytes_eq peer.name name) peers) where
   unowned : (name : List ℕ) → is_unowned entries name ≡ is_no_peer peers name
-  unowned name = ap is_none (found name) ∙ none_found (λ peer. bytes_eq peer.name name) 0 peers
+  unowned name = ap is_none (found name)
+      ∙ none_found (λ peer. not peer.gone && bytes_eq peer.name name) 0 peers
       ∙ ap not (other_way name peers)
 
   some_unowned : (names : List (List ℕ)) → list_any (is_unowned entries) names ≡ list_any (is_no_peer peers) names

@@ -1,12 +1,12 @@
 -- No name in the index has more than 253 octets, so a longer one isn't found.
-use Rattle.std.proofs.Common.{◌≡◌, ℕ, ◌+◌, ◌<◌, ◌≤◌, true, false, ◌&&◌, List, [], ◌∷◌, length, map, None, refl, sym, ap, ◌∙◌, inl, inr, arith}
+use Rattle.std.proofs.Common.{◌≡◌, ℕ, ◌+◌, ◌<◌, ◌≤◌, Bool, true, false, ◌&&◌, List, [], ◌∷◌, length, map, None, refl, sym, ap, ◌∙◌, inl, inr, arith}
 use Rattle.std.proofs.lemmas.Bool.{cases_Bool, and_parts}
 use Rattle.std.proofs.lemmas.Bool.Decides.{nat_tests}
 use Rattle.std.proofs.lemmas.List.{length-map}
 use Rattle.std.proofs.lemmas.Slice.Eq.{bytes_eq-Decides}
 use Rattle.std.specs.Char.{to_ascii_lowercase}
 use Rattle.std.specs.List.{list_any, list_all, position_from, AllByRecursion}
-use Rattle.std.specs.Prelude.{nat_le, string_bytes}
+use Rattle.std.specs.Prelude.{nat_le, string_bytes, if◌then◌else◌}
 use Rattle.std.specs.Str.{str_to_ascii_lowercase}
 use Rattle.roam_conf.specs.declared.config.Config.{Config}
 use Rattle.roam_conf.specs.declared.realm.Realm.{Realm}
@@ -15,7 +15,7 @@ use Rattle.roam_conf.specs.Index.{pattern_key}
 use Rattle.roam_conf.specs.Letters.{is_realm_letter}
 use Rattle.roam_conf.specs.Lookup.{owner_with, pattern_lists}
 use Rattle.roam_conf.specs.Parts.{shown_realm}
-use Rattle.roam_conf.specs.Patterns.{is_realm_name, is_pattern, is_reject, shown_pattern, same_pattern}
+use Rattle.roam_conf.specs.Patterns.{is_realm_name, is_pattern, is_reject, patterns_of, shown_pattern, same_pattern}
 use Rattle.roam_conf.specs.Shown.{shown}
 use Rattle.roam_conf.proofs.NameLemmas.{same_key}
 
@@ -74,14 +74,23 @@ reject_patterns (p ∷ ps) all =
     one (suffix name) is = is
     one any is = refl
 
+-- what names a realm is a pattern
+realm_patterns : (r : Realm) → list_all is_pattern (patterns_of (shown_realm r)) ≡ true
+realm_patterns r = by_gone r.gone
+  where
+    name : is_pattern (whole (string_bytes r.name)) ≡ true
+    name = is_name (string_bytes r.name) r.name_length r.name_letters
+
+    by_gone : (gone : Bool) → list_all is_pattern (if gone then []
+        else whole (string_bytes r.name) ∷ map shown_pattern r.also.items) ≡ true
+    by_gone true = refl
+    by_gone false = rw name r.also_names
+
 -- all of a configuration's lists hold patterns
 are_patterns : (realms : List Realm) (reject : List PatternView) → list_all is_reject reject ≡ true →
     AllByRecursion (λ list. list_all is_pattern list ≡ true) (pattern_lists (map shown_realm realms) reject)
 are_patterns [] reject all = (reject_patterns reject all, tt)
-are_patterns (r ∷ rs) reject all =
-    let name : is_pattern (whole (string_bytes r.name)) ≡ true =
-    is_name (string_bytes r.name) r.name_length r.name_letters in
-    (rw name r.also_names, are_patterns rs reject all)
+are_patterns (r ∷ rs) reject all = (realm_patterns r, are_patterns rs reject all)
 
 pub not_found : (config : Config) (p : PatternView) (kind : ℕ) (name : List ℕ) → 253 < length name →
     kind ∷ str_to_ascii_lowercase name ≡ pattern_key p → None ≡ owner_with (shown config) p

@@ -46,6 +46,9 @@ both_pass test _ _ = false
 abbrev pub takes_in : ConfigView → ℕ → ℕ → Bool
 takes_in config realm peer = both_pass takes (slice_get config.realms realm) (slice_get config.peers peer)
 
+abbrev pub is_peer_in : ConfigView → ℕ → ℕ → Bool
+is_peer_in config realm peer = both_pass is_peer_of (slice_get config.realms realm) (slice_get config.peers peer)
+
 -- reverse requests of the realm may go to the peer: it is one of the realm's, and isn't where `out` sends nothing
 abbrev pub is_target_of : RealmView → PeerView → Bool
 is_target_of realm peer = is_peer_of realm peer && is_coa_reached realm peer
@@ -53,9 +56,9 @@ is_target_of realm peer = is_peer_of realm peer && is_coa_reached realm peer
 abbrev pub is_target_in : ConfigView → ℕ → ℕ → Bool
 is_target_in config realm peer = both_pass is_target_of (slice_get config.realms realm) (slice_get config.peers peer)
 
--- no peer has the name
+-- no peer that is here has the name
 abbrev pub is_no_peer : List PeerView → List ℕ → Bool
-is_no_peer peers name = not (list_any (λ peer. bytes_eq name peer.name) peers)
+is_no_peer peers name = not (list_any (λ peer. not peer.gone && bytes_eq name peer.name) peers)
 
 -- one of the names that the realm has, where it has any, is no peer's
 abbrev pub names_no_peer : List PeerView → RealmView → Bool

@@ -20,8 +20,10 @@ pub record CoaClientView : Type 0 where
   pub secret : List ℕ
 
 -- an access server, or the proxy of a visited network, or all at the addresses of a prefix: how it is known and named,
--- what its Access-Requests need, what is added to its requests, and what is taken out of them and of what is sent to it
+-- what its Access-Requests need, what is added to its requests, and what is taken out of them and of what is sent to it;
+-- or one that went from the file while it was served, which nothing means any more
 pub record PeerView : Type 0 where
+  pub gone : Bool
   pub name : List ℕ
   pub ip : PrefixView
   pub secret : List ℕ
@@ -47,8 +49,9 @@ pub data PatternView : Type 0 where
 -- taken out of its requests and replies, its shares of names and of peers, which names its replies may have, whether
 -- conversations stay at their server, whether reverse requests name one of its own sessions, from where these come
 -- beside its servers, its own sockets (that for reverse requests where it takes them), its limits, and its servers in
--- the order of their use
+-- the order of their use; or one that went from the file while it was served: it has no sockets, and nothing is for it
 pub record RealmView : Type 0 where
+  pub gone : Bool
   pub name : List ℕ
   pub also : List PatternView
   pub peers : Option (List (List ℕ))

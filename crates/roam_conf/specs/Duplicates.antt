@@ -1,5 +1,5 @@
 -- What may not stand twice in a configuration. Ours.
-use Rattle.std.specs.Prelude.{ℕ, ◌==◌, ◌&&◌, ◌||◌, Bool, false, List, [], ◌∷◌, ◌++◌, Option, Some}
+use Rattle.std.specs.Prelude.{ℕ, ◌==◌, ◌&&◌, ◌||◌, not, if◌then◌else◌, Bool, false, List, [], ◌∷◌, ◌++◌, Option, Some}
 use Rattle.std.specs.List.{list_any, filter_map, flat_map, cons_option}
 use Rattle.std.specs.Option.{option_to_list, option_map_or}
 use Rattle.std.specs.Str.{bytes_eq, str_eq_ignore_ascii_case}
@@ -31,11 +31,13 @@ abbrev pub same_name_if_there : Option (List ℕ) → Option (List ℕ) → Bool
 same_name_if_there (Some a) (Some b) = str_eq_ignore_ascii_case a b
 same_name_if_there _ _ = false
 
--- equal names, prefixes, NAS-IP-Addresses, NAS-IPv6-Addresses or, without ASCII case, Operator-Names
+-- equal names, prefixes, NAS-IP-Addresses, NAS-IPv6-Addresses or, without ASCII case, Operator-Names, of two that are
+-- both here
 abbrev pub same_peer : PeerView → PeerView → Bool
 same_peer a b =
-    bytes_eq a.name b.name || same_prefix a.ip b.ip || same_if_there a.nas_ip b.nas_ip
-    || same_if_there a.nas_ipv6 b.nas_ipv6 || same_name_if_there a.operator_name b.operator_name
+    not a.gone && not b.gone
+    && (bytes_eq a.name b.name || same_prefix a.ip b.ip || same_if_there a.nas_ip b.nas_ip
+    || same_if_there a.nas_ipv6 b.nas_ipv6 || same_name_if_there a.operator_name b.operator_name)
 
 -- the texts of a peer's `nas_id` and `nas_ids`; those of all peers
 abbrev pub nas_texts_of : PeerView → List (List ℕ)
@@ -48,9 +50,10 @@ nas_texts peers = flat_map nas_texts_of peers
 abbrev pub same_client : CoaClientView → CoaClientView → Bool
 same_client a b = same_address a.ip b.ip
 
--- where the broker's own sockets of a realm are: its `out`, and its `reverse` where it has one
+-- where the broker's own sockets of a realm are: its `out`, and its `reverse` where it has one; one that is gone has
+-- none
 abbrev pub realm_endpoints : RealmView → List Endpoint
-realm_endpoints realm = realm.out ∷ option_to_list realm.reverse
+realm_endpoints realm = if realm.gone then [] else realm.out ∷ option_to_list realm.reverse
 
 -- where all of them are: `auth` and `acct`, and those of each realm
 abbrev pub own_endpoints : Endpoint → Endpoint → List RealmView → List Endpoint

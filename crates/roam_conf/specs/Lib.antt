@@ -7,6 +7,7 @@ pub mod Letters
 pub mod Lookup
 pub mod Parts
 pub mod Patterns
+pub mod PeerIndex
 pub mod Secrets
 pub mod Shown
 pub mod TargetIndex

@@ -1,11 +1,11 @@
 -- Look-ups in a configuration. Ours.
-use Rattle.std.specs.Prelude.{◌≡◌, ◌≢◌, ℕ, ◌+◌, ◌<◌, ◌==◌, ◌||◌, not, nat_lt, if◌then◌else◌, Bool, false, List, [], ◌∷◌, ◌++◌, length, map, Option, Some, None, option_map, option_and_then, slice_get}
+use Rattle.std.specs.Prelude.{◌≡◌, ◌≢◌, ℕ, ◌+◌, ◌<◌, ◌==◌, ◌||◌, ◌&&◌, not, nat_lt, if◌then◌else◌, Bool, false, List, [], ◌∷◌, ◌++◌, filter, length, map, Option, Some, None, option_map, option_and_then, slice_get}
 use Rattle.std.specs.List.{list_any, position_from}
 use Rattle.std.specs.Option.{option_or, option_map_or}
 use Rattle.roam_address.specs.declared.address.Address.{Address}
 use Rattle.roam_address.specs.declared.endpoint.Endpoint.{Endpoint}
 use Rattle.roam_address.specs.Prefixes.{PrefixView}
-use Rattle.roam_address.specs.Same.{same_address, longest_place}
+use Rattle.roam_address.specs.Same.{same_address, is_longest}
 use Rattle.roam_conf.specs.declared.place.Link.{Link}
 use Rattle.roam_conf.specs.declared.place.Link.TheVariants.{Auth, Acct, Coa}
 use Rattle.roam_conf.specs.Config.{ServerView, CoaClientView, PeerView, PatternView, whole, suffix, any, RealmView, ConfigView}
@@ -87,13 +87,20 @@ abbrev pub NoSuffix : (List ℕ → Type 0) → ConfigView → List ℕ → Type
 NoSuffix Test config name =
     (ending : List ℕ) → EndsIn name ending → Test ending → owner_with config (suffix ending) ≡ None
 
--- the addresses of a peer
+-- the addresses of a peer; whether it is here; the addresses of those that are
 abbrev pub prefix_of : PeerView → PrefixView
 prefix_of peer = peer.ip
 
--- the peer whose prefix is the longest of those that have the address
+abbrev pub is_present : PeerView → Bool
+is_present peer = not peer.gone
+
+abbrev pub prefixes_present : List PeerView → List PrefixView
+prefixes_present peers = map prefix_of (filter is_present peers)
+
+-- the peer that is here whose prefix is the longest of those, of peers that are here, that have the address
 unfoldable pub peer_with_ip : List PeerView → Address → Option ℕ
-peer_with_ip peers ip = longest_place (map prefix_of peers) ip
+peer_with_ip peers ip =
+    first_place (λ peer. is_present peer && is_longest (prefixes_present peers) ip peer.ip) peers
 
 -- the first server, in the order of use, that has the address in its `auth` or its `acct` endpoint
 unfoldable pub server_with_ip : List ServerView → Address → Option ℕ

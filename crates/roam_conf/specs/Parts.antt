@@ -25,12 +25,9 @@ shown_client client = record { ip = client.ip; secret = string_bytes client.secr
 abbrev pub shown_names : Vec (String Global) Global → List (List ℕ)
 shown_names names = map string_bytes names.items
 
--- the addresses of a peer
-abbrev pub peer_prefix : Peer → Prefix
-peer_prefix peer = peer.ip
-
 abbrev pub shown_peer : Peer → PeerView
 shown_peer peer = record {
+  gone = peer.gone;
   name = string_bytes peer.name;
   ip = shown_prefix peer.ip;
   secret = string_bytes peer.secret;
@@ -49,6 +46,7 @@ shown_peer peer = record {
 
 abbrev pub shown_realm : Realm → RealmView
 shown_realm realm = record {
+  gone = realm.gone;
   name = string_bytes realm.name;
   also = map shown_pattern realm.also.items;
   peers = option_map shown_names realm.peers;

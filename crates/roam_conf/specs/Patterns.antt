@@ -1,5 +1,5 @@
 -- What names a realm beside its name: a whole name, `*.` and a name, or `*`. Ours.
-use Rattle.std.specs.Prelude.{ℕ, Bool, true, false, List, ◌∷◌, length, nat_le, ◌&&◌, string_bytes}
+use Rattle.std.specs.Prelude.{ℕ, Bool, true, false, List, [], ◌∷◌, length, nat_le, ◌&&◌, string_bytes, if◌then◌else◌}
 use Rattle.std.specs.List.{list_all}
 use Rattle.std.specs.Str.{str_eq_ignore_ascii_case}
 use Rattle.roam_conf.specs.declared.pattern.RealmPattern.{RealmPattern}
@@ -35,6 +35,6 @@ same_pattern (suffix a) (suffix b) = str_eq_ignore_ascii_case a b
 same_pattern any any = true
 same_pattern _ _ = false
 
--- all that names a realm: its name, and what names it besides
+-- all that names a realm: its name, and what names it besides; nothing names one that is gone
 abbrev pub patterns_of : RealmView → List PatternView
-patterns_of realm = whole realm.name ∷ realm.also
+patterns_of realm = if realm.gone then [] else whole realm.name ∷ realm.also

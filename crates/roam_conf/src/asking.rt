@@ -82,6 +82,17 @@ fn takes_if_both(realm: Option<&Realm>, peer: Option<&Peer>) -> bool
     }
 }
 
+/// Whether the peer is one of the realm's; not where one of the two is missing.
+fn is_peer_if_both(realm: Option<&Realm>, peer: Option<&Peer>) -> bool
+    ensures { result ≡ both_pass is_peer_of (option_map (λ r. shown_realm r.now) realm.entry)
+        (option_map (λ p. shown_peer p.now) peer.entry) }
+{
+    match (realm, peer) {
+        (Some(realm), Some(peer)) => realm.is_peer(peer),
+        _ => false,
+    }
+}
+
 /// Whether reverse requests of the realm may go to the peer; not where one of the two is missing.
 fn is_target_if_both(realm: Option<&Realm>, peer: Option<&Peer>) -> bool
     ensures { result ≡ both_pass is_target_of (option_map (λ r. shown_realm r.now) realm.entry)
@@ -95,7 +106,7 @@ fn is_target_if_both(realm: Option<&Realm>, peer: Option<&Peer>) -> bool
 
 impl Config {
     ghost use Rattle.std.specs.Prelude.{◌≡◌, option_map, slice_get};
-    ghost use Rattle.roam_conf.specs.Asking.{takes_in, is_target_in};
+    ghost use Rattle.roam_conf.specs.Asking.{takes_in, is_peer_in, is_target_in};
     ghost use Rattle.roam_conf.specs.Parts.{shown_peer, shown_realm};
     ghost use Rattle.roam_conf.specs.Shown.{shown};
 
@@ -125,6 +136,14 @@ impl Config {
         ensures { result ≡ takes_in (shown self.now) realm peer }
     {
         takes_if_both(self.realm_at(realm), self.peer_at(peer))
+    }
+
+    /// Whether a peer is one of a realm's: it has no list of peers, or the peer is in it. False where one of the two
+    /// isn't configured.
+    pub fn is_peer_of(&self, realm: u16, peer: u16) -> bool
+        ensures { result ≡ is_peer_in (shown self.now) realm peer }
+    {
+        is_peer_if_both(self.realm_at(realm), self.peer_at(peer))
     }
 
     /// Whether reverse requests of a realm may go to a peer: the realm has no list of peers or the peer is in it, and

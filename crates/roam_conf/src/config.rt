@@ -6,11 +6,11 @@ ghost use Rattle.std.specs.Option.{ForSome};
 ghost use Rattle.roam_conf.specs.Duplicates.{has_duplicate_realm, has_duplicate_peer, has_duplicate_endpoint};
 ghost use Rattle.roam_conf.specs.Duplicates.{has_duplicate_server, has_duplicate_link};
 ghost use Rattle.roam_conf.specs.Asking.{has_unknown_peer};
-ghost use Rattle.roam_address.specs.Stands.{StandsFor};
 ghost use Rattle.roam_conf.specs.Index.{owners, all_patterns};
 ghost use Rattle.roam_conf.specs.Lookup.{pattern_lists};
-ghost use Rattle.roam_conf.specs.Parts.{peer_prefix, shown_peer, shown_realm};
+ghost use Rattle.roam_conf.specs.Parts.{shown_peer, shown_realm};
 ghost use Rattle.roam_conf.specs.Patterns.{is_reject, shown_pattern};
+ghost use Rattle.roam_conf.specs.PeerIndex.{FindsPeers};
 ghost use Rattle.roam_conf.specs.TargetIndex.{FindsTargets};
 ghost use Rattle.roam_conf.specs.Ways.{has_no_way_out};
 
@@ -72,7 +72,7 @@ pub struct Config {
     ghost realm_count: { (1 ≤ vec_len realms) × (vec_len realms ≤ 1024) },
     ghost names_noted: { owners found_by.names
         ≡ all_patterns 0 (pattern_lists (map shown_realm realms.items) (map shown_pattern reject.items)) },
-    ghost ips_noted: { StandsFor found_by.ips (map peer_prefix peers.items) },
+    ghost ips_noted: { FindsPeers found_by.ips peers.items },
     ghost targets_noted: { FindsTargets found_by.targets (map shown_peer peers.items) },
     ghost distinct_realms: { has_duplicate_realm (map shown_realm realms.items)
         (map shown_pattern reject.items) ≡ false },
@@ -162,5 +162,49 @@ impl Config {
             realms,
             found_by,
         })
+    }
+
+    /// The parts of a configuration again. Takes no memory.
+    pub fn into_parts(self) -> ConfigParts
+        ensures { shown_parts result ≡ shown self }
+    {
+        let Config {
+            shards,
+            seed,
+            auth,
+            acct,
+            trace_limit,
+            trace_octets,
+            max_hops,
+            max_attributes,
+            status_server,
+            spread,
+            reject,
+            well_formed,
+            answer_unnamed,
+            fresh,
+            peers,
+            realms,
+            found_by,
+        } = self;
+        drop(found_by);
+        ConfigParts {
+            shards,
+            seed,
+            auth,
+            acct,
+            trace_limit,
+            trace_octets,
+            max_hops,
+            max_attributes,
+            status_server,
+            spread,
+            reject,
+            well_formed,
+            answer_unnamed,
+            fresh,
+            peers,
+            realms,
+        }
     }
 }

@@ -29,8 +29,8 @@ impl Realm {
         }
     }
 
-    /// The same, where the realm takes reverse requests.
-    fn home_of(&self, ip: Address) -> Option<u8>
+    /// The number of the source with the address, where the realm takes reverse requests.
+    pub fn home_of(&self, ip: Address) -> Option<u8>
         ensures { result ≡ reverse_home (shown_realm self.now) ip }
     {
         if self.reverse.is_none() {

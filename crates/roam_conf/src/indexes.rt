@@ -1,20 +1,20 @@
 //! The indexes of a configuration, which are made once, from its lists.
 
 ghost use Rattle.std.specs.Prelude.{◌≡◌, ◌≤◌, IfOk, length, map, false, true, refl};
-ghost use Rattle.roam_address.specs.Stands.{StandsFor};
 ghost use Rattle.roam_conf.specs.Duplicates.{has_duplicate_realm, has_duplicate_peer};
 ghost use Rattle.roam_conf.specs.Index.{owners, all_patterns, AreMarked};
 ghost use Rattle.roam_conf.specs.Lookup.{pattern_lists};
-ghost use Rattle.roam_conf.specs.Parts.{peer_prefix, shown_peer, shown_realm};
+ghost use Rattle.roam_conf.specs.Parts.{shown_peer, shown_realm};
 ghost use Rattle.roam_conf.specs.Patterns.{shown_pattern};
+ghost use Rattle.roam_conf.specs.PeerIndex.{FindsPeers};
 ghost use Rattle.roam_conf.specs.TargetIndex.{FindsTargets};
 
 use crate::index::Index;
 use crate::names::{note_all, suffix_lengths};
+use crate::peer_index::PeerIndex;
 use crate::target_index::TargetIndex;
-use crate::{ConfigParts, Peer, Prefix, Realm, RealmPattern};
+use crate::{ConfigParts, Peer, Realm, RealmPattern};
 use indexmap::IndexMap;
-use roam_address::PrefixIndex;
 use std::alloc::{AllocError, Global};
 
 /// The indexes of a configuration. They follow from its lists, so they tell no two configurations apart.
@@ -24,35 +24,11 @@ pub(crate) struct Indexes {
     pub(crate) names: Index,
     /// Which lengths the suffixes among them have, in octets: one of another length isn't looked for.
     pub(crate) suffix_lengths: [bool; 254],
-    /// The addresses of the peers, in their order.
-    pub(crate) ips: PrefixIndex<Global>,
+    /// The peer of each address.
+    pub(crate) ips: PeerIndex,
     /// The peers that reverse requests name.
     pub(crate) targets: TargetIndex,
     ghost marked: { AreMarked suffix_lengths (owners names) },
-}
-
-/// The prefixes of these peers, in their order.
-fn prefixes_of(alloc: Global, peers: &[Peer]) -> Result<Vec<Prefix>, AllocError>
-    ensures { IfOk result (λ prefixes. prefixes.items ≡ map peer_prefix peers.now) }
-{
-    let mut prefixes = Vec::new(alloc);
-    for peer in peers {
-        prefixes.push(peer.ip)?;
-    }
-    Ok(prefixes)
-}
-
-/// The index of these peers' prefixes, of which no two are the same.
-#[tactic(auto, using(crate::proofs::PrefixLemmas::none_twice))]
-fn ips_of(alloc: Global, peers: &[Peer]) -> Result<PrefixIndex<Global>, AllocError>
-    requires { has_duplicate_peer (map shown_peer peers.now) ≡ false }
-    ensures { IfOk result (λ index. StandsFor index (map peer_prefix peers.now)) }
-{
-    let prefixes = prefixes_of(alloc, peers)?;
-    match PrefixIndex::new(alloc, prefixes.as_slice())? {
-        Some(index) => Ok(index),
-        None => unreachable!(),
-    }
 }
 
 impl Indexes {
@@ -69,13 +45,13 @@ impl Indexes {
         ensures names { IfOk result
             (λ indexes. owners indexes.names
             ≡ all_patterns 0 (pattern_lists (map shown_realm realms.now) (map shown_pattern reject.now))) }
-        ensures ips { IfOk result (λ indexes. StandsFor indexes.ips (map peer_prefix peers.now)) }
+        ensures ips { IfOk result (λ indexes. FindsPeers indexes.ips peers.now) }
         ensures targets { IfOk result (λ indexes. FindsTargets indexes.targets (map shown_peer peers.now)) }
     {
         let mut names = IndexMap::new(alloc);
         note_all(&mut names, alloc, realms, reject)?;
         let suffix_lengths = suffix_lengths(&names);
-        let ips = ips_of(alloc, peers)?;
+        let ips = PeerIndex::new(alloc, peers)?;
         let targets = TargetIndex::new(alloc, peers)?;
         Ok(Indexes {
             names,
@@ -88,12 +64,12 @@ impl Indexes {
 
 impl ConfigParts {
     ghost use Rattle.std.specs.Prelude.{◌≡◌, IfOk, false, map};
-    ghost use Rattle.roam_address.specs.Stands.{StandsFor};
     ghost use Rattle.roam_conf.specs.Duplicates.{has_duplicate_realm, has_duplicate_peer};
     ghost use Rattle.roam_conf.specs.Index.{owners, all_patterns};
     ghost use Rattle.roam_conf.specs.Lookup.{pattern_lists};
-    ghost use Rattle.roam_conf.specs.Parts.{peer_prefix, shown_peer, shown_realm};
+    ghost use Rattle.roam_conf.specs.Parts.{shown_peer, shown_realm};
     ghost use Rattle.roam_conf.specs.Patterns.{shown_pattern};
+    ghost use Rattle.roam_conf.specs.PeerIndex.{FindsPeers};
     ghost use Rattle.roam_conf.specs.TargetIndex.{FindsTargets};
 
     /// The indexes of these parts.
@@ -104,7 +80,7 @@ impl ConfigParts {
         ensures names { IfOk result
             (λ indexes. owners indexes.names ≡ all_patterns 0 (pattern_lists
             (map shown_realm self.now.realms.items) (map shown_pattern self.now.reject.items))) }
-        ensures ips { IfOk result (λ indexes. StandsFor indexes.ips (map peer_prefix self.now.peers.items)) }
+        ensures ips { IfOk result (λ indexes. FindsPeers indexes.ips self.now.peers.items) }
         ensures targets { IfOk result (λ indexes. FindsTargets indexes.targets (map shown_peer self.now.peers.items)) }
     {
         Indexes::new(

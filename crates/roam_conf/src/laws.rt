@@ -1,6 +1,6 @@
 //! Laws of the look-ups.
 
-ghost use Rattle.std.specs.Prelude.{◌≡◌, ◌≢◌, ℕ, List, ◌<◌, [], false, length, None, Some, true, ⊤};
+ghost use Rattle.std.specs.Prelude.{◌≡◌, ◌≢◌, ◌&&◌, ℕ, List, ◌<◌, [], false, length, None, not, Some, true, ⊤};
 ghost use Rattle.std.specs.List.{AllByRecursion};
 ghost use Rattle.std.specs.Str.{str_eq_ignore_ascii_case};
 ghost use Rattle.roam_conf.specs.Config.{whole, suffix, any};
@@ -56,12 +56,14 @@ pub fn ill_formed_names_are_matched_whole(config: &Config, name: &[u8])
         ≡ realm_owned (shown config.now) (owner_with (shown config.now) (whole name.now)) }
 {}
 
-/// Where no realm has a pattern, and nothing is rejected, a name means the realm whose name it is, matched whole.
+/// Where no realm has a pattern, and nothing is rejected, a name means the realm that is here whose name it is, matched
+/// whole.
 pub fn names_alone_are_matched_whole(config: &Config, name: &[u8])
     requires realms { AllByRecursion (λ realm. realm.also ≡ []) (shown config.now).realms }
     requires reject { (shown config.now).reject ≡ [] }
     ensures { realm_named (shown config.now) name.now
-        ≡ first_place (λ realm. str_eq_ignore_ascii_case name.now realm.name) (shown config.now).realms }
+        ≡ first_place (λ realm. not realm.gone && str_eq_ignore_ascii_case name.now realm.name)
+        (shown config.now).realms }
 {}
 
 /// Whose a NAS-Identifier is as a whole decides, whatever patterns there are.

@@ -216,21 +216,13 @@ impl Config {
         }
     }
 
-    /// The place of the peer whose prefix is the longest of those that have the address.
-    fn peer_of_longest(&self, ip: Address) -> Option<usize>
-        ensures value { result ≡ peer_with_ip (shown self.now).peers ip }
-        ensures bound { IfSome result (λ p. p < vec_len self.now.peers) }
-    {
-        self.found_by.ips.longest(ip)
-    }
-
-    /// The index of the peer whose prefix is the longest of those that have the address.
+    /// The index of the peer whose prefix is the longest of those, of peers that are here, that have the address.
     pub fn peer_by_ip(&self, ip: Address) -> Option<u16>
         ensures value { result ≡ peer_with_ip (shown self.now).peers ip }
         ensures bound { IfSome result (λ p. p < vec_len self.now.peers) }
     {
-        match self.peer_of_longest(ip) {
-            Some(peer) => Some(peer as u16),
+        match self.found_by.ips.prefixes.longest(ip) {
+            Some(place) => self.found_by.ips.places.get(place).copied(),
             None => None,
         }
     }

@@ -83,7 +83,7 @@ fn note_patterns(
     Ok(true)
 }
 
-/// Notes the name and the patterns of a realm, until one is there already: whether all are new.
+/// Notes the name and the patterns of a realm that is here, until one is there already: whether all are new.
 fn note_realm(
     index: &mut Index,
     alloc: Global,
@@ -95,6 +95,9 @@ fn note_realm(
     ensures noted { IfOk result (λ new. new ≡ true → owners index.new
         ≡ owners index.old ++ map (of_owner place) (patterns_of (shown_realm realm.now))) }
 {
+    if realm.gone {
+        return Ok(true);
+    }
     let key = key_of(alloc, WHOLE, realm.name.as_bytes())?;
     if !note(index, key, place)? {
         return Ok(false);

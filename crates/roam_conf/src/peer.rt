@@ -13,6 +13,9 @@ use roam_wire::RemovedAttribute;
 /// a prefix.
 #[derive(Drop, PartialEq, Eq)]
 pub struct Peer {
+    /// Whether it went from the file while that was served: its index stays empty, and nothing means it. A file's
+    /// never is.
+    pub gone: bool,
     /// 1 to 64 ASCII letters, digits, `.`, `-` and `_`.
     pub name: String,
     pub ip: Prefix,

@@ -1,6 +1,6 @@
 //! The names of peers that realms state, and whether each of them is a peer's.
 
-ghost use Rattle.std.specs.Prelude.{◌≡◌, ℕ, List, ◌≤◌, ◌^◌, IfOk, false, length, map, string_bytes};
+ghost use Rattle.std.specs.Prelude.{◌≡◌, ℕ, List, ◌≤◌, ◌^◌, ◌&&◌, IfOk, false, length, map, not, string_bytes};
 ghost use Rattle.std.specs.List.{list_any};
 ghost use Rattle.std.specs.Option.{option_map_or};
 ghost use Rattle.std.specs.Str.{bytes_eq};
@@ -14,16 +14,18 @@ use crate::{Peer, Realm};
 use indexmap::IndexMap;
 use std::alloc::{AllocError, Global};
 
-/// The first peer of each name.
+/// The first peer of each name that is here.
 fn names_of(alloc: Global, peers: &[Peer]) -> Result<Index, AllocError>
     requires { length peers.now ≤ 2 ^ 16 }
     ensures { IfOk result (λ index. (name : List ℕ) → owner_of (owners index) name
-        ≡ first_place (λ peer. bytes_eq peer.name name) (map shown_peer peers.now)) }
+        ≡ first_place (λ peer. not peer.gone && bytes_eq peer.name name) (map shown_peer peers.now)) }
 {
     let mut index = IndexMap::new(alloc);
     for (place, peer) in peers.iter().enumerate() {
-        let key = row_of(alloc, peer.name.as_bytes())?;
-        note(&mut index, key, place as u16)?;
+        if !peer.gone {
+            let key = row_of(alloc, peer.name.as_bytes())?;
+            note(&mut index, key, place as u16)?;
+        }
     }
     Ok(index)
 }

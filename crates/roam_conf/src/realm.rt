@@ -1,6 +1,6 @@
 //! A realm: its sockets, its limits and its home servers.
 
-ghost use Rattle.std.specs.Prelude.{◌≤◌, length, map, string_bytes, vec_len, ◌≡◌, true, is_some};
+ghost use Rattle.std.specs.Prelude.{◌≤◌, length, map, string_bytes, vec_len, ◌≡◌, false, true, is_some};
 ghost use Rattle.std.specs.List.{list_all};
 ghost use Rattle.std.specs.Option.{ForSome};
 ghost use Rattle.roam_wire.specs.RemovedAttributes.{is_removal_in_requests, is_removal_in_replies};
@@ -15,6 +15,9 @@ use roam_wire::RemovedAttribute;
 /// A realm: its home servers, and the sockets that the broker keeps for it.
 #[derive(Drop, PartialEq, Eq)]
 pub struct Realm {
+    /// Whether it went from the file while that was served: its index stays empty, it has no sockets, and nothing is
+    /// for it. A file's never is.
+    pub gone: bool,
     /// 1 to 253 ASCII letters, digits, `.` and `-`.
     pub name: String,
     /// What names the realm besides: at most 256 patterns.
@@ -61,7 +64,7 @@ pub struct Realm {
     pub rest: u32,
     /// After how many requests in a row that a server left without an answer it rests: 1 to 256.
     pub rest_after: u16,
-    /// The home servers in the order of their use: 1 to 8.
+    /// The home servers in the order of their use: 1 to 8; of one that is gone none.
     pub servers: Vec<Server>,
     ghost name_length: { (1 ≤ length (string_bytes name)) × (length (string_bytes name) ≤ 253) },
     ghost name_letters: { list_all is_realm_letter (string_bytes name) ≡ true },
@@ -83,5 +86,5 @@ pub struct Realm {
     ghost max_sessions_range: { max_sessions ≤ 65536 },
     ghost rest_range: { rest ≤ 3600000 },
     ghost rest_after_range: { (1 ≤ rest_after) × (rest_after ≤ 256) },
-    ghost server_count: { (1 ≤ vec_len servers) × (vec_len servers ≤ 8) },
+    ghost server_count: { (gone ≡ false → 1 ≤ vec_len servers) × (vec_len servers ≤ 8) },
 }

@@ -8,7 +8,7 @@ ghost use Rattle.roam_conf.specs.Ways.{same_kind, same_kind_if_there, is_reached
 use crate::{Endpoint, Peer, Realm, Server};
 
 /// Whether both are at addresses of IPv4, or both of IPv6.
-fn is_same_kind(a: Endpoint, b: Endpoint) -> bool
+pub fn is_same_kind(a: Endpoint, b: Endpoint) -> bool
     ensures { result ≡ same_kind a b }
 {
     if a.ip.is_ipv6() {

@@ -54,6 +54,7 @@ server_unique ms a b p q =
 
 pub peer_unique : (members : Members) (a b : PeerView) → StatesPeer members a → StatesPeer members b → a ≡ b
 peer_unique ms a b p q =
+    let gone = p.here ∙ sym q.here in
     let name = same_value _ a.name b.name p.name q.name in
     let ip = same_value _ a.ip b.ip p.ip q.ip in
     let secret = same_value _ a.secret b.secret p.secret q.secret in
@@ -70,6 +71,7 @@ peer_unique ms a b p q =
     let request_without = same_value _ a.request_without b.request_without p.request_without q.request_without in
     let reply_without = same_value _ a.reply_without b.reply_without p.reply_without q.reply_without in
     λ i. record {
+      gone = gone i;
       name = name i;
       ip = ip i;
       secret = secret i;
@@ -88,6 +90,7 @@ peer_unique ms a b p q =
 
 pub realm_unique : (members : Members) (a b : RealmView) → StatesRealm members a → StatesRealm members b → a ≡ b
 realm_unique ms a b p q =
+    let gone = p.here ∙ sym q.here in
     let name = same_value _ a.name b.name p.name q.name in
     let also = same_value _ a.also b.also p.also q.also in
     let peers = same_value _ a.peers b.peers p.peers q.peers in
@@ -115,6 +118,7 @@ realm_unique ms a b p q =
     let rest_after = same_value _ a.rest_after b.rest_after p.rest_after q.rest_after in
     let servers = tables_unique StatesServer server_unique _ a.servers b.servers p.servers q.servers in
     λ i. record {
+      gone = gone i;
       name = name i;
       also = also i;
       peers = peers i;

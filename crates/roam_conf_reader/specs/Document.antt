@@ -9,7 +9,7 @@ use Rattle.roam_conf.specs.declared.accounting.Accounting.{Accounting}
 use Rattle.roam_conf.specs.declared.accounting.Accounting.TheVariants as kinds
 use Rattle.roam_address.specs.declared.endpoint.Endpoint.{Endpoint}
 use Rattle.roam_conf.specs.Config.{ServerView, CoaClientView, PeerView, RealmView, ConfigView}
-use Rattle.roam_conf_reader.specs.Values.{number, letters_of, text, address, ipv4, ipv6, prefix, endpoint, seed_or_zeros, flag, exchange_lines, station_word, number_or, pattern, list_of, rejects, removed, nas_ids, peer_names, accounting, array_of, item_count, value_at, optional_at, socket_path}
+use Rattle.roam_conf_reader.specs.Values.{number, letters_of, text, address, ipv4, ipv6, prefix, endpoint, seed_or_zeros, flag, exchange_lines, station_word, number_or, pattern, list_of, rejects, removed, nas_ids, peer_names, accounting, array_of, item_count, value_at, optional_at, file_path, socket_path}
 
 -- the required keys of the five tables
 abbrev pub server_required : List (List ℕ)
@@ -54,8 +54,8 @@ abbrev pub top_optional : List (List ℕ)
 top_optional =
     codes "shards" ∷ codes "seed" ∷ codes "trace_limit" ∷ codes "max_hops" ∷ codes "max_attributes"
     ∷ codes "status_server" ∷ codes "trace_octets" ∷ codes "spread" ∷ codes "metrics"
-    ∷ codes "control" ∷ codes "log_exchanges" ∷ codes "log_station" ∷ codes "reject" ∷ codes "well_formed"
-    ∷ codes "answer_unnamed" ∷ codes "fresh" ∷ []
+    ∷ codes "control" ∷ codes "log_exchanges" ∷ codes "log_station" ∷ codes "state" ∷ codes "state_every"
+    ∷ codes "reject" ∷ codes "well_formed" ∷ codes "answer_unnamed" ∷ codes "fresh" ∷ []
 
 -- the key is one of these
 abbrev pub is_one_of : List (List ℕ) → List ℕ → Bool
@@ -100,6 +100,7 @@ pub record StatesClient (members : Members) (client : CoaClientView) : Type 0 wh
 
 -- a table of the array `peer`
 pub record StatesPeer (members : Members) (peer : PeerView) : Type 0 where
+  pub here : peer.gone ≡ false
   pub name : value_at (text 64 (letters_of PeerName)) (codes "name") members ≡ Some peer.name
   pub ip : value_at prefix (codes "ip") members ≡ Some peer.ip
   pub secret : value_at (text 64 (letters_of Any)) (codes "secret") members ≡ Some peer.secret
@@ -134,6 +135,7 @@ is_accounted realm = are_accounted realm.accounting realm.servers
 
 -- a table of the array `realm`; `wait`, `hold` and `rest` are in milliseconds
 pub record StatesRealm (members : Members) (realm : RealmView) : Type 0 where
+  pub here : realm.gone ≡ false
   pub name : value_at (text 253 (letters_of RealmName)) (codes "name") members ≡ Some realm.name
   pub also : list_of pattern 256 (get_member (codes "also") members) ≡ Some realm.also
   pub peers : optional_at peer_names (codes "peers") members ≡ Some realm.peers
@@ -200,6 +202,8 @@ pub record StatesConfig (members : Members) (config : ConfigView) : Type 0 where
   pub control : is_some (optional_at socket_path (codes "control") members) ≡ true
   pub log_exchanges : is_some (exchange_lines (get_member (codes "log_exchanges") members)) ≡ true
   pub log_station : is_some (station_word (get_member (codes "log_station") members)) ≡ true
+  pub state : is_some (optional_at file_path (codes "state") members) ≡ true
+  pub state_every : is_some (number_or 60 1 86400 (get_member (codes "state_every") members)) ≡ true
   pub no_other_key : has_only top_required top_optional members ≡ true
 
 -- each of the keys stands in the table

@@ -1,5 +1,5 @@
 -- What tables state, with the texts and the arrays still in the document, as plain records. Ours.
-use Rattle.std.specs.Prelude.{◌≡◌, ℕ, codes, true, List, Option, Some}
+use Rattle.std.specs.Prelude.{◌≡◌, ℕ, codes, true, List, Option, Some, false}
 use Rattle.std.specs.Option.{option_copied}
 use Rattle.toml.specs.Data.{Members, get_member}
 use Rattle.toml.specs.View.{array_view}
@@ -37,6 +37,7 @@ client_in text = record { ip = text.ip; secret = text.secret.now }
 -- with these NAS-Identifiers and lists of attributes to remove
 abbrev pub peer_in : PeerText → List (List ℕ) → List RemovedAttribute → List RemovedAttribute → PeerView
 peer_in text identifiers request reply = record {
+  gone = false;
   name = text.name.now;
   ip = shown_prefix text.ip;
   secret = text.secret.now;
@@ -67,6 +68,7 @@ abbrev pub realm_in :
     RealmText → List PatternView → Option (List (List ℕ)) → List RemovedAttribute → List RemovedAttribute
     → List CoaClientView → List ServerView → RealmView
 realm_in text also peers request reply clients servers = record {
+  gone = false;
   name = text.name.now;
   also = also;
   peers = peers;

@@ -50,6 +50,10 @@ text most letters _ = None
 abbrev pub socket_path : Data → Option (List ℕ)
 socket_path = text 107 (letters_of NoZero)
 
+-- a path of a file: 1 to 1024 octets, none of them 0
+abbrev pub file_path : Data → Option (List ℕ)
+file_path = text 1024 (letters_of NoZero)
+
 -- a text that is an address
 unfoldable pub address : Data → Option Address
 address (string octets) = address_in octets

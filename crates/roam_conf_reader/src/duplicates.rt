@@ -1,14 +1,14 @@
 //! What may not stand twice in a configuration.
 //!
 //! Names and patterns of realms, and NAS-Identifiers, which may be many, are found by an index. The other searches
-//! compare all pairs: of at most 1024 peers, 8 `coa_client`s of a realm, 2050 sockets of the broker, 16 endpoints of one realm's servers, and of
-//! 1024 endpoints of peers with 16384 of servers.
+//! compare all pairs: of at most 1024 peers, 8 `coa_client`s of a realm, 2050 sockets of the broker, 16 endpoints of
+//! one realm's servers, and of 1024 endpoints of peers with 16384 of servers.
 
-ghost use Rattle.std.specs.Prelude.{◌≡◌, ◌≤◌, ◌+◌, ◌||◌, Some, None, IfOk, false, length, map, drop};
+ghost use Rattle.std.specs.Prelude.{◌≡◌, ◌≤◌, ◌+◌, ◌++◌, ◌||◌, Some, None, IfOk, OnOk, false, length, map, drop};
 ghost use Rattle.std.specs.List.{list_any};
 ghost use Rattle.std.specs.Option.{option_map_or};
 ghost use Rattle.roam_conf.specs.Duplicates.{has_pair, same_endpoint, is_among, same_client, has_pair_of_servers};
-ghost use Rattle.roam_conf.specs.Duplicates.{own_endpoints, server_endpoints, coa_endpoints, some_server_at};
+ghost use Rattle.roam_conf.specs.Duplicates.{own_endpoints, realm_endpoints, server_endpoints, coa_endpoints, some_server_at};
 ghost use Rattle.roam_conf.specs.Duplicates.{has_duplicate_endpoint, has_duplicate_server};
 ghost use Rattle.roam_conf.specs.Duplicates.{has_duplicate_link};
 ghost use Rattle.roam_conf.specs.Parts.{shown_server, shown_client, shown_peer, shown_realm};
@@ -53,6 +53,22 @@ fn has_equal_endpoints(endpoints: &[Endpoint]) -> bool
     false
 }
 
+/// Pushes the endpoints of a realm's sockets, if it is here.
+fn push_realm(endpoints: &mut Vec<Endpoint>, realm: &Realm) -> Result<(), ConfFault>
+    ensures ok { OnOk result (endpoints.new.items
+        ≡ endpoints.old.items ++ realm_endpoints (shown_realm realm.now)) }
+    ensures causes { IsMemoryFault result }
+{
+    if realm.gone {
+        return Ok(());
+    }
+    endpoints.push(realm.out)?;
+    if let Some(reverse) = realm.reverse {
+        endpoints.push(reverse)?;
+    }
+    Ok(())
+}
+
 /// The endpoints of the broker's own sockets.
 fn own_endpoints(
     alloc: Global,
@@ -67,10 +83,7 @@ fn own_endpoints(
     endpoints.push(auth)?;
     endpoints.push(acct)?;
     for realm in realms {
-        endpoints.push(realm.out)?;
-        if let Some(reverse) = realm.reverse {
-            endpoints.push(reverse)?;
-        }
+        push_realm(&mut endpoints, realm)?;
     }
     Ok(endpoints)
 }

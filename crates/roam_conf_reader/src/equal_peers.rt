@@ -41,11 +41,13 @@ fn have_same_operator(a: &Peer, b: &Peer) -> bool
 fn is_same_peer(a: &Peer, b: &Peer) -> bool
     ensures { result ≡ same_peer (shown_peer a.now) (shown_peer b.now) }
 {
-    a.name.as_str() == b.name.as_str()
-        || a.ip.leading() == b.ip.leading()
-        || have_same_ip(a.nas_ip, b.nas_ip)
-        || have_same_ipv6(a.nas_ipv6, b.nas_ipv6)
-        || have_same_operator(a, b)
+    !a.gone
+        && !b.gone
+        && (a.name.as_str() == b.name.as_str()
+            || a.ip.leading() == b.ip.leading()
+            || have_same_ip(a.nas_ip, b.nas_ip)
+            || have_same_ipv6(a.nas_ipv6, b.nas_ipv6)
+            || have_same_operator(a, b))
 }
 
 fn is_among_peers(peer: &Peer, others: &[Peer]) -> bool
@@ -59,7 +61,7 @@ fn is_among_peers(peer: &Peer, others: &[Peer]) -> bool
     false
 }
 
-/// Whether two peers are equal in their name, prefix, NAS-IP-Address, NAS-IPv6-Address or Operator-Name.
+/// Whether two peers that are here are equal in their name, prefix, NAS-IP-Address, NAS-IPv6-Address or Operator-Name.
 fn has_equal_peers(peers: &[Peer]) -> bool
     ensures { result ≡ has_pair same_peer (map shown_peer peers.now) }
 {

@@ -158,6 +158,17 @@ pub(crate) fn optional_socket_path<'a>(table: &'a Table, key: &str) -> Option<Op
     }
 }
 
+/// A path of a file, or `Some(None)` where the key is absent.
+pub(crate) fn optional_file_path<'a>(table: &'a Table, key: &str) -> Option<Option<&'a str>>
+    ensures { option_map (λ text. option_copied text) result
+        ≡ optional_at spec.file_path key.now (table_view table.now) }
+{
+    match value(table, key) {
+        Some(value) => Some(Some(values::text_of(value, 1024, Letters::NoZero)?)),
+        None => Some(None),
+    }
+}
+
 /// Of which exchanges lines tell: of all where the key is absent.
 #[tactic(auto, unfolding(crate::specs::Values::exchange_lines))]
 pub(crate) fn exchange_lines(table: &Table, key: &str) -> Option<ExchangeLines>

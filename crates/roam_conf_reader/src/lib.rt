@@ -5,8 +5,10 @@
 //!
 //! # Proved
 //!
-//! - what the TOML document states, and then no fault of the list holds in it; or the first that holds; or it
-//!   is out of memory | `read_config`: `ok`, `faultless`, `err`
+//! - what the TOML document states, and then no fault of the list holds in it; or the first that holds; or it is out
+//!   of memory | `read_config`: `ok`, `faultless`, `err`
+//! - a configuration is laid out by the one which it is to follow: each realm and peer of both has the index that it
+//!   had | `following_config`
 //! - what is printed of each fault | the `Display` of `ConfFault`; of `SimFault` (`roam_sim`), `TraceFault`
 //!   (`roam_trace`), `AuditFault` (`roam_audit`) and `HubFault` (`roam_hub`)
 #![tactic(auto)]
@@ -17,6 +19,7 @@ mod document;
 mod duplicates;
 mod equal_peers;
 mod fault;
+mod following;
 mod keys;
 mod names;
 mod pattern;
@@ -32,5 +35,6 @@ mod values;
 
 pub use config::read_config;
 pub use fault::ConfFault;
+pub use following::following_config;
 pub use settings::{Settings, read_settings};
 pub use station_word::StationWord;

@@ -82,6 +82,7 @@ fn from_table(alloc: Global, table: &Table) -> Result<Peer, ConfFault>
         return Err(ConfFault::BadValue);
     };
     Ok(Peer {
+        gone: false,
         name: String::from_str(alloc, text.name)?,
         ip: text.ip,
         secret: String::from_str(alloc, text.secret)?,

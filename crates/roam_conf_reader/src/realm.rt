@@ -133,6 +133,7 @@ fn from_table(alloc: Global, table: &Table) -> Result<Realm, ConfFault>
         return Err(ConfFault::BadValue);
     }
     Ok(Realm {
+        gone: false,
         name: String::from_str(alloc, text.name)?,
         also: pattern::all_from(alloc, table)?,
         peers: names::of_peers(alloc, table)?,

@@ -22,6 +22,10 @@ pub struct Settings {
     pub log_exchanges: ExchangeLines,
     /// How these lines have a station: as it stands where the key `log_station` is absent.
     pub log_station: StationWord,
+    /// The path of the file in which ledgers of sessions outlast the server; none where the key `state` is absent.
+    pub state: Option<String>,
+    /// How many seconds pass between two writings of it: 60 where the key `state_every` is absent.
+    pub state_every: u32,
 }
 
 /// Reads the settings of a configuration from its text.
@@ -47,10 +51,18 @@ pub fn read_settings(alloc: Global, text: &str) -> Result<Settings, ConfFault>
     let Some(log_station) = keys::station_word(&table, "log_station") else {
         return Err(ConfFault::BadValue);
     };
+    let Some(state) = keys::optional_file_path(&table, "state") else {
+        return Err(ConfFault::BadValue);
+    };
+    let Some(state_every) = keys::number_or(&table, "state_every", 60, 1, 86400) else {
+        return Err(ConfFault::BadValue);
+    };
     Ok(Settings {
         metrics,
         control: copied(alloc, control)?,
         log_exchanges,
         log_station,
+        state: copied(alloc, state)?,
+        state_every,
     })
 }

@@ -52,6 +52,8 @@ fn top_text(table: &Table) -> Option<TopText<'_>>
     let _control = keys::optional_socket_path(table, "control")?;
     let _log_exchanges = keys::exchange_lines(table, "log_exchanges")?;
     let _log_station = keys::station_word(table, "log_station")?;
+    let _state = keys::optional_file_path(table, "state")?;
+    let _state_every = keys::number_or(table, "state_every", 60, 1, 86400)?;
     Some(TopText {
         shards: keys::number_or(table, "shards", 1, 1, 64)? as u16,
         seed: keys::seed_or_zeros(table, "seed")?,

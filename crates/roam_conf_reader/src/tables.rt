@@ -72,7 +72,7 @@ pub(crate) const REALM_OPTIONAL_KEYS: [&str; 20] = [
 pub(crate) const TOP_KEYS: [&str; 4] = ["auth", "acct", "peer", "realm"];
 
 /// The keys that the document itself may have besides.
-pub(crate) const TOP_OPTIONAL_KEYS: [&str; 16] = [
+pub(crate) const TOP_OPTIONAL_KEYS: [&str; 18] = [
     "shards",
     "seed",
     "trace_limit",
@@ -85,6 +85,8 @@ pub(crate) const TOP_OPTIONAL_KEYS: [&str; 16] = [
     "control",
     "log_exchanges",
     "log_station",
+    "state",
+    "state_every",
     "reject",
     "well_formed",
     "answer_unnamed",

@@ -102,7 +102,11 @@ fn order_of(asked: ControlRequest, query: Option<&str>) -> Option<Order> {
         ControlRequest::Metrics => Some(Order::Metrics),
         ControlRequest::Status(form) => Some(Order::Status(form)),
         ControlRequest::Stop => Some(Order::Stop),
-        ControlRequest::Reload => Some(Order::Reload),
+        ControlRequest::Reload => match query {
+            None => Some(Order::Reload(false)),
+            Some("lose") => Some(Order::Reload(true)),
+            Some(_) => None,
+        },
         ControlRequest::Trace => match shard_of(query) {
             Some(shard) => Some(Order::Trace(shard)),
             None => None,

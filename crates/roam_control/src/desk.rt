@@ -21,8 +21,9 @@ pub enum Order {
     Stop,
     /// The stored steps of a shard, as a script.
     Trace(u16),
-    /// To read its configuration again, and to serve that one.
-    Reload,
+    /// To read its configuration again, and to serve that one: also where something is lost by that, if that is
+    /// agreed to.
+    Reload(bool),
 }
 
 /// How it went.

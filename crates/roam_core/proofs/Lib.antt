@@ -33,6 +33,8 @@ pub mod EntryKeepingLemmas
 pub mod SentForLemmas
 pub mod InTimeLemmas
 pub mod LifeLemmas
+pub mod CarriedLemmas
+pub mod ToldLemmas
 pub mod LifeLaterLemmas
 pub mod LifeRequestLemmas
 pub mod LifeReplyLemmas

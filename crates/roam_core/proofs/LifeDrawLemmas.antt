@@ -1,24 +1,27 @@
 -- The random words that a realm draws over its life: its stream moves on by the four words of each draw, whatever else
 -- happens, so that each position is drawn from on one occasion, before the stream ends.
-use Rattle.std.proofs.Common.{◌≡◌, ◌+◌, ◌%◌, ◌^◌, ◌<◌, ◌≤◌, ℕ, List, [], ◌∷◌, ◌++◌, refl, sym, ap, subst, ◌∙◌, inl, inr, arith, append_assoc, length}
+use Rattle.std.proofs.Common.{◌≡◌, ◌+◌, ◌%◌, ◌^◌, ◌<◌, ◌≤◌, ◌==◌, ℕ, true, List, [], ◌∷◌, ◌++◌, Option, refl, sym, ap, subst, ◌∙◌, inl, inr, arith, append_assoc, length}
+use Rattle.std.specs.Prelude.{◌⊎◌}
 use Rattle.std.proofs.lemmas.List.{length-append}
 use Rattle.std.proofs.lemmas.Option.{slice_get_within}
+use Rattle.roam_wire.specs.Reading.{packet_of}
+use Rattle.roam_wire.specs.declared.code.TheConstants.{ACCESS_REQUEST}
 use Rattle.roam_route.specs.Admission.{PlainOut}
 use Rattle.roam_pending.specs.ListLaws.{IsIn}
 use Rattle.roam_pending.specs.PlainEntry.{PlainRequest}
 use Rattle.roam_pending.proofs.TestLemmas.{compared}
-use Rattle.roam_book.specs.RealmConfig.{RealmConfig}
-use Rattle.roam_book.specs.RealmState.{Target}
+use Rattle.roam_book.specs.OnRequest.{draws}
 use Rattle.roam_book.specs.OneRealm.{RealmEvent, request_came, tick_came}
 use Rattle.roam_core.specs.Draws.{drawn_by}
 use Rattle.roam_core.specs.Lives.{Happening, Stage, draws_at, draws_in, event, goes_on, begins_anew, stage_after, stage_then}
 use Rattle.roam_core.specs.Occasions.{Occasion}
-use Rattle.roam_core.specs.LifeOrigins.{ForwardsIn, IsForwardedIn, IsRequestIn}
+use Rattle.roam_core.specs.LifeOrigins.{ForwardsIn, IsLaterTickIn, IsOwnTurnIn, IsRequestIn, IsToldIn}
 use Rattle.roam_core.specs.LifeLaws.{DrawsAreApartIn, OneDrawOneForwarding, WordsAreDrawnInOrderIn}
 use Rattle.roam_core.proofs.DrawLemmas.{At, Draws, both-draw, differ, event-draws, none-drawn, numbered-at, numbered-in}
 use Rattle.roam_core.proofs.TicketLemmas.{Places, places, one, later, earlier}
 use Rattle.roam_core.proofs.LifeLemmas.{draws-append}
 use Rattle.roam_core.proofs.LifeTicketLemmas.{one_request_has_ticket_in, same-event}
+use Rattle.roam_core.proofs.ToldLemmas.{IsToldAfter, told-after, told-once, told-same}
 use Rattle.roam_core.proofs.OccasionLemmas.{drew-there, same-occasion}
 
 happening-draws : (place k : ℕ) (at : Stage) (h : Happening) → At place k at.state.stream_position →
@@ -144,77 +147,102 @@ decided b life xs ws ys zs g h p o few x y same left right (earlier mid is) =
 
 -- One draw, one forwarding
 
--- where in the life a request was forwarded
-record WasForwarded (b : Stage) (life : List Happening) (c : RealmConfig) (q : PlainRequest)
-    (position ticket : ℕ) (target : Target) : Type 0 where
-  before : List Happening
-  cause : RealmEvent
-  after : List Happening
-  in_order : life ≡ before ++ event cause ∷ after
-  forwards : ForwardsIn b c q position ticket target before cause
+-- two events of which each is a request or a tick are the same
+own-or-tick : (e f : RealmEvent) (asked_at now : ℕ) (named : Option ℕ) (q : PlainRequest) → e ≡ f
+    → e ≡ request_came asked_at named q → f ≡ tick_came now → ⊥
+own-or-tick e f asked_at now named q same own tick =
+    let both : request_came asked_at named q ≡ tick_came now = sym own ∙ same ∙ tick in
+    cc
 
-was-forwarded : (b : Stage) (life : List Happening) (c : RealmConfig) (q : PlainRequest) (position ticket : ℕ)
-    (target : Target) → IsForwardedIn b life c q position ticket target → WasForwarded b life c q position ticket target
-was-forwarded b life c q position ticket target h =
-    let first = h.request.first in
-    let asked = event (request_came h.request.asked_at h.request.named q) in
-    elim h.sent [
-      | inl own ↦ (record {
-        before = first;
-        cause = request_came h.request.asked_at h.request.named q;
-        after = h.request.rest;
-        in_order = h.request.in_order;
-        forwards = own;
-      })
-      | inr over ↦ (record {
-        before = first ++ asked ∷ over.between;
-        cause = tick_came over.now;
-        after = over.after;
-        in_order =
-            h.request.in_order ∙ ap (λ (l : List Happening). first ++ asked ∷ l) over.in_order
-            ∙ sym (append_assoc first (asked ∷ over.between) (event (tick_came over.now) ∷ over.after));
-        forwards = over.does;
-      })
-    ]
+-- requests of one ticket that are told at one place are told as one
+later-told :
+    (b : Stage) (life xs ys : List Happening) (q r told other : PlainRequest) (ticket : ℕ)
+    (h : IsRequestIn b life q ticket) (k : IsRequestIn b life r ticket) → q ≡ r → xs ≡ ys
+    → IsToldIn b life q ticket h xs told → IsToldIn b life r ticket k ys other → told ≡ other
+later-told b life xs ys q r told other ticket h k same at x y =
+    let asked = request_came k.asked_at k.named r in
+    let first = told-after b life q r ticket h k xs told same x in
+    let here = subst (λ (l : List Happening). IsToldAfter b k.first asked r l told) at first in
+    let second : IsToldAfter b k.first asked r ys other =
+    record { between = y.between; in_order = y.in_order; told_as = y.told_as } in
+    told-once b k.first asked r ys told other here second
+
+same-told :
+    (b : Stage) (life xs ys : List Happening) (q r told other : PlainRequest) (ticket : ℕ) (e f : RealmEvent)
+    (h : IsRequestIn b life q ticket) (k : IsRequestIn b life r ticket) → q ≡ r → xs ≡ ys → e ≡ f
+    → (IsOwnTurnIn b life q told ticket h xs e ⊎ IsLaterTickIn b life q told ticket h xs e)
+    → (IsOwnTurnIn b life r other ticket k ys f ⊎ IsLaterTickIn b life r other ticket k ys f)
+    → told ≡ other
+same-told b life xs ys q r told other ticket e f h k same at event_is (inl x) (inl y) =
+    x.as_it_came ∙ same ∙ sym y.as_it_came
+same-told b life xs ys q r told other ticket e f h k same at event_is (inl x) (inr y) =
+    absurd (own-or-tick e f h.asked_at y.now h.named q event_is x.own y.tick)
+same-told b life xs ys q r told other ticket e f h k same at event_is (inr x) (inl y) =
+    absurd (own-or-tick f e k.asked_at x.now k.named r (sym event_is) y.own x.tick)
+same-told b life xs ys q r told other ticket e f h k same at event_is (inr x) (inr y) =
+    later-told b life xs ys q r told other ticket h k same at x.is_told y.is_told
+
+-- what is told of a request is an Access-Request where it is one
+draws-told : (b : Stage) (life before : List Happening) (q told : PlainRequest) (ticket : ℕ) (cause : RealmEvent)
+    (h : IsRequestIn b life q ticket)
+    → (IsOwnTurnIn b life q told ticket h before cause ⊎ IsLaterTickIn b life q told ticket h before cause)
+    → draws q ≡ true → draws told ≡ true
+draws-told b life before q told ticket cause h (inl own) asks = ap draws own.as_it_came ∙ asks
+draws-told b life before q told ticket cause h (inr tick) asks =
+    ap (λ (octets : List ℕ). (packet_of octets).code == ACCESS_REQUEST)
+    (told-same b life q ticket h before told tick.is_told).octets ∙ asks
 
 same-packet : (x y : PlainOut) → x ∷ [] ≡ y ∷ [] → x ≡ y
 same-packet x y same = cc
 
+-- at the place and the ticket of another one
+record IsAlsoForwarded (b : Stage) (life : List Happening) (r named : PlainRequest) (ticket : ℕ)
+    (before : List Happening) (cause : RealmEvent) : Type 0 where
+  request : IsRequestIn b life r ticket
+  turn :
+      IsOwnTurnIn b life r named ticket request before cause ⊎ IsLaterTickIn b life r named ticket request before cause
+
 pub one_draw_one_forwarding : OneDrawOneForwarding
-one_draw_one_forwarding b life c d q r p o ticket next target another few h k draws_q draws_r same =
+one_draw_one_forwarding b life c d q r told named p o ticket next target another few x y draws_q draws_r same =
     let place = b.state.stream_position in
-    let x = was-forwarded b life c q p ticket target h in
-    let y = was-forwarded b life d r o next another k in
     let at = stage_then b x.before in
     let f = x.forwards in
-    let drew = f.forwards.drawn draws_q in
-    let again = y.forwards.forwards.drawn draws_r in
+    let drew = f.forwards.drawn (draws-told b life x.before q told ticket x.cause x.request x.turn draws_q) in
+    let named_draws = draws-told b life y.before r named next y.cause y.request y.turn draws_r in
+    let again = y.forwards.forwards.drawn named_draws in
     let one_draw = is-draw b x.before (event x.cause) p
     (drew-there at.config at.state x.cause f.occasion p f.among drew) in
     let other_draw = is-draw b y.before (event y.cause) o
     (drew-there (stage_then b y.before).config (stage_then b y.before).state y.cause y.forwards.occasion o
     y.forwards.among again) in
-    let once = decided b life x.before x.after y.before y.after (event x.cause) (event y.cause) p o few one_draw
+    let once = decided b life x.before x.later y.before y.later (event x.cause) (event y.cause) p o few one_draw
     other_draw same x.in_order y.in_order
-    (places x.before x.after y.before y.after (event x.cause) (event y.cause) (sym x.in_order ∙ y.in_order)) in
-    let moved = subst (λ (l : List Happening). ForwardsIn b d r o next another l y.cause) (sym once.0) y.forwards in
-    let g = subst (λ (e : RealmEvent). ForwardsIn b d r o next another x.before e)
-    (sym (same-event x.cause y.cause once.1)) moved in
-    let last = append_assoc x.before (event x.cause ∷ []) x.after ∙ sym x.in_order in
+    (places x.before x.later y.before y.later (event x.cause) (event y.cause) (sym x.in_order ∙ y.in_order)) in
+    let cause_is = same-event x.cause y.cause once.1 in
+    let moved = subst (λ (l : List Happening). ForwardsIn b d named o next another l y.cause) (sym once.0)
+    y.forwards in
+    let g = subst (λ (e : RealmEvent). ForwardsIn b d named o next another x.before e) (sym cause_is) moved in
+    let last = append_assoc x.before (event x.cause ∷ []) x.later ∙ sym x.in_order in
     let within = subst (λ (l : List Happening). count b (x.before ++ event x.cause ∷ []) ≤ count b l) last
-    (count-grows b (x.before ++ event x.cause ∷ []) x.after) in
+    (count-grows b (x.before ++ event x.cause ∷ []) x.later) in
     let own : count b (x.before ++ event x.cause ∷ [])
     ≡ count b x.before + length (drawn_by at.config at.state x.cause) =
     count-next b x.before (event x.cause) in
     let fewer : count b x.before + length (drawn_by at.config at.state x.cause) ≤ 2 ^ 66 =
     omega (arith, within, own, few) in
     let one_occasion = same-occasion place (count b x.before) at.config at.state x.cause f.occasion g.occasion p o
-    (stands-there b x.before) fewer f.among g.among drew (g.forwards.drawn draws_r) same in
+    (stands-there b x.before) fewer f.among g.among drew (g.forwards.drawn named_draws) same in
     let tickets = sym f.forwards.own_ticket ∙ ap (λ (a : Occasion). a.ticket) one_occasion ∙ g.forwards.own_ticket in
-    record {
-      request = one_request_has_ticket_in b life q r ticket h.request
-          (subst (IsRequestIn b life r) (sym tickets) k.request);
-      ticket_is = tickets;
-      config = sym f.under ∙ g.under;
-      packet = same-packet _ _ (sym f.forwards.sent ∙ ap (λ (a : Occasion). a.sent) one_occasion ∙ g.forwards.sent);
-    }
+    let also = subst (λ (n : ℕ). IsAlsoForwarded b life r named n y.before y.cause) (sym tickets)
+    (record { request = y.request; turn = y.turn }) in
+    let came = one_request_has_ticket_in b life q r ticket x.request also.request in (
+      came,
+      record {
+        request =
+            same-told b life x.before y.before q r told named ticket x.cause y.cause x.request also.request came
+            once.0 cause_is x.turn also.turn;
+        ticket_is = tickets;
+        config = sym f.under ∙ g.under;
+        packet = same-packet _ _ (sym f.forwards.sent ∙ ap (λ (a : Occasion). a.sent) one_occasion ∙ g.forwards.sent);
+      },
+    )

@@ -1,7 +1,8 @@
 -- What is known of each entry and of each packet after some part of a realm's life stays known when more happens.
-use Rattle.std.proofs.Common.{◌≡◌, ℕ, ◌^◌, List, [], ◌∷◌, ◌++◌, refl, sym, ap, subst, ◌∙◌, ltb, inl, inr, append_assoc, Option}
+use Rattle.std.proofs.Common.{◌≡◌, ℕ, ◌^◌, List, [], ◌∷◌, ◌++◌, Some, refl, sym, ap, subst, ◌∙◌, ltb, inl, inr}
 use Rattle.std.specs.List.{AllByRecursion}
 use Rattle.std.proofs.lemmas.Bool.{cases_Bool}
+use Rattle.roam_conf.specs.declared.place.Link.{Link}
 use Rattle.roam_route.specs.Admission.{PlainOut}
 use Rattle.roam_pending.specs.ListLaws.{IsIn}
 use Rattle.roam_pending.specs.PlainEntry.{PlainRequest, PlainStanding, PlainEntry, waiting, done}
@@ -10,10 +11,12 @@ use Rattle.roam_book.specs.RealmConfig.{RealmConfig}
 use Rattle.roam_book.specs.RealmState.{RealmState, Target}
 use Rattle.roam_book.specs.Turn.{Turn, packets_of, state_after, in_time}
 use Rattle.roam_book.specs.OnRequest.{forwarded_octets, packet_to_link}
-use Rattle.roam_book.specs.OneRealm.{RealmEvent, request_came, reply_came, tick_came, on_event}
+use Rattle.roam_book.specs.OneRealm.{RealmEvent, request_came, reply_came, on_event}
 use Rattle.roam_core.specs.Lives.{Happening, Stage, event, stage_then}
-use Rattle.roam_core.specs.LifeOrigins.{AtLaterTickIn, ComesFromIn, ForwardsIn, GivesUp, HasOriginIn, IsForwardedIn, IsNakIn, IsRequestIn, IsReturnedIn, IsSentIn, StandsFromIn, back_to}
-use Rattle.roam_core.proofs.LifeLemmas.{stage-next}
+use Rattle.roam_core.specs.LifeOrigins.{ComesFromIn, HasOriginIn, IsForwardedIn, IsLaterTickIn, IsNakIn, IsOwnTurnIn, IsRequestIn, IsReturnedIn, IsSentIn, IsTargetThen, IsToldIn, StandsFromIn, WaitsForIn, back_to}
+use Rattle.roam_core.specs.Told.{link_over, request_over}
+use Rattle.roam_core.proofs.LifeLemmas.{longer, stage-append, stage-next}
+use Rattle.roam_core.proofs.ToldLemmas.{IsToldAfter, link-append, told-more}
 
 -- of all: that they come from the life, have their origin there, were sent by an event's turn
 abbrev pub EachComesIn : Stage → List Happening → List PlainEntry → Type 0
@@ -30,11 +33,6 @@ pub record TurnKeepsIn (b : Stage) (life : List Happening) (old : RealmState) (t
   pub packets : EachHasOriginIn b life (packets_of turn)
   pub entries : EachComesIn b life (state_after old turn).entries
 
--- a list in which something stands is longer by what follows
-pub longer : (life first rest more : List Happening) (h : Happening) → life ≡ first ++ h ∷ rest →
-    life ++ more ≡ first ++ h ∷ (rest ++ more)
-longer life first rest more h is = ap (λ (l : List Happening). l ++ more) is ∙ append_assoc first (h ∷ rest) more
-
 abbrev pub request-later :
     (b : Stage) (es fs : List Happening) (q : PlainRequest) (ticket : ℕ)
     → IsRequestIn b es q ticket → IsRequestIn b (es ++ fs) q ticket
@@ -47,32 +45,47 @@ request-later b es fs q ticket h = record {
   given = h.given;
 }
 
-tick-later :
-    (b : Stage) (first fs : List Happening) (asked_at : ℕ) (named : Option ℕ)
-    (q : PlainRequest) (rest : List Happening) (ticket : ℕ)
-    (Does : List Happening → RealmEvent → Type 0)
-    → AtLaterTickIn b first asked_at named q rest ticket Does
-    → AtLaterTickIn b first asked_at named q (rest ++ fs) ticket Does
-tick-later b first fs asked_at named q rest ticket Does h = record {
-  between = h.between;
+-- a request's own turn, and a later tick, are so in a longer life
+pub own-later :
+    (b : Stage) (es fs : List Happening) (q told : PlainRequest) (ticket : ℕ) (request : IsRequestIn b es q ticket)
+    (before : List Happening) (cause : RealmEvent) → IsOwnTurnIn b es q told ticket request before cause
+    → IsOwnTurnIn b (es ++ fs) q told ticket (request-later b es fs q ticket request) before cause
+own-later b es fs q told ticket request before cause h =
+    record { first = h.first; own = h.own; as_it_came = h.as_it_came }
+
+pub told-later :
+    (b : Stage) (es fs : List Happening) (q told : PlainRequest) (ticket : ℕ) (request : IsRequestIn b es q ticket)
+    (before : List Happening) → IsToldIn b es q ticket request before told
+    → IsToldIn b (es ++ fs) q ticket (request-later b es fs q ticket request) before told
+told-later b es fs q told ticket request before h =
+    record { between = h.between; in_order = h.in_order; told_as = h.told_as }
+
+pub tick-later :
+    (b : Stage) (es fs : List Happening) (q told : PlainRequest) (ticket : ℕ) (request : IsRequestIn b es q ticket)
+    (before : List Happening) (cause : RealmEvent) → IsLaterTickIn b es q told ticket request before cause
+    → IsLaterTickIn b (es ++ fs) q told ticket (request-later b es fs q ticket request) before cause
+tick-later b es fs q told ticket request before cause h = record {
   now = h.now;
-  after = h.after ++ fs;
-  in_order = longer rest h.between h.after fs (event (tick_came h.now)) h.in_order;
+  tick = h.tick;
+  is_told = told-later b es fs q told ticket request before h.is_told;
   held = h.held;
-  does = h.does;
 }
 
-pub forwarded-later :
-    (b : Stage) (es fs : List Happening) (c : RealmConfig) (q : PlainRequest)
-    (position ticket : ℕ) (target : Target) → IsForwardedIn b es c q position ticket target
-    → IsForwardedIn b (es ++ fs) c q position ticket target
-forwarded-later b es fs c q position ticket target h = record {
+abbrev pub forwarded-later :
+    (b : Stage) (es fs : List Happening) (c : RealmConfig) (q told : PlainRequest)
+    (position ticket : ℕ) (target : Target) → IsForwardedIn b es c q told position ticket target
+    → IsForwardedIn b (es ++ fs) c q told position ticket target
+forwarded-later b es fs c q told position ticket target h = record {
   request = request-later b es fs q ticket h.request;
-  sent = elim h.sent [
-    | inl own ↦ inl own
-    | inr over ↦ inr (tick-later b h.request.first fs h.request.asked_at h.request.named q h.request.rest ticket
-        (ForwardsIn b c q position ticket target) over)
+  before = h.before;
+  cause = h.cause;
+  later = h.later ++ fs;
+  in_order = longer es h.before h.later fs (event h.cause) h.in_order;
+  turn = elim h.turn [
+    | inl own ↦ inl (own-later b es fs q told ticket h.request h.before h.cause own)
+    | inr tick ↦ inr (tick-later b es fs q told ticket h.request h.before h.cause tick)
   ];
+  forwards = h.forwards;
 }
 
 pub returned-later :
@@ -84,12 +97,17 @@ returned-later b es fs q ticket out h = record {
   target = h.target;
   position = h.position;
   under = h.under;
+  told = h.told;
   now_under = h.now_under;
+  told_now = h.told_now;
+  link = h.link;
   reply = h.reply;
   after = h.after ++ fs;
-  in_order = longer es h.before h.after fs (event (reply_came h.answered_at h.target.link h.reply)) h.in_order;
+  in_order = longer es h.before h.after fs (event (reply_came h.answered_at h.link h.reply)) h.in_order;
   config_then = h.config_then;
   forwarded = h.forwarded;
+  from_there = h.from_there;
+  is_told = h.is_told;
   identifier = h.identifier;
   taken = h.taken;
   is_returned = h.is_returned;
@@ -116,39 +134,78 @@ nak-later b es fs q out (inr h) = inr (record {
   ticket = h.ticket;
   request = request-later b es fs q h.ticket h.request;
   reverse = h.reverse;
-  given_up =
-      tick-later b h.request.first fs h.request.asked_at h.request.named q h.request.rest h.ticket
-      (GivesUp b q out) h.given_up;
+  before = h.before;
+  cause = h.cause;
+  later = h.later ++ fs;
+  in_order = longer es h.before h.later fs (event h.cause) h.in_order;
+  told = h.told;
+  turn = tick-later b es fs q h.told h.ticket h.request h.before h.cause h.turn;
+  under = h.under;
+  config_then = h.config_then;
+  is_nak = h.is_nak;
+  sent = h.sent;
 })
 
+-- where more happens by which a link is told as another one, what waits at the one waits at the other
+pub waits-more :
+    (b : Stage) (es more : List Happening) (q : PlainRequest) (ticket id : ℕ) (l m : Link) (octets : List ℕ)
+    → link_over (stage_then b es) more l ≡ Some m → WaitsForIn b es q ticket l id octets
+    → WaitsForIn b (es ++ more) q ticket m id octets
+waits-more b es more q ticket id l m octets then h =
+    let sent = h.forwarded in
+    let own = event sent.cause ∷ sent.later in
+    let there = sym (stage-append b sent.before own) ∙ ap (stage_then b) (sym sent.in_order) in
+    record {
+      under = h.under;
+      told = h.told;
+      position = h.position;
+      target = h.target;
+      octets_are = h.octets_are;
+      forwarded = forwarded-later b es more h.under q h.told h.position ticket h.target sent;
+      there =
+          link-append (stage_then b sent.before) own more h.target.link l m h.there
+          (subst (λ (t : Stage). link_over t more l ≡ Some m) (sym there) then);
+      identifier = h.identifier;
+    }
+
+-- where one more event happens, each is told as it was
 pub stands-later :
-    (b : Stage) (es fs : List Happening) (q : PlainRequest) (ticket : ℕ)
-    (s : PlainStanding) → StandsFromIn b es q ticket s → StandsFromIn b (es ++ fs) q ticket s
-stands-later b es fs q ticket (waiting l id forwarded sends_left deadline signs) h = record {
-  under = h.under;
-  position = h.position;
-  octets_are = h.octets_are;
-  forwarded = forwarded-later b es fs h.under q h.position ticket (record { link = l; id = id })
-      h.forwarded;
-}
-stands-later b es fs q ticket (done reply deadline from) (inl h) =
-    inl (returned-later b es fs q ticket (back_to b.config.index q.key reply) h)
-stands-later b es fs q ticket (done reply deadline from) (inr h) =
-    inr (nak-later b es fs q (back_to b.config.index q.key reply) h)
+    (b : Stage) (es : List Happening) (f : RealmEvent) (q : PlainRequest) (ticket : ℕ)
+    (s : PlainStanding) → StandsFromIn b es q ticket s → StandsFromIn b (es ++ event f ∷ []) q ticket s
+stands-later b es f q ticket (waiting l id forwarded sends_left deadline signs) h =
+    waits-more b es (event f ∷ []) q ticket id l l forwarded refl h
+stands-later b es f q ticket (done reply deadline from) (inl h) =
+    inl (returned-later b es (event f ∷ []) q ticket (back_to b.config.index q.key reply) h)
+stands-later b es f q ticket (done reply deadline from) (inr h) =
+    inr (nak-later b es (event f ∷ []) q (back_to b.config.index q.key reply) h)
+
+-- a request is told as another one where more happens by which it is
+pub told-then :
+    (b : Stage) (es more : List Happening) (q told new : PlainRequest) (ticket : ℕ)
+    (request : IsRequestIn b es q ticket) → IsToldIn b es q ticket request es told
+    → request_over (stage_then b es) more told ≡ Some new
+    → IsToldIn b (es ++ more) q ticket (request-later b es more q ticket request) (es ++ more) new
+told-then b es more q told new ticket request h then =
+    let own : IsToldAfter b request.first (request_came request.asked_at request.named q) q es told =
+    record { between = h.between; in_order = h.in_order; told_as = h.told_as } in
+    let all = told-more b request.first (request_came request.asked_at request.named q) q es more told new own then in
+    record { between = all.between; in_order = all.in_order; told_as = all.told_as }
 
 comes-later :
-    (b : Stage) (es fs : List Happening) (e : PlainEntry)
-    → ComesFromIn b es e → ComesFromIn b (es ++ fs) e
-comes-later b es fs e h = record {
-  request = request-later b es fs e.request e.ticket h.request;
-  standing = stands-later b es fs e.request e.ticket e.standing h.standing;
+    (b : Stage) (es : List Happening) (f : RealmEvent) (e : PlainEntry)
+    → ComesFromIn b es e → ComesFromIn b (es ++ event f ∷ []) e
+comes-later b es f e h = record {
+  came = h.came;
+  request = request-later b es (event f ∷ []) h.came e.ticket h.request;
+  is_told = told-then b es (event f ∷ []) h.came e.request e.request e.ticket h.request h.is_told refl;
+  standing = stands-later b es f h.came e.ticket e.standing h.standing;
 }
 
 pub each-later :
-    (b : Stage) (es fs : List Happening) (entries : List PlainEntry)
-    → EachComesIn b es entries → EachComesIn b (es ++ fs) entries
-each-later b es fs entries h =
-    all-weaker (ComesFromIn b es) (ComesFromIn b (es ++ fs)) entries (comes-later b es fs) h
+    (b : Stage) (es : List Happening) (f : RealmEvent) (entries : List PlainEntry)
+    → EachComesIn b es entries → EachComesIn b (es ++ event f ∷ []) entries
+each-later b es f entries h =
+    all-weaker (ComesFromIn b es) (ComesFromIn b (es ++ event f ∷ [])) entries (comes-later b es f) h
 
 has-origin-later :
     (b : Stage) (es fs : List Happening) (out : PlainOut)
@@ -160,13 +217,16 @@ has-origin-later b es fs out (inl h) = inl (record {
   now_under = h.now_under;
   under = h.under;
   request = h.request;
+  told = h.told;
   position = h.position;
   ticket = h.ticket;
   target = h.target;
+  link = h.link;
   in_order = longer es h.before h.after fs (event h.cause) h.in_order;
   config_then = h.config_then;
   sent = h.sent;
   forwarded = h.forwarded;
+  to_there = h.to_there;
   is_forwarded = h.is_forwarded;
 })
 has-origin-later b es fs out (inr (inl h)) = inr (inl (record {
@@ -187,28 +247,33 @@ origin-later b es fs outs h =
 
 -- a packet that an event sends is the forwarded one of a request
 pub forwarded-origin :
-    (b : Stage) (before : List Happening) (e : RealmEvent) (c d : RealmConfig) (q : PlainRequest)
-    (position ticket : ℕ) (target : Target) (octets : List ℕ) → (stage_then b before).config ≡ c
-    → IsForwardedIn b (before ++ event e ∷ []) d q position ticket target
-    → octets ≡ forwarded_octets d q position ticket target
-    → IsSentIn b before e (packet_to_link c target.link octets)
-    → HasOriginIn b (before ++ event e ∷ []) (packet_to_link c target.link octets)
-forwarded-origin b before e c d q position ticket target octets is forwarded are sent = inl (record {
-  before = before;
-  cause = e;
-  after = [];
-  now_under = c;
-  under = d;
-  request = q;
-  position = position;
-  ticket = ticket;
-  target = target;
-  in_order = refl;
-  config_then = is;
-  sent = sent;
-  forwarded = forwarded;
-  is_forwarded = ap (packet_to_link c target.link) are;
-})
+    (b : Stage) (before : List Happening) (e : RealmEvent) (c d : RealmConfig) (q told : PlainRequest)
+    (position ticket : ℕ) (target : Target) (link : Link) (octets : List ℕ) → (stage_then b before).config ≡ c
+    → (forwarded : IsForwardedIn b (before ++ event e ∷ []) d q told position ticket target)
+    → IsTargetThen b (before ++ event e ∷ []) d q told position ticket target forwarded link
+    → octets ≡ forwarded_octets d told position ticket target
+    → IsSentIn b before e (packet_to_link c link octets)
+    → HasOriginIn b (before ++ event e ∷ []) (packet_to_link c link octets)
+forwarded-origin b before e c d q told position ticket target link octets is forwarded there are sent =
+    inl (record {
+      before = before;
+      cause = e;
+      after = [];
+      now_under = c;
+      under = d;
+      request = q;
+      told = told;
+      position = position;
+      ticket = ticket;
+      target = target;
+      link = link;
+      in_order = refl;
+      config_then = is;
+      sent = sent;
+      forwarded = forwarded;
+      to_there = there;
+      is_forwarded = ap (packet_to_link c link) are;
+    })
 
 -- the turn of an event that comes after others, at the stage to which they lead
 pub record IsTurnAt (b : Stage) (before : List Happening) (e : RealmEvent) (at : Stage) (turn : Turn)

@@ -28,6 +28,11 @@ draws-append b (x ∷ xs) ys =
     ap (λ (ps : List ℕ). draws_at b x ++ ps) (draws-append next xs ys)
     ∙ sym (append_assoc (draws_at b x) (draws_in next xs) (draws_in (stage_then next xs) ys))
 
+-- a list in which something stands is longer by what follows
+pub longer : (life first rest more : List Happening) (h : Happening) → life ≡ first ++ h ∷ rest →
+    life ++ more ≡ first ++ h ∷ (rest ++ more)
+longer life first rest more h is = ap (λ (l : List Happening). l ++ more) is ∙ append_assoc first (h ∷ rest) more
+
 -- the realm stays the one of its index
 index-after : (at : Stage) (h : Happening) → (stage_after at h).config.index ≡ at.config.index
 index-after at (event e) = refl

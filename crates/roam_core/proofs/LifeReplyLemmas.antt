@@ -8,6 +8,7 @@ use Rattle.roam_wire.specs.declared.refusal.Refusal.{Refusal}
 use Rattle.roam_back.specs.Returned.{returned_length}
 use Rattle.roam_conf.specs.declared.place.Link.{Link}
 use Rattle.roam_route.specs.Admission.{PlainOut}
+use Rattle.roam_pending.specs.declared.key.Key.{Key}
 use Rattle.roam_pending.specs.PlainEntry.{PlainRequest, PlainStanding, PlainEntry, waiting, done, same_link, stands_at, waits_at}
 use Rattle.roam_pending.specs.EntryList.{find_link}
 use Rattle.roam_pending.specs.Realms.{with_standing}
@@ -24,7 +25,8 @@ use Rattle.roam_core.specs.Lives.{Happening, Stage, event, stage_then}
 use Rattle.roam_core.specs.LifeOrigins.{ComesFromIn, IsReturnedIn, IsSentIn, StandsFromIn, WaitsForIn, back_to}
 use Rattle.roam_core.proofs.LifeLemmas.{index-then}
 use Rattle.roam_core.proofs.OriginReplyLemmas.{both, same_link-equal}
-use Rattle.roam_core.proofs.LifeLaterLemmas.{EachComesIn, AreSentIn, TurnKeepsIn, request-later, each-later, in_time-keeps}
+use Rattle.roam_core.proofs.LifeLaterLemmas.{EachComesIn, AreSentIn, TurnKeepsIn, request-later, told-then, each-later, in_time-keeps}
+use Rattle.roam_core.proofs.ToldLemmas.{told-of, told-same}
 
 -- what happened, a reply from a link being the last
 abbrev and_reply : List Happening → ℕ → Link → List ℕ → List Happening
@@ -38,8 +40,7 @@ back_for c q l forwarded reply = packet_to_requester c q.key (returned_octets c 
 on-same_link :
     (b : Stage) (life : List Happening) (q : PlainRequest) (ticket id : ℕ)
     (octets : List ℕ) (k l : Link) → k ≡ l
-    → WaitsForIn b life q ticket (record { link = k; id = id }) octets
-    → WaitsForIn b life q ticket (record { link = l; id = id }) octets
+    → WaitsForIn b life q ticket k id octets → WaitsForIn b life q ticket l id octets
 on-same_link b life q ticket id octets k l is h = rw (← is) h
 
 -- of a reply that comes from a link, at a stage whose entries come from what happened before it
@@ -47,38 +48,45 @@ module _ (b : Stage) (before : List Happening) (at : Stage) (is_at : stage_then 
     (from : Link) (reply : List ℕ) (kept : EachComesIn b before at.state.entries) where
   -- the entries still come from there
   still : EachComesIn b (and_reply before now from reply) at.state.entries
-  still = each-later b before (event (reply_came now from reply) ∷ []) at.state.entries kept
+  still = each-later b before (reply_came now from reply) at.state.entries kept
 
   -- a reply that is taken for what was forwarded, and is then sent back
   answered-returned :
-      (q : PlainRequest) (ticket id : ℕ) (forwarded : List ℕ)
-      → WaitsForIn b before q ticket (record { link = from; id = id }) forwarded
+      (e : PlainEntry) (id : ℕ) (forwarded : List ℕ) (comes : ComesFromIn b before e)
+      → WaitsForIn b before comes.came e.ticket from id forwarded
       → (packet_of reply).id ≡ id
       → reply_fault (link_secret at.config from) (seal_required at.config from) (packet_of reply)
       (packet_of forwarded) ≡ None
       → IsSentIn b before (reply_came now from reply)
-      (back_for at.config q from (packet_of forwarded) (packet_of reply))
-      → IsReturnedIn b (and_reply before now from reply) q ticket
-      (back_for at.config q from (packet_of forwarded) (packet_of reply))
-  answered-returned q ticket id forwarded waits asked taken sent = record {
+      (back_for at.config e.request from (packet_of forwarded) (packet_of reply))
+      → IsReturnedIn b (and_reply before now from reply) comes.came e.ticket
+      (back_for at.config e.request from (packet_of forwarded) (packet_of reply))
+  answered-returned e id forwarded comes waits asked taken sent = record {
     before = before;
     answered_at = now;
-    target = record { link = from; id = id };
+    target = waits.target;
     position = waits.position;
     under = waits.under;
+    told = waits.told;
     now_under = at.config;
+    told_now = e.request;
+    link = from;
     reply = reply;
     after = [];
     in_order = refl;
     config_then = ap (λ (t : Stage). t.config) is_at;
     forwarded = waits.forwarded;
-    identifier = asked;
+    from_there = waits.there;
+    is_told =
+        told-of b before comes.came e.ticket comes.request waits.forwarded.request before e.request
+        comes.is_told;
+    identifier = asked ∙ waits.identifier;
     taken =
         subst (λ (octets : List ℕ). reply_fault (link_secret at.config from) (seal_required at.config from)
         (packet_of reply)
         (packet_of octets) ≡ None) waits.octets_are taken;
     is_returned =
-        ap (λ (octets : List ℕ). back_for at.config q from (packet_of octets) (packet_of reply))
+        ap (λ (octets : List ℕ). back_for at.config e.request from (packet_of octets) (packet_of reply))
         waits.octets_are;
     sent = sent;
   }
@@ -86,10 +94,33 @@ module _ (b : Stage) (before : List Happening) (at : Stage) (is_at : stage_then 
   own-index : at.config.index ≡ b.config.index
   own-index = sym (ap (λ (t : Stage). t.config.index) is_at) ∙ index-then b before
 
+  -- an entry that is done with it comes from the life
+  settled-comes :
+      (e : PlainEntry) (octets : List ℕ) (deadline : ℕ) (comes : ComesFromIn b before e)
+      → IsReturnedIn b (and_reply before now from reply) comes.came e.ticket
+      (packet_to_requester at.config e.request.key octets)
+      → ComesFromIn b (and_reply before now from reply) (with_standing (done octets deadline (Some from)) e)
+  settled-comes e octets deadline comes returned =
+      let life = and_reply before now from reply in
+      let happened = reply_came now from reply in
+      let told = told-same b before comes.came e.ticket comes.request before e.request comes.is_told in
+      let here = subst (λ (k : Key). IsReturnedIn b life comes.came e.ticket (packet_to_requester at.config k octets))
+      told.key returned in
+      record {
+        came = comes.came;
+        request = request-later b before (event happened ∷ []) comes.came e.ticket comes.request;
+        is_told =
+            told-then b before (event happened ∷ []) comes.came e.request e.request e.ticket comes.request
+            comes.is_told refl;
+        standing =
+            inl (subst (λ (i : ℕ). IsReturnedIn b life comes.came e.ticket (back_to i comes.came.key octets))
+            own-index here);
+      }
+
   -- it is returned for an entry: the entry is done with it
   return_reply-keeps :
-      (e : PlainEntry) (id : ℕ) (forwarded : List ℕ) → ComesFromIn b before e
-      → WaitsForIn b before e.request e.ticket (record { link = from; id = id }) forwarded
+      (e : PlainEntry) (id : ℕ) (forwarded : List ℕ) (comes : ComesFromIn b before e)
+      → WaitsForIn b before comes.came e.ticket from id forwarded
       → (packet_of reply).id ≡ id
       → reply_fault (link_secret at.config from) (seal_required at.config from) (packet_of reply)
       (packet_of forwarded) ≡ None
@@ -104,22 +135,18 @@ module _ (b : Stage) (before : List Happening) (at : Stage) (is_at : stage_then 
       let how = returning at.config e.request from (packet_of forwarded) in
       let length = returned_length how (passing_to at.config e.request (packet_of reply))
       (packet_of e.request.octets) in
-      let settled = with_standing (done octets (now + at.config.realm.hold) (Some from)) e in
+      let deadline = now + at.config.realm.hold in
+      let settled = with_standing (done octets deadline (Some from)) e in
       elim (cases_Bool (ltb 4096 length)) [
         | inl y ↦ rw y (record { packets = tt; entries = still })
         | inr n ↦
             let out : AreSentIn b before happened
             (back_for at.config e.request from (packet_of forwarded) (packet_of reply) ∷ []) = rw n at sent in
-            let returned = answered-returned e.request e.ticket id forwarded waits asked taken out.0 in
-            let held = subst (λ (i : ℕ). IsReturnedIn b life e.request e.ticket (back_to i e.request.key octets))
-            own-index returned in
-            let settled_comes : ComesFromIn b life settled = record {
-              request = request-later b before (event happened ∷ []) e.request e.ticket comes.request;
-              standing = inl held;
-            } in
+            let returned = answered-returned e id forwarded comes waits asked taken out.0 in
+            let settled_comes = settled-comes e octets deadline comes returned in
             rw n (record {
               packets = (
-                inr (inl (record { request = e.request; ticket = e.ticket; returned = returned })),
+                inr (inl (record { request = comes.came; ticket = e.ticket; returned = returned })),
                 tt,
               );
               entries = all-put (ComesFromIn b life) settled at.state.entries settled_comes still;
@@ -131,8 +158,7 @@ module _ (b : Stage) (before : List Happening) (at : Stage) (is_at : stage_then 
       (e : PlainEntry) (id : ℕ) (forwarded : List ℕ) (why : Option Refusal)
       → reply_fault (link_secret at.config from) (seal_required at.config from) (packet_of reply)
       (packet_of forwarded) ≡ why
-      → ComesFromIn b before e
-      → WaitsForIn b before e.request e.ticket (record { link = from; id = id }) forwarded
+      → (comes : ComesFromIn b before e) → WaitsForIn b before comes.came e.ticket from id forwarded
       → (packet_of reply).id ≡ id
       → AreSentIn b before (reply_came now from reply)
       (packets_of (judge at.config now at.state e from (packet_of forwarded) (packet_of reply) why))
@@ -148,8 +174,8 @@ module _ (b : Stage) (before : List Happening) (at : Stage) (is_at : stage_then 
 
   -- the entry waits on the link from which the reply came, with the reply's Identifier
   to_standing-keeps :
-      (e : PlainEntry) (standing : PlainStanding) → ComesFromIn b before e
-      → StandsFromIn b before e.request e.ticket standing
+      (e : PlainEntry) (standing : PlainStanding) (comes : ComesFromIn b before e)
+      → StandsFromIn b before comes.came e.ticket standing
       → stands_at from (packet_of reply).id standing ≡ true
       → AreSentIn b before (reply_came now from reply)
       (packets_of (to_standing at.config now at.state e (packet_of reply) standing))
@@ -159,7 +185,7 @@ module _ (b : Stage) (before : List Happening) (at : Stage) (is_at : stage_then 
       let tests = both (same_link l from) (eqb id (packet_of reply).id) stands in
       let is = same_link-equal l from tests.0 in
       let asked : (packet_of reply).id ≡ id = let t = tests.1 in grind (arith, nat_tests, t) in
-      let there = on-same_link b before e.request e.ticket id forwarded l from is waits in
+      let there = on-same_link b before comes.came e.ticket id forwarded l from is waits in
       let happened = reply_came now from reply in
       let of_link : Link → Type 0 = λ k. AreSentIn b before happened
       (packets_of (to_standing at.config now at.state e (packet_of reply)

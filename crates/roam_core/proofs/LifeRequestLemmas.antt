@@ -28,24 +28,25 @@ use Rattle.roam_core.specs.Provenance.{forwarded_packet}
 use Rattle.roam_core.proofs.OriginRequestLemmas.{moves, next_position}
 use Rattle.roam_core.proofs.LifeLemmas.{index-then}
 use Rattle.roam_core.proofs.LifeLaterLemmas.{EachComesIn, EachHasOriginIn, TurnKeepsIn, IsTurnAt, forwarded-origin, sent-by, state-by}
+use Rattle.roam_core.proofs.ToldLemmas.{told-same}
 use Rattle.roam_book.specs.declared.state.rest.Rest.{Rest}
 
 -- a reply that is held goes back to the key of its request
 held-origin :
-    (b : Stage) (life : List Happening) (c : RealmConfig) (q : PlainRequest) (ticket : ℕ)
-    (key : Key) (s : PlainStanding) → q.key ≡ key → b.config.index ≡ c.index
-    → StandsFromIn b life q ticket s → EachHasOriginIn b life (held_reply c key s)
-held-origin b life c q ticket key (waiting l id forwarded sends_left deadline signs) is index h = tt
-held-origin b life c q ticket key (done reply deadline from) is index (inl h) =
-    let there = subst (λ (k : Key). IsReturnedIn b life q ticket (back_to b.config.index k reply)) is h in
-    let back : IsReturnedIn b life q ticket (packet_to_requester c key reply) =
-    subst (λ (i : ℕ). IsReturnedIn b life q ticket (back_to i key reply)) index there in
-    (inr (inl (record { request = q; ticket = ticket; returned = back })), tt)
-held-origin b life c q ticket key (done reply deadline from) is index (inr h) =
-    let there = subst (λ (k : Key). IsNakIn b life q (back_to b.config.index k reply)) is h in
-    let back : IsNakIn b life q (packet_to_requester c key reply) =
-    subst (λ (i : ℕ). IsNakIn b life q (back_to i key reply)) index there in
-    (inr (inr (record { request = q; nak = back })), tt)
+    (b : Stage) (life : List Happening) (c : RealmConfig) (came : PlainRequest) (ticket : ℕ)
+    (key : Key) (s : PlainStanding) → came.key ≡ key → b.config.index ≡ c.index
+    → StandsFromIn b life came ticket s → EachHasOriginIn b life (held_reply c key s)
+held-origin b life c came ticket key (waiting l id forwarded sends_left deadline signs) is index h = tt
+held-origin b life c came ticket key (done reply deadline from) is index (inl h) =
+    let there = subst (λ (k : Key). IsReturnedIn b life came ticket (back_to b.config.index k reply)) is h in
+    let back : IsReturnedIn b life came ticket (packet_to_requester c key reply) =
+    subst (λ (i : ℕ). IsReturnedIn b life came ticket (back_to i key reply)) index there in
+    (inr (inl (record { request = came; ticket = ticket; returned = back })), tt)
+held-origin b life c came ticket key (done reply deadline from) is index (inr h) =
+    let there = subst (λ (k : Key). IsNakIn b life came (back_to b.config.index k reply)) is h in
+    let back : IsNakIn b life came (packet_to_requester c key reply) =
+    subst (λ (i : ℕ). IsNakIn b life came (back_to i key reply)) index there in
+    (inr (inr (record { request = came; nak = back })), tt)
 
 -- where the stream moves on, the words are drawn from where it stood
 pub drawn-once :
@@ -79,10 +80,10 @@ module _ (b : Stage) (before : List Happening) (at : Stage) (now : ℕ)
       (sym after.stage) there
 
   -- it is given the next ticket, and its own turn forwards it
-  admit-forwarded :
+  abbrev admit-forwarded :
       (rests : List Rest) (es : List PlainEntry) (target : Target)
       → turn ≡ admit at.config now (with_rests at.state rests) es q target
-      → IsForwardedIn b life at.config q at.state.stream_position at.state.ticket target
+      → IsForwardedIn b life at.config q q at.state.stream_position at.state.ticket target
   admit-forwarded rests es target is =
       let e = request_came now named q in
       let other = admit at.config now (with_rests at.state rests) es q target in
@@ -99,7 +100,12 @@ module _ (b : Stage) (before : List Happening) (at : Stage) (now : ℕ)
             taken = ap (λ (t : RealmState). t.ticket) ends;
           };
         };
-        sent = inl (record {
+        before = before;
+        cause = e;
+        later = [];
+        in_order = refl;
+        turn = inl (record { first = refl; own = refl; as_it_came = refl });
+        forwards = record {
           under = ap (λ (t : Stage). t.config) after.stage;
           occasion = own_turn at.state other;
           among = own-occasion other is;
@@ -108,7 +114,7 @@ module _ (b : Stage) (before : List Happening) (at : Stage) (now : ℕ)
             sent = refl;
             drawn = λ drew. drawn-once at.state (state_after at.state other) (rw drew refl);
           };
-        });
+        };
       }
 
   admit-keeps :
@@ -123,18 +129,24 @@ module _ (b : Stage) (before : List Happening) (at : Stage) (now : ℕ)
       at.state.ticket target in
       let out = forwarded_packet at.config q at.state.stream_position at.state.ticket target in
       let comes : ComesFromIn b life new = record {
+        came = q;
         request = forwarded.request;
+        is_told = record { between = []; in_order = refl; told_as = refl };
         standing = record {
           under = at.config;
+          told = q;
           position = at.state.stream_position;
+          target = target;
           octets_are = refl;
           forwarded = forwarded;
+          there = refl;
+          identifier = refl;
         };
       } in
       record {
         packets = (
-          forwarded-origin b before e at.config at.config q at.state.stream_position at.state.ticket target _
-              (ap (λ (t : Stage). t.config) after.stage) forwarded refl
+          forwarded-origin b before e at.config at.config q q at.state.stream_position at.state.ticket target
+              target.link _ (ap (λ (t : Stage). t.config) after.stage) forwarded refl refl
               (sent-by b before e at other out (whole_turn other is) (inl refl)),
           tt,
         );
@@ -232,7 +244,9 @@ module _ (b : Stage) (before : List Happening) (at : Stage) (now : ℕ)
   of_key-keeps (Some e) found_by is =
       let same = key-equal e.request.key q.key (find-passes (has_key q.key) at.state.entries e found_by) in
       let comes = all-find (ComesFromIn b life) (has_key q.key) at.state.entries e found_by kept in
-      let held = held-origin b life at.config e.request e.ticket q.key e.standing same own-index comes.standing in
+      let told = told-same b life comes.came e.ticket comes.request life e.request comes.is_told in
+      let held = held-origin b life at.config comes.came e.ticket q.key e.standing (sym told.key ∙ same) own-index
+      comes.standing in
       elim (cases_Bool (pointwise nat_eq e.request.octets q.octets)) [
         | inl y ↦ rw y (record { packets = held; entries = kept })
         | inr n ↦ rw n (first_seen-keeps (rw n at is))

@@ -4,7 +4,10 @@ use Rattle.std.specs.Prelude.{◌==◌, not, if◌then◌else◌}
 use Rattle.std.specs.List.{AllByRecursion}
 use Rattle.std.proofs.lemmas.Bool.{cases_Bool}
 use Rattle.std.proofs.lemmas.Bool.Decides.{nat_tests}
+use Rattle.roam_wire.specs.Codes.{is_reverse_request}
+use Rattle.roam_wire.specs.Reading.{packet_of}
 use Rattle.roam_pending.specs.ListLaws.{IsIn}
+use Rattle.roam_pending.specs.declared.key.Key.{Key}
 use Rattle.roam_pending.specs.declared.due.Due.{Due}
 use Rattle.roam_pending.specs.DueOrder.{due_list}
 use Rattle.roam_pending.specs.PlainEntry.{PlainRequest, PlainStanding, PlainEntry, waiting, done, has_ticket}
@@ -21,15 +24,17 @@ use Rattle.roam_book.specs.RealmState.{RealmState, Target, chosen_target}
 use Rattle.roam_book.specs.Turn.{packets_of}
 use Rattle.roam_book.specs.OnRequest.{draws, forwarded_entry, is_reverse, nak_octets, packet_to_requester, packet_to_link}
 use Rattle.roam_book.specs.OnTick.{Progress, fail_over, given_up, once_refused, due_standing, due_entry, due_one, due_each, as_turn, on_tick, given_up_at}
-use Rattle.roam_book.specs.OneRealm.{RealmEvent, tick_came}
+use Rattle.roam_book.specs.OneRealm.{tick_came}
 use Rattle.roam_core.specs.Draws.{drawn_between}
 use Rattle.roam_core.specs.Lives.{Happening, Stage, event, stage_then}
 use Rattle.roam_core.specs.Occasions.{Occasion, occasions, of_due, of_dues}
-use Rattle.roam_core.specs.LifeOrigins.{AtLaterTickIn, ComesFromIn, ForwardsIn, GivesUp, IsForwardedIn, IsHeldIn, IsNakIn, IsRequestIn, IsSentIn, StandsFromIn, back_to}
+use Rattle.roam_core.specs.LifeOrigins.{ComesFromIn, ForwardsIn, IsForwardedIn, IsHeldIn, IsLaterTickIn, IsNakIn, IsRequestIn, IsSentIn, IsToldIn, StandsFromIn, back_to}
+use Rattle.roam_core.proofs.CarriedLemmas.{IsSameRequest}
 use Rattle.roam_core.proofs.RealmRunLemmas.{all-in, each-in, all-left, all-right, in-all}
 use Rattle.roam_core.proofs.LifeLemmas.{index-then}
 use Rattle.roam_core.proofs.LifeRequestLemmas.{drawn-once}
-use Rattle.roam_core.proofs.LifeLaterLemmas.{EachComesIn, EachHasOriginIn, AreSentIn, TurnKeepsIn, forwarded-origin, request-later, stands-later}
+use Rattle.roam_core.proofs.LifeLaterLemmas.{EachComesIn, EachHasOriginIn, AreSentIn, TurnKeepsIn, forwarded-origin, request-later, stands-later, told-later, told-then}
+use Rattle.roam_core.proofs.ToldLemmas.{told-same}
 use Rattle.roam_core.proofs.OriginRequestLemmas.{next_position}
 
 -- of a tick at this moment, at the stage to which what happened before it leads
@@ -49,9 +54,11 @@ module _ (b : Stage) (before : List Happening) (at : Stage) (is_at : stage_then 
 
   -- an entry while the tick is done: one of its request and ticket was held before the tick
   pub record IsKnown (e : PlainEntry) : Type 0 where
-    pub request : IsRequestIn b before e.request e.ticket
+    pub came : PlainRequest
+    pub request : IsRequestIn b before came e.ticket
+    pub is_told : IsToldIn b before came e.ticket request before e.request
     pub held : IsHeldIn b before e.request e.ticket
-    pub standing : StandsFromIn b life e.request e.ticket e.standing
+    pub standing : StandsFromIn b life came e.ticket e.standing
 
   -- what was sent so far has its origin in the life, and the entries are known
   pub record ProgressKeeps (p : Progress) : Type 0 where
@@ -62,45 +69,63 @@ module _ (b : Stage) (before : List Happening) (at : Stage) (is_at : stage_then 
   abbrev IsOccasion : Occasion → Type 0
   IsOccasion o = IsIn o (occasions at.config at.state (tick_came now))
 
-  -- what the tick does for a held entry
-  at-tick :
-      (e : PlainEntry) (known : IsKnown e) (Does : List Happening → RealmEvent → Type 0)
-      → Does before (tick_came now)
-      → AtLaterTickIn b known.request.first known.request.asked_at known.request.named e.request
-      (known.request.rest ++ event (tick_came now) ∷ []) e.ticket Does
-  at-tick e known Does does =
-      let r = known.request in
-      record {
-        between = r.rest;
-        now = now;
-        after = [];
-        in_order = refl;
-        held = subst (λ (l : List Happening). IsHeldIn b l e.request e.ticket) r.in_order known.held;
-        does = subst (λ (l : List Happening). Does l (tick_came now)) r.in_order does;
-      }
+  -- its request came before the tick, and came in the life
+  abbrev request-in : (e : PlainEntry) (known : IsKnown e) → IsRequestIn b life known.came e.ticket
+  request-in e known = request-later b before (event (tick_came now) ∷ []) known.came e.ticket known.request
+
+  -- the tick is a later one for a held entry
+  is-later : (e : PlainEntry) (known : IsKnown e)
+      → IsLaterTickIn b life known.came e.request e.ticket (request-in e known) before (tick_came now)
+  is-later e known = record {
+    now = now;
+    tick = refl;
+    is_told =
+        told-later b before (event (tick_came now) ∷ []) known.came e.request e.ticket known.request before
+        known.is_told;
+    held = known.held;
+  }
 
   -- what the tick sends for it, to another target
-  over-forwarded :
-      (e : PlainEntry) (position : ℕ) (target : Target) → IsKnown e
+  abbrev over-forwarded :
+      (e : PlainEntry) (position : ℕ) (target : Target) (known : IsKnown e)
       → ForwardsIn b c e.request position e.ticket target before (tick_came now)
-      → IsForwardedIn b life c e.request position e.ticket target
+      → IsForwardedIn b life c known.came e.request position e.ticket target
   over-forwarded e position target known forwards = record {
-    request = request-later b before (event (tick_came now) ∷ []) e.request e.ticket known.request;
-    sent = inr (at-tick e known (ForwardsIn b c e.request position e.ticket target) forwards);
+    request = request-in e known;
+    before = before;
+    cause = tick_came now;
+    later = [];
+    in_order = refl;
+    turn = inr (is-later e known);
+    forwards = forwards;
   }
+
+  same-request : (e : PlainEntry) (known : IsKnown e) → IsSameRequest known.came e.request
+  same-request e known =
+      told-same b before known.came e.ticket known.request before e.request known.is_told
 
   -- a reverse request that is given up gets a NAK
   abbrev nak_out : PlainEntry → PlainOut
   nak_out e = packet_to_requester c e.request.key (nak_octets c e.request OTHER_PROXY_PROCESSING_ERROR)
 
-  nak-of : (e : PlainEntry) → IsKnown e → is_reverse e.request ≡ true
-      → IsSentIn b before (tick_came now) (nak_out e) → IsNakIn b life e.request (nak_out e)
+  nak-of : (e : PlainEntry) (known : IsKnown e) → is_reverse e.request ≡ true
+      → IsSentIn b before (tick_came now) (nak_out e) → IsNakIn b life known.came (nak_out e)
   nak-of e known reverse sent = inr (record {
     ticket = e.ticket;
-    request = request-later b before (event (tick_came now) ∷ []) e.request e.ticket known.request;
-    reverse = reverse;
-    given_up = at-tick e known (GivesUp b e.request (nak_out e))
-        (record { under = c; config_then = is_config; is_nak = refl; sent = sent });
+    request = request-in e known;
+    reverse =
+        sym (ap (λ (octets : List ℕ). is_reverse_request (packet_of octets).code) (same-request e known).octets)
+        ∙ reverse;
+    before = before;
+    cause = tick_came now;
+    later = [];
+    in_order = refl;
+    told = e.request;
+    turn = is-later e known;
+    under = c;
+    config_then = is_config;
+    is_nak = refl;
+    sent = sent;
   })
 
   once_refused-keeps :
@@ -112,10 +137,14 @@ module _ (b : Stage) (before : List Happening) (at : Stage) (is_at : stage_then 
   once_refused-keeps s e kept known reverse sent =
       let octets = nak_octets c e.request OTHER_PROXY_PROCESSING_ERROR in
       let refused = with_standing (done octets (now + c.realm.hold) None) e in
-      let held = subst (λ (i : ℕ). IsNakIn b life e.request (back_to i e.request.key octets)) own-index
+      let there = subst (λ (i : ℕ). IsNakIn b life known.came (back_to i e.request.key octets)) own-index
       (nak-of e known reverse sent) in
+      let held = subst (λ (k : Key). IsNakIn b life known.came (back_to b.config.index k octets))
+      (same-request e known).key there in
       let refused_known : IsKnown refused = record {
+        came = known.came;
         request = known.request;
+        is_told = known.is_told;
         held = known.held;
         standing = inr held;
       } in
@@ -133,7 +162,7 @@ module _ (b : Stage) (before : List Happening) (at : Stage) (is_at : stage_then 
         | inl y ↦
             let out : AreSentIn b before (tick_came now) (nak_out e ∷ []) = rw y at sent in
             rw y (record {
-              packets = (inr (inr (record { request = e.request; nak = nak-of e known y out.0 })), tt);
+              packets = (inr (inr (record { request = known.came; nak = nak-of e known y out.0 })), tt);
               entries = once_refused-keeps s e kept known y out.0;
             })
         | inr n ↦ rw n (record { packets = tt; entries = kept })
@@ -164,14 +193,25 @@ module _ (b : Stage) (before : List Happening) (at : Stage) (is_at : stage_then 
       let signs = signs_of c (after_choice c now s.rests target.link) target.link in
       let anew = forwarded_entry c now signs e.request position e.ticket target in
       let anew_known : IsKnown anew = record {
+        came = known.came;
         request = known.request;
+        is_told = known.is_told;
         held = known.held;
-        standing = record { under = c; position = position; octets_are = refl; forwarded = forwarded };
+        standing = record {
+          under = c;
+          told = e.request;
+          position = position;
+          target = target;
+          octets_are = refl;
+          forwarded = forwarded;
+          there = refl;
+          identifier = refl;
+        };
       } in
       record {
         packets = (
-          forwarded-origin b before (tick_came now) c c e.request position e.ticket target _ is_config forwarded refl
-              sent.0,
+          forwarded-origin b before (tick_came now) c c known.came e.request position e.ticket target target.link _
+              is_config forwarded refl refl sent.0,
           tt,
         );
         entries = all-put IsKnown anew s.entries anew_known kept;
@@ -186,15 +226,17 @@ module _ (b : Stage) (before : List Happening) (at : Stage) (is_at : stage_then 
 
   again-known : (e : PlainEntry) (deadline : ℕ) → IsKnown e → IsKnown (sent_again deadline e)
   again-known e deadline h = record {
+    came = h.came;
     request = h.request;
+    is_told = h.is_told;
     held = h.held;
-    standing = stands-on e.request e.ticket deadline e.standing h.standing;
+    standing = stands-on h.came e.ticket deadline e.standing h.standing;
   }
 
   due_standing-keeps :
       (s : RealmState) (e : PlainEntry) (standing : PlainStanding)
-      → AllByRecursion IsKnown s.entries → IsKnown e
-      → StandsFromIn b life e.request e.ticket standing
+      → AllByRecursion IsKnown s.entries → (known : IsKnown e)
+      → StandsFromIn b life known.came e.ticket standing
       → AreSentIn b before (tick_came now) (due_standing c now s e standing).packets
       → IsOccasion (of_due e.ticket s (due_standing c now s e standing))
       → ProgressKeeps (due_standing c now s e standing)
@@ -213,9 +255,9 @@ module _ (b : Stage) (before : List Happening) (at : Stage) (is_at : stage_then 
             let out : AreSentIn b before (tick_came now) (packet_to_link c l forwarded ∷ []) = rw y at sent in
             rw y (record {
               packets = (
-                forwarded-origin b before (tick_came now) c stands.under e.request stands.position e.ticket
-                    (record { link = l; id = id }) forwarded
-                    is_config stands.forwarded stands.octets_are out.0,
+                forwarded-origin b before (tick_came now) c stands.under known.came stands.told stands.position
+                    e.ticket stands.target l forwarded is_config stands.forwarded stands.there stands.octets_are
+                    out.0,
                 tt,
               );
               entries = all-put IsKnown again s.entries again_known kept;
@@ -261,7 +303,10 @@ module _ (b : Stage) (before : List Happening) (at : Stage) (is_at : stage_then 
   -- once the tick is done, its entries come from the life
   known-comes : (e : PlainEntry) → IsKnown e → ComesFromIn b life e
   known-comes e h = record {
-    request = request-later b before (event (tick_came now) ∷ []) e.request e.ticket h.request;
+    came = h.came;
+    request = request-in e h;
+    is_told =
+        told-then b before (event (tick_came now) ∷ []) h.came e.request e.request e.ticket h.request h.is_told refl;
     standing = h.standing;
   }
 
@@ -283,9 +328,11 @@ module _ (b : Stage) (before : List Happening) (at : Stage) (is_at : stage_then 
   held-known : (e : PlainEntry) → ComesFromIn b before e
       → IsIn e (stage_then b before).state.entries → IsKnown e
   held-known e comes there = record {
+    came = comes.came;
     request = comes.request;
+    is_told = comes.is_told;
     held = record { entry = e; held = there; same_request = refl; same_ticket = refl };
-    standing = stands-later b before (event (tick_came now) ∷ []) e.request e.ticket e.standing comes.standing;
+    standing = stands-later b before (tick_came now) comes.came e.ticket e.standing comes.standing;
   }
 
   pub on_tick-keeps :

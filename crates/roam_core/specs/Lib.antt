@@ -9,6 +9,7 @@ pub mod Provenance
 pub mod ProvenanceLaws
 pub mod OwnSessions
 pub mod Lives
+pub mod Told
 pub mod Occasions
 pub mod LifeOrigins
 pub mod LifeLaws

@@ -85,11 +85,11 @@ pub record AreOneForwarding (c d : RealmConfig) (q r : PlainRequest) (position o
 -- Authenticator is to be unique; that the words of two positions differ isn't said)
 abbrev pub OneDrawOneForwarding : Type 0
 OneDrawOneForwarding =
-    (b : Stage) (life : List Happening) (c d : RealmConfig) (q r : PlainRequest)
+    (b : Stage) (life : List Happening) (c d : RealmConfig) (q r told named : PlainRequest)
     (position other ticket next : ℕ) (target another : Target)
     → length (draws_in b life) ≤ 2 ^ 66
-    → IsForwardedIn b life c q position ticket target
-    → IsForwardedIn b life d r other next another
+    → IsForwardedIn b life c q told position ticket target
+    → IsForwardedIn b life d r named other next another
     → draws q ≡ true → draws r ≡ true
     → position % 2 ^ 68 ≡ other % 2 ^ 68
-    → AreOneForwarding c d q r position other ticket next target another
+    → (q ≡ r) × AreOneForwarding c d told named position other ticket next target another

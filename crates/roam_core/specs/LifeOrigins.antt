@@ -3,6 +3,7 @@
 -- realm then, in order.
 use Rattle.std.specs.Prelude.{◌≡◌, ◌⊎◌, ◌+◌, ℕ, true, List, [], ◌∷◌, ◌++◌, Some, None, Option}
 use Rattle.roam_wire.specs.Reading.{packet_of}
+use Rattle.roam_conf.specs.declared.place.Link.{Link}
 use Rattle.roam_route.specs.Admission.{PlainOut}
 use Rattle.roam_pending.specs.ListLaws.{IsIn}
 use Rattle.roam_pending.specs.declared.key.Key.{Key}
@@ -16,6 +17,7 @@ use Rattle.roam_book.specs.OnReply.{returned_octets}
 use Rattle.roam_book.specs.OneRealm.{RealmEvent, request_came, reply_came, tick_came}
 use Rattle.roam_core.specs.Lives.{Happening, Stage, event, sent_at, stage_then}
 use Rattle.roam_core.specs.Occasions.{ForwardsOn, Occasion, occasions}
+use Rattle.roam_core.specs.Told.{link_over, request_over}
 
 -- an event that comes after others is given a ticket: it is the next one there, and then it is taken
 pub record TakesTicketIn (b : Stage) (before : List Happening) (e : RealmEvent) (ticket : ℕ) : Type 0 where
@@ -42,16 +44,30 @@ pub record IsHeldIn (b : Stage) (life : List Happening) (q : PlainRequest) (tick
   pub same_request : entry.request ≡ q
   pub same_ticket : entry.ticket ≡ ticket
 
--- a later tick does something for a request: until then its entry is held
-pub record AtLaterTickIn (b : Stage) (first : List Happening) (asked_at : ℕ) (named : Option ℕ)
-    (q : PlainRequest) (rest : List Happening) (ticket : ℕ)
-    (Does : List Happening → RealmEvent → Type 0) : Type 0 where
+-- a request is told as another one after this: as it is held then
+pub record IsToldIn (b : Stage) (life : List Happening) (q : PlainRequest) (ticket : ℕ)
+    (request : IsRequestIn b life q ticket)
+    (before : List Happening) (told : PlainRequest) : Type 0 where
   pub between : List Happening
+  pub in_order : before ≡ request.first ++ event (request_came request.asked_at request.named q) ∷ between
+  pub told_as :
+      request_over (stage_then b request.first)
+      (event (request_came request.asked_at request.named q) ∷ between) q ≡ Some told
+
+-- an event is the request's own
+pub record IsOwnTurnIn (b : Stage) (life : List Happening) (q told : PlainRequest) (ticket : ℕ)
+    (request : IsRequestIn b life q ticket) (before : List Happening) (cause : RealmEvent) : Type 0 where
+  pub first : before ≡ request.first
+  pub own : cause ≡ request_came request.asked_at request.named q
+  pub as_it_came : told ≡ q
+
+-- or a later tick: until then its entry is held, and it is told so
+pub record IsLaterTickIn (b : Stage) (life : List Happening) (q told : PlainRequest) (ticket : ℕ)
+    (request : IsRequestIn b life q ticket) (before : List Happening) (cause : RealmEvent) : Type 0 where
   pub now : ℕ
-  pub after : List Happening
-  pub in_order : rest ≡ between ++ event (tick_came now) ∷ after
-  pub held : IsHeldIn b (first ++ event (request_came asked_at named q) ∷ between) q ticket
-  pub does : Does (first ++ event (request_came asked_at named q) ∷ between) (tick_came now)
+  pub tick : cause ≡ tick_came now
+  pub is_told : IsToldIn b life q ticket request before told
+  pub held : IsHeldIn b before told ticket
 
 -- an event that comes after others forwards a request, under the configuration of that time: on one of its occasions
 -- it sends the packet, and draws the words for it
@@ -62,19 +78,28 @@ pub record ForwardsIn (b : Stage) (c : RealmConfig) (q : PlainRequest) (position
   pub among : IsIn occasion (occasions (stage_then b before).config (stage_then b before).state e)
   pub forwards : ForwardsOn c q position ticket target occasion
 
--- a request of the life was forwarded to a target: in its own turn, or when it failed over
-pub record IsForwardedIn (b : Stage) (life : List Happening) (c : RealmConfig) (q : PlainRequest)
+-- a request of the life was forwarded to a target: in its own turn, or when it failed over, and was told so then
+pub record IsForwardedIn (b : Stage) (life : List Happening) (c : RealmConfig) (q told : PlainRequest)
     (position ticket : ℕ) (target : Target) : Type 0 where
   pub request : IsRequestIn b life q ticket
-  pub sent :
-      ForwardsIn b c q position ticket target request.first (request_came request.asked_at request.named q)
-      ⊎ AtLaterTickIn b request.first request.asked_at request.named q request.rest ticket
-      (ForwardsIn b c q position ticket target)
+  pub before : List Happening
+  pub cause : RealmEvent
+  pub later : List Happening
+  pub in_order : life ≡ before ++ event cause ∷ later
+  pub turn :
+      IsOwnTurnIn b life q told ticket request before cause ⊎ IsLaterTickIn b life q told ticket request before cause
+  pub forwards : ForwardsIn b c told position ticket target before cause
+
+-- the link to which it was forwarded, as it is told where the life ends
+abbrev pub IsTargetThen : (b : Stage) (life : List Happening) (c : RealmConfig) (q told : PlainRequest)
+    (position ticket : ℕ) (target : Target) → IsForwardedIn b life c q told position ticket target → Link → Type 0
+IsTargetThen b life c q told position ticket target sent l =
+    link_over (stage_then b sent.before) (event sent.cause ∷ sent.later) target.link ≡ Some l
 
 -- a packet is the returned one of a request of the life: the request was forwarded to a link; then a reply came from
--- that link, with the forwarded packet's Identifier; it is taken, for its code, its Response Authenticator and its
--- Message-Authenticator (RFC 2865, section 3; RFC 3579, section 3.2); and its turn sent this packet to the sender of
--- the request. Between the two the configuration may have changed
+-- that link, as it is told by then, with the forwarded packet's Identifier; it is taken, for its code, its Response
+-- Authenticator and its Message-Authenticator (RFC 2865, section 3; RFC 3579, section 3.2); and its turn sent this
+-- packet to the sender of the request. Between the two the configuration may have changed
 pub record IsReturnedIn (b : Stage) (life : List Happening) (q : PlainRequest) (ticket : ℕ)
     (out : PlainOut) : Type 0 where
   pub before : List Happening
@@ -82,20 +107,25 @@ pub record IsReturnedIn (b : Stage) (life : List Happening) (q : PlainRequest) (
   pub target : Target
   pub position : ℕ
   pub under : RealmConfig
+  pub told : PlainRequest
   pub now_under : RealmConfig
+  pub told_now : PlainRequest
+  pub link : Link
   pub reply : List ℕ
   pub after : List Happening
-  pub in_order : life ≡ before ++ event (reply_came answered_at target.link reply) ∷ after
+  pub in_order : life ≡ before ++ event (reply_came answered_at link reply) ∷ after
   pub config_then : (stage_then b before).config ≡ now_under
-  pub forwarded : IsForwardedIn b before under q position ticket target
+  pub forwarded : IsForwardedIn b before under q told position ticket target
+  pub from_there : IsTargetThen b before under q told position ticket target forwarded link
+  pub is_told : IsToldIn b before q ticket forwarded.request before told_now
   pub identifier : (packet_of reply).id ≡ target.id
   pub taken :
-      reply_fault (link_secret now_under target.link) (seal_required now_under target.link)
-      (packet_of reply) (packet_of (forwarded_octets under q position ticket target)) ≡ None
+      reply_fault (link_secret now_under link) (seal_required now_under link)
+      (packet_of reply) (packet_of (forwarded_octets under told position ticket target)) ≡ None
   pub is_returned :
-      out ≡ packet_to_requester now_under q.key (returned_octets now_under q target.link
-      (packet_of (forwarded_octets under q position ticket target)) (packet_of reply))
-  pub sent : IsSentIn b before (reply_came answered_at target.link reply) out
+      out ≡ packet_to_requester now_under told_now.key (returned_octets now_under told_now link
+      (packet_of (forwarded_octets under told position ticket target)) (packet_of reply))
+  pub sent : IsSentIn b before (reply_came answered_at link reply) out
 
 -- a packet is the NAK of a reverse request of the life, which goes back to the home server that sent the request: with
 -- the Error-Cause for which the request wasn't forwarded, from its own turn (RFC 5176, sections 2.3 and 3.5)
@@ -114,19 +144,20 @@ pub record IsRefusedIn (b : Stage) (life : List Happening) (q : PlainRequest) (o
 
 -- or with Error-Cause 505, from a later tick, at which the request was given up: it had been forwarded, and no access
 -- server answered
-pub record GivesUp (b : Stage) (q : PlainRequest) (out : PlainOut) (before : List Happening)
-    (e : RealmEvent) : Type 0 where
-  pub under : RealmConfig
-  pub config_then : (stage_then b before).config ≡ under
-  pub is_nak : out ≡ packet_to_requester under q.key (nak_octets under q OTHER_PROXY_PROCESSING_ERROR)
-  pub sent : IsSentIn b before e out
-
 pub record IsGivenUpIn (b : Stage) (life : List Happening) (q : PlainRequest) (out : PlainOut) : Type 0 where
   pub ticket : ℕ
   pub request : IsRequestIn b life q ticket
   pub reverse : is_reverse q ≡ true
-  pub given_up :
-      AtLaterTickIn b request.first request.asked_at request.named q request.rest ticket (GivesUp b q out)
+  pub before : List Happening
+  pub cause : RealmEvent
+  pub later : List Happening
+  pub in_order : life ≡ before ++ event cause ∷ later
+  pub told : PlainRequest
+  pub turn : IsLaterTickIn b life q told ticket request before cause
+  pub under : RealmConfig
+  pub config_then : (stage_then b before).config ≡ under
+  pub is_nak : out ≡ packet_to_requester under told.key (nak_octets under told OTHER_PROXY_PROCESSING_ERROR)
+  pub sent : IsSentIn b before cause out
 
 abbrev pub IsNakIn : Stage → List Happening → PlainRequest → PlainOut → Type 0
 IsNakIn b life q out = IsRefusedIn b life q out ⊎ IsGivenUpIn b life q out
@@ -141,15 +172,18 @@ pub record IsForwardedPacketIn (b : Stage) (life : List Happening) (out : PlainO
   pub now_under : RealmConfig
   pub under : RealmConfig
   pub request : PlainRequest
+  pub told : PlainRequest
   pub position : ℕ
   pub ticket : ℕ
   pub target : Target
+  pub link : Link
   pub in_order : life ≡ before ++ event cause ∷ after
   pub config_then : (stage_then b before).config ≡ now_under
   pub sent : IsSentIn b before cause out
-  pub forwarded : IsForwardedIn b (before ++ event cause ∷ []) under request position ticket target
+  pub forwarded : IsForwardedIn b (before ++ event cause ∷ []) under request told position ticket target
+  pub to_there : IsTargetThen b (before ++ event cause ∷ []) under request told position ticket target forwarded link
   pub is_forwarded :
-      out ≡ packet_to_link now_under target.link (forwarded_octets under request position ticket target)
+      out ≡ packet_to_link now_under link (forwarded_octets under told position ticket target)
 
 -- it is the returned one of a request of the life
 pub record IsReturnedPacketIn (b : Stage) (life : List Happening) (out : PlainOut) : Type 0 where
@@ -163,12 +197,12 @@ pub record IsNakPacketIn (b : Stage) (life : List Happening) (out : PlainOut) : 
   pub nak : IsNakIn b life request out
 
 -- ## Provenance over changes
--- Over a realm's life each packet is one of the three of *Provenance*: forwarded, returned or a NAK, of a
--- request of the life, before or after a change, each step under the configuration of its time. A packet that
--- is sent again after a change has the octets that were forwarded before it, and goes to the link's endpoint of
--- the time. It holds of what is sent after any part of a life from which all held entries come, and what is
--- held then comes from the life again; so from an opening on, for ever. A ticket is given to one event of a
--- life.
+-- Over a realm's life each packet is one of the three of *Provenance*: forwarded, returned or a NAK, of a request of
+-- the life, before or after a change, each step under the configuration of its time; a request and a link are told as
+-- they are called then. A packet that is sent again after a change has the octets that were forwarded before it, and
+-- goes to the endpoint of the same link. It holds of what is sent after any part of a life from which all held entries
+-- come, and what is held then comes from the life again; so from an opening on, for ever. A ticket is given to one
+-- event of a life.
 -- Source: RFC 2865 section 3, RFC 5176 section 2.3, ours
 -- Rules out: a reply, after a reload, to a request that never came, or given to another request; a ticket given
 -- again by a reload
@@ -186,23 +220,29 @@ HasOriginIn b life out =
 abbrev pub back_to : ℕ → Key → List ℕ → PlainOut
 back_to index key octets = record { realm = Some index; from = key.place; to = key.from; bytes = octets }
 
--- how an entry stands: it waits for the reply to what was forwarded to its link, or its reply was returned, or it was
--- answered by a NAK
+-- how an entry stands: it waits for the reply to what was forwarded to its link, as that is told by then; or its reply
+-- was returned, or it was answered by a NAK
 pub record WaitsForIn (b : Stage) (life : List Happening) (q : PlainRequest) (ticket : ℕ)
-    (target : Target) (octets : List ℕ) : Type 0 where
+    (link : Link) (id : ℕ) (octets : List ℕ) : Type 0 where
   pub under : RealmConfig
+  pub told : PlainRequest
   pub position : ℕ
-  pub octets_are : octets ≡ forwarded_octets under q position ticket target
-  pub forwarded : IsForwardedIn b life under q position ticket target
+  pub target : Target
+  pub octets_are : octets ≡ forwarded_octets under told position ticket target
+  pub forwarded : IsForwardedIn b life under q told position ticket target
+  pub there : IsTargetThen b life under q told position ticket target forwarded link
+  pub identifier : id ≡ target.id
 
 abbrev pub StandsFromIn : Stage → List Happening → PlainRequest → ℕ → PlainStanding → Type 0
 StandsFromIn b life q ticket (waiting l id forwarded sends_left deadline signs) =
-    WaitsForIn b life q ticket (record { link = l; id = id }) forwarded
+    WaitsForIn b life q ticket l id forwarded
 StandsFromIn b life q ticket (done reply deadline from) =
     IsReturnedIn b life q ticket (back_to b.config.index q.key reply)
     ⊎ IsNakIn b life q (back_to b.config.index q.key reply)
 
--- an entry is that of a request of the life, and stands so
+-- an entry is that of a request of the life, as it is told where the life ends, and stands so
 pub record ComesFromIn (b : Stage) (life : List Happening) (e : PlainEntry) : Type 0 where
-  pub request : IsRequestIn b life e.request e.ticket
-  pub standing : StandsFromIn b life e.request e.ticket e.standing
+  pub came : PlainRequest
+  pub request : IsRequestIn b life came e.ticket
+  pub is_told : IsToldIn b life came e.ticket request life e.request
+  pub standing : StandsFromIn b life came e.ticket e.standing

@@ -12,17 +12,17 @@ use Rattle.roam_core.specs.Draws.{drawn_by}
 use Rattle.roam_core.specs.Openings.{next_start}
 
 -- ## A realm's life
--- What happens to a realm, in order: its events, and the changes of the configuration, at each of which it goes
--- on in its state or begins anew (at its place in the stream of random words and its next ticket). What an
--- event does it does under the configuration of its time. A life may begin at any stage: a part of a
--- configuration and a state.
+-- What happens to a realm, in order: its events, and the changes of the configuration, at each of which it goes on in
+-- the state that is carried over, or, where it isn't here before and after, stands with nothing in it (at its place in
+-- the stream of random words and its next ticket). What an event does it does under the configuration of its time. A
+-- life may begin at any stage: a part of a configuration and a state.
 -- Source: ours
 -- Rules out: a realm of which nothing is said after a reload; words or tickets that begin again with it
 -- Stands in: `roam_core` `Lives.antt`: `Happening`, `Stage`, `stage_then`, `sent_in`, `draws_in`; `roam_hub`
 -- `LivesOver.antt`: `IsLifeOver`, `LivesGoAlong`; the law `lives_over_changes`
 --
 -- what happens to a realm: one of its events; or the configuration changes to another, and the realm goes on in
--- its state, or begins anew
+-- what is carried over of its state, or stands with nothing in it
 pub data Happening : Type 0 where
   event : RealmEvent → Happening
   goes_on : ConfigView → Happening
@@ -45,7 +45,7 @@ abbrev pub stage_after : Stage → Happening → Stage
 stage_after at (event e) =
     record { config = at.config; state = state_after at.state (on_event at.config at.state e) }
 stage_after at (goes_on config) =
-    record { config = part_in at config; state = carried (part_in at config) at.state }
+    record { config = part_in at config; state = carried at.config (part_in at config) at.state }
 stage_after at (begins_anew config) =
     record { config = part_in at config; state = begun_anew (part_in at config) at.state }
 

@@ -26,9 +26,9 @@
 //! - the written broker isolates its realms, in packets and in states | laws `isolated_realms`, `realms_open`
 //! - in two worlds that agree on a realm's part, start and events, it sends the same | law `two_worlds`
 //! - one arrival gives a realm the same under configurations that agree on the peers, the meaning of names,
-//!   `max_hops`, `fresh` and its own table; where the number of shards is equal too, any events give it the same ones,
-//!   whatever the seeds; and where the seed is, it sends the same from the same start | `roam_route`, law
-//!   `own_part`; law `own_part`: `events`, `packets`
+//!   `max_attributes`, `max_hops`, `fresh` and its own table; where the number of shards is equal too, any events
+//!   give it the same ones, whatever the seeds; and where the seed is, it sends the same from the same start |
+//!   `roam_route`, law `own_part`; law `own_part`: `events`, `packets`
 //! - with one realm, the broker is the written one-realm broker and its own answers | law `one_realm`
 //! - each packet of a realm comes from that realm's own events in one of three ways: it is the forwarded one of
 //!   a request, an Access-Request with the random words of a position of the realm's stream; or the returned

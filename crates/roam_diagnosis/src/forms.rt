@@ -22,8 +22,8 @@ pub(crate) enum ValueForm {
     Network(NetworkForm),
     /// A text of 1 to so many octets.
     Text(usize),
-    /// A text of 1 to 107 octets, none of them 0.
-    SocketPath,
+    /// A text of 1 to so many octets, none of them 0.
+    Path(usize),
     /// A text of 1 to 64 octets, which is never shown.
     Secret,
     /// 1 to 64 of ASCII letters, digits, `.`, `-` and `_`.
@@ -74,13 +74,13 @@ fn is_seed(text: &str) -> bool {
     text.len() == 64
 }
 
-fn is_socket_path(text: &str) -> bool {
+fn is_path(text: &str, most: usize) -> bool {
     for octet in text.bytes() {
         if octet == 0 {
             return false;
         }
     }
-    !text.is_empty() && text.len() <= 107
+    !text.is_empty() && text.len() <= most
 }
 
 /// Whether the text is `*`, `*.` and a realm's name, or such a name.
@@ -109,7 +109,7 @@ fn text_fits(form: ValueForm, text: &str) -> bool {
         ValueForm::Seed => is_seed(text),
         ValueForm::Network(form) => form.fits(text),
         ValueForm::Text(most) => !text.is_empty() && text.len() <= most,
-        ValueForm::SocketPath => is_socket_path(text),
+        ValueForm::Path(most) => is_path(text, most),
         ValueForm::Secret => !text.is_empty() && text.len() <= 64,
         ValueForm::PeerName => is_name(text, 64, true),
         ValueForm::RealmName => is_name(text, 253, false),
@@ -234,7 +234,7 @@ impl fmt::Display for ValueForm {
             ValueForm::Seed => f.write_str("is not a text of 64 hexadecimal digits"),
             ValueForm::Network(form) => f.write_str(form.misfit()),
             ValueForm::Text(most) => write!(f, "is not a text of 1..{most} octets"),
-            ValueForm::SocketPath => f.write_str("is not a path of 1..107 octets"),
+            ValueForm::Path(most) => write!(f, "is not a path of 1..{most} octets"),
             ValueForm::Secret => f.write_str("is not a text of 1..64 octets"),
             ValueForm::PeerName => f.write_str("is not 1..64 of ASCII letters, digits, . - and _"),
             ValueForm::RealmName => {

@@ -8,7 +8,7 @@ use crate::place::TableKind;
 #[derive(Clone, Copy)]
 pub(crate) struct Rule(pub &'static str, pub bool, pub ValueForm);
 
-const TOP: [Rule; 20] = [
+const TOP: [Rule; 22] = [
     Rule("shards", false, ValueForm::Number(1, 64)),
     Rule("seed", false, ValueForm::Seed),
     Rule("auth", true, ValueForm::Network(NetworkForm::Endpoint)),
@@ -20,9 +20,11 @@ const TOP: [Rule; 20] = [
     Rule("status_server", false, ValueForm::Flag),
     Rule("spread", false, ValueForm::Flag),
     Rule("metrics", false, ValueForm::Network(NetworkForm::Endpoint)),
-    Rule("control", false, ValueForm::SocketPath),
+    Rule("control", false, ValueForm::Path(107)),
     Rule("log_exchanges", false, ValueForm::ExchangeLines),
     Rule("log_station", false, ValueForm::StationWord),
+    Rule("state", false, ValueForm::Path(1024)),
+    Rule("state_every", false, ValueForm::Number(1, 86400)),
     Rule("reject", false, ValueForm::Rejects),
     Rule("well_formed", false, ValueForm::Flag),
     Rule("answer_unnamed", false, ValueForm::Flag),

@@ -50,8 +50,8 @@ fn all_follow<A: Allocator + Copy>(
     }
 }
 
-/// All shards of a paused hub follow another configuration: in each shard the realms that are carried over go on as
-/// they stand, and any other begins anew.
+/// All shards of a paused hub follow another configuration: in each shard the realms that are here in both go on in
+/// what is carried over of their states, and any other has nothing.
 ///
 /// # Errors
 ///

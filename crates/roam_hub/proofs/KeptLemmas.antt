@@ -6,9 +6,6 @@ use Rattle.roam_trace.specs.History.{Beginning, Ends, GoesOn, IsHistory, begun, 
 use Rattle.roam_shard.specs.Twins.{NothingDue}
 use Rattle.roam_due.specs.Moments.{IsTickMoment}
 use Rattle.roam_trace.specs.Steps.{PlainStep}
-use Rattle.roam_book.specs.declared.state.gauges.Gauges.{Gauges}
-use Rattle.roam_core.specs.ManyRealms.{state_at}
-use Rattle.roam_shard.specs.Looks.{StandsAs}
 use Rattle.roam_history.specs.Entries.{HistoryEntry, gone_of, last_of, let_go_entry, step_entry, steps_in, stored_of, closed_entry}
 use Rattle.roam_history.specs.Fronts.{FrontView}
 use Rattle.roam_history.specs.HubOpening.{HubOpening, opening_at}
@@ -18,7 +15,6 @@ use Rattle.roam_audit.specs.Seats.{SeatView, after_call, after_letting_go, front
 use Rattle.roam_audit.proofs.PrefixLemmas.{steps_begin}
 use Rattle.roam_hub.specs.Calls.{AreGone, IsCall, IsDueCall, IsFull, IsLook, Sees}
 use Rattle.roam_hub.specs.Keeping.{IsKept, KeptView}
-use Rattle.roam_hub.specs.Looks.{StandsIn}
 
 -- a seat that has seen all entries of a shard
 front_same : (fronts : List (List HistoryEntry)) (shard : ℕ) (es : List HistoryEntry) → shard < length fronts →
@@ -304,19 +300,6 @@ pub full : (o : HubOpening) (k : KeptView) (shard : ℕ) (old new : SeatView) �
 full o k shard old new kept here there begins seen all =
     let both = sees_whole shard old new k.front.entries (ap (λ (x : SeatView). x.fronts) seen) there begins in
     ap (λ (l : List HistoryEntry). length (stored_of l)) both.0 ∙ (ap length (sym kept.stored) ∙ (all ∙ kept.limit))
-
--- how a realm stands where the history ends
-pub stands_in : (o : HubOpening) (k : KeptView) (shard realm : ℕ) (seat : SeatView) (g : Gauges) → IsKept o k
-    → k.front.shard ≡ shard → IsPrefix (front_of seat shard) k.front.entries →
-    StandsAs (state_at k.trace.states realm) g → StandsIn o shard realm seat g
-stands_in o k shard realm seat g kept here begins stands =
-    let end = whole_end o k kept ∙ ap (λ (n : ℕ). end_of (opening_at o n) (steps_in k.front.entries)) here in
-    record {
-      entries = k.front.entries;
-      begins = begins;
-      history = subst (λ (n : ℕ). IsHistory (opening_at o n) (steps_in k.front.entries)) here (whole_history o k kept);
-      stands = subst (λ states. StandsAs (state_at states realm) g) end stands;
-    }
 
 -- the entry that closes a history is no step
 pub whole_steps : (f whole : FrontView) →

@@ -5,3 +5,4 @@ pub mod PauseLemmas
 pub mod BoundLemmas
 pub mod LifeOverLemmas
 pub mod TicketOverLemmas
+pub mod EndLemmas

@@ -37,12 +37,14 @@ record LeadsTo (at : Stage) (change : Happening) (next : Stage) : Type 0 where
   undrawn : draws_at at change ≡ []
 
 goes_there : (realm : ℕ) (old new config : ConfigView) (state before after : RealmState)
-    → config ≡ new → before ≡ state → after ≡ carried (realm_config new realm) before
+    → config ≡ new → before ≡ state → after ≡ carried (realm_config old realm) (realm_config new realm) before
     → LeadsTo (staged (realm_config old realm) state) (goes_on config) (staged (realm_config new realm) after)
 goes_there realm old new config state before after is same follows = record {
   stage =
-      ap (λ (x : ConfigView). staged (realm_config x realm) (carried (realm_config x realm) state)) is
-      ∙ ap (λ (x : RealmState). staged (realm_config new realm) (carried (realm_config new realm) x)) (sym same)
+      ap (λ (x : ConfigView).
+      staged (realm_config x realm) (carried (realm_config old realm) (realm_config x realm) state)) is
+      ∙ ap (λ (x : RealmState).
+      staged (realm_config new realm) (carried (realm_config old realm) (realm_config new realm) x)) (sym same)
       ∙ ap (staged (realm_config new realm)) (sym follows);
   silent = refl;
   undrawn = refl;

@@ -3,6 +3,7 @@ pub mod InHistories
 pub mod Calls
 pub mod Keeping
 pub mod Looks
+pub mod Written
 pub mod Closing
 pub mod Pausing
 pub mod Following

@@ -1,9 +1,11 @@
 -- How a realm of a hub is seen to stand (ours).
 use Rattle.std.specs.Prelude.{ℕ, ◌%◌, List}
 use mathlib.Core.List.{IsPrefix}
+use Rattle.roam_conf.specs.Config.{ConfigView}
+use Rattle.roam_book.specs.declared.rules.losses.Loss.{Loss}
 use Rattle.roam_book.specs.declared.state.gauges.Gauges.{Gauges}
 use Rattle.roam_core.specs.ManyRealms.{state_at}
-use Rattle.roam_shard.specs.Looks.{StandsAs}
+use Rattle.roam_shard.specs.Looks.{IsLoss, StandsAs}
 use Rattle.roam_trace.specs.History.{IsHistory, end_of}
 use Rattle.roam_history.specs.Entries.{HistoryEntry, steps_in}
 use Rattle.roam_history.specs.HubOpening.{HubOpening, opening_at}
@@ -20,3 +22,14 @@ pub record StandsIn (o : HubOpening) (shard realm : ℕ) (seat : SeatView) (g : 
 -- and the shard is the realm's
 abbrev pub StandsThen : HubOpening → ℕ → SeatView → Gauges → Type 0
 StandsThen o realm seat g = StandsIn o (realm % o.config.shards) realm seat g
+
+-- what would go of a realm by a change is what goes of its state where the history of a shard ended when it was
+-- looked at
+pub record LosesIn (o : HubOpening) (next : ConfigView) (shard realm : ℕ) (seat : SeatView) (loss : Loss) : Type 0 where
+  pub entries : List HistoryEntry
+  pub begins : IsPrefix (front_of seat shard) entries
+  pub history : IsHistory (opening_at o shard) (steps_in entries)
+  pub loses : IsLoss o.config next realm (state_at (end_of (opening_at o shard) (steps_in entries)) realm) loss
+
+abbrev pub WouldLose : HubOpening → ConfigView → ℕ → SeatView → Loss → Type 0
+WouldLose o next realm seat loss = LosesIn o next (realm % o.config.shards) realm seat loss

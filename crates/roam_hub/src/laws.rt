@@ -1,6 +1,6 @@
 //! What histories say of each realm.
 
-ghost use Rattle.roam_hub.specs.Changes.{CarriedOverChanges, EachGoesAlone, OthersBeginAnew};
+ghost use Rattle.roam_hub.specs.Changes.{CarriedOverChanges, EachGoesAlone, OthersBeginAnew, UntouchedOverChanges};
 ghost use Rattle.roam_hub.specs.InHistories.{ProvenanceInHistories, RealmsInHistories};
 ghost use Rattle.roam_hub.specs.LivesOver.{DrawsApartOverChanges, LivesGoAlong, ProvenanceOverChanges};
 ghost use Rattle.roam_hub.specs.LivesOver.{TicketGivenOnceOverChanges};
@@ -24,11 +24,13 @@ pub fn realms_from_any_states()
     ensures { EachGoesAlone }
 {}
 
-/// While the configuration changes, any number of times, the packets that were sent for a realm which each change
-/// carries over are those of its own written broker over all its events, before and after: it goes on in its state. Any
-/// other realm begins anew.
+/// While the configuration changes, any number of times, the packets that were sent for a realm which goes on at each
+/// change are those of its own written broker over all its events, before and after: in what is carried over of its
+/// state. Where no change touches it, they are what it would have sent had nothing changed. A realm that is new, or
+/// went, has nothing.
 pub fn realms_over_changes()
     ensures carried { CarriedOverChanges }
+    ensures untouched { UntouchedOverChanges }
     ensures others { OthersBeginAnew }
 {}
 

@@ -39,10 +39,14 @@
 //!   histories begin where they stand, or they come back as they were (by the contract it may always be so:
 //!   tested that it opens) | `Hub::pause_room`, `pause`: `histories`, `paused`, `stand`, `causes`; `open_over`:
 //!   `seat`, `err`
-//! - over any number of such changes a realm that each of them carries over is sent, in order and byte for
-//!   byte, what its own written broker sends for its own events before and after them; it goes on in its state
-//!   under its part of the next configuration. Of a realm that isn't carried over, that it begins anew where it
-//!   stood | law `realms_over_changes`: `carried`, `others`
+//! - over any number of such changes a realm that goes on at each is sent, in order and byte for byte, what its own
+//!   written broker sends for its own events before and after them, which goes on in what is carried over of its state,
+//!   under its part of the next configuration; where no change touches it, what it would have been sent had nothing
+//!   changed. Of a realm that is new, or went, that it has nothing | law `realms_over_changes`: `carried`, `untouched`,
+//!   `others`
+//! - what goes of a realm by a change is told as its state is where a history of its own shard ends | `Hub::losses`
+//! - of a realm's ledger those sessions alone are written into a file of ledgers that are open where a history of its own
+//!   shard ends. That none is missing is tested (`packaging/tests/try-restart.py`) | `Hub::begin_saving`, `save`
 //! - in a history that begins in any states each realm is isolated too, and ends where its own written broker
 //!   does | law `realms_from_any_states`
 //! - a look at a realm gives numbers of its entries and sessions where a history of its own shard ends, no
@@ -68,6 +72,7 @@ mod notes;
 mod opening;
 mod pause_room;
 mod pausing;
+mod saving;
 mod writing;
 
 pub use answered::{Answered, Refused, Ticked};
@@ -90,3 +95,4 @@ pub use roam_follow::follow;
 pub use roam_history::{Blanks, Front, Opened};
 pub use roam_pending::Requester;
 pub use roam_shard::Paused;
+pub use saving::SESSIONS_AT_ONCE;

@@ -3,6 +3,8 @@
 ghost use Rattle.std.specs.Prelude.{◌≡◌, ◌≢◌, ◌+◌, ◌<◌, ◌-◌, ◌^◌, ◌++◌, ◌∷◌, [], false, length, min, true};
 ghost use Rattle.std.specs.Prelude.{IfErr, IfOk, IfSome, IsErrOf, OnErr, OnOk};
 ghost use mathlib.Core.List.{IsPrefix};
+ghost use Rattle.roam_conf.specs.Shown.{shown};
+ghost use Rattle.roam_book.specs.Carrying.{AreChanged};
 ghost use Rattle.roam_route.specs.Events.{IsEvent};
 ghost use Rattle.roam_route.specs.Shown.{shown_job};
 ghost use Rattle.roam_route.specs.Events.{arrival_of};
@@ -13,16 +15,18 @@ ghost use Rattle.roam_history.specs.Entries.{IsWhole, step_entry, steps_in, stor
 ghost use Rattle.roam_history.specs.HubOpening.{opening_at};
 ghost use Rattle.roam_audit.specs.Seats.{front_of};
 ghost use Rattle.roam_hub.specs.Calls.{AreGone, Calls, IsCall, IsFull, Sees, answered_step};
-ghost use Rattle.roam_hub.specs.Looks.{StandsIn};
+ghost use Rattle.roam_hub.specs.Looks.{LosesIn, StandsIn};
 
 mod due;
+mod saving;
 
 use crate::answered::{Answered, Refused};
 use crate::call::Call;
 use crate::fault::HubFault;
 use crate::writing::{closed, recorded, without_steps};
 use roam_audit::Seat;
-use roam_book::Gauges;
+use roam_book::{Gauges, Loss};
+use roam_conf::Config;
 use roam_history::{Front, Head, Opened};
 use roam_route::Job;
 use roam_shard::Shard;
@@ -230,6 +234,25 @@ impl<'c, A: Allocator + Copy, N: Opened> LockedTrace<'c, A, N> {
             return None;
         }
         self.traced.shard().gauges(realm)
+    }
+
+    /// What goes of a realm where another configuration is followed; none as for `gauges`. Takes no memory.
+    pub(crate) fn losses(
+        &self,
+        seat: &Seat<A, N>,
+        shard: u16,
+        realm: u16,
+        next: &Config,
+        changed: &[u16],
+    ) -> Option<Loss>
+        requires shard { shard < N.opening.config.shards }
+        requires changed { AreChanged N.opening.config.peers (shown next.now).peers changed.now }
+        ensures { IfSome result (LosesIn N.opening (shown next.now) shard realm seat.now) }
+    {
+        if !self.goes_on(seat, shard) {
+            return None;
+        }
+        self.traced.shard().losses(realm, next, changed)
     }
 
     /// Closes the history, once nobody calls any more: the shard, the stored steps and all that was ever written;

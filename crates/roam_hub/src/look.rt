@@ -1,12 +1,15 @@
 //! How the realms of a hub stand.
 
 ghost use Rattle.std.specs.Prelude.{IfSome};
-ghost use Rattle.roam_hub.specs.Looks.{StandsThen};
+ghost use Rattle.roam_conf.specs.Shown.{shown};
+ghost use Rattle.roam_book.specs.Carrying.{AreChanged};
+ghost use Rattle.roam_hub.specs.Looks.{StandsThen, WouldLose};
 
 use crate::hub::Hub;
 use crate::locking::wait_for;
 use roam_audit::Seat;
-use roam_book::Gauges;
+use roam_book::{Gauges, Loss};
+use roam_conf::Config;
 use roam_history::Opened;
 use std::alloc::Allocator;
 use std::sync::Wait;
@@ -20,5 +23,23 @@ impl<A: Allocator + Copy, N: Opened> Hub<'_, A, N> {
     {
         let shard = self.config.shard_of(realm);
         wait_for(rt, &self.locks[usize::from(shard)]).gauges(seat, shard, realm)
+    }
+
+    /// What goes of a realm where another configuration is followed, in which these peers have other tables: as it
+    /// stands where its shard's history ends now. None as for `look`. Waits for the shard's lock, records nothing,
+    /// and takes no memory.
+    pub fn losses<R: Wait>(
+        &self,
+        rt: &R,
+        seat: &Seat<A, N>,
+        realm: u16,
+        next: &Config,
+        changed: &[u16],
+    ) -> Option<Loss>
+        requires { AreChanged N.opening.config.peers (shown next.now).peers changed.now }
+        ensures { IfSome result (WouldLose N.opening (shown next.now) realm seat.now) }
+    {
+        let shard = self.config.shard_of(realm);
+        wait_for(rt, &self.locks[usize::from(shard)]).losses(seat, shard, realm, next, changed)
     }
 }

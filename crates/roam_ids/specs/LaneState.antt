@@ -35,3 +35,7 @@ put_at lane id place = record lane { places = slice_set lane.places id place }
 -- the same lane with the cursor one past an Identifier, cyclic in 0..255
 abbrev pub cursor_past : LaneState → ℕ → LaneState
 cursor_past lane id = record lane { cursor = (id + 1) % 256 }
+
+-- the same lane with another tag
+abbrev pub with_tag : ℕ → LaneState → LaneState
+with_tag tag lane = record lane { tag = tag }

@@ -2,7 +2,7 @@
 ghost use Rattle.std.specs.Prelude.{◌≡◌, ℕ, ◌<◌, ◌↔◌, IsTrue};
 ghost use Rattle.roam_ids.specs.NextIdentifier.{AllUsed};
 ghost use Rattle.roam_ids.specs.Marks.{is_marked};
-ghost use Rattle.roam_ids.specs.LaneState.{HasIdentifiers, place_at, ticket_at, is_used, put_at};
+ghost use Rattle.roam_ids.specs.LaneState.{HasIdentifiers, place_at, ticket_at, is_used, put_at, with_tag};
 ghost use Rattle.roam_ids.specs.Taking.{IsOutOf, TakesNext, Claims};
 ghost use Rattle.roam_ids.specs.Making.{fresh_lane, with_memory};
 
@@ -131,5 +131,12 @@ impl Lane {
         ensures { (id : ℕ) → id < 256 → is_marked result.now id ≡ is_used self.now id }
     {
         &self.words
+    }
+
+    /// The lane with another tag: a slot that is still out is of no lane then.
+    pub fn retag(&mut self, tag: u32)
+        ensures { self.new ≡ with_tag tag self.old }
+    {
+        self.tag = tag;
     }
 }

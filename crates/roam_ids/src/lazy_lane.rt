@@ -2,7 +2,7 @@
 ghost use Rattle.std.specs.Prelude.{◌≡◌, ℕ, ◌↔◌, true, false, None, IsOk, IsTrue, OnOk, OnErr};
 ghost use Rattle.roam_ids.specs.NextIdentifier.{AllUsed};
 ghost use Rattle.roam_ids.specs.declared.id_state.IdState.{IdState};
-ghost use Rattle.roam_ids.specs.LaneState.{HasIdentifiers, place_at, ticket_at, is_used, put_at};
+ghost use Rattle.roam_ids.specs.LaneState.{HasIdentifiers, place_at, ticket_at, is_used, put_at, with_tag};
 ghost use Rattle.roam_ids.specs.Taking.{IsOutOf, TakesNext, Claims};
 ghost use Rattle.roam_ids.specs.Making.{with_memory};
 
@@ -122,5 +122,16 @@ impl<A: Allocator> LazyLane<A> {
         ensures whole { HasIdentifiers self.new }
     {
         self.lane[0].free(slot);
+    }
+
+    /// The lane with another tag: it is another link's place from then on, with what is parked there. A slot that is
+    /// still out is of no lane then. Takes no memory.
+    pub fn retag(&mut self, tag: u32)
+        ensures { self.new ≡ with_tag tag self.old }
+    {
+        self.tag = tag;
+        if !self.lane.is_empty() {
+            self.lane[0].retag(tag);
+        }
     }
 }

@@ -124,6 +124,9 @@ fn push_limit(page: &mut Vec<u8>, config: &Config, limit: Limit) -> Result<(), A
 {
     push_header(page, limit.name(), limit.help(), MetricKind::Gauge)?;
     for realm in &config.realms {
+        if realm.gone {
+            continue;
+        }
         let label = Label {
             name: "realm",
             value: realm.name.as_str(),

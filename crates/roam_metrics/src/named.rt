@@ -18,10 +18,14 @@ pub(crate) struct Named<'c> {
     server: Option<String>,
 }
 
-/// The subjects of a configuration, in its order: realms, each with its home servers behind it, and peers.
+/// The subjects of a configuration that are here, by their indexes: realms, each with its home servers behind it, and
+/// peers.
 pub(crate) fn all_named(alloc: Global, config: &Config) -> Result<Vec<Named<'_>>, AllocError> {
     let mut all = Vec::new(alloc);
     for (number, realm) in config.realms.iter().enumerate() {
+        if realm.gone {
+            continue;
+        }
         let number = u16::try_from(number).unwrap_or(u16::MAX);
         let name = realm.name.as_str();
         all.push(Named {
@@ -41,6 +45,9 @@ pub(crate) fn all_named(alloc: Global, config: &Config) -> Result<Vec<Named<'_>>
         }
     }
     for (number, peer) in config.peers.iter().enumerate() {
+        if peer.gone {
+            continue;
+        }
         all.push(Named {
             scope: Scope::Peer,
             subject: Subject::Peer(u16::try_from(number).unwrap_or(u16::MAX)),

@@ -121,10 +121,15 @@ fn write_realms<C: Counts>(
     counts: &C,
     config: &Config,
 ) -> Result<(), AllocError> {
+    let mut before = 0;
     for (at, realm) in config.realms.iter().enumerate() {
+        if realm.gone {
+            continue;
+        }
         let number = u16::try_from(at).unwrap_or(u16::MAX);
         let totals = TotalsText(Totals::of(counts, Subject::Realm(number)));
-        let comma = comma(at);
+        let comma = comma(before);
+        before = 1;
         let name = realm.name.as_str();
         write!(out, "{comma}{{\"name\":\"{name}\",{totals}")?;
         write_gauge(out, counts, "waiting", Gauge::Waiting(number))?;
@@ -144,10 +149,15 @@ fn write_realms<C: Counts>(
 
 /// Adds the peers.
 fn write_peers<C: Counts>(out: &mut String, counts: &C, config: &Config) -> Result<(), AllocError> {
+    let mut before = 0;
     for (at, peer) in config.peers.iter().enumerate() {
+        if peer.gone {
+            continue;
+        }
         let number = u16::try_from(at).unwrap_or(u16::MAX);
         let totals = TotalsText(Totals::of(counts, Subject::Peer(number)));
-        let comma = comma(at);
+        let comma = comma(before);
+        before = 1;
         let name = peer.name.as_str();
         let ip = peer.ip;
         write!(

@@ -129,6 +129,9 @@ fn write_realms<C: Counts>(
 ) -> Result<(), AllocError> {
     let mut table = Filling::new(alloc, &OF_REALMS)?;
     for (at, realm) in config.realms.iter().enumerate() {
+        if realm.gone {
+            continue;
+        }
         let number = u16::try_from(at).unwrap_or(u16::MAX);
         let totals = Totals::of(counts, Subject::Realm(number));
         table.push(realm.name.as_str())?;
@@ -198,6 +201,9 @@ fn write_peers<C: Counts>(
 ) -> Result<(), AllocError> {
     let mut table = Filling::new(alloc, &OF_PEERS)?;
     for (at, peer) in config.peers.iter().enumerate() {
+        if peer.gone {
+            continue;
+        }
         let number = u16::try_from(at).unwrap_or(u16::MAX);
         let totals = Totals::of(counts, Subject::Peer(number));
         table.push(peer.name.as_str())?;
@@ -257,8 +263,8 @@ fn write_head(
     if let Some(Ok(date)) = about.began.map(HttpDate::from_unix_secs) {
         write_text(alloc, out, format_args!(", since {date}"))?;
     }
-    let realms = config.realms.len();
-    let peers = config.peers.len();
+    let realms = config.realms.iter().filter(|realm| !realm.gone).count();
+    let peers = config.peers.iter().filter(|peer| !peer.gone).count();
     let shards = config.shards;
     let line = format_args!("\nrealms {realms} peers {peers} shards {shards}; reloads: ");
     write_text(alloc, out, line)?;

@@ -8,3 +8,4 @@ pub mod StandingLemmas
 pub mod ClientLemmas
 pub mod DueListLemmas
 pub mod ConversationLemmas
+pub mod NextLemmas

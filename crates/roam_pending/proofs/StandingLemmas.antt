@@ -1,14 +1,14 @@
--- The entry at a place of the code's list stands otherwise.
+-- The entry at a place of the code's list stands otherwise, or has other ends.
 use Rattle.std.proofs.Common.{◌≡◌, ℕ, ◌<◌, List, Option, Some, ap, sym, ◌∙◌, subst, length, get_or}
-use Rattle.std.specs.Prelude.{IfSome, MatchOption}
+use Rattle.std.specs.Prelude.{IfSome, IsSomeAnd, MatchOption}
 use Rattle.std.proofs.Math.ListN.{set}
 use Rattle.roam_pending.specs.declared.entry.Entry.{Entry}
 use Rattle.roam_pending.specs.declared.entry.Standing.{Standing}
 use Rattle.roam_pending.specs.PlainEntry.{PlainEntry, PlainStanding}
-use Rattle.roam_pending.specs.EntryList.{IsEntryList, find_ticket, put}
+use Rattle.roam_pending.specs.EntryList.{HasPlaceOf, IsEntryList, find_ticket, put}
 use Rattle.roam_pending.specs.Realms.{IsChanged, with_standing}
 use Rattle.roam_pending.specs.Shown.{shown, shown_all, shown_standing}
-use Rattle.roam_pending.proofs.ChangeLemmas.{place-of_standing}
+use Rattle.roam_pending.proofs.ChangeLemmas.{found-ticket, place-of_standing}
 use Rattle.roam_pending.proofs.OrderLemmas.{list-changed}
 use Rattle.roam_pending.proofs.PlaceLemmas.{changed_at, found_at}
 
@@ -47,3 +47,31 @@ module _ {A : Type 0} (t : ℕ) (es : List (Entry A)) (i : ℕ) (old : Entry A)
         subst (λ (o : Option PlainEntry).
         MatchOption o (new ≡ shown_all es) (λ e. new ≡ put (change e) (shown_all es))) (sym found)
         (puts ∙ ap (λ (e : PlainEntry). put e (shown_all es)) same)
+
+  -- another entry of its ticket and key stands there
+  module _ (now : Entry A) (ticket : (shown now).ticket ≡ (shown old).ticket)
+      (key : (shown now).request.key ≡ (shown old).request.key) where
+    puts-entry : shown_all (set es i now) ≡ put (shown now) (shown_all es)
+    puts-entry = changed_at now es i old within (ap (λ (e : Entry A). e.ticket) (sym is) ∙ sym ticket) list.in_order
+
+    found-now : find_ticket (shown now).ticket (shown_all es) ≡ Some (shown old)
+    found-now =
+        ap (λ (n : ℕ). find_ticket n (shown_all es)) (ticket ∙ found-ticket t (shown_all es) (shown old) found) ∙ found
+
+    place-now : HasPlaceOf (shown now) (shown_all es)
+    place-now =
+        subst (λ (o : Option PlainEntry). IsSomeAnd o (λ e. e.request.key ≡ (shown now).request.key)) (sym found-now)
+        (sym key)
+
+    -- the list is one still
+    pub entry-list : IsEntryList (shown_all (set es i now))
+    entry-list = subst IsEntryList (sym puts-entry) (list-changed (shown now) (shown_all es) list place-now)
+
+    -- the entry of the ticket is changed in it
+    pub entry-changed : (change : PlainEntry → PlainEntry) → shown now ≡ change (shown old)
+        → IsChanged change t (shown_all es) (shown_all (set es i now))
+    entry-changed change same =
+        let new = shown_all (set es i now) in
+        subst (λ (o : Option PlainEntry).
+        MatchOption o (new ≡ shown_all es) (λ e. new ≡ put (change e) (shown_all es))) (sym found)
+        (puts-entry ∙ ap (λ (e : PlainEntry). put e (shown_all es)) same)

@@ -1,5 +1,5 @@
 -- Laws of a realm's list of entries: what `src/laws.rt` proves.
-use Rattle.std.specs.Prelude.{◌≡◌, ◌≢◌, ◌⊎◌, ◌↔◌, ◌+◌, ◌<◌, ◌≤◌, ◌==◌, ℕ, true, List, [], ◌∷◌, ◌++◌, Some, None, is_some, length, slice_get}
+use Rattle.std.specs.Prelude.{◌≡◌, ◌≢◌, ◌⊎◌, ◌↔◌, ◌+◌, ◌<◌, ◌≤◌, ◌==◌, ℕ, true, false, List, [], ◌∷◌, ◌++◌, MatchOption, Option, Some, None, is_some, length, slice_get}
 use Rattle.std.specs.List.{AllByRecursion, last_or, list_any}
 use Rattle.roam_conf.specs.declared.place.Link.{Link}
 use Rattle.roam_pending.specs.declared.due.Due.{Due}
@@ -7,12 +7,26 @@ use Rattle.roam_pending.specs.declared.key.Key.{Key}
 use Rattle.roam_pending.specs.PlainEntry.{PlainEntry, deadline_of, same_key, waits_at, is_done}
 use Rattle.roam_pending.specs.EntryList.{IsInOrder, IsEntryList, IsNew, HasPlaceOf, find_client, find_link, find_ticket, first_done, without, without_client, put, identifiers_on}
 use Rattle.roam_pending.specs.Realms.{RealmBecomes}
-use Rattle.roam_pending.specs.DueOrder.{is_before, due_at, due_list, due_after}
+use Rattle.roam_pending.specs.DueOrder.{is_after, is_before, due_at, due_list, due_after}
 
 -- x is one of these
 abbrev pub IsIn : {X : Type 0} → X → List X → Type 0
 IsIn x [] = ⊥
 IsIn x (y ∷ ys) = (y ≡ x) ⊎ IsIn x ys
+
+-- an entry of the list is due as d says, after the last one, and of those after the last one none comes before it
+pub record IsNextEntry (last : Option Due) (es : List PlainEntry) (d : Due) : Type 0 where
+  pub entry : PlainEntry
+  pub held : IsIn entry es
+  pub at : due_at entry ≡ d
+  pub after : is_after last d ≡ true
+  pub first : (x : PlainEntry) → IsIn x es → is_after last (due_at x) ≡ true
+      → (d ≡ due_at x) ⊎ (is_before d (due_at x) ≡ true)
+
+-- the first of all entries after the last one in order of deadline and ticket, whatever the moment, if there is one
+abbrev pub IsNextAfter : Option Due → List PlainEntry → Option Due → Type 0
+IsNextAfter last es o =
+    MatchOption o ((x : PlainEntry) → IsIn x es → is_after last (due_at x) ≡ false) (IsNextEntry last es)
 
 -- each comes before all later ones
 abbrev pub AreInDueOrder : List Due → Type 0

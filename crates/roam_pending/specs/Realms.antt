@@ -1,5 +1,8 @@
 -- The entries of several realms: a list for each realm's index (ours).
-use Rattle.std.specs.Prelude.{◌≡◌, ◌≢◌, ◌-◌, ◌==◌, ℕ, Bool, List, [], MatchOption, if◌then◌else◌}
+use Rattle.std.specs.Prelude.{◌≡◌, ◌≢◌, ◌-◌, ◌==◌, ℕ, Bool, List, [], MatchOption, Option, option_and_then, unwrap_or, if◌then◌else◌}
+use Rattle.roam_conf.specs.declared.place.Link.{Link}
+use Rattle.roam_pending.specs.declared.key.Requester.{Requester}
+use Rattle.roam_pending.specs.declared.key.Requester.TheVariants as requester
 use Rattle.roam_pending.specs.PlainEntry.{PlainEntry, PlainStanding, waiting, done}
 use Rattle.roam_pending.specs.EntryList.{Held, find_ticket, put}
 
@@ -45,3 +48,27 @@ with_standing s e = record { request = e.request; ticket = e.ticket; standing = 
 -- an entry whose forwarded packet was sent once more
 abbrev pub sent_again : ℕ → PlainEntry → PlainEntry
 sent_again deadline e = with_standing (waits_on deadline e.standing) e
+
+-- ## Ends of an entry
+-- Where a realm's servers stand at other places, an entry has other numbers for the home server that sent it, and for
+-- the link where it waits or from which its held reply came; it may keep no link. All else of it stays, and a peer's
+-- stays a peer's.
+-- Source: ours
+-- Rules out: an entry with another key, ticket or deadline
+-- Stands in: `roam_pending` `Realms.antt`: `with_ends`; `Entries::set_ends`
+--
+abbrev pub with_home : Option ℕ → Requester → Requester
+with_home home (requester.Peer peer) = requester.Peer peer
+with_home home (requester.Home old) = requester.Home (unwrap_or home old)
+
+abbrev pub with_link : Option Link → PlainStanding → PlainStanding
+with_link link (waiting old id forwarded sends_left deadline signs) =
+    waiting (unwrap_or link old) id forwarded sends_left deadline signs
+with_link link (done reply deadline from) = done reply deadline (option_and_then (λ old. link) from)
+
+abbrev pub with_ends : Option ℕ → Option Link → PlainEntry → PlainEntry
+with_ends home link e = record {
+  request = record { key = e.request.key; requester = with_home home e.request.requester; octets = e.request.octets };
+  ticket = e.ticket;
+  standing = with_link link e.standing;
+}

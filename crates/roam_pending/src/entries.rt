@@ -7,12 +7,15 @@ ghost use Rattle.roam_pending.specs.EntryList.{IsEntryList, IsNew, find_client, 
 ghost use Rattle.roam_pending.specs.EntryList.{besides, without};
 ghost use Rattle.roam_pending.specs.Conversations.{kept_state, last_round};
 ghost use Rattle.roam_pending.specs.DueOrder.{due_after};
-ghost use Rattle.roam_pending.specs.Realms.{RealmBecomes, Puts, PutsChanged, sent_again, with_standing};
+ghost use Rattle.roam_pending.specs.ListLaws.{IsNextAfter};
+ghost use Rattle.roam_pending.specs.Realms.{RealmBecomes, Puts, PutsChanged, sent_again, with_ends};
+ghost use Rattle.roam_pending.specs.Realms.{with_standing};
 ghost use Rattle.roam_pending.specs.Shown.{shown, shown_standing, seen, taken};
 
 use crate::due::Due;
 use crate::entry::{Entry, Standing};
 use crate::key::Key;
+use roam_conf::Link;
 use roam_wire::NoMemory;
 use std::alloc::Allocator;
 
@@ -61,6 +64,11 @@ pub trait Entries<A: Allocator> {
     /// or where `last` is one of them, the next one after it.
     fn due_after(&self, realm: u16, now: u64, last: Option<Due>) -> Option<Due>
         ensures found { result ≡ due_after now last (entries_of self.now realm) }
+        ensures list { IsEntryList (entries_of self.now realm) };
+
+    /// The first of all entries of the realm after the last one, in order of deadline and ticket, whatever the moment.
+    fn next_after(&self, realm: u16, last: Option<Due>) -> Option<Due>
+        ensures next { IsNextAfter last (entries_of self.now realm) result }
         ensures list { IsEntryList (entries_of self.now realm) };
 
     /// Makes room for one entry more of the realm. No entry changes. `NoMemory` comes where there was
@@ -123,6 +131,14 @@ pub trait Entries<A: Allocator> {
     fn send_again(&mut self, realm: u16, ticket: u64, deadline: u64)
         ensures entries { PutsChanged (sent_again deadline) realm ticket
             (entries_of self.old) (entries_of self.new) }
+        ensures room { room_for self.old realm ≤ room_for self.new realm }
+        ensures keeps { keeps self.new ≡ keeps self.old };
+
+    /// Gives the entry of a ticket other numbers of its ends: of the home server that sent it, where one did, and of
+    /// the link where it waits, or from which its held reply came, if it keeps one. Where none is given it waits
+    /// where it does, and a held reply keeps no link. Takes no memory, and no room.
+    fn set_ends(&mut self, realm: u16, ticket: u64, home: Option<u8>, link: Option<Link>)
+        ensures entries { PutsChanged (with_ends home link) realm ticket (entries_of self.old) (entries_of self.new) }
         ensures room { room_for self.old realm ≤ room_for self.new realm }
         ensures keeps { keeps self.new ≡ keeps self.old };
 }

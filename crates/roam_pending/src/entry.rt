@@ -16,8 +16,8 @@
 //! A waiting entry also goes where a request of its key with other octets takes its place.
 
 ghost use Rattle.std.specs.Prelude.{◌≡◌};
-ghost use Rattle.roam_pending.specs.Realms.{waits_on};
-ghost use Rattle.roam_pending.specs.Shown.{shown_standing};
+ghost use Rattle.roam_pending.specs.Realms.{waits_on, with_ends, with_link};
+ghost use Rattle.roam_pending.specs.Shown.{shown, shown_standing};
 
 use crate::key::{Key, Requester};
 use roam_conf::Link;
@@ -81,6 +81,25 @@ impl<A: Allocator> Standing<A> {
             waiting.deadline = deadline;
         }
     }
+
+    /// What waits does so at this link, if one is given; of what is done the reply came from this one, if it came
+    /// from one.
+    pub fn set_link(&mut self, link: Option<Link>)
+        ensures { shown_standing self.new ≡ with_link link (shown_standing self.old) }
+    {
+        match self {
+            Standing::Waiting(waiting) => {
+                if let Some(link) = link {
+                    waiting.link = link;
+                }
+            }
+            Standing::Done(done) => {
+                if done.from.is_some() {
+                    done.from = link;
+                }
+            }
+        }
+    }
 }
 
 /// A pending request.
@@ -90,4 +109,16 @@ pub struct Entry<A: Allocator> {
     /// The number under which the realm admitted it.
     pub ticket: u64,
     pub standing: Standing<A>,
+}
+
+impl<A: Allocator> Entry<A> {
+    /// Gives it other numbers of its ends.
+    pub fn set_ends(&mut self, home: Option<u8>, link: Option<Link>)
+        ensures { shown self.new ≡ with_ends home link (shown self.old) }
+    {
+        if let (Requester::Home(_), Some(home)) = (self.request.requester, home) {
+            self.request.requester = Requester::Home(home);
+        }
+        self.standing.set_link(link);
+    }
 }

@@ -8,7 +8,9 @@ ghost use Rattle.roam_pending.specs.PlainEntry.{deadline_of as plain_deadline_of
 ghost use Rattle.roam_pending.specs.EntryList.{find_client, find_ticket, first_done as plain_first_done, besides};
 ghost use Rattle.roam_pending.specs.EntryList.{is_beside, is_done_beside};
 ghost use Rattle.roam_pending.specs.DueOrder.{due_after, is_after as plain_is_after, is_before as plain_is_before};
+ghost use Rattle.roam_pending.specs.ListLaws.{IsNextAfter};
 ghost use Rattle.roam_pending.specs.Private.DueSearch.{due_alone as plain_due_alone, earlier as plain_earlier};
+ghost use Rattle.roam_pending.specs.Private.DueSearch.{due_past as plain_due_past};
 ghost use Rattle.roam_pending.specs.Shown.{shown, shown_all, shown_standing, seen};
 
 use crate::due::Due;
@@ -158,6 +160,32 @@ pub(crate) fn due_in<A: Allocator>(entries: &[Entry<A>], now: u64, last: Option<
     let mut first = None;
     for entry in entries {
         first = earlier(first, due_alone(entry, now, last));
+    }
+    first
+}
+
+/// When an entry is due, if that is after the last one.
+fn due_past<A: Allocator>(entry: &Entry<A>, last: Option<Due>) -> Option<Due>
+    ensures { result ≡ plain_due_past last (shown entry.now) }
+{
+    let due = Due {
+        deadline: deadline_of(&entry.standing),
+        ticket: entry.ticket,
+    };
+    if is_after(last, &due) {
+        Some(due)
+    } else {
+        None
+    }
+}
+
+/// The first entry of all after the last one, by deadline and ticket.
+pub(crate) fn next_in<A: Allocator>(entries: &[Entry<A>], last: Option<Due>) -> Option<Due>
+    ensures { IsNextAfter last (shown_all entries.now) result }
+{
+    let mut first = None;
+    for entry in entries {
+        first = earlier(first, due_past(entry, last));
     }
     first
 }

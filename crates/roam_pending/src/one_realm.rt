@@ -5,6 +5,7 @@ use crate::entries::Entries;
 use crate::entry::{Entry, Standing};
 use crate::key::Key;
 use crate::pending::Pending;
+use roam_conf::Link;
 use roam_wire::NoMemory;
 use std::alloc::Allocator;
 
@@ -61,6 +62,14 @@ impl<A: Allocator> Entries<A> for Pending<A> {
         }
     }
 
+    fn next_after(&self, realm: u16, last: Option<Due>) -> Option<Due> {
+        if realm == self.realm() {
+            self.next_after(last)
+        } else {
+            None
+        }
+    }
+
     fn reserve(&mut self, realm: u16) -> Result<(), NoMemory> {
         self.reserve()
     }
@@ -100,6 +109,12 @@ impl<A: Allocator> Entries<A> for Pending<A> {
     fn send_again(&mut self, realm: u16, ticket: u64, deadline: u64) {
         if realm == self.realm() {
             self.send_again(ticket, deadline);
+        }
+    }
+
+    fn set_ends(&mut self, realm: u16, ticket: u64, home: Option<u8>, link: Option<Link>) {
+        if realm == self.realm() {
+            self.set_ends(ticket, home, link);
         }
     }
 }

@@ -6,14 +6,16 @@ ghost use Rattle.roam_pending.specs.Conversations.{last_round};
 ghost use Rattle.roam_pending.specs.DueOrder.{due_after};
 ghost use Rattle.roam_pending.specs.EntryList.{IsEntryList, IsNew, find_client, find_ticket, first_done};
 ghost use Rattle.roam_pending.specs.EntryList.{besides, put, without};
-ghost use Rattle.roam_pending.specs.Realms.{IsChanged, sent_again, with_standing};
+ghost use Rattle.roam_pending.specs.ListLaws.{IsNextAfter};
+ghost use Rattle.roam_pending.specs.Realms.{IsChanged, sent_again, with_ends, with_standing};
 ghost use Rattle.roam_pending.specs.Shown.{shown, shown_standing, seen, taken};
 
 use crate::conversations::round_in;
 use crate::due::Due;
 use crate::entry::{Entry, Standing};
 use crate::key::Key;
-use crate::list_search::{client_in, count_below, done_in, due_in, place_of};
+use crate::list_search::{client_in, count_below, done_in, due_in, next_in, place_of};
+use roam_conf::Link;
 use roam_wire::NoMemory;
 use std::alloc::Allocator;
 use std::marker::Model;
@@ -138,6 +140,14 @@ impl<A: Allocator> Pending<A> {
         self.due_after(now, None)
     }
 
+    /// The first of all entries after the last one, in order of deadline and ticket, whatever the moment.
+    pub fn next_after(&self, last: Option<Due>) -> Option<Due>
+        ensures next { IsNextAfter last self.now.entries result }
+        ensures list { IsEntryList self.now.entries }
+    {
+        next_in(&self.entries, last)
+    }
+
     /// Makes room for one entry more.
     pub fn reserve(&mut self) -> Result<(), NoMemory>
         ensures ok { OnOk result (0 < self.new.spare) }
@@ -219,6 +229,17 @@ impl<A: Allocator> Pending<A> {
     {
         if let Some(place) = place_of(&self.entries, ticket) {
             self.entries[place].standing.wait_on(deadline);
+        }
+    }
+
+    /// Gives the entry of a ticket other numbers of its ends, as `Entries::set_ends` says. Takes no memory.
+    pub fn set_ends(&mut self, ticket: u64, home: Option<u8>, link: Option<Link>)
+        ensures realm { self.new.realm ≡ self.old.realm }
+        ensures entries { IsChanged (with_ends home link) ticket self.old.entries self.new.entries }
+        ensures room { self.new.spare ≡ self.old.spare }
+    {
+        if let Some(place) = place_of(&self.entries, ticket) {
+            self.entries[place].set_ends(home, link);
         }
     }
 }

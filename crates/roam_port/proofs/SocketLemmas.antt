@@ -1,6 +1,8 @@
 -- Where a place's socket is bound is one of the broker's own endpoints.
-use Rattle.std.proofs.Common.{◌≡◌, ℕ, zero, suc, List, [], ◌∷◌, Option, Some, None, Contains, option_map, option_and_then, slice_get, refl, subst, sym}
+use Rattle.std.proofs.Common.{◌≡◌, ℕ, zero, suc, Bool, true, false, List, [], ◌∷◌, Option, Some, None, Contains, option_and_then, slice_get, refl, subst, sym, ap}
 use Rattle.std.specs.List.{flat_map}
+use Rattle.std.specs.Option.{option_to_list}
+use Rattle.std.specs.Prelude.{if◌then◌else◌}
 use Rattle.std.proofs.lemmas.List.Elements.{Contains-append_left, Contains-append_right}
 use Rattle.std.proofs.lemmas.Option.{get_or_from_slice_get, same_Some, slice_get_within}
 use Rattle.roam_address.specs.declared.endpoint.Endpoint.{Endpoint}
@@ -8,7 +10,7 @@ use Rattle.roam_conf.specs.declared.place.Place.{Place}
 use Rattle.roam_conf.specs.declared.place.Place.TheVariants as place
 use Rattle.roam_conf.specs.Config.{ConfigView, RealmView}
 use Rattle.roam_conf.specs.Duplicates.{realm_endpoints}
-use Rattle.roam_port.specs.Sockets.{socket_endpoint, socket_endpoints}
+use Rattle.roam_port.specs.Sockets.{own_out, own_reverse, socket_endpoint, socket_endpoints}
 
 -- what stands at some place of a list is one of its elements
 at : {X : Type 0} (xs : List X) (i : ℕ) (x : X) → slice_get xs i ≡ Some x → Contains xs x
@@ -33,28 +35,36 @@ own : (config : ConfigView) (e : Endpoint) → Contains (flat_map realm_endpoint
 own config e among = Contains-append_right (config.auth ∷ config.acct ∷ []) (flat_map realm_endpoints config.realms)
     e among
 
-out_there : (config : ConfigView) (k : ℕ) (e : Endpoint) (found : Option RealmView) →
-    slice_get config.realms k ≡ found → option_map (λ r. r.out) found ≡ Some e
-    → Contains (socket_endpoints config) e
-out_there config k e None is of = cc
-out_there config k e (Some r) is of =
-    own config e (among_all config.realms k r e is (at (realm_endpoints r) 0 e of))
+own_out_there : (r : RealmView) (e : Endpoint) → own_out r ≡ Some e → Contains (realm_endpoints r) e
+own_out_there r e is = by_gone r.gone is
+  where
+    by_gone : (gone : Bool) → (if gone then None else Some r.out) ≡ Some e →
+        Contains (if gone then [] else r.out ∷ option_to_list r.reverse) e
+    by_gone true of = cc
+    by_gone false of = at (r.out ∷ option_to_list r.reverse) 0 e of
 
-reverse_is : (out : Endpoint) (reverse : Option Endpoint) (e : Endpoint) → reverse ≡ Some e → (r : RealmView) →
-    r.out ≡ out → r.reverse ≡ reverse → Contains (realm_endpoints r) e
-reverse_is out reverse e is r out_is reverse_is' =
-    at (realm_endpoints r) 1 e (rw (reverse_is', is) refl)
+own_reverse_there : (r : RealmView) (e : Endpoint) → own_reverse r ≡ Some e → Contains (realm_endpoints r) e
+own_reverse_there r e is = by_gone r.gone is
+  where
+    by_gone : (gone : Bool) → (if gone then None else r.reverse) ≡ Some e →
+        Contains (if gone then [] else r.out ∷ option_to_list r.reverse) e
+    by_gone true of = cc
+    by_gone false of = at (r.out ∷ option_to_list r.reverse) 1 e
+        (ap (λ (o : Option Endpoint). slice_get (r.out ∷ option_to_list o) 1) of)
 
-reverse_there : (config : ConfigView) (k : ℕ) (e : Endpoint) (found : Option RealmView) →
-    slice_get config.realms k ≡ found → option_and_then (λ r. r.reverse) found ≡ Some e
-    → Contains (socket_endpoints config) e
-reverse_there config k e None is of = cc
-reverse_there config k e (Some r) is of =
-    own config e (among_all config.realms k r e is (reverse_is r.out r.reverse e of r refl refl))
+-- a socket of a realm is one of all
+there : (own_at : RealmView → Option Endpoint) →
+    ((r : RealmView) (e : Endpoint) → own_at r ≡ Some e → Contains (realm_endpoints r) e) →
+    (config : ConfigView) (k : ℕ) (e : Endpoint) (found : Option RealmView) → slice_get config.realms k ≡ found →
+    option_and_then own_at found ≡ Some e → Contains (socket_endpoints config) e
+there own_at in_realm config k e None is of = cc
+there own_at in_realm config k e (Some r) is of = own config e (among_all config.realms k r e is (in_realm r e of))
 
 pub own_socket : (config : ConfigView) (at : Place) (e : Endpoint) → socket_endpoint config at ≡ Some e →
     Contains (socket_endpoints config) e
 own_socket config place.Auth e is = at (socket_endpoints config) 0 e is
 own_socket config place.Acct e is = at (socket_endpoints config) 1 e is
-own_socket config (place.Out realm) e is = out_there config realm e (slice_get config.realms realm) refl is
-own_socket config (place.Reverse realm) e is = reverse_there config realm e (slice_get config.realms realm) refl is
+own_socket config (place.Out realm) e is = there own_out own_out_there config realm e
+    (slice_get config.realms realm) refl is
+own_socket config (place.Reverse realm) e is = there own_reverse own_reverse_there config realm e
+    (slice_get config.realms realm) refl is

@@ -1,10 +1,10 @@
 -- Which socket is which place's, by its number: `auth`, `acct`, then `out` and `reverse` of each
 -- realm; the number of a `reverse` that isn't there is nobody's (ours).
-use Rattle.std.specs.Prelude.{ℕ, ◌+◌, ◌*◌, ◌%◌, List, Bool, true, false, Option, Some, option_map, option_and_then, slice_get}
+use Rattle.std.specs.Prelude.{ℕ, ◌+◌, ◌*◌, ◌%◌, List, Bool, true, false, Option, None, Some, option_and_then, slice_get, if◌then◌else◌}
 use Rattle.roam_address.specs.declared.endpoint.Endpoint.{Endpoint}
 use Rattle.roam_conf.specs.declared.place.Place.{Place}
 use Rattle.roam_conf.specs.declared.place.Place.TheVariants as place
-use Rattle.roam_conf.specs.Config.{ConfigView}
+use Rattle.roam_conf.specs.Config.{ConfigView, RealmView}
 use Rattle.roam_conf.specs.Duplicates.{own_endpoints}
 
 -- ## Socket numbers
@@ -27,12 +27,20 @@ socket_number (place.Reverse realm) = 2 * realm + 3
 abbrev pub socket_endpoints : ConfigView → List Endpoint
 socket_endpoints config = own_endpoints config.auth config.acct config.realms
 
+-- where a realm's `out` is bound; none where it is gone
+abbrev pub own_out : RealmView → Option Endpoint
+own_out realm = if realm.gone then None else Some realm.out
+
+-- where its `reverse` is bound, where it takes reverse requests
+abbrev pub own_reverse : RealmView → Option Endpoint
+own_reverse realm = if realm.gone then None else realm.reverse
+
 -- where the socket of a place is bound; none where the realm isn't configured, or takes no reverse requests
 abbrev pub socket_endpoint : ConfigView → Place → Option Endpoint
 socket_endpoint config place.Auth = Some config.auth
 socket_endpoint config place.Acct = Some config.acct
-socket_endpoint config (place.Out realm) = option_map (λ r. r.out) (slice_get config.realms realm)
-socket_endpoint config (place.Reverse realm) = option_and_then (λ r. r.reverse) (slice_get config.realms realm)
+socket_endpoint config (place.Out realm) = option_and_then own_out (slice_get config.realms realm)
+socket_endpoint config (place.Reverse realm) = option_and_then own_reverse (slice_get config.realms realm)
 
 -- the worker that hears a place's socket, of so many: in turn; or, where `auth` and `acct` are spread over the workers,
 -- that of the realm's shard, and of those two the first worker, beside which each other has its own

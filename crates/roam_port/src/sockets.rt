@@ -6,7 +6,8 @@ ghost use Rattle.std.specs.List.{flat_map};
 ghost use Rattle.roam_conf.specs.Duplicates.{realm_endpoints};
 ghost use Rattle.roam_conf.specs.Parts.{shown_realm};
 ghost use Rattle.roam_conf.specs.Shown.{shown};
-ghost use Rattle.roam_port.specs.Sockets.{socket_number, socket_endpoint, socket_endpoints, worker_number};
+ghost use Rattle.roam_port.specs.Sockets.{own_out, own_reverse, socket_number, socket_endpoint, socket_endpoints};
+ghost use Rattle.roam_port.specs.Sockets.{worker_number};
 
 use roam_conf::{Config, Endpoint, Place, Realm};
 
@@ -55,6 +56,9 @@ fn sockets_of(realm: &Realm) -> usize
     ensures value { result ≡ length (realm_endpoints (shown_realm realm.now)) }
     ensures bound { result ≤ 2 }
 {
+    if realm.gone {
+        return 0;
+    }
     match realm.reverse {
         Some(_) => 2,
         None => 1,
@@ -82,6 +86,20 @@ pub fn socket_count(config: &Config) -> usize
     2 + sockets_of_all(config.realms.as_slice())
 }
 
+/// Where a realm's `out` is bound; none where it is gone.
+fn own_out(realm: &Realm) -> Option<Endpoint>
+    ensures { result ≡ own_out (shown_realm realm.now) }
+{
+    if realm.gone { None } else { Some(realm.out) }
+}
+
+/// Where its `reverse` is bound, where it takes reverse requests.
+fn own_reverse(realm: &Realm) -> Option<Endpoint>
+    ensures { result ≡ own_reverse (shown_realm realm.now) }
+{
+    if realm.gone { None } else { realm.reverse }
+}
+
 /// Where the socket of a place is bound; none where the realm isn't configured, or takes no reverse requests.
 pub fn endpoint_of(config: &Config, place: Place) -> Option<Endpoint>
     ensures { result ≡ socket_endpoint (shown config.now) place }
@@ -90,11 +108,11 @@ pub fn endpoint_of(config: &Config, place: Place) -> Option<Endpoint>
         Place::Auth => Some(config.auth),
         Place::Acct => Some(config.acct),
         Place::Out(realm) => match config.realms.get(usize::from(realm)) {
-            Some(realm) => Some(realm.out),
+            Some(realm) => own_out(realm),
             None => None,
         },
         Place::Reverse(realm) => match config.realms.get(usize::from(realm)) {
-            Some(realm) => realm.reverse,
+            Some(realm) => own_reverse(realm),
             None => None,
         },
     }

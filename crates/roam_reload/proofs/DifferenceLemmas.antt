@@ -1,6 +1,7 @@
 -- What a test of equality that fails or holds says of what it compares.
-use Rattle.std.proofs.Common.{◌≡◌, ◌∙◌, Bool, true, false, not, Decides, refl, sym, ap}
-use Rattle.std.proofs.lemmas.Bool.{true≢false}
+use Rattle.std.proofs.Common.{◌≡◌, ◌≢◌, ◌↔◌, ◌∙◌, Bool, true, false, not, inl, inr, Decides, refl, sym, ap}
+use Rattle.std.proofs.lemmas.Bool.{cases_Bool, true≢false}
+use Rattle.std.specs.Prelude.{IsTrue}
 use Rattle.roam_address.specs.declared.endpoint.Endpoint.{Endpoint}
 use Rattle.roam_conf.proofs.EqualPartsLemmas.{endpoint_decides}
 use Rattle.roam_conf.specs.Duplicates.{same_endpoint}
@@ -17,6 +18,18 @@ unnot false e = absurd (true≢false e)
 -- the test holds: they are equal
 pub agrees : {A : Type 0} (x y : A) (same test : Bool) → Decides same (x ≡ y) → test ≡ not same → test ≡ false → y ≡ x
 agrees x y same test decides is no' = sym (decides.0 (unnot same (sym is ∙ no')))
+
+-- the test tells whether they differ
+pub tells : {A : Type 0} (x y : A) (same test : Bool) → Decides same (x ≡ y) → test ≡ not same →
+    IsTrue test ↔ (y ≢ x)
+tells x y same test decides is = (
+  λ yes'. differs x y same test decides is yes',
+  λ apart.
+      elim (cases_Bool test) [
+        | inl yes' ↦ yes'
+        | inr no' ↦ absurd (apart (agrees x y same test decides is no'))
+      ],
+)
 
 -- endpoints that are the same by the test are one, and others aren't
 pub same_endpoints : (a b : Endpoint) → same_endpoint a b ≡ true → a ≡ b

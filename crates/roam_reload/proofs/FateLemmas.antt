@@ -1,12 +1,15 @@
 -- What becomes of a realm.
-use Rattle.std.proofs.Common.{◌≡◌, ◌≢◌, ℕ, false, ◌<◌, [], Some, None, option_map, length, slice_get, ap, sym, ◌∙◌}
+use Rattle.std.proofs.Common.{◌≡◌, ◌≢◌, ℕ, zero, suc, ◌<◌, Bool, true, false, not, List, [], ◌∷◌, ◌++◌, Option, Some, None, is_some, IfNone, IfSome, option_map, unwrap_or, slice_get, map, length, refl, ap, sym, ◌∙◌, arith}
+use Rattle.std.proofs.lemmas.Bool.{false≢true, true≢false}
+use Rattle.std.proofs.lemmas.List.{length-map}
+use Rattle.std.specs.Prelude.{is_none}
 use Rattle.roam_address.specs.declared.address.TheConstants.Address.{UNSPECIFIED}
 use Rattle.roam_conf.specs.declared.accounting.Accounting.TheVariants.{Forwarded}
-use Rattle.roam_conf.specs.Config.{ConfigView, RealmView}
-use Rattle.roam_reload.specs.Differences.{RealmsDiffer}
-use Rattle.roam_reload.specs.Reload.{IsCarried, KeepsPeers, realm_part}
+use Rattle.roam_conf.specs.Config.{ConfigView, PeerView, RealmView}
+use Rattle.roam_reload.specs.Differences.{IsOtherPeer, RealmsDiffer}
+use Rattle.roam_reload.specs.Reload.{IsCarried, IsUntouched, KeepsPeers, peer_part, realm_part}
 use Rattle.roam_reload.specs.declared.keys.RealmKey.{RealmKey}
-use Rattle.roam_reload.specs.declared.keys.RealmKey.TheVariants.{Out, Reverse, Tries, Wait, Hold, MaxPending, MaxSessions, Rest, RestAfter, Servers, Peers, LoopPrevention, Accounting, RequestWithout, ReplyWithout, Share, PeerShare, OwnNames, Conversations, OwnSessions, CoaClients}
+use Rattle.roam_reload.specs.declared.keys.RealmKey.TheVariants.{Gone, Out, Reverse, Tries, Wait, Hold, MaxPending, MaxSessions, Rest, RestAfter, Servers, Peers, LoopPrevention, Accounting, RequestWithout, ReplyWithout, Share, PeerShare, OwnNames, Conversations, OwnSessions, CoaClients}
 
 -- some realm
 abbrev no_realm : RealmView
@@ -34,10 +37,12 @@ no_realm = record {
   conversations = false;
   own_sessions = false;
   coa_clients = [];
+  gone = false;
 }
 
 -- realms that differ in a key have other parts
 other_part : (a b : RealmView) (key : RealmKey) → RealmsDiffer a b key → realm_part b ≢ realm_part a
+other_part a b Gone d = λ e. d (ap (λ (x : RealmView). x.gone) e)
 other_part a b Out d = λ e. d (ap (λ (x : RealmView). x.out) e)
 other_part a b Reverse d = λ e. d (ap (λ (x : RealmView). x.reverse) e)
 other_part a b Tries d = λ e. d (ap (λ (x : RealmView). x.tries) e)
@@ -61,12 +66,53 @@ other_part a b CoaClients d = λ e. d (ap (λ (x : RealmView). x.coa_clients) e)
 other_part a b Servers d = λ e. d (ap (λ (x : RealmView). x.servers) e)
 
 -- both tables are there, and the same in this part
-pub carried : (old new : ConfigView) (r : ℕ) (before after : RealmView) → slice_get old.realms r ≡ Some before →
-    slice_get new.realms r ≡ Some after
-    → r < length old.realms → realm_part after ≡ realm_part before → KeepsPeers old.peers new.peers →
-    IsCarried old new r
-carried old new r before after was is lt same peers = record {
-  there = lt;
+pub untouched : (old new : ConfigView) (r : ℕ) (before after : RealmView) → IsCarried old new r →
+    slice_get old.realms r ≡ Some before → slice_get new.realms r ≡ Some after
+    → realm_part after ≡ realm_part before → KeepsPeers old.peers new.peers → IsUntouched old new r
+untouched old new r before after on was is same peers = record {
+  carried = on;
   table = ap (option_map realm_part) is ∙ ap (λ x. Some x) same ∙ sym (ap (option_map realm_part) was);
   peers = peers;
 }
+
+-- both are there, and differ in a key
+pub touched : (old new : ConfigView) (r : ℕ) (before after : RealmView) (key : RealmKey) →
+    slice_get old.realms r ≡ Some before → slice_get new.realms r ≡ Some after → RealmsDiffer before after key
+    → ¬ IsUntouched old new r
+touched old new r before after key was is differ k =
+    let both : Some (realm_part after) ≡ Some (realm_part before) =
+    sym (ap (option_map realm_part) is) ∙ k.table ∙ ap (option_map realm_part) was in
+    other_part before after key differ (ap (λ (o : Option RealmView). unwrap_or o (realm_part before)) both)
+
+-- what is said where there is no difference
+pub given : {K P : Type 0} (o : Option K) → IfNone o P → is_none o ≡ true → P
+given None p none = p
+given (Some k) p none = absurd (false≢true none)
+
+pub somewhere : (old new : ConfigView) (r : ℕ) (before after : RealmView) (key : Option RealmKey) →
+    slice_get old.realms r ≡ Some before → slice_get new.realms r ≡ Some after →
+    IfSome key (RealmsDiffer before after) → is_none key ≡ false → ¬ IsUntouched old new r
+somewhere old new r before after None was is differ some = absurd (true≢false some)
+somewhere old new r before after (Some key) was is differ some = touched old new r before after key was is differ
+
+front_kept : (xs ys : List PeerView) (i : ℕ) → i < length xs → slice_get (xs ++ ys) i ≡ slice_get xs i
+front_kept [] ys i inside = absurd (omega (arith, inside))
+front_kept (x ∷ xs) ys zero inside = refl
+front_kept (x ∷ xs) ys (suc i) inside = front_kept xs ys i (omega (arith, inside))
+
+-- where all peers are kept, none is another
+pub no_other : (old new : List PeerView) (peer : Option ℕ) → IfSome peer (IsOtherPeer old new) → KeepsPeers old new →
+    is_none peer ≡ true
+no_other old new None other kept = refl
+no_other old new (Some i) other kept =
+    let inside : i < length (map peer_part old) = rw (length-map old peer_part) other.there in
+    absurd (other.differs (ap (λ (ps : List PeerView). slice_get ps i) kept.same
+    ∙ front_kept (map peer_part old) kept.more i inside))
+
+-- what `is_none` tells
+pub none_told : {K : Type 0} (o : Option K) (told : Bool) → is_some o ≡ not told → is_none o ≡ told
+none_told o told is = ap not is ∙ twice told
+  where
+    twice : (b : Bool) → not (not b) ≡ b
+    twice true = refl
+    twice false = refl

@@ -2,3 +2,10 @@ pub mod PeerLemmas
 pub mod KindLemmas
 pub mod DifferenceLemmas
 pub mod FateLemmas
+pub mod KeptLemmas
+pub mod LayingLemmas
+pub mod SameTableLemmas
+pub mod SlotLemmas
+pub mod NumberLemmas
+pub mod SourceLemmas
+pub mod HoldsLemmas

@@ -9,7 +9,7 @@ use Rattle.roam_conf.specs.declared.peer.Peer.{Peer}
 use Rattle.roam_reload.specs.Differences.{IsOtherPeer, PeersDiffer}
 use Rattle.roam_reload.specs.Reload.{KeepsPeers, peer_part}
 use Rattle.roam_reload.specs.declared.keys.PeerKey.{PeerKey}
-use Rattle.roam_reload.specs.declared.keys.PeerKey.TheVariants.{Name, Ip, Secret, Coa, NasIp, NasIpv6, NasId, NasIds, OperatorName, AskCui, RequestWithout, ReplyWithout}
+use Rattle.roam_reload.specs.declared.keys.PeerKey.TheVariants.{Gone, Name, Ip, Secret, Coa, NasIp, NasIpv6, NasId, NasIds, OperatorName, AskCui, RequestWithout, ReplyWithout}
 
 -- the parts of some peers' tables
 abbrev pub parts : List Peer → List PeerView
@@ -17,6 +17,7 @@ parts peers = map peer_part (map shown_peer peers)
 
 -- peers that differ in a key have other parts
 other_part : (a b : PeerView) (key : PeerKey) → PeersDiffer a b key → peer_part b ≢ peer_part a
+other_part a b Gone d = λ e. d (ap (λ (x : PeerView). x.gone) e)
 other_part a b Name d = λ e. d (ap (λ (x : PeerView). x.name) e)
 other_part a b Ip d = λ e. d (ap (λ (x : PeerView). x.ip) e)
 other_part a b Secret d = λ e. d (ap (λ (x : PeerView). x.secret) e)

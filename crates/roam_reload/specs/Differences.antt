@@ -1,9 +1,10 @@
--- Why a configuration may not follow another, and why a realm isn't carried over. Ours.
-use Rattle.std.specs.Prelude.{◌≡◌, ◌≢◌, ℕ, ◌<◌, ◌≤◌, true, List, map, Some, length, slice_get}
+-- Why a configuration may not follow another, and in which keys the tables at a number differ. Ours.
+use Rattle.std.specs.Prelude.{◌≡◌, ◌≢◌, ℕ, ◌<◌, false, true, List, length, map, slice_get}
 use Rattle.roam_conf.specs.Config.{ConfigView, PeerView, RealmView}
 use Rattle.roam_conf.specs.Duplicates.{is_among}
 use Rattle.roam_address.specs.declared.endpoint.Endpoint.{Endpoint}
-use Rattle.roam_reload.specs.Reload.{IsCarried, endpoints_of, peer_part}
+use Rattle.roam_reload.specs.Numbers.{KeepsNumbers, is_here}
+use Rattle.roam_reload.specs.Reload.{IsCarried, IsUntouched, endpoints_of, peer_part}
 use Rattle.roam_reload.specs.declared.fate.Fate.{Fate}
 use Rattle.roam_reload.specs.declared.fate.Fate.TheVariants as fate
 use Rattle.roam_reload.specs.declared.hindrance.Hindrance.{Hindrance}
@@ -16,6 +17,7 @@ use Rattle.roam_reload.specs.declared.kind.PlaceKind.{PlaceKind}
 
 -- the two tables of a realm differ in a key; the two of a peer
 abbrev pub RealmsDiffer : RealmView → RealmView → RealmKey → Type 0
+RealmsDiffer old new realm_key.Gone = new.gone ≢ old.gone
 RealmsDiffer old new realm_key.Out = new.out ≢ old.out
 RealmsDiffer old new realm_key.Reverse = new.reverse ≢ old.reverse
 RealmsDiffer old new realm_key.Tries = new.tries ≢ old.tries
@@ -39,6 +41,7 @@ RealmsDiffer old new realm_key.OwnSessions = new.own_sessions ≢ old.own_sessio
 RealmsDiffer old new realm_key.CoaClients = new.coa_clients ≢ old.coa_clients
 
 abbrev pub PeersDiffer : PeerView → PeerView → PeerKey → Type 0
+PeersDiffer old new peer_key.Gone = new.gone ≢ old.gone
 PeersDiffer old new peer_key.Name = new.name ≢ old.name
 PeersDiffer old new peer_key.Ip = new.ip ≢ old.ip
 PeersDiffer old new peer_key.Secret = new.secret ≢ old.secret
@@ -57,29 +60,13 @@ pub record IsOtherPeer (old new : List PeerView) (peer : ℕ) : Type 0 where
   pub there : peer < length old
   pub differs : slice_get (map peer_part new) peer ≢ slice_get (map peer_part old) peer
 
--- both configurations have a realm of this index, and their tables differ in a key
-pub record IsOtherRealm (old new : ConfigView) (realm : ℕ) (key : RealmKey) : Type 0 where
-  pub before : RealmView
-  pub after : RealmView
-  pub was_there : slice_get old.realms realm ≡ Some before
-  pub is_there : slice_get new.realms realm ≡ Some after
-  pub differ : RealmsDiffer before after key
-
--- the old configuration has no realm of this index; the new one has none
-pub record IsAdded (old : ConfigView) (realm : ℕ) : Type 0 where
-  pub was_away : length old.realms ≤ realm
-
-pub record IsRemoved (old new : ConfigView) (realm : ℕ) : Type 0 where
-  pub was_there : realm < length old.realms
-  pub is_away : length new.realms ≤ realm
-
--- what becomes of the realm of an index, and why
+-- what becomes of the realm of a number: it goes on, untouched or not; it begins; it went; or there is none in either
 abbrev pub IsFate : ConfigView → ConfigView → ℕ → Fate → Type 0
-IsFate old new realm fate.CarriedOver = IsCarried old new realm
-IsFate old new realm (fate.OtherTable key) = IsOtherRealm old new realm key
-IsFate old new realm (fate.OtherPeer peer) = IsOtherPeer old.peers new.peers peer
-IsFate old new realm fate.Added = IsAdded old realm
-IsFate old new realm fate.Removed = IsRemoved old new realm
+IsFate old new realm fate.Unchanged = IsUntouched old new realm
+IsFate old new realm fate.Carried = IsCarried old new realm × ¬ IsUntouched old new realm
+IsFate old new realm fate.New = (is_here old realm ≡ false) × (is_here new realm ≡ true)
+IsFate old new realm fate.Gone = (is_here old realm ≡ true) × (is_here new realm ≡ false)
+IsFate old new realm fate.Away = (is_here old realm ≡ false) × (is_here new realm ≡ false)
 
 -- an endpoint is at places of two kinds
 pub record HasMoved (old new : ConfigView) (endpoint : Endpoint) : Type 0 where
@@ -93,6 +80,5 @@ pub record HasMoved (old new : ConfigView) (endpoint : Endpoint) : Type 0 where
 abbrev pub Hinders : ConfigView → ConfigView → Hindrance → Type 0
 Hinders old new hindrance.Seed = new.seed ≢ old.seed
 Hinders old new hindrance.Shards = new.shards ≢ old.shards
-Hinders old new hindrance.Spread = new.spread ≢ old.spread
-Hinders old new hindrance.Realms = length new.realms < length old.realms
+Hinders old new hindrance.Numbers = ¬ KeepsNumbers old new
 Hinders old new (hindrance.Endpoint endpoint) = HasMoved old new endpoint

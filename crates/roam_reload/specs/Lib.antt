@@ -1,5 +1,9 @@
+pub mod Numbers
+pub mod Kept
 pub mod Reload
 pub mod Differences
 -- Words of private functions alone.
 pub mod Moves
 pub mod SameLimits
+pub mod Sources
+pub mod Laying

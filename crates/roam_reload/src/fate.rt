@@ -1,11 +1,11 @@
 //! What becomes of each realm when a configuration follows another.
 
-ghost use Rattle.std.specs.Prelude.{◌↔◌, IsTrue};
+ghost use Rattle.std.specs.Prelude.{◌≡◌, ◌↔◌, IsTrue};
 ghost use Rattle.roam_conf.specs.Shown.{shown};
 ghost use Rattle.roam_reload.specs.Differences.{IsFate};
-ghost use Rattle.roam_reload.specs.Reload.{IsCarried};
+ghost use Rattle.roam_reload.specs.Numbers.{is_here};
+ghost use Rattle.roam_reload.specs.Reload.{IsCarried, IsUntouched};
 
-use crate::keys::RealmKey;
 use crate::peers::other_peer;
 use crate::realms::realm_difference;
 use roam_conf::Config;
@@ -13,43 +13,66 @@ use roam_conf::Config;
 /// What becomes of the realm of an index when a configuration follows another.
 #[derive(Clone, Copy, PartialEq, Eq)]
 pub enum Fate {
-    /// It goes on as it stands.
-    CarriedOver,
-    /// It begins anew: its table has another value of this key.
-    OtherTable(RealmKey),
-    /// It begins anew: the old peer of this index went, or has another table.
-    OtherPeer(usize),
-    /// It wasn't configured, and begins. Also where it is in neither configuration.
-    Added,
-    /// It isn't configured any more.
-    Removed,
+    /// It goes on, and nothing that it depends on has changed.
+    Unchanged,
+    /// It goes on: its own table has changed, or a peer's.
+    Carried,
+    /// It begins.
+    New,
+    /// It went from the file.
+    Gone,
+    /// There is no such realm, before or after.
+    Away,
+}
+
+/// Whether the realm of an index is here.
+pub fn is_here(config: &Config, realm: u16) -> bool
+    ensures { result ≡ is_here (shown config.now) realm }
+{
+    match config.realms.get(usize::from(realm)) {
+        Some(realm) => !realm.gone,
+        None => false,
+    }
+}
+
+/// Whether the realm of an index goes on when `new` follows `old`.
+pub fn is_carried(old: &Config, new: &Config, realm: u16) -> bool
+    ensures { IsTrue result ↔ IsCarried (shown old.now) (shown new.now) realm }
+{
+    is_here(old, realm) && is_here(new, realm)
+}
+
+/// Whether it goes on, and nothing that it depends on has changed.
+pub fn is_untouched(old: &Config, new: &Config, realm: u16) -> bool
+    ensures { IsTrue result ↔ IsUntouched (shown old.now) (shown new.now) realm }
+{
+    if !is_carried(old, new, realm) {
+        return false;
+    }
+    let Some(before) = old.realms.get(usize::from(realm)) else {
+        return false;
+    };
+    let Some(after) = new.realms.get(usize::from(realm)) else {
+        return false;
+    };
+    realm_difference(before, after).is_none()
+        && other_peer(old.peers.as_slice(), new.peers.as_slice()).is_none()
 }
 
 /// What becomes of the realm of an index when `new` follows `old`.
 pub fn fate_of(old: &Config, new: &Config, realm: u16) -> Fate
     ensures { IsFate (shown old.now) (shown new.now) realm result }
 {
-    let Some(before) = old.realms.get(usize::from(realm)) else {
-        return Fate::Added;
-    };
-    let Some(after) = new.realms.get(usize::from(realm)) else {
-        return Fate::Removed;
-    };
-    if let Some(key) = realm_difference(before, after) {
-        return Fate::OtherTable(key);
-    }
-    match other_peer(old.peers.as_slice(), new.peers.as_slice()) {
-        Some(peer) => Fate::OtherPeer(peer),
-        None => Fate::CarriedOver,
-    }
-}
-
-/// Whether the realm of an index is carried over when `new` follows `old`.
-pub fn is_carried(old: &Config, new: &Config, realm: u16) -> bool
-    ensures { IsTrue result ↔ IsCarried (shown old.now) (shown new.now) realm }
-{
-    match fate_of(old, new, realm) {
-        Fate::CarriedOver => true,
-        Fate::OtherTable(_) | Fate::OtherPeer(_) | Fate::Added | Fate::Removed => false,
+    match (is_here(old, realm), is_here(new, realm)) {
+        (true, true) => {
+            if is_untouched(old, new, realm) {
+                Fate::Unchanged
+            } else {
+                Fate::Carried
+            }
+        }
+        (false, true) => Fate::New,
+        (true, false) => Fate::Gone,
+        (false, false) => Fate::Away,
     }
 }

@@ -6,10 +6,11 @@ ghost use Rattle.roam_conf.specs.Parts.{shown_realm};
 ghost use Rattle.roam_conf.specs.Shown.{shown};
 ghost use Rattle.roam_reload.specs.Differences.{HasMoved, Hinders};
 ghost use Rattle.roam_reload.specs.Moves.{is_moved};
-ghost use Rattle.roam_reload.specs.Reload.{KeepsKinds, MayFollow};
+ghost use Rattle.roam_reload.specs.Reload.{KeepsKinds, MayFollow, here};
 ghost use Rattle.roam_reload.specs.declared.kind.PlaceKind.TheVariants as kind;
 
 use crate::kind::{PlaceKind, is_moved};
+use crate::numbers::keeps_numbers;
 use roam_conf::{Config, Endpoint, Realm};
 
 /// Why a configuration may not follow another.
@@ -19,35 +20,32 @@ pub enum Hindrance {
     Seed,
     /// It has another number of shards.
     Shards,
-    /// One spreads its requests over sockets of each worker, and the other doesn't.
-    Spread,
-    /// It has fewer realms. A realm that was added later at the index of one that went would begin its random words and
-    /// its tickets again.
-    Realms,
+    /// An index isn't the same realm's, or the same peer's: it isn't laid out by the other one.
+    Numbers,
     /// This endpoint is one of the broker's own places in both, and of another kind.
     Endpoint(Endpoint),
 }
 
-/// The first `out` of some realms that is at a place of another kind.
+/// The first `out` of those realms that are here which is at a place of another kind.
 fn moved_out(realms: &[Realm], new: &Config) -> Option<Endpoint>
     ensures { result ≡ find (is_moved (shown new.now) kind.Out)
-        (map (λ realm. realm.out) (map shown_realm realms.now)) }
+        (map (λ realm. realm.out) (here (map shown_realm realms.now))) }
 {
     for realm in realms {
-        if is_moved(new, PlaceKind::Out, realm.out) {
+        if !realm.gone && is_moved(new, PlaceKind::Out, realm.out) {
             return Some(realm.out);
         }
     }
     None
 }
 
-/// The first `reverse` of some realms that is at a place of another kind.
+/// The first `reverse` of those realms that are here which is at a place of another kind.
 fn moved_reverse(realms: &[Realm], new: &Config) -> Option<Endpoint>
     ensures { result ≡ find (is_moved (shown new.now) kind.Reverse)
-        (filter_map (λ realm. realm.reverse) (map shown_realm realms.now)) }
+        (filter_map (λ realm. realm.reverse) (here (map shown_realm realms.now))) }
 {
     for realm in realms {
-        if let Some(reverse) = realm.reverse {
+        if let (false, Some(reverse)) = (realm.gone, realm.reverse) {
             if is_moved(new, PlaceKind::Reverse, reverse) {
                 return Some(reverse);
             }
@@ -84,11 +82,8 @@ pub fn hindrance_of(old: &Config, new: &Config) -> Option<Hindrance>
     if new.shards != old.shards {
         return Some(Hindrance::Shards);
     }
-    if new.spread != old.spread {
-        return Some(Hindrance::Spread);
-    }
-    if new.realms.len() < old.realms.len() {
-        return Some(Hindrance::Realms);
+    if !keeps_numbers(old, new) {
+        return Some(Hindrance::Numbers);
     }
     match moved_endpoint(old, new) {
         Some(endpoint) => Some(Hindrance::Endpoint(endpoint)),

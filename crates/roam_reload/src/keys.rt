@@ -3,6 +3,8 @@
 /// A key of a realm's table; `name` and `also` aside.
 #[derive(Clone, Copy, PartialEq, Eq)]
 pub enum RealmKey {
+    /// No key: the realm went.
+    Gone,
     Out,
     Reverse,
     Tries,
@@ -31,6 +33,8 @@ pub enum RealmKey {
 /// A key of a peer's table; `require_seal` and `limit_proxy_state` aside.
 #[derive(Clone, Copy, PartialEq, Eq)]
 pub enum PeerKey {
+    /// No key: the peer went.
+    Gone,
     /// By which a realm's `peers` mean the peer.
     Name,
     Ip,
@@ -46,10 +50,36 @@ pub enum PeerKey {
     ReplyWithout,
 }
 
+/// All keys of a realm's table, in the order in which they are told.
+pub const REALM_KEYS: [RealmKey; 21] = [
+    RealmKey::Out,
+    RealmKey::Reverse,
+    RealmKey::Servers,
+    RealmKey::CoaClients,
+    RealmKey::Peers,
+    RealmKey::LoopPrevention,
+    RealmKey::Accounting,
+    RealmKey::RequestWithout,
+    RealmKey::ReplyWithout,
+    RealmKey::OwnNames,
+    RealmKey::Conversations,
+    RealmKey::OwnSessions,
+    RealmKey::Tries,
+    RealmKey::Wait,
+    RealmKey::Hold,
+    RealmKey::Rest,
+    RealmKey::RestAfter,
+    RealmKey::MaxPending,
+    RealmKey::MaxSessions,
+    RealmKey::Share,
+    RealmKey::PeerShare,
+];
+
 impl RealmKey {
     /// The key as it is written in a configuration.
     pub fn name(self) -> &'static str {
         match self {
+            RealmKey::Gone => "gone",
             RealmKey::Out => "out",
             RealmKey::Reverse => "reverse",
             RealmKey::Tries => "tries",
@@ -79,6 +109,7 @@ impl PeerKey {
     /// The key as it is written in a configuration.
     pub fn name(self) -> &'static str {
         match self {
+            PeerKey::Gone => "gone",
             PeerKey::Name => "name",
             PeerKey::Ip => "ip",
             PeerKey::Secret => "secret",

@@ -6,7 +6,7 @@ ghost use Rattle.roam_conf.specs.Duplicates.{is_among};
 ghost use Rattle.roam_conf.specs.Parts.{shown_realm};
 ghost use Rattle.roam_conf.specs.Shown.{shown};
 ghost use Rattle.roam_reload.specs.Moves.{is_moved};
-ghost use Rattle.roam_reload.specs.Reload.{endpoints_of};
+ghost use Rattle.roam_reload.specs.Reload.{endpoints_of, here};
 
 use roam_conf::{Config, Endpoint, Realm, is_same_endpoint};
 
@@ -23,24 +23,24 @@ pub enum PlaceKind {
     Reverse,
 }
 
-/// Whether an endpoint is a realm's `out`.
+/// Whether an endpoint is the `out` of a realm that is here.
 fn is_out(realms: &[Realm], endpoint: Endpoint) -> bool
-    ensures { result ≡ is_among (map (λ realm. realm.out) (map shown_realm realms.now)) endpoint }
+    ensures { result ≡ is_among (map (λ realm. realm.out) (here (map shown_realm realms.now))) endpoint }
 {
     for realm in realms {
-        if is_same_endpoint(endpoint, realm.out) {
+        if !realm.gone && is_same_endpoint(endpoint, realm.out) {
             return true;
         }
     }
     false
 }
 
-/// Whether an endpoint is a realm's `reverse`.
+/// Whether an endpoint is the `reverse` of a realm that is here.
 fn is_reverse(realms: &[Realm], endpoint: Endpoint) -> bool
-    ensures { result ≡ is_among (filter_map (λ realm. realm.reverse) (map shown_realm realms.now)) endpoint }
+    ensures { result ≡ is_among (filter_map (λ realm. realm.reverse) (here (map shown_realm realms.now))) endpoint }
 {
     for realm in realms {
-        if let Some(reverse) = realm.reverse {
+        if let (false, Some(reverse)) = (realm.gone, realm.reverse) {
             if is_same_endpoint(endpoint, reverse) {
                 return true;
             }

@@ -13,7 +13,9 @@ pub fn peer_difference(old: &Peer, new: &Peer) -> Option<PeerKey>
     ensures none { IfNone result (peer_part (shown_peer new.now) ≡ peer_part (shown_peer old.now)) }
     ensures some { IfSome result (PeersDiffer (shown_peer old.now) (shown_peer new.now)) }
 {
-    if old.name != new.name {
+    if old.gone != new.gone {
+        Some(PeerKey::Gone)
+    } else if old.name != new.name {
         Some(PeerKey::Name)
     } else if old.ip != new.ip {
         Some(PeerKey::Ip)

@@ -1,6 +1,6 @@
 //! In which key two tables of a realm differ.
 
-ghost use Rattle.std.specs.Prelude.{◌≡◌, ◌≢◌, IfNone, IfSome, IsFalse, IsTrue};
+ghost use Rattle.std.specs.Prelude.{◌≡◌, ◌≢◌, ◌↔◌, IfNone, IfSome, IsFalse, IsTrue};
 ghost use Rattle.roam_conf.specs.Parts.{shown_realm};
 ghost use Rattle.roam_reload.specs.Differences.{RealmsDiffer};
 ghost use Rattle.roam_reload.specs.Reload.{realm_part};
@@ -110,7 +110,9 @@ pub fn realm_difference(old: &Realm, new: &Realm) -> Option<RealmKey>
     ensures none { IfNone result (realm_part (shown_realm new.now) ≡ realm_part (shown_realm old.now)) }
     ensures some { IfSome result (RealmsDiffer (shown_realm old.now) (shown_realm new.now)) }
 {
-    if !is_same_endpoint(old.out, new.out) {
+    if old.gone != new.gone {
+        Some(RealmKey::Gone)
+    } else if !is_same_endpoint(old.out, new.out) {
         Some(RealmKey::Out)
     } else if !is_same_reverse(new.reverse, old.reverse) {
         Some(RealmKey::Reverse)
@@ -118,5 +120,35 @@ pub fn realm_difference(old: &Realm, new: &Realm) -> Option<RealmKey>
         Some(RealmKey::Servers)
     } else {
         other_difference(old, new)
+    }
+}
+
+/// Whether two tables of a realm differ in a key.
+pub fn is_other_in(old: &Realm, new: &Realm, key: RealmKey) -> bool
+    ensures { IsTrue result ↔ RealmsDiffer (shown_realm old.now) (shown_realm new.now) key }
+{
+    match key {
+        RealmKey::Gone => old.gone != new.gone,
+        RealmKey::Out => !is_same_endpoint(old.out, new.out),
+        RealmKey::Reverse => !is_same_reverse(new.reverse, old.reverse),
+        RealmKey::Tries => old.tries != new.tries,
+        RealmKey::Wait => old.wait != new.wait,
+        RealmKey::Hold => old.hold != new.hold,
+        RealmKey::MaxPending => old.max_pending != new.max_pending,
+        RealmKey::MaxSessions => old.max_sessions != new.max_sessions,
+        RealmKey::Rest => old.rest != new.rest,
+        RealmKey::RestAfter => old.rest_after != new.rest_after,
+        RealmKey::Servers => old.servers != new.servers,
+        RealmKey::Peers => old.peers != new.peers,
+        RealmKey::LoopPrevention => old.loop_prevention != new.loop_prevention,
+        RealmKey::Accounting => old.accounting != new.accounting,
+        RealmKey::RequestWithout => old.request_without != new.request_without,
+        RealmKey::ReplyWithout => old.reply_without != new.reply_without,
+        RealmKey::Share => old.share != new.share,
+        RealmKey::PeerShare => old.peer_share != new.peer_share,
+        RealmKey::OwnNames => old.own_names != new.own_names,
+        RealmKey::Conversations => old.conversations != new.conversations,
+        RealmKey::OwnSessions => old.own_sessions != new.own_sessions,
+        RealmKey::CoaClients => old.coa_clients != new.coa_clients,
     }
 }

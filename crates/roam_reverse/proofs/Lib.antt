@@ -1,6 +1,7 @@
 pub mod SameLemmas
 pub mod RowLemmas
 pub mod NeighbourLemmas
+pub mod NewestLemmas
 pub mod ListedLemmas
 pub mod ListLemmas
 pub mod MostLemmas

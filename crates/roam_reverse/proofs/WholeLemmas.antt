@@ -8,7 +8,7 @@ use Rattle.roam_reverse.specs.Facets.{ComesIn, masked, rows_under}
 use Rattle.roam_reverse.specs.Private.Groups.{AreEnds, AreEndsOf, Comes, Goes, IsGrouped, IsOldestOfMost, PlainGroups, in_group, oldest_of}
 use Rattle.roam_reverse.specs.Private.Row.{row_text, row_under, whole_row}
 use Rattle.roam_reverse.specs.Private.Tickets.{IsOneOf, IsTicketOf, all_listed}
-use Rattle.roam_reverse.specs.Sessions.{Asked, Session, agrees, count_of_peer, has_most, no_nas, without_agreeing, without_first}
+use Rattle.roam_reverse.specs.Sessions.{Asked, Session, agrees, count_of_peer, has_most, no_nas, without_agreeing, without_first, without_peer}
 use Rattle.roam_reverse.specs.Stands.{whole_rows}
 use Rattle.roam_reverse.specs.declared.ends.Ends.{Ends}
 use Rattle.roam_reverse.proofs.FacetLemmas.{agreeing-counted, agrees-held}
@@ -97,6 +97,27 @@ count-filter p r (x ∷ xs) same = elim (cases_Bool (r x)) [
       let rest = count-filter p r xs same in
       rw (first, fails) (omega (arith, rest)))
 ]
+
+-- those of a peer, and all others
+pub peer-counted : (peer : ℕ) (xs : List Session)
+    → length (filter (agrees (of_peer peer)) xs) ≡ count_of_peer peer xs
+peer-counted peer xs =
+    count-filter (agrees (of_peer peer)) (λ (s : Session). s.peer == peer) xs
+    (λ s. peer-agrees peer s ∙ turned peer s.peer)
+
+pub others-left : (peer : ℕ) (xs : List Session) → without_agreeing (of_peer peer) xs ≡ without_peer peer xs
+others-left peer [] = refl
+others-left peer (x ∷ xs) =
+    let is : agrees (of_peer peer) x ≡ (x.peer == peer) = peer-agrees peer x ∙ turned peer x.peer in
+    let rest = others-left peer xs in
+    elim (cases_Bool (x.peer == peer)) [
+      | inl passes ↦ (
+          let first : agrees (of_peer peer) x ≡ true = is ∙ passes in
+          rw (first, passes) rest)
+      | inr fails ↦ (
+          let first : agrees (of_peer peer) x ≡ false = is ∙ fails in
+          rw (first, fails) (ap (λ (l : List Session). x ∷ l) rest))
+    ]
 
 -- the groups of peers
 module _ (F : ℕ → Option Session) (p : PlainGroups)

@@ -3,6 +3,7 @@ pub mod Sessions
 pub mod Short
 pub mod Kept
 pub mod Shown
+pub mod Parts
 pub mod Maps
 pub mod Facets
 pub mod Stands

@@ -79,6 +79,10 @@ without_session s sessions = filter (λ other. not (same_session s other)) sessi
 abbrev pub without_agreeing : Asked → List Session → List Session
 without_agreeing q sessions = filter (λ s. not (agrees q s)) sessions
 
+-- without those of a peer
+abbrev pub without_peer : ℕ → List Session → List Session
+without_peer peer sessions = filter (λ s. not (s.peer == peer)) sessions
+
 -- how many sessions of a peer are in a list
 abbrev pub count_of_peer : ℕ → List Session → ℕ
 count_of_peer peer sessions = length (filter (λ s. s.peer == peer) sessions)

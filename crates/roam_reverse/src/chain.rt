@@ -1,10 +1,12 @@
 //! The sessions of a ledger in the order in which they were opened.
 
-ghost use Rattle.std.specs.Prelude.{◌≡◌, ◌≢◌, ℕ, ◌+◌, ◌-◌, ◌<◌, ◌≤◌, [], ◌∷◌, ◌++◌, true};
+ghost use Rattle.std.specs.Prelude.{◌≡◌, ◌≢◌, ℕ, ◌+◌, ◌-◌, ◌<◌, ◌≤◌, [], ◌∷◌, ◌++◌, false, true};
 ghost use Rattle.std.specs.Prelude.{None, Some, IsOk, IsSome, OnOk, OnErr, filter, is_some, length};
+ghost use Rattle.std.specs.Prelude.{option_map};
 ghost use Rattle.roam_reverse.specs.Private.Tickets.{IsTicketOf};
 ghost use Rattle.roam_reverse.specs.Sessions.{agrees, has_most, within, without_agreeing, without_first};
 ghost use Rattle.roam_reverse.specs.Kept.{kept_session, shown_asked, shown_session};
+ghost use Rattle.roam_reverse.specs.Parts.{shown_parts};
 ghost use Rattle.roam_reverse.specs.Stands.{IsSound, session_at, session_count, sessions_of};
 ghost use Rattle.roam_reverse.specs.Maps.{session_of};
 ghost use Rattle.indexmap.specs.IndexMap.{index_map_len, spare};
@@ -14,6 +16,7 @@ use crate::asked::{AskedRef, SessionRef};
 use crate::facets::Facets;
 use crate::groups::Groups;
 use crate::open_session::{NewSession, OpenSession};
+use crate::parts::SessionParts;
 use crate::row::Row;
 use indexmap::IndexMap;
 use roam_hash::HashKey;
@@ -26,7 +29,6 @@ pub(crate) type ByTicket<A> = IndexMap<u64, OpenSession<A>, BuildHasherDefault<F
 
 /// Sessions in the order in which they were opened. Each has a ticket, and these rise. They are found by all that they
 /// are, by the names of their access servers, and by these and the id.
-#[derive(Drop)]
 pub(crate) struct Chain<A: Allocator> {
     pub(crate) by_ticket: ByTicket<A>,
     pub(crate) whole: Groups<A>,
@@ -36,6 +38,23 @@ pub(crate) struct Chain<A: Allocator> {
     pub(crate) next: u64,
     /// For how many sessions more room was made.
     pub(crate) spare: usize,
+}
+
+impl<A: Allocator> Drop for Chain<A> {
+    fn drop(self) {
+        let Self {
+            by_ticket,
+            whole,
+            of_peer,
+            of_id,
+            next: _,
+            spare: _,
+        } = self;
+        drop(by_ticket);
+        drop(whole);
+        drop(of_peer);
+        drop(of_id);
+    }
 }
 
 /// Puts a session at a ticket that none has, where there is room. Takes no memory.
@@ -198,6 +217,32 @@ impl<A: Allocator + Copy> Chain<A> {
     {
         while let Some(ticket) = self.of_peer.oldest(asked) {
             self.remove(ticket);
+        }
+    }
+
+    /// How many sessions agree with what is asked, which names no id.
+    pub(crate) fn count_of_peer(&self, asked: AskedRef<'_>) -> usize
+        ensures { IsSound self.now → is_some (shown_asked asked.entry).id ≡ false
+            → result ≡ length (filter (agrees (shown_asked asked.entry)) (sessions_of self.now)) }
+    {
+        self.of_peer.count(asked)
+    }
+
+    /// Adds the tickets of all sessions, in no order.
+    pub(crate) fn add_tickets(&self, tickets: &mut Vec<u64, A>) -> Result<(), NoMemory> {
+        match tickets.extend_from_slice(self.by_ticket.keys().as_slice()) {
+            Ok(()) => Ok(()),
+            Err(_) => Err(NoMemory),
+        }
+    }
+
+    /// The session of a ticket, where there is one.
+    pub(crate) fn parts_of(&self, ticket: u64) -> Option<SessionParts<'_>>
+        ensures { option_map shown_parts result ≡ session_at self.now ticket }
+    {
+        match self.by_ticket.get(&ticket) {
+            Some(session) => Some(session.parts()),
+            None => None,
         }
     }
 }

@@ -1,13 +1,14 @@
 //! The ledger of a realm's open sessions.
 
-ghost use Rattle.std.specs.Prelude.{◌≡◌, ◌<◌, [], IfOk, IsOk, None, OnOk, OnErr, filter, is_some, length, true};
+ghost use Rattle.std.specs.Prelude.{◌≡◌, ◌<◌, ◌≤◌, ◌-◌, [], drop, IfOk, IsOk, None, OnOk, OnErr, filter, is_some, length, true};
 ghost use Rattle.roam_reverse.specs.Sessions.{IsLedger, agrees, applied, change_by_request, changed, is_open};
-ghost use Rattle.roam_reverse.specs.Sessions.{has_session, with_session, without_agreeing, without_session};
+ghost use Rattle.roam_reverse.specs.Sessions.{count_of_peer, has_session, with_session, without_agreeing};
+ghost use Rattle.roam_reverse.specs.Sessions.{without_peer, without_session};
 ghost use Rattle.roam_reverse.specs.Kept.{kept_session, shown_asked, shown_session};
 ghost use Rattle.roam_reverse.specs.Shown.{HasRoomFor, IsClosing};
 
 use crate::accounting::{Said, said_by};
-use crate::asked::{AskedRef, SessionRef, counted_nas};
+use crate::asked::{AskedRef, SessionRef, counted_nas, no_nas};
 use crate::chain::Chain;
 use crate::open_session::NewSession;
 use crate::session::{Change, NasArray, PreparedChange, SessionArray};
@@ -20,11 +21,22 @@ use std::marker::Model;
 
 /// The ledger of a realm's open sessions (RFC 2866, section 5.5). Contracts see its limit, the
 /// sessions with the oldest first, and for how many more there is room.
-#[derive(Drop)]
 pub struct Sessions<A: Allocator> {
     alloc: A,
     limit: u32,
-    chain: Chain<A>,
+    pub(crate) chain: Chain<A>,
+}
+
+impl<A: Allocator> Drop for Sessions<A> {
+    fn drop(self) {
+        let Self {
+            alloc,
+            limit: _,
+            chain,
+        } = self;
+        drop(chain);
+        drop(alloc);
+    }
 }
 
 impl<A: Allocator> Model for Sessions<A> {
@@ -111,7 +123,10 @@ impl<A: Allocator + Copy> Sessions<A> {
 
     /// The same for a session that is open: one that is there, or that can't be kept, wants no
     /// memory.
-    fn prepare_opening(&mut self, session: SessionRef<'_>) -> Result<PreparedChange<A>, NoMemory>
+    pub(crate) fn prepare_opening(
+        &mut self,
+        session: SessionRef<'_>,
+    ) -> Result<PreparedChange<A>, NoMemory>
         ensures change { IfOk result (λ prepared.
             changed self.old.limit prepared self.old.sessions
             ≡ with_session self.old.limit (shown_session session.entry) self.old.sessions) }
@@ -219,5 +234,39 @@ impl<A: Allocator + Copy> Sessions<A> {
             ≡ without_agreeing (shown_asked asked.entry) self.old.sessions }
     {
         self.chain.remove_agreeing(asked);
+    }
+
+    /// Takes all sessions of a peer out, as one that went. Takes no memory.
+    pub fn close_peer(&mut self, peer: u16)
+        ensures limit { self.new.limit ≡ self.old.limit }
+        ensures sessions { self.new.sessions ≡ without_peer peer self.old.sessions }
+    {
+        self.close_all(AskedRef {
+            peer,
+            nas: no_nas(),
+            id: None,
+        });
+    }
+
+    /// Keeps so many sessions at most from now on: where there are more, the oldest go. Takes no memory.
+    pub fn limit_to(&mut self, limit: u32)
+        ensures limit { self.new.limit ≡ limit }
+        ensures sessions { self.new.sessions ≡ drop (length self.old.sessions - limit) self.old.sessions }
+        // So where the limit is no less, none goes.
+        ensures few { length self.old.sessions ≤ self.old.limit }
+    {
+        self.chain.keep_newest(limit as usize);
+        self.limit = limit;
+    }
+
+    /// How many sessions of a peer are open. Takes no memory.
+    pub fn count_of(&self, peer: u16) -> usize
+        ensures { result ≡ count_of_peer peer self.now.sessions }
+    {
+        self.chain.count_of_peer(AskedRef {
+            peer,
+            nas: no_nas(),
+            id: None,
+        })
     }
 }

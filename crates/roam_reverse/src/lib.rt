@@ -31,7 +31,9 @@ mod laws;
 mod ledger;
 mod nas_target;
 mod neighbours;
+mod newest;
 mod open_session;
+mod parts;
 mod row;
 mod session;
 mod short;
@@ -45,4 +47,5 @@ pub use laws::{
 };
 pub use ledger::Sessions;
 pub use nas_target::target;
+pub use parts::SessionParts;
 pub use session::PreparedChange;

@@ -32,9 +32,9 @@ answer_length request = 38 + length (attributes_text (only_kind PROXY_STATE requ
 -- ## Local reject
 -- An Access-Reject with the request's Identifier, a Message-Authenticator first and then the request's
 -- Proxy-States, sealed and signed for the peer over the request's Authenticator. It answers an Access-Request
--- that has too many hops, that names no configured realm or whose passwords can't be carried: both
--- User-Password and CHAP-Password, two User-Passwords, or one of another size than 16 to 128 octets in whole
--- blocks. Refused where it would pass 4096 octets (10)
+-- that has too many hops, that names no configured realm or one that takes none of this peer's, or whose
+-- passwords can't be carried: both User-Password and CHAP-Password, two User-Passwords, or one of another size
+-- than 16 to 128 octets in whole blocks. Refused where it would pass 4096 octets (10)
 -- Source: RFC 2865 sections 4.1, 4.3 and 5.2, RFC 3579 section 3.2; when it is sent is ours
 -- Rules out: an answer that another realm's state changes
 -- Stands in: `roam_route` `LocalAnswer.antt`: `local_reject`, `answer_length`; `LocalReject.antt`:

@@ -2,5 +2,6 @@
 
 pub mod configured;
 pub mod fresh;
+pub mod manner;
 pub mod next;
 pub mod source;

@@ -6,7 +6,7 @@
 //! # Proved
 //!
 //! - of a hub that was closed: its histories were audited, the shards that are handed on stand where these end, and a
-//!   configuration that follows may | `serve_first`, `serve_over`: `ends`, `may`; `close_and_audit`: `ends`;
+//!   configuration that follows may | `serve_over`: `ends`, `may`; `close_and_audit`: `ends`;
 //!   `Source::following`
 #![tactic(auto)]
 
@@ -23,9 +23,10 @@ mod watch;
 pub use asked::attending::stopping;
 pub use change::configured::{Configured, Handover};
 pub use change::fresh::FreshMeans;
+pub use change::manner::{Manner, StateFile};
 pub use change::next::{Next, out_of_memory, widen_all};
 pub use change::source::{Following, NoSource, Source};
-pub use open_hub::{serve_first, serve_over};
+pub use open_hub::serve_over;
 pub use parts::{HubEnd, Means, Served, ServerParts, Unserved, counters_of};
 pub use watch::Watch;
 

@@ -2,9 +2,7 @@
 
 ghost use Rattle.std.specs.Prelude.{◌≡◌, IfOk, IfErr};
 ghost use Rattle.roam_conf.specs.Shown.{shown};
-ghost use Rattle.roam_history.specs.HubOpening.{fresh_opening};
 ghost use Rattle.roam_history.specs.Books.{books_of, count_of};
-ghost use Rattle.roam_shard.specs.ShardView.{AreStarts};
 ghost use Rattle.roam_audit.specs.Shown.{recorded};
 ghost use Rattle.roam_hub.specs.Pausing.{ArePaused, opening_over};
 ghost use Rattle.roam_run.specs.Closed.{EndSomewhere, EndsOf, IsUnserved, MayGoOn};
@@ -19,11 +17,10 @@ use crate::opening::{HubRoom, OpenHub, ThreadRoom};
 use crate::parts::{HubEnd, Left, Means, Served, ServerParts, Unserved, counters_of};
 use crate::start::{ResultRoom, RunResult, run_threads};
 use log::Log;
-use roam_book::Start;
 use roam_hub::{Blanks, Gate, Hub, Opened, Seat};
 use roam_shard::Paused;
 use roam_sockets::ServeFault;
-use roam_threads::{Kits, prepare_threads};
+use roam_threads::prepare_threads;
 use roam_workers::{Ended, Shared, TimerRest};
 use std::alloc::Global;
 use std::net::Net;
@@ -51,12 +48,8 @@ fn run<
     requires { shown configured.now.config ≡ N.opening.config }
     ensures { MayGoOn N.opening.config result.end }
 {
-    let Means {
-        kits: Kits { wakers, threads },
-        outboxes,
-        rests,
-        handover,
-    } = means;
+    let (kits, outboxes, rests, handover) = means.into_parts();
+    let (wakers, threads) = kits.into_parts();
     let sockets = configured.sockets.as_slice();
     let logger = Parker::new();
     let stop = AtomicBool::new(false);
@@ -71,8 +64,8 @@ fn run<
         rest: &rest,
         losses: parts.losses,
         counters: configured.counters(counters_of(parts.watch)),
-        told_exchanges: configured.told_exchanges,
-        stations: configured.stations,
+        told_exchanges: configured.manner.told_exchanges,
+        stations: configured.manner.stations,
         office: parts.office,
         stopping: parts.stopping,
         old_history: parts.old_history,
@@ -82,7 +75,7 @@ fn run<
     };
     match prepare_threads(sockets, &shared, seat, threads, outboxes, rests) {
         Ok((prepared, seat)) => {
-            let attendant = Attendant::new(parts.rt, &shared, sockets, seat);
+            let attendant = Attendant::new(parts.rt, &shared, configured, seat);
             run_threads(attendant, prepared, room, handover, parts.source)
         }
         Err(fault) => RunResult {
@@ -162,39 +155,6 @@ fn run_hub<
             drop(end);
             drop(hub);
             drop(pause);
-            Err(fault)
-        }
-    }
-}
-
-/// Serves the first configuration, whose realms begin, until its hub is closed.
-pub fn serve_first<
-    N: Opened + Send + Sync,
-    R: Threads + Wait + Clock + Net + RandomSource + Log + Sync,
-    G: Gate + Sync,
-    S: Source,
->(
-    parts: &mut ServerParts<'_, R, G, S>,
-    configured: &Configured,
-    starts: &[Start],
-    blanks: Blanks<Global>,
-    means: Means,
-) -> Result<Served, ServeFault>
-    requires opening { N.opening ≡ fresh_opening (shown configured.now.config) starts.now }
-    requires books { N.books ≡ books_of blanks }
-    requires blanks { count_of blanks ≡ configured.now.config.shards }
-    requires starts { AreStarts (shown configured.now.config) starts.now }
-    ensures ends { IfOk result (λ served. EndSomewhere N.opening served.shards.items) }
-    ensures may { IfOk result (λ served. MayGoOn N.opening.config served.end) }
-    ensures err { IfErr result IsAfterBinding }
-{
-    match OpenHub::<'_, N>::first(parts.alloc, &configured.config, starts, blanks) {
-        Ok(open) => match run_hub(parts, configured, open, means) {
-            Ok(left) => Ok(left.served()),
-            Err(fault) => Err(fault),
-        },
-        Err(fault) => {
-            drop(means);
             Err(fault)
         }
     }

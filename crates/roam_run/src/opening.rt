@@ -3,13 +3,10 @@
 ghost use Rattle.std.specs.Prelude.{◌≡◌, IfErr};
 ghost use Rattle.roam_conf.specs.Shown.{shown};
 ghost use Rattle.roam_history.specs.Books.{books_of, count_of};
-ghost use Rattle.roam_history.specs.HubOpening.{fresh_opening};
-ghost use Rattle.roam_shard.specs.ShardView.{AreStarts};
 ghost use Rattle.roam_hub.specs.Pausing.{ArePaused, opening_over};
 ghost use Rattle.roam_sockets.specs.Faults.{IsAfterBinding};
 
 use crate::start::ResultRoom;
-use roam_book::Start;
 use roam_conf::Config;
 use roam_hub::{Blanks, Hub, Opened, PauseRoom, Seat};
 use roam_port::Outbox;
@@ -66,24 +63,6 @@ pub struct OpenHub<'c, N: Opened> {
 }
 
 impl<'c, N: Opened> OpenHub<'c, N> {
-    /// A hub whose realms begin.
-    pub fn first(
-        alloc: Global,
-        config: &'c Config,
-        starts: &[Start],
-        blanks: Blanks<Global>,
-    ) -> Result<OpenHub<'c, N>, ServeFault>
-        requires opening { N.opening ≡ fresh_opening (shown config.now) starts.now }
-        requires books { N.books ≡ books_of blanks }
-        requires blanks { count_of blanks ≡ config.now.shards }
-        requires starts { AreStarts (shown config.now) starts.now }
-        ensures { IfErr result IsAfterBinding }
-    {
-        let room = HubRoom::<'_, N>::new(alloc, config)?;
-        let (hub, seat) = Hub::<'_, Global, N>::open(alloc, config, starts, blanks)?;
-        Ok(OpenHub { hub, seat, room })
-    }
-
     /// A hub over shards that stand under its configuration. Where memory is wanting they come back as they were.
     pub fn over(
         alloc: Global,

@@ -46,13 +46,46 @@ pub fn counters_of(watch: Option<Watch<'_>>) -> Option<&Counters> {
 }
 
 /// What the threads of a configuration are made of, and what is handed on to them.
-#[derive(Drop)]
 pub struct Means {
     pub kits: Kits,
     pub outboxes: Vec<Outbox<Global>>,
     /// Which home servers keep silent, as it was told.
     pub rests: Rests,
     pub handover: Handover,
+}
+
+// By hand, so that a proof sees one call wherever they end, and not each of their parts.
+impl Drop for Means {
+    fn drop(self) {
+        let Self {
+            kits,
+            outboxes,
+            rests,
+            handover,
+        } = self;
+        drop(kits);
+        drop(outboxes);
+        drop(rests);
+        drop(handover);
+    }
+}
+
+impl Means {
+    /// Each of them.
+    pub fn into_parts(self) -> (Kits, Vec<Outbox<Global>>, Rests, Handover)
+        ensures kits { result.0 ≡ self.kits }
+        ensures outboxes { result.1 ≡ self.outboxes }
+        ensures rests { result.2 ≡ self.rests }
+        ensures handover { result.3 ≡ self.handover }
+    {
+        let Self {
+            kits,
+            outboxes,
+            rests,
+            handover,
+        } = self;
+        (kits, outboxes, rests, handover)
+    }
 }
 
 /// How the time under a configuration ended.
@@ -138,6 +171,14 @@ impl Served {
 }
 
 impl HubEnd {
+    /// Whether the server ends.
+    pub fn is_over(&self) -> bool {
+        match self {
+            HubEnd::Over => true,
+            HubEnd::Failed(_, _) | HubEnd::Follows(_) => false,
+        }
+    }
+
     /// Whether what serves couldn't be started.
     pub fn has_failed(&self) -> bool {
         match self {

@@ -94,11 +94,7 @@ fn tell_start<R: Wait + Clock + Log, G, N: Opened>(
     shared: &Shared<'_, '_, G, N>,
     handover: Handover,
 ) {
-    let Handover {
-        reply,
-        before,
-        is_awaited,
-    } = handover;
+    let (reply, before, is_awaited) = handover.into_parts();
     tell_or_drop(rt, shared.config, serving(shared.config));
     drop(before);
     if let Some(reply) = reply {
@@ -161,7 +157,8 @@ impl<N: Opened> ResultRoom<N> {
 
 /// Runs the threads until they have ended, or until a configuration comes that is to follow. Once all run it is told
 /// that this one is served, also to who asked for it. Until the end this thread answers who asks for something. Where
-/// one can't be started, the others are ended.
+/// one can't be started, the others are ended. Where the server ends, the ledgers of sessions are kept as they stand
+/// then.
 pub fn run_threads<
     's,
     'c,
@@ -197,6 +194,7 @@ pub fn run_threads<
             for handle in handles {
                 let _is_kept = ends.push(handle.join(rt)).is_ok();
             }
+            attendant.keep_at_end(&end, source);
             shared.logger.unpark();
             end
         },

@@ -9,7 +9,7 @@
 //! # Proved
 //!
 //! - what a server did that ends without a fault: of each shard such spans of one history, from the opening of a hub whose
-//!   realms begin | `serve`: `served`
+//!   realms begin, with no more than the sessions that a file of ledgers has of them | `serve`: `served`
 //! - of a server's faults, an endpoint that can't be bound is one of its configuration | `serve`: `err`
 #![tactic(auto)]
 
@@ -20,5 +20,5 @@ pub use roam_sockets::{
     ControlSocket, Reason, ServeFault, SocketPath, descriptors_wanted, reason_of, with_drawn_seed,
 };
 pub use roam_stations::{StationForm, StationKey};
-pub use roam_succession::{Counters, Following, NoSource, Open, Source, Watch};
+pub use roam_succession::{Counters, Following, Manner, NoSource, Open, Source, StateFile, Watch};
 pub use server::{ServeOptions, serve};

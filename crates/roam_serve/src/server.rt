@@ -10,11 +10,10 @@ use roam_conf::{Config, ExchangeLines};
 use roam_control::{Build, Office, Stopping};
 use roam_port::socket_numbers;
 use roam_sockets::{BoundSocket, ServeFault, bind_all, descriptors_wanted, listen_at, reason_of};
-use roam_stations::StationForm;
 use roam_succession::{
-    Behind, CAUSES, Configured, Gate, Handover, Means, Notice, OldHistory, Rests, ServerParts,
-    SharedLosses, Source, Watch, make_kits, make_outboxes, serve_all, start_behind, tell_or_drop,
-    widen_all,
+    Behind, CAUSES, Configured, Gate, Handover, Manner, Means, Notice, OldHistory, Rests,
+    ServerParts, SharedLosses, Source, Watch, make_kits, make_outboxes, serve_all, start_behind,
+    tell_or_drop, widen_all,
 };
 use std::alloc::Global;
 use std::net::{Net, TcpListener};
@@ -29,10 +28,7 @@ use std::time::{Clock, Instant};
 pub struct ServeOptions<'s, G> {
     /// Where what its threads do is counted, and who may ask for that; none where nobody watches it.
     pub watch: Option<Watch<'s>>,
-    /// Of which exchanges that end a line tells.
-    pub told_exchanges: ExchangeLines,
-    /// How these lines have a station.
-    pub stations: StationForm,
+    pub manner: Manner,
     /// For how long it serves; none where that has no end.
     pub milliseconds: Option<u64>,
     /// Called while a lock is held.
@@ -207,8 +203,7 @@ pub fn serve<
 {
     let ServeOptions {
         watch,
-        told_exchanges,
-        stations,
+        manner,
         milliseconds,
         gate,
     } = options;
@@ -222,12 +217,12 @@ pub fn serve<
     let old_history = OldHistory::new(alloc, config.shards)?;
     let office = Office::new(rt, alloc, start, config.shards, build_of(watch))?;
     let stopping = Stopping::new();
-    let means = first_means(rt, alloc, &config, sockets.as_slice(), told_exchanges)?;
+    let told = manner.told_exchanges;
+    let means = first_means(rt, alloc, &config, sockets.as_slice(), told)?;
     let configured = Configured {
         config,
         sockets,
-        told_exchanges,
-        stations,
+        manner,
         counters: None,
     };
     let mut parts = ServerParts {

@@ -4,9 +4,15 @@ pub mod DueLemmas
 pub mod LettingGoLemmas
 pub mod LookLemmas
 pub mod OpeningLemmas
+pub mod CarriedListLemmas
 pub mod FollowLemmas
+pub mod OverLemmas
+pub mod FollowedLemmas
+pub mod RestoredLemmas
 pub mod RoomLemmas
 pub mod TickLemmas
 pub mod AcrossLemmas
 pub mod LostLemmas
 pub mod FewLemmas
+pub mod TakenUpLemmas
+pub mod ItemLemmas

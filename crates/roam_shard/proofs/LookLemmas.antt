@@ -3,12 +3,19 @@ use Rattle.std.proofs.Common.{arith, ◌≡◌, ◌∙◌, ℕ, ◌<◌, true, f
 use Rattle.std.specs.Prelude.{slice_get}
 use Rattle.std.proofs.lemmas.Option.{slice_get-get_or}
 use Rattle.std.proofs.Common.{get_or}
+use Rattle.roam_conf.specs.Config.{ConfigView}
+use Rattle.roam_reload.specs.Reload.{IsCarried}
 use Rattle.roam_tables.specs.Stands.{RealmView, entries_in}
+use Rattle.roam_book.specs.Carrying.{shown_loss}
+use Rattle.roam_book.specs.Losses.{all_lost, losses}
+use Rattle.roam_book.specs.RealmConfig.{RealmConfig, realm_config}
 use Rattle.roam_book.specs.RealmState.{RealmState}
+use Rattle.roam_book.specs.Sound.{state_of}
+use Rattle.roam_book.specs.declared.rules.losses.Loss.{Loss}
 use Rattle.roam_book.specs.declared.state.realm_numbers.RealmNumbers.{RealmNumbers}
 use Rattle.roam_core.specs.Events.{is_in_shard}
 use Rattle.roam_core.specs.ManyRealms.{state_at}
-use Rattle.roam_shard.specs.Looks.{IsOwn, NoneThere}
+use Rattle.roam_shard.specs.Looks.{IsLoss, IsOwn, NoneThere}
 use Rattle.roam_shard.specs.ShardView.{IsShard, OpeningView, ShardView, states_in}
 use Rattle.roam_shard.proofs.ShardLemmas.{state-seen}
 
@@ -31,6 +38,39 @@ module _ {A : Type 0} (o : OpeningView) (tables : List RealmView) (ns : List (Op
       ap (λ (xs : List (Option (RealmNumbers A))). slice_get xs r) (sym same) ∙ at in
       sym (ap (λ (s : RealmState). s.sessions) (state-seen o (entries_in tables) r ns (Some n) there))
       ∙ ap (λ (v : ShardView). (state_at v.states r).sessions) is
+
+  -- its state, what fits there, and that it is configured
+  pub state-looked : (r : ℕ) (n : RealmNumbers A) → slice_get ds r ≡ Some (Some n)
+      → state_of (entries_in tables r) n ≡ state_at view.states r
+  state-looked r n at =
+      let there : slice_get ns r ≡ Some (Some n) =
+      ap (λ (xs : List (Option (RealmNumbers A))). slice_get xs r) (sym same) ∙ at in
+      sym (state-seen o (entries_in tables) r ns (Some n) there) ∙ ap (λ (v : ShardView). state_at v.states r) is
+
+  -- what goes of it, where it goes on, and where it goes
+  module _ (next : ConfigView) (r : ℕ) (n : RealmNumbers A) (at : slice_get ds r ≡ Some (Some n)) (b : RealmConfig)
+      (was : b ≡ realm_config o.config r) (loss : Loss) where
+    own_state : state_of (entries_in tables b.index) n ≡ state_at view.states r
+    own_state = ap (λ (x : RealmConfig). state_of (entries_in tables x.index) n) was ∙ state-looked r n at
+
+    own_loss : IsLoss o.config next r (state_at view.states r) loss
+        → IsLoss view.opening.config next r (state_at view.states r) loss
+    own_loss = subst (λ (x : ConfigView). IsLoss x next r (state_at view.states r) loss)
+        (ap (λ (v : ShardView). v.opening.config) is)
+
+    pub carried_lost : IsCarried o.config next r → (c : RealmConfig) → c ≡ realm_config next r
+        → shown_loss loss ≡ losses b c (state_of (entries_in tables b.index) n)
+        → IsLoss view.opening.config next r (state_at view.states r) loss
+    carried_lost goes c will told = own_loss (record {
+      carried = λ goes'. told ∙ (λ j. losses (was j) (will j) (own_state j));
+      gone = λ away. absurd (away goes);
+    })
+
+    pub gone_lost : (IsCarried o.config next r → ⊥)
+        → shown_loss loss ≡ all_lost (state_of (entries_in tables b.index) n)
+        → IsLoss view.opening.config next r (state_at view.states r) loss
+    gone_lost away told =
+        own_loss (record { carried = λ goes. absurd (away goes); gone = λ away'. told ∙ ap all_lost own_state })
 
   has_numbers : (are : IsShard o tables ns) (r : ℕ) (m : Option (RealmNumbers A)) → slice_get ns r ≡ Some m
       → is_in_shard o.config o.shard r ≡ true → NoneThere ns r → ⊥

@@ -10,21 +10,20 @@ use Rattle.roam_core.specs.ManyRealms.{state_at}
 use Rattle.roam_core.specs.Openings.{next_start}
 
 -- ## State after a change
--- Of a realm of the new configuration that is one of the shard's, where the configuration changes: where it is
--- carried over, the state in which it stood, with a cursor 0 for each further peer. Else it begins anew, as at
--- an opening: no entries, no sessions, cursors 0 and no rests, at the place in its random words and the next
--- ticket where the realm of its index stood. Where none stood there, both are 0.
+-- Of a realm of the new configuration that is one of the shard's, where the configuration changes: where it goes on,
+-- what is carried over of the state in which it stood. Where it is new, or went, it stands as at an opening: no
+-- entries, no sessions, cursors 0 and no rests, at the place in its random words and the next ticket where the realm of
+-- its index stood. Where none stood there, as of each new one, both are 0.
 -- Source: ours
--- Rules out: random words or a ticket that come twice; an entry that waits at a link whose secret changed; a
--- realm that goes on in part
+-- Rules out: random words or a ticket that come twice; an entry that waits at a link whose secret changed; a realm that
+-- begins anew since its table changed
 -- Stands in: `roam_core` `Openings.antt`: `next_start`; `roam_shard` `Follow.antt`: `Follows`, `AllFollow`;
--- `Paused::follow`; of all shards
--- `roam_follow` `Following.antt`: `HaveFollowed`, `StandAsBefore`; `follow`
+-- `Paused::follow`; of all shards `roam_follow` `Following.antt`: `HaveFollowed`, `StandAsBefore`; `follow`
 --
--- a realm that is carried over goes on in its state. Any other begins anew: with no entries, no sessions, cursors 0 and
--- no rests
+-- a realm that goes on does so in what is carried over of its state. Any other stands with no entries, no sessions,
+-- cursors 0 and no rests
 pub record Follows (old new : ConfigView) (realm : ℕ) (before after : RealmState) : Type 0 where
-  pub goes_on : IsCarried old new realm → after ≡ carried (realm_config new realm) before
+  pub goes_on : IsCarried old new realm → after ≡ carried (realm_config old realm) (realm_config new realm) before
   pub begins_anew : ¬ IsCarried old new realm → after ≡ opening (realm_config new realm) (next_start before)
 
 -- so does each realm of the new configuration that is one of the shard's

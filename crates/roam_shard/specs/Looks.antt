@@ -1,6 +1,12 @@
 -- What of a shard is looked at (ours).
 use Rattle.std.specs.Prelude.{◌≡◌, ℕ, ◌<◌, true, List, Option, Some, length, slice_get}
+use Rattle.roam_conf.specs.Config.{ConfigView}
+use Rattle.roam_reload.specs.Reload.{IsCarried}
+use Rattle.roam_book.specs.Carrying.{shown_loss}
+use Rattle.roam_book.specs.RealmConfig.{realm_config}
 use Rattle.roam_book.specs.RealmState.{RealmState}
+use Rattle.roam_book.specs.Losses.{all_lost, losses}
+use Rattle.roam_book.specs.declared.rules.losses.Loss.{Loss}
 use Rattle.roam_book.specs.declared.state.gauges.Gauges.{Gauges}
 use Rattle.roam_book.specs.declared.state.realm_numbers.RealmNumbers.{RealmNumbers}
 use Rattle.roam_core.specs.Events.{is_in_shard}
@@ -27,3 +33,8 @@ NoneThere numbers realm = (n : _) → slice_get numbers realm ≡ Some (Some n) 
 pub record StandsAs (s : RealmState) (g : Gauges) : Type 0 where
   pub entries : g.entries ≡ length s.entries
   pub sessions : g.sessions ≡ length s.sessions
+
+-- what goes of a realm in this state where one configuration follows another: what isn't carried over, or all
+pub record IsLoss (old new : ConfigView) (realm : ℕ) (s : RealmState) (loss : Loss) : Type 0 where
+  pub carried : IsCarried old new realm → shown_loss loss ≡ losses (realm_config old realm) (realm_config new realm) s
+  pub gone : ¬ IsCarried old new realm → shown_loss loss ≡ all_lost s

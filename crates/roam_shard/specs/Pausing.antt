@@ -1,12 +1,14 @@
 -- A shard that was taken from its configuration, and the memory with which it follows another (ours).
-use Rattle.std.specs.Prelude.{◌≡◌, ◌≢◌, ◌⊎◌, ◌↔◌, ℕ, ◌<◌, ◌≤◌, Bool, IsTrue, true, List, Option, Some, None, length, option_map, slice_get, vec_capacity}
+use Rattle.std.specs.Prelude.{◌≡◌, ◌≢◌, ◌⊎◌, ℕ, ◌≤◌, true, List, [], Option, Some, None, length, slice_get, vec_capacity}
 use Rattle.roam_conf.specs.Config.{ConfigView}
-use Rattle.roam_reload.specs.Reload.{IsCarried, KeepsPeers, realm_part}
+use Rattle.roam_reload.specs.Reload.{IsCarried}
 use Rattle.roam_pending.specs.PlainEntry.{PlainEntry}
-use Rattle.roam_book.specs.RealmConfig.{RealmConfig, link_count, realm_config}
+use Rattle.roam_book.specs.Carrying.{AreChanged, IsReadyToCarry}
+use Rattle.roam_book.specs.RealmConfig.{RealmConfig, realm_config}
 use Rattle.roam_book.specs.RealmState.{RealmState}
-use Rattle.roam_book.specs.Reload.{Carries, carried}
+use Rattle.roam_book.specs.Reload.{carried}
 use Rattle.roam_book.specs.Sound.{IsSound, state_of}
+use Rattle.roam_book.specs.declared.rules.carried_lanes.FreshLanes.{FreshLanes}
 use Rattle.roam_book.specs.declared.state.realm_numbers.RealmNumbers.{RealmNumbers}
 use Rattle.roam_book.specs.declared.state.start.Start.{Start}
 use Rattle.roam_core.specs.Events.{is_in_shard}
@@ -15,6 +17,7 @@ use Rattle.roam_shard.specs.ShardView.{IsShard, OpeningView, states_in}
 use Rattle.roam_shard.specs.NumbersView.{IsOpened}
 use Rattle.roam_shard.specs.declared.paused.Paused.{Paused}
 use Rattle.roam_shard.specs.declared.following.FreshNumbers.{FreshNumbers}
+use Rattle.roam_shard.specs.declared.following.FreshRealm.{FreshRealm}
 
 -- ## Paused shard
 -- A shard that was taken from its configuration. It stands under a configuration where it would be a shard of
@@ -24,16 +27,7 @@ use Rattle.roam_shard.specs.declared.following.FreshNumbers.{FreshNumbers}
 -- Stands in: `roam_shard` `Pausing.antt`: `StandsUnder`, `states_under`, `opening_under`, `StandsStill`;
 -- `Shard::pause`, `resume`, `Paused::reserve`
 --
--- it is known whether the old peers are the first of the new ones, what names them aside
-abbrev pub ArePeersKept : ConfigView → ConfigView → Bool → Type 0
-ArePeersKept old new known = IsTrue known ↔ KeepsPeers old.peers new.peers
-
--- a realm's table stays, what names it aside
-pub record IsTableKept (old new : ConfigView) (realm : ℕ) : Type 0 where
-  pub there : realm < length old.realms
-  pub table : option_map realm_part (slice_get new.realms realm) ≡ option_map realm_part (slice_get old.realms realm)
-
--- a realm is one of the shard's, and is carried over
+-- a realm is one of the shard's, and goes on
 pub record GoesOn (old new : ConfigView) (shard realm : ℕ) : Type 0 where
   pub own : is_in_shard new shard realm ≡ true
   pub carried : IsCarried old new realm
@@ -70,44 +64,73 @@ module _ {A : Type 0} where
   abbrev pub begin_at : List (Option (RealmNumbers A)) → ℕ → Start
   begin_at numbers realm = start_in (slice_get numbers realm)
 
-  -- the memory of a realm is there: of further lanes where it goes on; else of numbers that nothing uses, where it
-  -- is one
-  -- of the shard's
+  -- the memory of the lanes of a realm that goes on is there
+  abbrev pub AreLanesReady : ConfigView → ConfigView → ℕ → List (Option (RealmNumbers A)) → Option (FreshLanes A)
+      → Type 0
+  AreLanesReady old new realm numbers lanes =
+      (n : RealmNumbers A) → slice_get numbers realm ≡ Some (Some n)
+      → IsReadyToCarry (realm_config old realm) (realm_config new realm) n lanes
+
+  -- the memory of a realm is there: of lanes where it goes on; else of numbers that nothing uses, where it is one of
+  -- the shard's
   pub record IsReadyAt (old new : ConfigView) (shard realm : ℕ) (numbers : List (Option (RealmNumbers A)))
-      (fresh : Option (RealmNumbers A)) : Type 0 where
-    pub lanes : GoesOn old new shard realm → (n : RealmNumbers A) → slice_get numbers realm ≡ Some (Some n)
-        → link_count (realm_config new realm) ≤ vec_capacity n.lanes
+      (fresh : FreshRealm A) : Type 0 where
+    pub lanes : GoesOn old new shard realm → AreLanesReady old new realm numbers fresh.lanes
     pub opened : ¬ GoesOn old new shard realm → IsOpened (realm_config new realm) (begin_at numbers realm)
-        (is_in_shard new shard realm) fresh
+        (is_in_shard new shard realm) fresh.numbers
 
-  -- of each realm of the new configuration
+  -- of each realm of the new configuration; and the peers are known whose tables are other ones
   pub record IsReady (old new : ConfigView) (p : Paused A) (fresh : FreshNumbers A) : Type 0 where
-    pub count : length fresh.numbers.items ≡ length new.realms
+    pub count : length fresh.realms.items ≡ length new.realms
+    pub room : length new.realms ≤ vec_capacity fresh.numbers
+    pub none_yet : fresh.numbers.items ≡ []
     pub kept : length new.realms ≤ length p.entries
-    pub each : (realm : ℕ) (n : Option (RealmNumbers A)) → slice_get fresh.numbers.items realm ≡ Some n
-        → IsReadyAt old new p.shard realm p.numbers.items n
+    pub changed : AreChanged old.peers new.peers fresh.changed.items
+    pub each : (realm : ℕ) (f : FreshRealm A) → slice_get fresh.realms.items realm ≡ Some f
+        → IsReadyAt old new p.shard realm p.numbers.items f
 
-  -- numbers go on under other settings
-  pub record CarriesOn (c : RealmConfig) (before after : RealmNumbers A) : Type 0 where
-    pub state : (es : List PlainEntry) → state_of es after ≡ carried c (state_of es before)
-    pub sound : (b : RealmConfig) (es : List PlainEntry) → Carries b c → IsSound b es before → IsSound c es after
+  -- a realm's entries and numbers went over from one part to another
+  pub record HasGoneOver (old new : RealmConfig) (entries : List PlainEntry) (numbers : RealmNumbers A)
+      (entries_after : List PlainEntry) (after : RealmNumbers A) : Type 0 where
+    pub state : state_of entries_after after ≡ carried old new (state_of entries numbers)
+    pub sound : IsSound new entries_after after
 
-  -- and then stand there
-  pub record HasGoneOver (c : RealmConfig) (before : RealmNumbers A)
-      (there : Option (Option (RealmNumbers A))) : Type 0 where
+  -- it can: its numbers stand, they fit its entries, and the memory of its lanes is there
+  pub record CanGoOver (old new : ConfigView) (realm : ℕ) (entries : List PlainEntry)
+      (there : Option (Option (RealmNumbers A))) (lanes : Option (FreshLanes A)) : Type 0 where
+    pub numbers : RealmNumbers A
+    pub at : there ≡ Some (Some numbers)
+    pub sound : IsSound (realm_config old realm) entries numbers
+    pub ready : IsReadyToCarry (realm_config old realm) (realm_config new realm) numbers lanes
+
+  -- so can each realm of these that goes on
+  abbrev pub AllCanGoOver : ConfigView → ConfigView → ℕ → (ℕ → List PlainEntry) → List (Option (RealmNumbers A))
+      → List (FreshRealm A) → Type 0
+  AllCanGoOver old new shard entries numbers fresh =
+      (realm : ℕ) (f : FreshRealm A) → slice_get fresh realm ≡ Some f → GoesOn old new shard realm
+      → CanGoOver old new realm (entries realm) (slice_get numbers realm) f.lanes
+
+  -- and then it has numbers under the new part
+  pub record HasNumbersThen (old new : RealmConfig) (entries : List PlainEntry) (numbers : RealmNumbers A)
+      (entries_after : List PlainEntry) (there : Option (RealmNumbers A)) : Type 0 where
     pub after : RealmNumbers A
-    pub is : there ≡ Some (Some after)
-    pub carries : CarriesOn c before after
+    pub is : there ≡ Some after
+    pub over : HasGoneOver old new entries numbers entries_after after
 
-  -- there is room for their lanes
-  pub record CanGoOver (c : RealmConfig) (n : RealmNumbers A) : Type 0 where
-    pub few : length n.lanes.items ≤ link_count c
-    pub room : link_count c ≤ vec_capacity n.lanes
+  -- a realm's entries and numbers went over, where it goes on; else what was made for it stands
+  abbrev pub IsOver : ConfigView → ConfigView → ℕ → ℕ → Option (Option (RealmNumbers A)) → List PlainEntry
+      → Option (RealmNumbers A) → List PlainEntry → Option (RealmNumbers A) → Type 0
+  IsOver old new shard realm there entries made entries_after after =
+      (GoesOn old new shard realm × ((n : RealmNumbers A) → there ≡ Some (Some n)
+      → HasNumbersThen (realm_config old realm) (realm_config new realm) entries n entries_after after))
+      ⊎ ((¬ GoesOn old new shard realm) × (after ≡ made) × (entries_after ≡ entries))
 
-  -- a realm's numbers went over, where it goes on; else what was made for it stays
-  abbrev pub IsMoved : ConfigView → ConfigView → ℕ → ℕ → List (Option (RealmNumbers A)) → List (Option (RealmNumbers A))
-      → List (Option (RealmNumbers A)) → Type 0
-  IsMoved old new shard realm before prepared after =
-      (GoesOn old new shard realm × ((n : RealmNumbers A) → slice_get before realm ≡ Some (Some n)
-      → HasGoneOver (realm_config new realm) n (slice_get after realm)))
-      ⊎ ((¬ GoesOn old new shard realm) × (slice_get after realm ≡ slice_get prepared realm))
+  -- so of each realm of these
+  pub record AreOver (old new : ConfigView) (shard : ℕ) (numbers : List (Option (RealmNumbers A)))
+      (entries entries_after : ℕ → List PlainEntry) (fresh : List (FreshRealm A))
+      (after : List (Option (RealmNumbers A))) : Type 0 where
+    pub count : length after ≡ length fresh
+    pub each : (realm : ℕ) (f : FreshRealm A) (m : Option (RealmNumbers A)) → slice_get fresh realm ≡ Some f
+        → slice_get after realm ≡ Some m → IsOver old new shard realm (slice_get numbers realm) (entries realm)
+        f.numbers (entries_after realm) m
+    pub others : (realm : ℕ) → length fresh ≤ realm → entries_after realm ≡ entries realm

@@ -1,56 +1,44 @@
 //! A paused shard follows another configuration.
 
-ghost use Rattle.std.specs.Prelude.{◌≡◌, ◌≢◌, ◌↔◌, ℕ, ◌<◌, [], Some, IfOk, IsTrue, None, OnOk, length, slice_get};
+ghost use Rattle.std.specs.Prelude.{◌≡◌, ◌≢◌, ◌↔◌, ℕ, ◌<◌, ◌≤◌, [], IfOk, IsTrue, length, slice_get, vec_capacity};
 ghost use Rattle.std.specs.Prelude.{vec_len};
 ghost use Rattle.roam_conf.specs.Shown.{shown};
 ghost use Rattle.roam_pending.specs.EntryList.{IsEntryList};
 ghost use Rattle.roam_tables.specs.Stands.{entries_in};
+ghost use Rattle.roam_book.specs.Carrying.{AreChanged, IsReadyToCarry};
 ghost use Rattle.roam_book.specs.RealmConfig.{realm_config};
-ghost use Rattle.roam_book.specs.declared.state.realm_numbers.RealmNumbers.{RealmNumbers};
+ghost use Rattle.roam_book.specs.Sound.{IsSound};
 ghost use Rattle.roam_shard.specs.Follow.{AllFollow};
-ghost use Rattle.roam_shard.specs.Pausing.{ArePeersKept, CanGoOver, CarriesOn, GoesOn, IsMoved, IsReady, IsReadyAt};
-ghost use Rattle.roam_shard.specs.Pausing.{IsTableKept, KeepsOthers, StandsStill, StandsUnder, begin_at, states_under};
+ghost use Rattle.roam_shard.specs.Pausing.{AllCanGoOver, AreLanesReady, AreOver, CanGoOver, GoesOn, HasGoneOver};
+ghost use Rattle.roam_shard.specs.Pausing.{IsOver, IsReady, IsReadyAt, KeepsOthers, StandsStill, StandsUnder};
+ghost use Rattle.roam_shard.specs.Pausing.{states_under};
 
-use crate::look::numbers_at;
 use crate::paused::Paused;
-use crate::realm_numbers::opened_at;
-use roam_book::{RealmNumbers, RealmSettings, Start};
+use crate::realm_numbers::{begin_at, opened_at};
+use roam_book::{FreshLanes, RealmNumbers, RealmSettings, carry_over, changed_peers};
 use roam_conf::Config;
-use roam_reload::{other_peer, realm_difference};
+use roam_reload::is_carried;
 use roam_tables::Tables;
 use roam_wire::NoMemory;
 use std::alloc::Allocator;
 
-/// The numbers of the realms that begin anew under another configuration, by the index of the realm.
+/// The memory with which a realm follows another configuration.
+#[derive(Drop)]
+struct FreshRealm<A: Allocator> {
+    /// The numbers of one that doesn't go on.
+    numbers: Option<RealmNumbers<A>>,
+    /// The lanes and rests of one that goes on, and whose servers stand at other places.
+    lanes: Option<FreshLanes<A>>,
+}
+
+/// The memory with which a shard follows another configuration, by the index of the realm; and the peers whose tables
+/// are other ones there, which are looked for once.
 #[derive(Drop)]
 pub struct FreshNumbers<A: Allocator> {
+    realms: Vec<FreshRealm<A>, A>,
+    changed: Vec<u16, A>,
+    /// Room for the numbers of all realms.
     numbers: Vec<Option<RealmNumbers<A>>, A>,
-}
-
-/// Whether the old peers are the first of the new ones, what names them aside. It is looked at once for all realms.
-fn are_peers_kept(old: &Config, new: &Config) -> bool
-    ensures { ArePeersKept (shown old.now) (shown new.now) result }
-{
-    match other_peer(old.peers.as_slice(), new.peers.as_slice()) {
-        None => true,
-        Some(_) => false,
-    }
-}
-
-/// Whether a realm's table stays, what names it aside.
-fn is_table_kept(old: &Config, new: &Config, realm: u16) -> bool
-    ensures { IsTrue result ↔ IsTableKept (shown old.now) (shown new.now) realm }
-{
-    let Some(before) = old.realms.get(usize::from(realm)) else {
-        return false;
-    };
-    let Some(after) = new.realms.get(usize::from(realm)) else {
-        return false;
-    };
-    match realm_difference(before, after) {
-        None => true,
-        Some(_) => false,
-    }
 }
 
 /// A configuration that follows another, as one shard sees it.
@@ -58,50 +46,19 @@ fn is_table_kept(old: &Config, new: &Config, realm: u16) -> bool
 struct Succession<'o, 'n> {
     from: &'o Config,
     to: &'n Config,
-    are_peers_kept: bool,
     shard: u16,
 }
 
-/// Whether a realm is one of the shard's, and goes on as it stands.
+/// Whether a realm is one of the shard's, and goes on.
 fn goes_on(change: Succession<'_, '_>, realm: u16) -> bool
-    requires { ArePeersKept (shown change.from.now) (shown change.to.now) change.are_peers_kept }
     ensures { IsTrue result
         ↔ GoesOn (shown change.entry.from.now) (shown change.entry.to.now) change.entry.shard realm }
 {
-    change.to.shard_of(realm) == change.shard
-        && change.are_peers_kept
-        && is_table_kept(change.from, change.to, realm)
-}
-
-/// Where a realm begins anew: where its numbers stand, or where there are none, at place 0 of its random words and
-/// ticket 0.
-fn begin_at<A: Allocator + Copy>(numbers: &[Option<RealmNumbers<A>>], realm: u16) -> Start
-    ensures { result ≡ begin_at numbers.now realm }
-{
-    match numbers_at(numbers, realm) {
-        Some(numbers) => numbers.start(),
-        None => Start {
-            place: 0,
-            ticket: 0,
-        },
-    }
-}
-
-/// The numbers of a realm that goes on, with further lanes. Takes no memory.
-fn carried<A: Allocator + Copy>(
-    settings: &RealmSettings<'_>,
-    mut numbers: RealmNumbers<A>,
-) -> RealmNumbers<A>
-    requires { CanGoOver settings.now numbers }
-    ensures { CarriesOn settings.now numbers result }
-{
-    numbers.carry_over(settings);
-    numbers
+    change.to.shard_of(realm) == change.shard && is_carried(change.from, change.to, realm)
 }
 
 /// Takes out the entries of each realm that doesn't go on. Takes no memory.
 fn clear_others<A: Allocator + Copy>(entries: &mut Tables<A>, change: Succession<'_, '_>)
-    requires peers { ArePeersKept (shown change.from.now) (shown change.to.now) change.are_peers_kept }
     ensures stay { (r : ℕ) → GoesOn (shown change.entry.from.now) (shown change.entry.to.now) change.entry.shard r
         → entries_in entries.new r ≡ entries_in entries.old r }
     ensures gone { (r : ℕ) → r < vec_len change.entry.to.now.realms
@@ -119,93 +76,142 @@ fn clear_others<A: Allocator + Copy>(entries: &mut Tables<A>, change: Succession
     }
 }
 
-/// The numbers of a realm that goes on are put in their place among the new ones. Takes no memory.
+/// The numbers of a realm that goes on, with the memory that was taken for it. Takes no memory.
+fn carried<A: Allocator + Copy>(
+    change: Succession<'_, '_>,
+    changed: &[u16],
+    realm: u16,
+    entries: &mut Tables<A>,
+    mut numbers: RealmNumbers<A>,
+    lanes: Option<FreshLanes<A>>,
+) -> RealmNumbers<A>
+    requires carried { GoesOn (shown change.from.now) (shown change.to.now) change.shard realm }
+    requires changed { AreChanged (shown change.from.now).peers (shown change.to.now).peers changed.now }
+    requires seed { change.to.now.seed ≡ change.from.now.seed }
+    requires sound { IsSound (realm_config (shown change.from.now) realm) (entries_in entries.old realm) numbers }
+    requires ready { IsReadyToCarry (realm_config (shown change.from.now) realm)
+        (realm_config (shown change.to.now) realm) numbers lanes }
+    ensures over { HasGoneOver (realm_config (shown change.entry.from.now) realm)
+        (realm_config (shown change.entry.to.now) realm) (entries_in entries.old realm) numbers
+        (entries_in entries.new realm) result }
+    ensures others { (r : ℕ) → r ≢ realm → entries_in entries.new r ≡ entries_in entries.old r }
+    ensures realms { length entries.new ≡ length entries.old }
+{
+    let old = RealmSettings::new(change.from, realm);
+    let new = RealmSettings::new(change.to, realm);
+    carry_over(&old, &new, changed, entries, &mut numbers, lanes);
+    numbers
+}
+
+/// The numbers of a realm under the new configuration: those with which it goes on, or what was made for it. Takes no
+/// memory.
 fn go_over<A: Allocator + Copy>(
     change: Succession<'_, '_>,
+    changed: &[u16],
     realm: usize,
+    entries: &mut Tables<A>,
     before: &mut Vec<Option<RealmNumbers<A>>, A>,
-    after: &mut Vec<Option<RealmNumbers<A>>, A>,
-)
-    requires peers { ArePeersKept (shown change.from.now) (shown change.to.now) change.are_peers_kept }
+    fresh: FreshRealm<A>,
+) -> Option<RealmNumbers<A>>
     requires configured { realm < vec_len change.to.now.realms }
-    requires there { realm < length after.old.items }
+    requires changed { AreChanged (shown change.from.now).peers (shown change.to.now).peers changed.now }
+    requires seed { change.to.now.seed ≡ change.from.now.seed }
     requires within { GoesOn (shown change.from.now) (shown change.to.now) change.shard realm
         → realm < length before.old.items }
-    requires can { GoesOn (shown change.from.now) (shown change.to.now) change.shard realm → (n : RealmNumbers A)
-        → slice_get before.old.items realm ≡ Some (Some n)
-        → CanGoOver (realm_config (shown change.to.now) realm) n }
-    ensures moved { IsMoved (shown change.entry.from.now) (shown change.entry.to.now) change.entry.shard realm
-        before.old.items after.old.items after.new.items }
-    ensures others { (r : ℕ) → r ≢ realm
-        → slice_get after.new.items r ≡ slice_get after.old.items r }
+    requires can { GoesOn (shown change.from.now) (shown change.to.now) change.shard realm
+        → CanGoOver (shown change.from.now) (shown change.to.now) realm (entries_in entries.old realm)
+        (slice_get before.old.items realm) fresh.lanes }
+    ensures over { IsOver (shown change.entry.from.now) (shown change.entry.to.now) change.entry.shard realm
+        (slice_get before.old.items realm) (entries_in entries.old realm) fresh.numbers
+        (entries_in entries.new realm) result }
+    ensures others { (r : ℕ) → r ≢ realm → entries_in entries.new r ≡ entries_in entries.old r }
+    ensures realms { length entries.new ≡ length entries.old }
     ensures before { (r : ℕ) → r ≢ realm
         → slice_get before.new.items r ≡ slice_get before.old.items r }
-    ensures count { length after.new.items ≡ length after.old.items }
     ensures before_count { length before.new.items ≡ length before.old.items }
 {
     if !goes_on(change, realm as u16) {
-        return;
+        return fresh.numbers;
     }
-    let settings = RealmSettings::new(change.to, realm as u16);
-    if let Some(numbers) = before[realm].take() {
-        after[realm] = Some(carried(&settings, numbers));
+    match before[realm].take() {
+        Some(numbers) => Some(carried(
+            change,
+            changed,
+            realm as u16,
+            entries,
+            numbers,
+            fresh.lanes,
+        )),
+        None => None,
     }
 }
 
-/// The numbers of all realms that go on are put in their places among the new ones. Takes no memory.
+/// The numbers of all realms under the new configuration. Takes no memory.
 fn all_over<A: Allocator + Copy>(
     change: Succession<'_, '_>,
+    entries: &mut Tables<A>,
     before: &mut Vec<Option<RealmNumbers<A>>, A>,
-    mut after: Vec<Option<RealmNumbers<A>>, A>,
+    fresh: FreshNumbers<A>,
 ) -> Vec<Option<RealmNumbers<A>>, A>
-    requires peers { ArePeersKept (shown change.from.now) (shown change.to.now) change.are_peers_kept }
-    requires count { length after.items ≡ vec_len change.to.now.realms }
+    requires count { length fresh.realms.items ≡ vec_len change.to.now.realms }
+    requires room { vec_len change.to.now.realms ≤ vec_capacity fresh.numbers }
+    requires none_yet { fresh.numbers.items ≡ [] }
+    requires changed { AreChanged (shown change.from.now).peers (shown change.to.now).peers fresh.changed.items }
+    requires seed { change.to.now.seed ≡ change.from.now.seed }
     requires within { (r : ℕ) → GoesOn (shown change.from.now) (shown change.to.now) change.shard r
         → r < length before.old.items }
-    requires can { (r : ℕ) → r < vec_len change.to.now.realms
-        → GoesOn (shown change.from.now) (shown change.to.now) change.shard r → (n : RealmNumbers A)
-        → slice_get before.old.items r ≡ Some (Some n)
-        → CanGoOver (realm_config (shown change.to.now) r) n }
-    ensures moved { (r : ℕ) → r < vec_len change.entry.to.now.realms
-        → IsMoved (shown change.entry.from.now) (shown change.entry.to.now) change.entry.shard r before.old.items
-        after.items result.items }
-    ensures count { length result.items ≡ length after.items }
+    requires can { AllCanGoOver (shown change.from.now) (shown change.to.now) change.shard (entries_in entries.old)
+        before.old.items fresh.realms.items }
+    ensures over { AreOver (shown change.entry.from.now) (shown change.entry.to.now) change.entry.shard
+        before.old.items (entries_in entries.old) (entries_in entries.new) fresh.realms.items result.items }
+    ensures realms { length entries.new ≡ length entries.old }
 {
-    for realm in 0..change.to.realms.len() {
-        go_over(change, realm, before, &mut after);
+    let FreshNumbers {
+        realms,
+        changed,
+        mut numbers,
+    } = fresh;
+    let mut index = 0;
+    for realm in realms {
+        let after = go_over(change, changed.as_slice(), index, entries, before, realm);
+        numbers.push_reserved(after);
+        index += 1;
     }
-    after
+    numbers
 }
 
 impl<A: Allocator + Copy> Paused<A> {
-    /// Takes the memory of further lanes of a realm that goes on.
-    fn reserve_lanes(&mut self, old: &Config, new: &Config, realm: u16) -> Result<(), NoMemory>
+    /// Takes the memory of a realm that goes on.
+    fn reserve_lanes(
+        &mut self,
+        old: &Config,
+        new: &Config,
+        realm: u16,
+    ) -> Result<Option<FreshLanes<A>>, NoMemory>
         requires configured { realm < vec_len new.now.realms }
         requires goes_on { GoesOn (shown old.now) (shown new.now) self.old.shard realm }
         requires stands { StandsUnder (shown old.now) self.old }
         requires shards { new.now.shards ≡ old.now.shards }
         ensures still { StandsStill (shown old.now) self.old self.new }
         ensures others { KeepsOthers realm self.old self.new }
-        ensures ready { OnOk result (IsReadyAt (shown old.now) (shown new.now) self.new.shard realm
-            self.new.numbers.items None) }
+        ensures ready { IfOk result (AreLanesReady (shown old.now) (shown new.now) realm self.new.numbers.items) }
     {
-        let settings = RealmSettings::new(new, realm);
+        let before = RealmSettings::new(old, realm);
+        let after = RealmSettings::new(new, realm);
         let Some(numbers) = &mut self.numbers[usize::from(realm)] else {
             unreachable!();
         };
-        numbers.reserve_lanes(&settings)
+        numbers.reserve_carry(&before, &after)
     }
 
-    /// Takes the memory with which a realm follows a configuration: of further lanes where it goes on, else of numbers
-    /// that nothing uses.
+    /// Takes the memory with which a realm follows a configuration: of lanes where it goes on, else of numbers that
+    /// nothing uses.
     fn reserve_one(
         &mut self,
         old: &Config,
         new: &Config,
-        are_peers_kept: bool,
         realm: u16,
-    ) -> Result<Option<RealmNumbers<A>>, NoMemory>
-        requires peers { ArePeersKept (shown old.now) (shown new.now) are_peers_kept }
+    ) -> Result<FreshRealm<A>, NoMemory>
         requires configured { realm < vec_len new.now.realms }
         requires stands { StandsUnder (shown old.now) self.old }
         requires shards { new.now.shards ≡ old.now.shards }
@@ -217,15 +223,21 @@ impl<A: Allocator + Copy> Paused<A> {
         let change = Succession {
             from: old,
             to: new,
-            are_peers_kept,
             shard: self.shard,
         };
         if goes_on(change, realm) {
-            self.reserve_lanes(old, new, realm)?;
-            return Ok(None);
+            let lanes = self.reserve_lanes(old, new, realm)?;
+            return Ok(FreshRealm {
+                numbers: None,
+                lanes,
+            });
         }
         let start = begin_at(&self.numbers, realm);
-        opened_at(self.alloc, new, self.shard, realm, start)
+        let numbers = opened_at(self.alloc, new, self.shard, realm, start)?;
+        Ok(FreshRealm {
+            numbers,
+            lanes: None,
+        })
     }
 
     /// Takes all memory with which the shard follows another configuration. `NoMemory` comes where a growth was
@@ -237,17 +249,22 @@ impl<A: Allocator + Copy> Paused<A> {
         ensures ready { IfOk result (IsReady (shown old.now) (shown new.now) self.new) }
     {
         self.entries.add_realms(self.alloc, new.realms.len())?;
-        let mut numbers = Vec::with_capacity(self.alloc, new.realms.len())?;
-        let are_peers_kept = are_peers_kept(old, new);
+        let changed = changed_peers(self.alloc, old.peers.as_slice(), new.peers.as_slice())?;
+        let numbers = Vec::with_capacity(self.alloc, new.realms.len())?;
+        let mut realms = Vec::with_capacity(self.alloc, new.realms.len())?;
         for realm in 0..new.realms.len() {
-            let fresh = self.reserve_one(old, new, are_peers_kept, realm as u16)?;
-            numbers.push_reserved(fresh);
+            let fresh = self.reserve_one(old, new, realm as u16)?;
+            realms.push_reserved(fresh);
         }
-        Ok(FreshNumbers { numbers })
+        Ok(FreshNumbers {
+            realms,
+            changed,
+            numbers,
+        })
     }
 
-    /// Follows another configuration, for which all memory is there: each realm that is carried over goes on as it
-    /// stands, any other begins anew. Takes no memory.
+    /// Follows another configuration, for which all memory is there: each realm that is here in both goes on in what is
+    /// carried over of its state; any other has nothing. Takes no memory.
     pub fn follow(&mut self, old: &Config, new: &Config, fresh: FreshNumbers<A>)
         requires stands { StandsUnder (shown old.now) self.old }
         requires ready { IsReady (shown old.now) (shown new.now) self.old fresh }
@@ -258,15 +275,13 @@ impl<A: Allocator + Copy> Paused<A> {
             (states_under (shown old.now) self.old) (states_under (shown new.now) self.new) }
         ensures shard { self.new.shard ≡ self.old.shard }
     {
-        let FreshNumbers { numbers } = fresh;
         let change = Succession {
             from: old,
             to: new,
-            are_peers_kept: are_peers_kept(old, new),
             shard: self.shard,
         };
         clear_others(&mut self.entries, change);
         let before = &mut self.numbers;
-        self.numbers = all_over(change, before, numbers);
+        self.numbers = all_over(change, &mut self.entries, before, fresh);
     }
 }

@@ -5,28 +5,29 @@
 //!
 //! # Proved
 //!
-//! - a shard answers each job and tick twice, once to send and once to keep, and both are the written answer;
-//!   or memory is refused, and it is unchanged | `Shard::step`, `tick`: `turn`
+//! - a shard answers each job and tick twice, once to send and once to keep, and both are the written answer; or
+//!   memory is refused, and it is unchanged | `Shard::step`, `tick`: `turn`
 //! - no memory is wanted where a job sends no packet, where nothing is due, where each entry that is due was
-//!   answered, so that they only go, or where a tick is refused; whether something is due, it says, and whether
-//!   at most so many entries are | `Shard::step`: `succeeds`; `tick`: `nothing_due`, `only_done`, `too_late`;
-//!   `is_due`, `has_few_due`
+//!   answered, so that they only go, or where a tick is refused; whether something is due, it says, and whether at
+//!   most so many entries are | `Shard::step`: `succeeds`; `tick`: `nothing_due`, `only_done`, `too_late`; `is_due`,
+//!   `has_few_due`
 //! - its realms begin at the starts that it is given; where one of them would go on, it says | `Shard::new`,
 //!   `opening`, `start`
 //! - over one shard for each number stands the same broker, from any starts | `Shards::new`, `fresh`; it is a
 //!   `Stepper`
-//! - a shard is taken from its configuration and goes on under it where it stands; memory for another
-//!   configuration is taken first, and refused or not the shard stands as it did | `Shard::pause`, `resume`;
-//!   `Paused::reserve`: `still`
-//! - where it follows another configuration, for which that memory is there, each of its realms that is carried
-//!   over is in the state in which it stood, and any other begins anew at the place of its random words and the
-//!   ticket where the realm of its index stood; no allocation can fail there | `Paused::follow`: `stands`,
+//! - a shard is taken from its configuration and goes on under it where it stands; memory for another configuration
+//!   is taken first, and refused or not the shard stands as it did | `Shard::pause`, `resume`; `Paused::reserve`:
+//!   `still`
+//! - where it follows another configuration, for which that memory is there, each of its realms that is here in both
+//!   goes on in what is carried over of its state, and any other has nothing, at the place of its random words and
+//!   the ticket where the realm of its index stood; no allocation can fail there | `Paused::follow`: `stands`,
 //!   `follow`
-//! - what is looked at of a shard, for the log and the counts, is what stands there: the entry that waits on a
-//!   link with an Identifier, that of a key and that of a ticket, the next one that is due, and of how many
-//!   entries and sessions, of each realm that is its own. That the threads note the one that ends, and log of
-//!   it what it was, is their code, and tested | `Shard::waiting_at`, `entry_of`, `entry_with`, `due_after`,
-//!   `gauges`
+//! - a paused shard takes up what a file of ledgers has of its own realms, by their names, and nothing else of it changes |
+//!   `Paused::restore`: `stands`, `states`
+//! - what is looked at of a shard, for the log and the counts, is what stands there: the entry that waits on a link
+//!   with an Identifier, that of a key and that of a ticket, the next one that is due, and of how many entries and
+//!   sessions, of each realm that is its own. That the threads note the one that ends, and log of it what it was, is
+//!   their code, and tested | `Shard::waiting_at`, `entry_of`, `entry_with`, `due_after`, `gauges`
 #![tactic(auto)]
 
 mod answer_pair;
@@ -41,6 +42,7 @@ mod opening;
 mod paused;
 mod realm_numbers;
 mod rooms;
+mod saving;
 mod shard;
 mod shards;
 

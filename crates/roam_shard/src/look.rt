@@ -5,12 +5,15 @@ ghost use Rattle.roam_pending.specs.DueOrder.{due_after};
 ghost use Rattle.roam_pending.specs.EntryList.{find_client, find_link, find_ticket};
 ghost use Rattle.roam_pending.specs.Shown.{seen};
 ghost use Rattle.roam_core.specs.ManyRealms.{state_at};
-ghost use Rattle.roam_shard.specs.Looks.{IsOwn, NoneThere, StandsAs};
+ghost use Rattle.roam_conf.specs.Shown.{shown};
+ghost use Rattle.roam_book.specs.Carrying.{AreChanged};
+ghost use Rattle.roam_shard.specs.Looks.{IsLoss, IsOwn, NoneThere, StandsAs};
 
 use crate::shard::Shard;
-use roam_book::{Gauges, RealmNumbers, RealmSettings, waiting_at};
-use roam_conf::Link;
+use roam_book::{Gauges, Loss, RealmNumbers, RealmSettings, all_of, losses_of, waiting_at};
+use roam_conf::{Config, Link};
 use roam_pending::{Due, Entries, Entry, Key};
+use roam_reload::is_carried;
 use std::alloc::Allocator;
 
 /// The numbers of a realm, where it is one of the shard's own.
@@ -86,5 +89,23 @@ impl<A: Allocator + Copy> Shard<'_, A> {
             return None;
         };
         Some(numbers.gauges(self.entries.len(realm)))
+    }
+
+    /// What goes of a realm where another configuration is followed, in which these peers have other tables; none
+    /// where it isn't one of the shard's own.
+    pub fn losses(&self, realm: u16, next: &Config, changed: &[u16]) -> Option<Loss>
+        requires { AreChanged self.now.opening.config.peers (shown next.now).peers changed.now }
+        ensures { IfSome result (IsLoss self.now.opening.config (shown next.now) realm
+            (state_at self.now.states realm)) }
+    {
+        let Some(numbers) = numbers_at(&self.numbers, realm) else {
+            return None;
+        };
+        let old = RealmSettings::new(self.opening.config, realm);
+        if !is_carried(self.opening.config, next, realm) {
+            return Some(all_of(&old, &self.entries, numbers));
+        }
+        let new = RealmSettings::new(next, realm);
+        Some(losses_of(&old, &new, changed, &self.entries, numbers))
     }
 }

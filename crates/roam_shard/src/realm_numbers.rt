@@ -1,16 +1,35 @@
 //! The numbers of a shard's own realms.
 
-ghost use Rattle.std.specs.Prelude.{◌<◌, IfOk, length, vec_len};
+ghost use Rattle.std.specs.Prelude.{◌≡◌, ◌<◌, IfOk, length, vec_len};
 ghost use Rattle.roam_conf.specs.Shown.{shown};
 ghost use Rattle.roam_book.specs.RealmConfig.{realm_config};
 ghost use Rattle.roam_core.specs.Events.{is_in_shard};
 ghost use Rattle.roam_shard.specs.NumbersView.{AreOpened, IsOpened};
+ghost use Rattle.roam_shard.specs.Pausing.{begin_at};
 ghost use Rattle.roam_shard.specs.ShardView.{AreStarts, IsStart};
 
+use crate::look::numbers_at;
 use roam_book::{RealmNumbers, RealmSettings, Start};
 use roam_conf::Config;
 use roam_wire::NoMemory;
 use std::alloc::Allocator;
+
+/// Where a realm that doesn't go on begins: where its numbers stand, or where there are none, at place 0 of its random
+/// words and ticket 0.
+pub(crate) fn begin_at<A: Allocator + Copy>(
+    numbers: &[Option<RealmNumbers<A>>],
+    realm: u16,
+) -> Start
+    ensures { result ≡ begin_at numbers.now realm }
+{
+    match numbers_at(numbers, realm) {
+        Some(numbers) => numbers.start(),
+        None => Start {
+            place: 0,
+            ticket: 0,
+        },
+    }
+}
 
 /// The numbers of a realm at its start, where it is one of the shard's own.
 pub(crate) fn opened_at<A: Allocator + Copy>(

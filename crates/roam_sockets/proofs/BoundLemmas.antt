@@ -1,7 +1,7 @@
 -- Sockets come in behind others, and each place has one of its own.
 use Rattle.std.proofs.Common.{◌≡◌, inl, inr, ℕ, zero, suc, ◌+◌, ◌*◌, ◌<◌, List, [], ◌∷◌, ◌++◌, length}
-use Rattle.std.proofs.Common.{◌↔◌, Bool, true, IsTrue}
-use Rattle.std.proofs.Common.{Contains, Some, None, option_map, option_and_then, slice_get, refl, ap, sym, subst, ◌∙◌, append_assoc, append-nil, arith}
+use Rattle.std.proofs.Common.{true, Option, Result, Ok, Err, OnOk}
+use Rattle.std.proofs.Common.{Contains, Some, None, option_and_then, slice_get, refl, ap, sym, subst, ◌∙◌, append_assoc, append-nil, arith}
 use Rattle.std.proofs.lemmas.Bool.{cases_lt}
 use Rattle.std.proofs.lemmas.List.{length-append}
 use Rattle.std.proofs.lemmas.List.Elements.{Contains-append_cases, Contains-append_left, Contains-append_right, Contains-push_cases}
@@ -11,7 +11,7 @@ use Rattle.roam_conf.specs.Duplicates.{same_endpoint}
 use Rattle.roam_conf.proofs.EqualPartsLemmas.{endpoint_decides}
 use Rattle.roam_conf.specs.declared.place.Place.{Place}
 use Rattle.roam_conf.specs.declared.place.Place.TheVariants as place
-use Rattle.roam_port.specs.Sockets.{socket_endpoint, socket_number}
+use Rattle.roam_port.specs.Sockets.{own_out, own_reverse, socket_endpoint, socket_number}
 use Rattle.roam_sockets.specs.Bound.{AreBoundFor, AreBoundUpTo, Gains, GainsSome, HasOne, IsAt}
 use Rattle.roam_sockets.specs.declared.bind.BoundSocket.{BoundSocket}
 
@@ -54,24 +54,65 @@ pub same_is : (a b : Endpoint) → same_endpoint a b ≡ true → a ≡ b
 same_is a b test = (endpoint_decides a b).0 test
 
 -- of those that are open one more is taken
-abbrev pub AreTaken : Place → Endpoint → List BoundSocket → List BoundSocket → Bool → Type 0
-AreTaken at e old new are_open = (n : ℕ) × Gains at e old new n × (IsTrue are_open ↔ 0 < n)
+pub taken_one : (at : Place) (e : Endpoint) (old mid new : List BoundSocket) (n m : ℕ) (b : BoundSocket)
+    → Gains at e old mid n → new ≡ mid ++ b ∷ [] → m ≡ n + 1 → b.place ≡ at → true ≡ same_endpoint b.endpoint e
+    → Gains at e old new m
+taken_one at e old mid new n m b before behind counted place_is same =
+    subst (Gains at e old new) (sym counted)
+    (gains_more at e old mid new n b before behind place_is (same_is b.endpoint e (sym same)))
 
-pub taken_one : (at : Place) (e : Endpoint) (old mid new : List BoundSocket) (was now : Bool) (b : BoundSocket)
-    → AreTaken at e old mid was → new ≡ mid ++ b ∷ [] → now ≡ true → b.place ≡ at → true ≡ same_endpoint b.endpoint e
-    → AreTaken at e old new now
-taken_one at e old mid new was now b before behind opened place_is same = (
-  before.0 + 1,
-  gains_more at e old mid new before.0 b before.1 behind place_is (same_is b.endpoint e (sym same)),
-  ((λ is. omega arith), (λ lt. opened)),
-)
+pub taken_as_before : (at : Place) (e : Endpoint) (old mid new : List BoundSocket) (n m : ℕ) →
+    Gains at e old mid n → new ≡ mid → m ≡ n → Gains at e old new m
+taken_as_before at e old mid new n m before same as_was =
+    subst (λ (l : List BoundSocket). Gains at e old l m) (sym same) (subst (Gains at e old mid) (sym as_was) before)
 
-pub taken_as_before : (at : Place) (e : Endpoint) (old mid new : List BoundSocket) (was now : Bool) →
-    AreTaken at e old mid was
-    → new ≡ mid → now ≡ was → AreTaken at e old new now
-taken_as_before at e old mid new was now before same as_was =
-    subst (λ (l : List BoundSocket). AreTaken at e old l now) (sym same)
-    (subst (AreTaken at e old mid) (sym as_was) before)
+none_long : {X : Type 0} (xs : List X) → length xs ≡ 0 → xs ≡ []
+none_long [] none = refl
+none_long (x ∷ xs) none = absurd (omega (arith, none))
+
+positive : (n : ℕ) → (n ≡ 0 → ⊥) → 0 < n
+positive zero some = absurd (some refl)
+positive (suc n) some = omega arith
+
+-- further ones come in behind those
+pub gains_then : (at : Place) (e : Endpoint) (old mid new : List BoundSocket) (n m : ℕ) → 0 < n
+    → Gains at e old mid n → Gains at e mid new m → GainsSome at e old new
+gains_then at e old mid new n m some first more = record {
+  count = n + m;
+  gains = record {
+    more = first.more ++ more.more;
+    behind = more.behind
+        ∙ (ap (λ (l : List BoundSocket). l ++ more.more) first.behind ∙ append_assoc old first.more more.more);
+    each = λ b h. (elim (Contains-append_cases first.more more.more b h) [
+      | inl was ↦ first.each b was
+      | inr comes ↦ more.each b comes
+    ]);
+    as_many = (let long = length-append first.more more.more in
+        let one = first.as_many in let two = more.as_many in omega (arith, long, one, two));
+  };
+  some = omega (arith, some);
+}
+
+-- none were there
+pub gains_only : {T E : Type 0} (at : Place) (e : Endpoint) (old mid new : List BoundSocket) (n : ℕ) (r : Result T E)
+    → n ≡ 0 → Gains at e old mid n → OnOk r (GainsSome at e mid new) → OnOk r (GainsSome at e old new)
+gains_only at e old mid new n r none gains some =
+    let empty : length gains.more ≡ 0 = gains.as_many ∙ none in
+    let same : mid ≡ old = gains.behind ∙ (ap (λ (l : List BoundSocket). old ++ l) (none_long gains.more empty)
+    ∙ append-nil old) in
+    subst (λ (l : List BoundSocket). OnOk r (GainsSome at e l new)) same some
+
+-- those that were there are enough
+pub gains_enough : (at : Place) (e : Endpoint) (old new : List BoundSocket) (n : ℕ) → (n ≡ 0 → ⊥)
+    → Gains at e old new n → GainsSome at e old new
+gains_enough at e old new n some gains = record { count = n; gains = gains; some = positive n some }
+
+-- further ones come in behind those, where they can be bound
+pub gains_rest : {T E : Type 0} (at : Place) (e : Endpoint) (old mid new : List BoundSocket) (n m : ℕ) (r : Result T E)
+    → (n ≡ 0 → ⊥) → Gains at e old mid n → OnOk r (Gains at e mid new m) → OnOk r (GainsSome at e old new)
+gains_rest at e old mid new n m (Ok x) some first more =
+    gains_then at e old mid new n m (positive n some) first more
+gains_rest at e old mid new n m (Err f) some first more = tt
 
 -- a number is one place's
 pub same_place : (a b : Place) → socket_number a ≡ socket_number b → a ≡ b
@@ -93,26 +134,19 @@ same_place (place.Reverse q) (place.Out r) is = absurd (omega (arith, is))
 same_place (place.Reverse q) (place.Reverse r) is = ap place.Reverse (omega (arith, is))
 
 -- what is configured has one of so many numbers
-realm_within : {E : Type 0} (realms : List RealmView) (k : ℕ) (f : RealmView → E) (e : E) →
-    option_map f (slice_get realms k) ≡ Some e
+realm_within : {E : Type 0} (own_at : RealmView → Option E) (realms : List RealmView) (k : ℕ) (e : E) →
+    option_and_then own_at (slice_get realms k) ≡ Some e
     → k < length realms
-realm_within [] k f e is = absurd cc
-realm_within (r ∷ rs) zero f e is = omega arith
-realm_within (r ∷ rs) (suc k) f e is = let lt = realm_within rs k f e is in omega (arith, lt)
-
-reverse_within : (realms : List RealmView) (k : ℕ) (e : Endpoint) →
-    option_and_then (λ r. r.reverse) (slice_get realms k) ≡ Some e
-    → k < length realms
-reverse_within [] k e is = absurd cc
-reverse_within (r ∷ rs) zero e is = omega arith
-reverse_within (r ∷ rs) (suc k) e is = let lt = reverse_within rs k e is in omega (arith, lt)
+realm_within own_at [] k e is = absurd cc
+realm_within own_at (r ∷ rs) zero e is = omega arith
+realm_within own_at (r ∷ rs) (suc k) e is = let lt = realm_within own_at rs k e is in omega (arith, lt)
 
 pub numbered : (config : ConfigView) (at : Place) (e : Endpoint) → socket_endpoint config at ≡ Some e
     → socket_number at < 2 * length config.realms + 2
 numbered config place.Auth e is = omega arith
 numbered config place.Acct e is = omega arith
-numbered config (place.Out r) e is = let lt = realm_within config.realms r (λ x. x.out) e is in omega (arith, lt)
-numbered config (place.Reverse r) e is = let lt = reverse_within config.realms r e is in omega (arith, lt)
+numbered config (place.Out r) e is = let lt = realm_within own_out config.realms r e is in omega (arith, lt)
+numbered config (place.Reverse r) e is = let lt = realm_within own_reverse config.realms r e is in omega (arith, lt)
 
 first_in : (xs : List BoundSocket) → 0 < length xs → (b : BoundSocket) × Contains xs b
 first_in [] some = absurd (omega (arith, some))

@@ -1,3 +1,4 @@
+pub mod Beside
 pub mod Bound
 pub mod Descriptors
 pub mod Faults

@@ -1,6 +1,6 @@
 //! The broker's sockets are bound.
 
-ghost use Rattle.std.specs.Prelude.{◌↔◌, ◌<◌, ℕ, IsTrue, Contains, IfErr, IfOk, OnOk};
+ghost use Rattle.std.specs.Prelude.{◌-◌, ◌≤◌, Contains, IfErr, IfOk, OnOk};
 ghost use Rattle.roam_conf.specs.Shown.{shown};
 ghost use Rattle.roam_port.specs.Sockets.{socket_endpoints};
 ghost use Rattle.roam_sockets.specs.Bound.{AreBoundFor, Gains, GainsSome};
@@ -8,9 +8,11 @@ ghost use Rattle.roam_sockets.specs.Faults.{IsFaultOf};
 
 use crate::descriptors::descriptors_wanted;
 use crate::fault::{ServeFault, reason_of};
-use crate::opening::{bind, bind_beside, is_free};
+use crate::one_socket::{beside_which, bind_one, open_beside, share};
+use crate::opening::{bind_beside, is_free};
+use crate::workers::{is_spread_at, wanted_at, worker_of_nth};
 use roam_conf::{Config, Endpoint, Place, is_same_endpoint};
-use roam_port::{endpoint_of, place_of, socket_numbers, worker_of};
+use roam_port::{endpoint_of, place_of, socket_numbers};
 use std::alloc::Global;
 use std::io;
 use std::net::{Net, UdpSocket};
@@ -58,18 +60,18 @@ impl Sockets {
         config: &Config,
         place: Place,
         endpoint: Endpoint,
+        open: &[BoundSocket],
     ) -> Result<(), ServeFault>
         requires { Contains (socket_endpoints (shown config.now)) endpoint }
         ensures ok { OnOk result (GainsSome place endpoint self.old.bound.items self.new.bound.items) }
         ensures err { IfErr result (IsFaultOf (shown config.now)) }
     {
-        match bind(rt, endpoint) {
+        match bind_one(rt, endpoint, open) {
             Ok(socket) => {
-                let worker = worker_of(place, usize::from(config.shards), config.spread);
                 self.bound.push(BoundSocket {
                     place,
                     endpoint,
-                    worker,
+                    worker: worker_of_nth(config, place, 0),
                     is_spread: false,
                     was_open: false,
                     socket,
@@ -80,22 +82,22 @@ impl Sockets {
         }
     }
 
-    /// Binds a socket of a place for each worker.
-    fn bind_spread<R: Net>(
+    /// Binds the sockets of a place for the workers from this one on, up to so many, which others may be beside.
+    fn bind_rest(
         &mut self,
-        rt: &R,
         config: &Config,
         place: Place,
         endpoint: Endpoint,
+        first: usize,
+        wanted: usize,
     ) -> Result<(), ServeFault>
-        requires { Contains (socket_endpoints (shown config.now)) endpoint }
-        ensures ok { OnOk result (GainsSome place endpoint self.old.bound.items self.new.bound.items) }
+        requires own { Contains (socket_endpoints (shown config.now)) endpoint }
+        requires some { first ≤ wanted }
+        ensures ok { OnOk result (Gains place endpoint self.old.bound.items self.new.bound.items
+            (wanted - first)) }
         ensures err { IfErr result (IsFaultOf (shown config.now)) }
     {
-        if let Err(error) = is_free(rt, endpoint) {
-            return Err(fault_at(config, endpoint, &error, self.wanted));
-        }
-        for worker in 0..usize::from(config.shards) {
+        for worker in first..wanted {
             match bind_beside(endpoint) {
                 Ok(socket) => self.bound.push(BoundSocket {
                     place,
@@ -109,6 +111,38 @@ impl Sockets {
             }
         }
         Ok(())
+    }
+
+    /// Binds a socket of a place for each worker.
+    fn bind_spread<R: Net>(
+        &mut self,
+        rt: &R,
+        config: &Config,
+        place: Place,
+        endpoint: Endpoint,
+        open: &[BoundSocket],
+    ) -> Result<(), ServeFault>
+        requires { Contains (socket_endpoints (shown config.now)) endpoint }
+        ensures ok { OnOk result (GainsSome place endpoint self.old.bound.items self.new.bound.items) }
+        ensures err { IfErr result (IsFaultOf (shown config.now)) }
+    {
+        if open_beside(open, endpoint).is_none() {
+            if let Err(error) = is_free(rt, endpoint) {
+                return Err(fault_at(config, endpoint, &error, self.wanted));
+            }
+        }
+        share(open, endpoint, true);
+        let wanted = usize::from(config.shards);
+        match self.bind_rest(config, place, endpoint, 0, wanted) {
+            Ok(()) => {
+                share(open, endpoint, false);
+                Ok(())
+            }
+            Err(fault) => {
+                share(open, endpoint, false);
+                Err(fault)
+            }
+        }
     }
 }
 
@@ -126,42 +160,35 @@ fn fault_of_copy(config: &Config, error: &io::Error, wanted: u32) -> ServeFault
 
 impl Sockets {
     /// Takes the sockets of an endpoint that are open, by a second descriptor each: what lies in their buffers stays
-    /// there. Answers whether there are any.
+    /// there. Answers how many there are.
     fn take_open(
         &mut self,
         config: &Config,
         place: Place,
         endpoint: Endpoint,
         open: &[BoundSocket],
-    ) -> Result<bool, ServeFault>
-        ensures ok { IfOk result (λ are_open.
-            (count : ℕ) × Gains place endpoint self.old.bound.items self.new.bound.items count
-            × (IsTrue are_open ↔ 0 < count)) }
+    ) -> Result<usize, ServeFault>
+        ensures ok { IfOk result (Gains place endpoint self.old.bound.items self.new.bound.items) }
         ensures err { IfErr result (IsFaultOf (shown config.now)) }
     {
-        let mut are_open = false;
+        let mut count = 0;
         for bound in open {
             if is_same_endpoint(bound.endpoint, endpoint) {
-                are_open = true;
-                let worker = if bound.is_spread {
-                    bound.worker
-                } else {
-                    worker_of(place, usize::from(config.shards), config.spread)
-                };
                 match bound.socket.try_clone() {
                     Ok(socket) => self.bound.push(BoundSocket {
                         place,
                         endpoint: bound.endpoint,
-                        worker,
-                        is_spread: bound.is_spread,
+                        worker: worker_of_nth(config, place, count),
+                        is_spread: is_spread_at(config, place),
                         was_open: true,
                         socket,
                     })?,
                     Err(error) => return Err(fault_of_copy(config, &error, self.wanted)),
                 }
+                count += 1;
             }
         }
-        Ok(are_open)
+        Ok(count)
     }
 
     /// Binds the sockets of a place.
@@ -171,20 +198,21 @@ impl Sockets {
         config: &Config,
         place: Place,
         endpoint: Endpoint,
+        open: &[BoundSocket],
     ) -> Result<(), ServeFault>
         requires { Contains (socket_endpoints (shown config.now)) endpoint }
         ensures ok { OnOk result (GainsSome place endpoint self.old.bound.items self.new.bound.items) }
         ensures err { IfErr result (IsFaultOf (shown config.now)) }
     {
-        match place {
-            Place::Auth | Place::Acct if config.spread => {
-                self.bind_spread(rt, config, place, endpoint)
-            }
-            _ => self.bind_one(rt, config, place, endpoint),
+        if is_spread_at(config, place) {
+            self.bind_spread(rt, config, place, endpoint, open)
+        } else {
+            self.bind_one(rt, config, place, endpoint, open)
         }
     }
 
-    /// Takes the sockets of an endpoint that are open, or binds those of its place.
+    /// Takes the sockets of an endpoint that are open, and binds those that are wanted beside; or where none is open,
+    /// those of its place.
     fn take_or_bind<R: Net>(
         &mut self,
         rt: &R,
@@ -197,15 +225,23 @@ impl Sockets {
         ensures ok { OnOk result (GainsSome place endpoint self.old.bound.items self.new.bound.items) }
         ensures err { IfErr result (IsFaultOf (shown config.now)) }
     {
-        if self.take_open(config, place, endpoint, open)? {
+        let there = self.take_open(config, place, endpoint, open)?;
+        if there == 0 {
+            let beside = beside_which(config, endpoint, open);
+            return self.bind_place(rt, config, place, endpoint, beside);
+        }
+        let wanted = wanted_at(config, place);
+        if there >= wanted {
             return Ok(());
         }
-        self.bind_place(rt, config, place, endpoint)
+        share(open, endpoint, true);
+        self.bind_rest(config, place, endpoint, there, wanted)
     }
 }
 
 /// The sockets of a configuration that follows another one, in order of their numbers, where the server wants so many
-/// descriptors. Those of endpoints that both have are the same; the others are bound.
+/// descriptors. Those of endpoints that both have are the same, in whatever number they are open; the others are bound,
+/// beside those where the endpoints overlap (`0.0.0.0:1812`, `192.0.2.1:1812`).
 ///
 /// # Errors
 ///

@@ -4,10 +4,10 @@ use Rattle.std.specs.Prelude.{get_or}
 use Rattle.std.proofs.lemmas.Option.{slice_get-get_or, slice_get_cases, slice_get_within}
 use Rattle.roam_conf.specs.Config.{ConfigView}
 use Rattle.roam_book.specs.RealmState.{RealmState}
-use Rattle.roam_book.specs.declared.state.start.Start.{Start}
+use Rattle.roam_ledgers.specs.Ledgers.{SavedItem}
 use Rattle.roam_trace.specs.History.{AreSteps, Beginning, IsHistory, end_of, states_next, states_then}
 use Rattle.roam_trace.specs.Steps.{PlainStep}
-use Rattle.roam_history.specs.HubOpening.{fresh_opening, opening_at}
+use Rattle.roam_history.specs.HubOpening.{opening_at}
 use Rattle.roam_audit.specs.Audit.{steps_of}
 use Rattle.roam_hub.specs.Changes.{AreSpans, FollowsOn, IsSpan, Span}
 use Rattle.roam_hub.specs.Following.{HaveFollowed, StandAsBefore}
@@ -16,6 +16,7 @@ use Rattle.roam_shard.specs.Follow.{AllFollow}
 use Rattle.roam_shard.specs.Pausing.{states_under}
 use Rattle.roam_shard.specs.declared.paused.Paused.{Paused}
 use Rattle.roam_run.specs.Closed.{EndsOf}
+use Rattle.roam_succession.specs.Begins.{HaveBegun, opening_with}
 use Rattle.roam_succession.specs.Served.{GoOn, HasServed, HasServedAll, HaveServed, first_of}
 
 -- steps after steps
@@ -131,16 +132,13 @@ there-is xs k within = elim (slice_get_cases xs k).1 [
   | inr past ↦ absurd (omega (arith, within, past.0))
 ]
 
--- the shards of a hub of a server that begins
-pub served-from : {A : Type 0} (config : ConfigView) (starts : List Start) (steps : List (List PlainStep))
-    (shards : List (Paused A))
-    → EndsOf (fresh_opening config starts) steps shards → HaveServed (fresh_opening config starts) config shards
-served-from config starts steps shards ends = λ k p is.
+-- the shards of a server that begins: nothing was done yet
+pub served-begun : {A : Type 0} (config : ConfigView) (items : List SavedItem) (shards : List (Paused A))
+    → HaveBegun config items shards → HaveServed (opening_with config items) config shards
+served-begun config items shards begun = λ k p is.
     let within = slice_get_within shards k p is in
-    served-first (opening_at (fresh_opening config starts) k) (states_under config p) (steps_of steps k)
-    (omega (arith, within, ends.paused.count))
-    (ends.histories.each k (omega (arith, within, ends.paused.count, ends.histories.count)))
-    (ends.stand k p is)
+    served-first (opening_at (opening_with config items) k) (states_under config p) []
+    (omega (arith, within, begun.paused.count)) _ (begun.states k p is)
 
 -- they follow another configuration
 pub on-changed : {A : Type 0} (old new : ConfigView) (before after : List (Paused A)) → ArePaused old before →
@@ -183,11 +181,11 @@ on-hub {A} config before after steps paused ends = λ o served k q is.
     (ends.stand k q is ∙ ap (λ (b : Beginning). end_of b (steps_of steps k)) at)
 
 -- and at the server's end
-pub all-served : {A : Type 0} (config now : ConfigView) (starts : List Start) (shards : List (Paused A))
-    → HaveServed (fresh_opening config starts) now shards → ArePaused now shards → now.shards ≡ config.shards →
+pub all-served : {A : Type 0} (config now : ConfigView) (items : List SavedItem) (shards : List (Paused A))
+    → HaveServed (opening_with config items) now shards → ArePaused now shards → now.shards ≡ config.shards →
     HasServedAll config
-all-served config now starts shards served paused same = record {
-  starts = starts;
+all-served config now items shards served paused same = record {
+  items = items;
   each = λ k within.
       let p = there-is shards k (omega (arith, within, paused.count, same)) in
       let did = served k p.0 p.1 in

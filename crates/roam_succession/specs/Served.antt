@@ -1,17 +1,18 @@
 -- What a server has served, over all changes of its configuration (ours).
 use Rattle.std.specs.Prelude.{◌≡◌, ℕ, ◌<◌, List, [], ◌∷◌, ◌++◌, Some, slice_get}
 use Rattle.roam_conf.specs.Config.{ConfigView}
+use Rattle.roam_ledgers.specs.Ledgers.{SavedItem}
 use Rattle.roam_book.specs.RealmState.{RealmState}
-use Rattle.roam_book.specs.declared.state.start.Start.{Start}
 use Rattle.roam_shard.specs.Pausing.{states_under}
 use Rattle.roam_shard.specs.declared.paused.Paused.{Paused}
 use Rattle.roam_trace.specs.History.{Beginning, end_of}
-use Rattle.roam_history.specs.HubOpening.{HubOpening, fresh_opening, opening_at}
+use Rattle.roam_history.specs.HubOpening.{HubOpening, opening_at}
 use Rattle.roam_run.specs.Closed.{MayGoOn}
 use Rattle.roam_run.specs.declared.parts.Served.{Served}
 use Rattle.std.specs.declared.alloc.Global.{Global}
 use Rattle.roam_hub.specs.Changes.{AreSpans, Span}
 use Rattle.roam_hub.specs.Pausing.{ArePaused}
+use Rattle.roam_succession.specs.Begins.{opening_with}
 
 -- the first of some spans
 abbrev pub first_of : List Span → Span → Span
@@ -53,7 +54,7 @@ pub record ServedSpans (begins : Beginning) : Type 0 where
   pub first : (first_of spans last).begins ≡ begins
 
 -- what a server did that began with this configuration: of each shard, spans from the opening of a hub whose realms
--- begin
+-- begin, with the sessions that a file of ledgers has of them
 pub record HasServedAll (config : ConfigView) : Type 0 where
-  pub starts : List Start
-  pub each : (shard : ℕ) → shard < config.shards → ServedSpans (opening_at (fresh_opening config starts) shard)
+  pub items : List SavedItem
+  pub each : (shard : ℕ) → shard < config.shards → ServedSpans (opening_at (opening_with config items) shard)

@@ -10,6 +10,7 @@ ghost use Rattle.roam_succession.specs.Served.{HasServedAll, IsServedOn};
 ghost use Rattle.roam_sockets.specs.Faults.{IsAfterBinding};
 
 use crate::again::{is_time_over, take_again, told_or};
+use crate::beginning::beginning;
 use crate::changing::{Changed, Ready, change};
 use crate::unserved::is_stopped;
 use log::Log;
@@ -17,9 +18,9 @@ use roam_hub::{Blanks, Gate};
 use roam_port::Outbox;
 use roam_run::{
     Configured, FreshMeans, Handover, HubEnd, Means, Notice, Rests, Served, ServerParts, Source,
-    Unserved, serve_first, serve_over, tell_or_drop,
+    Unserved, serve_over, tell_or_drop,
 };
-use roam_shard::{Paused, first_starts};
+use roam_shard::Paused;
 use roam_sockets::ServeFault;
 use std::alloc::Global;
 use std::marker::Brand;
@@ -73,12 +74,7 @@ fn serve_once<
         Ok(served) => Ok(served),
         Err(Unserved::Fault(fault)) => Err(fault),
         Err(Unserved::Closed(shards, means)) => {
-            let Means {
-                outboxes,
-                rests,
-                handover,
-                ..
-            } = means;
+            let (_kits, outboxes, rests, handover) = means.into_parts();
             Ok(not_started(shards, outboxes, Some(rests), handover))
         }
     }
@@ -233,7 +229,8 @@ fn serve_changed<
     }
 }
 
-/// Serves a configuration, and each one that follows, until the server ends: how many steps were recorded.
+/// Serves a configuration, and each one that follows, until the server ends: how many steps were recorded. Each realm
+/// begins with the sessions that a file of ledgers has of it.
 ///
 /// # Errors
 ///
@@ -250,12 +247,11 @@ pub fn serve_all<
     ensures ok { IfOk result (λ steps. HasServedAll (shown configured.old.config)) }
     ensures err { IfErr result IsAfterBinding }
 {
-    let firsts = first_starts(parts.alloc, &configured.config)?;
+    let begun = beginning(parts, configured)?;
     let Ok(blanks) = Blanks::new(parts.alloc, configured.config.shards) else {
         return Err(ServeFault::Memory);
     };
-    let starts = firsts.as_slice();
-    let mut served = serve_first::<Brand, R, G, S>(parts, configured, starts, blanks, means)?;
+    let mut served = serve_once(parts, configured, begun, blanks, means)?;
     let mut steps = 0u64;
     let rt = parts.rt;
     for _ in rt.forever() {

@@ -1,5 +1,5 @@
 -- What an entry that changes leaves.
-use Rattle.std.proofs.Common.{◌≡◌, ◌≢◌, ◌⊎◌, ℕ, ◌+◌, ◌≤◌, List, Option, Some, None, refl, ap, sym, ◌∙◌, subst, inl, inr, arith}
+use Rattle.std.proofs.Common.{◌≡◌, ◌≢◌, ◌⊎◌, ℕ, zero, suc, ◌+◌, ◌<◌, ◌≤◌, List, [], ◌∷◌, length, Option, Some, None, refl, ap, sym, ◌∙◌, subst, inl, inr, arith}
 use Rattle.std.specs.Prelude.{option_map, slice_get, IfSome, MatchOption}
 use Rattle.slab.specs.Slab.{Slab}
 use Rattle.indexmap.specs.IndexMap.{IndexMap}
@@ -27,6 +27,11 @@ use Rattle.roam_tables.proofs.TablesLemmas.{tables_become, tables_realms, tables
 use Rattle.roam_tables.proofs.ViewLemmas.{seen_at}
 use Rattle.roam_tables.proofs.RemoveLemmas.{stored_at}
 
+there_at : {X : Type 0} (xs : List X) (r : ℕ) → r < length xs → (x : X) × (slice_get xs r ≡ Some x)
+there_at [] r lt = absurd (omega (arith, lt))
+there_at (x ∷ xs) zero lt = (x, refl)
+there_at (x ∷ xs) (suc r) lt = there_at xs r (omega (arith, lt))
+
 module _ {A H : Type 0} (s : Slab (Slot A)) (t : IndexMap TicketKey ℕ H)
     (c : IndexMap ClientKey ℕ H) (rs : List (RealmQueues A))
     (sound : Sound (place s) (ticket_at t) (client_at c) rs)
@@ -52,7 +57,7 @@ module _ {A H : Type 0} (s : Slab (Slot A)) (t : IndexMap TicketKey ℕ H)
     point = sound.tickets.points (ticket_key_of r n) i noted
 
     -- the entry as it stood
-    abbrev stood : PlainEntry
+    abbrev pub stood : PlainEntry
     stood = point.0.entry
 
     stood_there : place s i ≡ Some (record { realm = r; entry = stood })
@@ -90,6 +95,27 @@ module _ {A H : Type 0} (s : Slab (Slot A)) (t : IndexMap TicketKey ℕ H)
     stood_just hash R from tells read =
         just_in hash (entry_at (place s) (ticket_at t)) R r n from tells
         (ap (hash_if hash) stood_here ∙ sym (kept_there hash from read))
+
+    -- what is said of it, as it is read from its slot
+    pub stood_says : (Says : PlainEntry → Type 0) → Says stood → IfSome (place s i) (λ x. Says x.entry)
+    stood_says Says says = subst (λ (p : Option Stored). IfSome p (λ x. Says x.entry)) (sym point.1) says
+
+    -- no mark changes
+    pub still_runs : AtRealm (Changes (mark_of stood) (mark_of stood)) rs rs r
+    still_runs =
+        let within : r < length rs =
+        subst (λ (q : ℕ). q < length rs) (stored_at s t c rs sound v is r n i point.0 noted point.1).0
+        (sound.within i point.0 point.1) in
+        let there = there_at rs r within in
+        record {
+          same_length = refl;
+          before = there.0;
+          before_is = there.1;
+          after = there.0;
+          after_is = there.1;
+          becomes = inl (refl, refl);
+          others = λ q ne. refl;
+        }
 
     pub one_exchanged : (standing : PlainStanding)
         → IfSome (place s i) (λ x. standing ≡ x.entry.standing)

@@ -7,12 +7,12 @@ use Rattle.std.proofs.lemmas.Bool.Decides.{nat_tests}
 use Rattle.roam_pending.specs.declared.due.Due.{Due}
 use Rattle.roam_pending.specs.DueOrder.{is_after, is_before, due_at, due_list, due_after}
 use Rattle.roam_pending.specs.EntryList.{IsInOrder, besides, first_done, is_beside, is_done_beside}
-use Rattle.roam_pending.specs.ListLaws.{IsIn, AreInDueOrder}
+use Rattle.roam_pending.specs.ListLaws.{IsIn, IsNextAfter, AreInDueOrder}
 use Rattle.roam_pending.specs.PlainEntry.{PlainEntry, is_done}
 use Rattle.roam_pending.proofs.DueListLemmas.{strict-due, due-in, in-due}
 use Rattle.roam_pending.proofs.FindLemmas.{first_done-besides}
 use Rattle.roam_tables.specs.declared.realm_queues.RealmQueues.{RealmQueues}
-use Rattle.roam_tables.specs.Private.Rising.{AmongBoth, IsNext, NoneNext, IsFirstBesides}
+use Rattle.roam_tables.specs.Private.Rising.{AmongBoth, IsNext, IsNextOf, NoneNext, IsFirstBesides}
 use Rattle.roam_wire.specs.Numbered.{listed, tickets_end}
 use Rattle.roam_tables.specs.Private.Marks.{mark_of, waits_part, holds_part, tickets_part, IsRunsOf}
 use Rattle.roam_tables.proofs.RisingLemmas.{All-in, due_less_before}
@@ -168,6 +168,24 @@ module _ {A : Type 0} (f : ℕ → Option PlainEntry) (num : IsNumbered f)
   runs-not_due last now d next lt =
       sym (due_later last now (listed f 0 tickets_end) (order-listed f 0 tickets_end num)
       (AmongBoth q.waits.items q.holds.items) told_dues only_due d next lt)
+
+  -- the next of all
+  pub runs-next : (last o : Option Due) → IsNextOf last (AmongBoth q.waits.items q.holds.items) o
+      → IsNextAfter last (listed f 0 tickets_end) o
+  runs-next last None none = λ x held. none (due_at x) (told_dues x held)
+  runs-next last (Some d) next =
+      let h = only_due d next.held in
+      record {
+        entry = h.0;
+        held = h.1;
+        at = h.2;
+        after = next.after;
+        first = λ x held after. elim (next.first (due_at x) (told_dues x held) after) as
+            (λ _. (d ≡ due_at x) ⊎ (is_before d (due_at x) ≡ true)) [
+              | inl is ↦ inl is
+              | inr lt ↦ inr (due_less_before d (due_at x) lt)
+            ];
+      }
 
   -- The done entry that makes way
 

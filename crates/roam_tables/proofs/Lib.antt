@@ -21,5 +21,6 @@ pub mod OpeningLemmas
 pub mod MoreLemmas
 pub mod RoundLemmas
 pub mod RoundRunLemmas
+pub mod EndsLemmas
 pub mod LastRoundLemmas
 pub mod RoundFoundLemmas

@@ -3,13 +3,14 @@ use Rattle.std.proofs.Common.{◌≡◌, ◌≢◌, ◌⊎◌, ℕ, List, [], Op
 use Rattle.std.specs.Prelude.{option_and_then, option_map}
 use Rattle.std.specs.Ordering.{nat_cmp}
 use Rattle.std.proofs.lemmas.Bool.{cases_eq}
+use Rattle.roam_conf.specs.declared.place.Link.{Link}
 use Rattle.roam_hash.specs.declared.hash_key.HashKey.{HashKey}
 use Rattle.roam_pending.specs.declared.key.Requester.{Requester}
 use Rattle.roam_pending.specs.declared.key.Requester.TheVariants as requester
 use Rattle.roam_pending.specs.Conversations.{kept_state, round_with}
 use Rattle.roam_pending.specs.ListLaws.{IsIn}
 use Rattle.roam_pending.specs.PlainEntry.{PlainEntry, PlainStanding, done, waiting}
-use Rattle.roam_pending.specs.Realms.{sent_again, waits_on}
+use Rattle.roam_pending.specs.Realms.{sent_again, waits_on, with_ends, with_home, with_link}
 use Rattle.roam_tables.specs.declared.entry_index.TicketKey.{TicketKey}
 use Rattle.roam_tables.specs.declared.round_runs.RoundKey.{RoundKey}
 use Rattle.roam_tables.specs.Stands.{Stored, entry_at}
@@ -110,6 +111,31 @@ pub same_hash : (key : HashKey) (deadline : ℕ) (e : PlainEntry)
 same_hash key deadline e =
     ap (λ (o : Option (List ℕ)). option_map (round_hash key) (round_with e.request.requester o))
     (same_state deadline e.standing)
+
+-- an entry whose link is another one keeps what it kept, and one without a link nothing
+kept_at : (link : Link) (s : PlainStanding) → kept_state (with_link (Some link) s) ≡ kept_state s
+kept_at link (waiting old id forwarded sends_left deadline signs) = refl
+kept_at link (done reply deadline None) = refl
+kept_at link (done reply deadline (Some old)) = refl
+
+kept_nowhere : (s : PlainStanding) → kept_state (with_link None s) ≡ None
+kept_nowhere (waiting old id forwarded sends_left deadline signs) = refl
+kept_nowhere (done reply deadline None) = refl
+kept_nowhere (done reply deadline (Some old)) = refl
+
+-- and a home server's request is of no round, whatever its number
+homeless : (home : Option ℕ) (r : Requester) (o : Option (List ℕ)) → round_with (with_home home r) o ≡ round_with r o
+homeless home (requester.Peer peer) o = refl
+homeless home (requester.Home server) o = refl
+
+pub hash_at : (key : HashKey) (home : Option ℕ) (link : Link) (e : PlainEntry)
+    → kept_hash key (with_ends home (Some link) e) ≡ kept_hash key e
+hash_at key home link e =
+    ap (option_map (round_hash key)) (homeless home e.request.requester (kept_state (with_link (Some link) e.standing))
+    ∙ ap (round_with e.request.requester) (kept_at link e.standing))
+
+pub hash_nowhere : (key : HashKey) (home : Option ℕ) (e : PlainEntry) → kept_hash key (with_ends home None e) ≡ None
+hash_nowhere key home e = no_hash key (with_ends home None e) (kept_nowhere e.standing)
 
 -- no entry, and no run
 pub nothing_told : (hash : PlainEntry → Option ℕ) (E : ℕ → ℕ → Option PlainEntry) (R : RoundKey → List ℕ)

@@ -7,16 +7,17 @@ use Rattle.roam_pending.specs.declared.due.Due.{Due}
 use Rattle.roam_pending.specs.declared.key.Key.{Key}
 use Rattle.roam_pending.specs.DueOrder.{due_after}
 use Rattle.roam_pending.specs.EntryList.{IsEntryList, besides, find_client, find_ticket, first_done}
+use Rattle.roam_pending.specs.ListLaws.{IsNextAfter}
 use Rattle.roam_pending.specs.PlainEntry.{PlainEntry}
 use Rattle.roam_pending.specs.Realms.{RealmBecomes}
 use Rattle.roam_tables.specs.declared.slots.Slot.{Slot}
 use Rattle.roam_tables.specs.declared.entry_index.TicketKey.{TicketKey}
 use Rattle.roam_tables.specs.declared.entry_index.ClientKey.{ClientKey}
 use Rattle.roam_tables.specs.declared.realm_queues.RealmQueues.{RealmQueues}
-use Rattle.roam_tables.specs.Private.Rising.{AmongBoth, IsFirstBesides, IsNext, NoneNext}
+use Rattle.roam_tables.specs.Private.Rising.{AmongBoth, IsFirstBesides, IsNext, IsNextOf, NoneNext}
 use Rattle.roam_tables.specs.Private.Marks.{held}
 use Rattle.roam_tables.specs.Stands.{RealmView, Sound, Stored, client_at, entries_at, entries_in, place, room_at, room_in, tables_view, ticket_at}
-use Rattle.roam_tables.proofs.FirstLemmas.{runs-due, runs-first_done, runs-none_due, runs-not_due}
+use Rattle.roam_tables.proofs.FirstLemmas.{runs-due, runs-first_done, runs-next, runs-none_due, runs-not_due}
 use Rattle.roam_tables.proofs.LookLemmas.{below_end, client_found, list_at, none_past, numbered, ticket_found}
 use Rattle.roam_tables.proofs.ViewLemmas.{seen_at, seen_entries, seen_length, seen_room}
 
@@ -104,6 +105,18 @@ module _ {A H : Type 0} (s : Slab (Slot A)) (t : IndexMap TicketKey ℕ H)
         shown_due None (runs-not_due _ (numbered (place s) (ticket_at t) (client_at c) rs sound r)
         (below_end (place s) (ticket_at t) (client_at c) rs sound r) q (sound.runs r q at) last now
         d next lt)
+
+  pub tables_next : (r : ℕ) (q : RealmQueues A) (last o : Option Due) → slice_get rs r ≡ Some q
+      → IsNextOf last (AmongBoth q.waits.items q.holds.items) o → IsNextAfter last (entries_in v r) o
+  tables_next r q last o at next =
+      subst (λ (l : List PlainEntry). IsNextAfter last l o) (sym (seen_at s t c rs sound v is r))
+      (runs-next _ (numbered (place s) (ticket_at t) (client_at c) rs sound r)
+      (below_end (place s) (ticket_at t) (client_at c) rs sound r) q (sound.runs r q at) last o next)
+
+  pub tables_nothing_next : (r : ℕ) (last : Option Due) → slice_get rs r ≡ None
+      → IsNextAfter last (entries_in v r) None
+  tables_nothing_next r last none =
+      subst (λ (l : List PlainEntry). IsNextAfter last l None) (sym (nothing_kept r none)) (λ x held. absurd held)
 
   pub tables_nothing_due : (r : ℕ) (last : Option Due) (now : ℕ) → slice_get rs r ≡ None
       → None ≡ due_after now last (entries_in v r)

@@ -5,12 +5,13 @@ ghost use Rattle.roam_pending.specs.Conversations.{round_with};
 ghost use Rattle.roam_pending.specs.ListLaws.{IsIn};
 ghost use Rattle.roam_pending.specs.Realms.{with_standing};
 ghost use Rattle.roam_pending.specs.Shown.{shown, shown_standing};
-ghost use Rattle.roam_tables.specs.Private.Rounds.{AllRunsRise, Comes, Goes, IsJustIn, Moved, kept_hash, round_hash};
-ghost use Rattle.roam_tables.specs.Private.Rounds.{round_key, run_at};
+ghost use Rattle.roam_tables.specs.Private.Rounds.{AllRunsRise, Comes, Goes, IsJustIn, Moved, kept_hash, lost_hash};
+ghost use Rattle.roam_tables.specs.Private.Rounds.{round_hash, round_key, run_at};
 ghost use Rattle.roam_tables.specs.Stands.{place};
 
 use crate::round_runs::{RoundIndex, RoundKey, join, part};
 use crate::slots::Slot;
+use roam_conf::Link;
 use roam_hash::HashKey;
 use roam_pending::{Entry, Requester, Standing};
 use roam_wire::NoMemory;
@@ -68,6 +69,28 @@ pub(crate) fn hashes_in<A: Allocator>(
 {
     match slots.get(at) {
         Some(slot) => two_hashes(key, &slot.entry, standing),
+        None => unreachable!(),
+    }
+}
+
+/// The hash of the round that the entry of a slot loses where it has another link then, or none: what it keeps, if no
+/// link is given.
+pub(crate) fn lost_hash_in<A: Allocator>(
+    slots: &Slab<Slot<A>, A>,
+    at: usize,
+    key: HashKey,
+    link: Option<Link>,
+) -> Option<u64>
+    requires { IsSome (place slots.now at) }
+    ensures { IfSome (place slots.now at) (λ x. result ≡ lost_hash key link x.entry) }
+{
+    match slots.get(at) {
+        Some(slot) => {
+            match link {
+                None => kept_hash(key, &slot.entry),
+                Some(_) => None,
+            }
+        }
         None => unreachable!(),
     }
 }

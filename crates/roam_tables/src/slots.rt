@@ -2,13 +2,14 @@
 
 ghost use Rattle.std.specs.Prelude.{◌≡◌, ◌≤◌, ◌+◌, None, Some, IfSome, IsSome, option_map};
 ghost use Rattle.slab.specs.Slab.{HasRoomFor};
-ghost use Rattle.roam_pending.specs.Realms.{sent_again, with_standing};
+ghost use Rattle.roam_pending.specs.Realms.{sent_again, with_ends, with_standing};
 ghost use Rattle.roam_pending.specs.Shown.{seen, shown_standing};
 ghost use Rattle.roam_wire.specs.Numbered.{PutsAt};
 ghost use Rattle.roam_tables.specs.Private.Marks.{mark_of};
 ghost use Rattle.roam_tables.specs.Stands.{changed, place, slab_room, stored};
 
 use crate::due_mark::{DueMark, mark_of};
+use roam_conf::Link;
 use roam_pending::{Entry, Standing};
 use slab::Slab;
 use std::alloc::Allocator;
@@ -88,6 +89,24 @@ pub(crate) fn send_again<A: Allocator>(
             slot.entry.standing.wait_on(deadline);
             (from, mark_of(&slot.entry))
         }
+        None => unreachable!(),
+    }
+}
+
+/// Gives a slot's entry other numbers of its ends.
+pub(crate) fn set_ends<A: Allocator>(
+    slots: &mut Slab<Slot<A>, A>,
+    at: usize,
+    home: Option<u8>,
+    link: Option<Link>,
+)
+    requires { IsSome (place slots.old at) }
+    ensures puts { PutsAt (place slots.old) (place slots.new) at
+        (changed (with_ends home link) (place slots.old at)) }
+    ensures room { slab_room slots.old ≤ slab_room slots.new }
+{
+    match slots.get_mut(at) {
+        Some(slot) => slot.entry.set_ends(home, link),
         None => unreachable!(),
     }
 }

@@ -1,12 +1,13 @@
 //! The entries of all realms of a shard in one slab, with indexes and runs beside it.
 
-ghost use Rattle.std.specs.Prelude.{◌≡◌, ℕ, ◌<◌, ◌≤◌, ◌+◌, [], None, OnOk, IfNone, IfOk, IfSome, length};
+ghost use Rattle.std.specs.Prelude.{◌≡◌, ℕ, ◌<◌, ◌≤◌, ◌+◌, [], None, OnOk, IfOk, length};
 ghost use Rattle.roam_pending.specs.Conversations.{kept_state};
-ghost use Rattle.roam_pending.specs.EntryList.{IsEntryList, IsNew, put};
+ghost use Rattle.roam_pending.specs.EntryList.{IsNew, put};
 ghost use Rattle.roam_pending.specs.Realms.{RealmBecomes};
 ghost use Rattle.roam_pending.specs.Shown.{shown, shown_standing};
-ghost use Rattle.roam_tables.specs.Stands.{HasTicket, entries_in, room_in};
+ghost use Rattle.roam_tables.specs.Stands.{entries_in, room_in};
 
+mod clearing;
 mod round_search;
 
 use crate::due_mark::mark_of;
@@ -18,9 +19,10 @@ use crate::growth::grow;
 use crate::realm_queues::RealmQueues;
 use crate::realms::{add_at, add_empty, change_at, no_entries, runs_of, take_at};
 use crate::round_runs::{RoundIndex, RoundKey, run_of};
-use crate::rounds::{go, hashes_in, kept_hash, move_round};
-use crate::slots::{Slot, entry_in, exchange, put, send_again, take};
+use crate::rounds::{go, hashes_in, kept_hash, lost_hash_in, move_round};
+use crate::slots::{Slot, entry_in, exchange, put, send_again, set_ends, take};
 use indexmap::IndexMap;
+use roam_conf::Link;
 use roam_hash::HashKey;
 use roam_pending::{Due, Entries, Entry, Key, Standing};
 use roam_wire::NoMemory;
@@ -33,7 +35,6 @@ use std::marker::Model;
 ///
 /// No call costs more because other entries are pending: an entry is found by an index, and its due
 /// and its ticket find their places in runs of its realm near an end.
-#[derive(Drop)]
 pub struct Tables<A: Allocator> {
     /// Whence the memory of rounds comes.
     alloc: A,
@@ -47,6 +48,27 @@ pub struct Tables<A: Allocator> {
     /// The tickets of the entries that keep a round, by its hash.
     rounds: RoundIndex<A>,
     realms: Vec<RealmQueues<A>, A>,
+}
+
+// By hand, so that a proof sees one call wherever tables end, and not each of their maps.
+impl<A: Allocator> Drop for Tables<A> {
+    fn drop(self) {
+        let Self {
+            alloc,
+            key: _,
+            slots,
+            by_ticket,
+            by_client,
+            rounds,
+            realms,
+        } = self;
+        drop(slots);
+        drop(by_ticket);
+        drop(by_client);
+        drop(rounds);
+        drop(realms);
+        drop(alloc);
+    }
 }
 
 impl<A: Allocator> Model for Tables<A> {
@@ -110,35 +132,6 @@ impl<A: Allocator + Copy> Tables<A> {
     {
         add_empty(alloc, &mut self.realms, realms)
     }
-
-    /// The ticket of one of a realm's entries.
-    fn any_ticket(&self, realm: u16) -> Option<u64>
-        ensures none { IfNone result (entries_in self.now realm ≡ []) }
-        ensures some { IfSome result (HasTicket (entries_in self.now realm)) }
-        ensures list { IsEntryList (entries_in self.now realm) }
-    {
-        match runs_of(&self.realms, realm) {
-            None => None,
-            Some(runs) => {
-                match runs.next(None) {
-                    None => None,
-                    Some(due) => Some(due.ticket),
-                }
-            }
-        }
-    }
-
-    /// Takes out all entries of a realm. Takes no memory.
-    pub fn clear(&mut self, realm: u16)
-        ensures entries { RealmBecomes realm [] (entries_in self.old) (entries_in self.new) }
-        ensures realms { length self.new ≡ length self.old }
-    {
-        for _ in 0..self.len(realm) {
-            if let Some(ticket) = self.any_ticket(realm) {
-                self.remove(realm, ticket);
-            }
-        }
-    }
 }
 
 impl<A: Allocator + Copy> Entries<A> for Tables<A> {
@@ -195,6 +188,13 @@ impl<A: Allocator + Copy> Entries<A> for Tables<A> {
                     Some(due) => { if due.deadline <= now { Some(due) } else { None } }
                 }
             }
+        }
+    }
+
+    fn next_after(&self, realm: u16, last: Option<Due>) -> Option<Due> {
+        match runs_of(&self.realms, realm) {
+            None => None,
+            Some(runs) => runs.next(last),
         }
     }
 
@@ -265,6 +265,14 @@ impl<A: Allocator + Copy> Entries<A> for Tables<A> {
         if let Some(at) = ticket_slot(&self.by_ticket, TicketKey { realm, ticket }) {
             let marks = send_again(&mut self.slots, at, deadline);
             change_at(&mut self.realms, realm, marks.0, marks.1);
+        }
+    }
+
+    fn set_ends(&mut self, realm: u16, ticket: u64, home: Option<u8>, link: Option<Link>) {
+        if let Some(at) = ticket_slot(&self.by_ticket, TicketKey { realm, ticket }) {
+            let from = lost_hash_in(&self.slots, at, self.key, link);
+            go(&mut self.rounds, realm, ticket, from);
+            set_ends(&mut self.slots, at, home, link);
         }
     }
 }

@@ -3,16 +3,29 @@
 use roam_conf::{Config, Realm};
 use roam_counters::{CountedEvent, EVENTS, Layout, Process, RequestKind, Subject};
 use roam_metrics::{Counts, Gauge};
+use roam_reload::server_then;
 use std::alloc::{AllocError, Global};
 use std::sync::atomic::{AtomicU64, Ordering};
 
 /// What a server counts: each of its threads apart, so that none waits for another. What is read is the sum.
-#[derive(Drop)]
 pub struct Counters {
     layout: Layout,
     threads: Vec<Vec<AtomicU64>>,
     /// How many octets the stored steps of each shard have.
     history: Vec<AtomicU64>,
+}
+
+// By hand, so that a proof sees one call wherever it ends, and not each of its parts.
+impl Drop for Counters {
+    fn drop(self) {
+        let Self {
+            layout: _,
+            threads,
+            history,
+        } = self;
+        drop(threads);
+        drop(history);
+    }
 }
 
 /// So many counts that stand at 0.
@@ -87,35 +100,33 @@ impl Counters {
     }
 
     /// Goes on with what others counted under the configuration of before: of the whole server, and of each realm, home
-    /// server and peer that is still called so at its index.
+    /// server and peer that is still here.
     pub fn go_on_from(&self, others: &Counters, before: &Config, after: &Config) {
         self.add_row(0, others, 0, first_cell(others.layout, Subject::All));
         self.add_subject(Subject::All, others, Subject::All);
         for (number, realm) in after.realms.iter().enumerate() {
             if let Some(old) = before.realms.get(number) {
-                if realm.name.as_str() == old.name.as_str() {
+                if !realm.gone {
                     self.add_realm(others, number as u16, old, realm);
                 }
             }
         }
         for (number, peer) in after.peers.iter().enumerate() {
-            if let Some(old) = before.peers.get(number) {
-                if peer.name.as_str() == old.name.as_str() {
-                    let peer = Subject::Peer(number as u16);
-                    self.add_subject(peer, others, peer);
-                }
+            if number < before.peers.len() && !peer.gone {
+                let peer = Subject::Peer(number as u16);
+                self.add_subject(peer, others, peer);
             }
         }
     }
 
-    /// The same of a realm, and of each of its home servers whose `auth` is still the same.
+    /// The same of a realm, and of each of its home servers that is still there, wherever it stands.
     fn add_realm(&self, others: &Counters, number: u16, before: &Realm, after: &Realm) {
         let realm = Subject::Realm(number);
         self.add_subject(realm, others, realm);
-        for (server, (old, new)) in before.servers.iter().zip(after.servers.iter()).enumerate() {
-            if old.auth == new.auth {
-                let server = Subject::Server(number, server as u8);
-                self.add_subject(server, others, server);
+        for place in 0..before.servers.len() {
+            if let Some(then) = server_then(before, after, place as u8) {
+                let from = Subject::Server(number, place as u8);
+                self.add_subject(Subject::Server(number, then), others, from);
             }
         }
     }

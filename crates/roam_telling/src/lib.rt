@@ -23,6 +23,7 @@ mod notices;
 mod reload_lines;
 mod said;
 mod said_lately;
+mod state_lines;
 
 pub use counted::turn_of;
 pub use counters::{Counters, ThreadCounts};
@@ -34,3 +35,6 @@ pub use exchanges::{Exchanges, notes_of_timer, notes_of_worker, queue_of_lines};
 pub use notice::{Notice, notices_in, server_endpoint, serving, tell};
 pub use notices::{Notices, queue_of_notices};
 pub use reload_lines::{tell_dropped, tell_reload};
+pub use state_lines::{
+    tell_no_memory_to_keep, tell_not_kept, tell_read, tell_refused_state, tell_unreadable,
+};

@@ -30,7 +30,6 @@ pub const SECOND: u64 = 1000;
 pub const NOTICES: usize = 1024;
 
 /// A thread's end of its queue of notices, and what was refused since that was told last.
-#[derive(Drop)]
 pub struct Notices {
     queue: Producer<Notice>,
     repeats: Repeats,
@@ -42,6 +41,24 @@ pub struct Notices {
     next_dropped: u64,
     /// Of which servers it was said that they answer and are refused.
     said: SaidLately,
+}
+
+// By hand, so that a proof sees one call wherever it ends, and not each of its parts.
+impl Drop for Notices {
+    fn drop(self) {
+        let Self {
+            queue,
+            repeats,
+            due: _,
+            dropped: _,
+            is_waiting: _,
+            next_dropped: _,
+            said,
+        } = self;
+        drop(queue);
+        drop(repeats);
+        drop(said);
+    }
 }
 
 /// A queue of notices: the end of the thread that has them, and that of the one who tells them.
@@ -68,6 +85,7 @@ impl Notices {
         ensures repeats { self.new.repeats ≡ self.old.repeats }
         ensures due { self.new.due ≡ self.old.due }
         ensures next { self.new.next_dropped ≡ self.old.next_dropped }
+        ensures said { self.new.said ≡ self.old.said }
         ensures woken { IsTrue result → IsTrue self.new.is_waiting }
         ensures waiting { IsFalse result → self.new.is_waiting ≡ self.old.is_waiting }
     {
@@ -124,6 +142,8 @@ impl Notices {
         ensures not { IsFalse result → sent self.new.queue ≡ sent self.old.queue }
         ensures again { (replies : _) → turned_away refusal origin ≡ Some replies
             → IsTrue (list_any (is_recent replies now) self.old.said.rows) → IsFalse result }
+        ensures noted { IsTrue result → IsSomeAnd (turned_away refusal origin) (λ replies. (later : ℕ)
+            → later < min (now + 60000) (2 ^ 64 - 1) → IsTrue (list_any (is_recent replies later) self.new.said.rows)) }
         ensures repeats { self.new.repeats ≡ self.old.repeats }
         ensures due { self.new.due ≡ self.old.due }
         ensures dropped { self.new.dropped ≡ self.old.dropped }

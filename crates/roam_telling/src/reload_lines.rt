@@ -5,7 +5,7 @@ use roam_notices::{DroppedText, ReloadEnd, ReloadText};
 use std::str;
 
 /// Tells what is said to who asked for another configuration, a line of the log for each line, where the log has
-/// room: not of realms that are carried over, of which there may be a thousand.
+/// room: not of realms that are unchanged, of which there may be a thousand.
 pub fn tell_reload<R: Log>(rt: &R, end: ReloadEnd, said: &[u8]) {
     let Ok(said) = str::from_utf8(said) else {
         return;
@@ -18,7 +18,7 @@ pub fn tell_reload<R: Log>(rt: &R, end: ReloadEnd, said: &[u8]) {
         info!(rt; "{}", text);
     }
     for line in said.lines() {
-        if !line.ends_with(": carried over") && log_enabled!(rt; Level::Info) {
+        if !line.ends_with(": unchanged") && log_enabled!(rt; Level::Info) {
             let text = ReloadText { end, line };
             match end {
                 ReloadEnd::Done => info!(rt; "{}", text),

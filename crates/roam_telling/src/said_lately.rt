@@ -1,7 +1,8 @@
 //! Of which home servers it was said lately that they answer and are refused.
 
-ghost use Rattle.std.specs.Prelude.{◌≡◌, ◌<◌, IfSome, IsFalse, IsTrue, length};
+ghost use Rattle.std.specs.Prelude.{◌≡◌, ◌<◌, ◌≤◌, ◌+◌, ◌-◌, ◌^◌, ℕ, IfSome, IsFalse, IsSomeAnd, IsTrue, min, slice_get};
 ghost use Rattle.std.specs.List.{list_any};
+ghost use Rattle.roam_notices.specs.declared.turned_away.TurnedAway.{TurnedAway};
 ghost use Rattle.roam_telling.specs.SaidLately.{is_recent};
 
 use roam_conf::{Address, Endpoint};
@@ -65,7 +66,7 @@ impl SaidLately {
 
     /// A row whose minute is over.
     fn free(&self, now: u64) -> Option<usize>
-        ensures { IfSome result (λ i. i < length self.now.rows) }
+        ensures { IfSome result (λ i. IsSomeAnd (slice_get self.now.rows i) (λ said. said.until ≤ now)) }
     {
         for place in 0..SERVERS {
             if self.rows[place].until <= now {
@@ -75,12 +76,30 @@ impl SaidLately {
         None
     }
 
+    /// Notes a server in a row whose minute is over.
+    fn note(&mut self, place: usize, replies: &TurnedAway, now: u64)
+        requires free { IsSomeAnd (slice_get self.old.rows place) (λ said. said.until ≤ now) }
+        ensures noted { (later : ℕ) → later < min (now + 60000) (2 ^ 64 - 1)
+            → IsTrue (list_any (is_recent replies.now later) self.new.rows) }
+        ensures others { (other : TurnedAway) → IsTrue (list_any (is_recent other now) self.old.rows)
+            → IsTrue (list_any (is_recent other now) self.new.rows) }
+    {
+        self.rows[place] = Said {
+            realm: replies.realm,
+            from: replies.from,
+            until: now.saturating_add(MINUTE),
+        };
+    }
+
     /// Whether it is to be said now of a server: it wasn't within the last minute, and of fewer than so many others it
-    /// was.
-    /// It is noted then.
+    /// was. It is noted then, until a minute is over, and no other is forgotten.
     pub fn take_turn(&mut self, replies: &TurnedAway, now: u64) -> bool
         ensures again { IsTrue (list_any (is_recent replies.now now) self.old.rows) → IsFalse result }
         ensures stays { IsFalse result → self.new ≡ self.old }
+        ensures noted { IsTrue result → (later : ℕ) → later < min (now + 60000) (2 ^ 64 - 1)
+            → IsTrue (list_any (is_recent replies.now later) self.new.rows) }
+        ensures others { (other : TurnedAway) → IsTrue (list_any (is_recent other now) self.old.rows)
+            → IsTrue (list_any (is_recent other now) self.new.rows) }
     {
         if self.has(replies, now) {
             return false;
@@ -88,11 +107,7 @@ impl SaidLately {
         let Some(place) = self.free(now) else {
             return false;
         };
-        self.rows[place] = Said {
-            realm: replies.realm,
-            from: replies.from,
-            until: now.saturating_add(MINUTE),
-        };
+        self.note(place, replies, now);
         true
     }
 }

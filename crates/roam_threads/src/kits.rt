@@ -1,7 +1,7 @@
 //! What the threads are made of that names no hub: all of it is there before a configuration is served, or follows
 //! another.
 
-ghost use Rattle.std.specs.Prelude.{IfErr};
+ghost use Rattle.std.specs.Prelude.{◌≡◌, IfErr};
 ghost use Rattle.roam_sockets.specs.Faults.{IsAfterBinding};
 
 use crate::dealing::register;
@@ -36,18 +36,52 @@ pub struct Kit {
 }
 
 /// What the timer and the workers are made of.
-#[derive(Drop)]
 pub struct ThreadKits {
     pub timer: Kit,
     pub workers: Vec<Kit>,
 }
 
+// By hand, as that of `Kits`: so a proof sees one call wherever they end, and not each of their parts.
+impl Drop for ThreadKits {
+    fn drop(self) {
+        let Self { timer, workers } = self;
+        drop(timer);
+        drop(workers);
+    }
+}
+
 /// What all threads are made of.
-#[derive(Drop)]
 pub struct Kits {
     /// What ends the wait of the timer, the first, and of each worker.
     pub wakers: Vec<Waker>,
     pub threads: ThreadKits,
+}
+
+impl Drop for Kits {
+    fn drop(self) {
+        let Self { wakers, threads } = self;
+        drop(wakers);
+        drop(threads);
+    }
+}
+
+impl ThreadKits {
+    /// That of the timer, and those of the workers.
+    pub(crate) fn into_parts(self) -> (Kit, Vec<Kit>) {
+        let Self { timer, workers } = self;
+        (timer, workers)
+    }
+}
+
+impl Kits {
+    /// What ends the waits, and what the threads are made of.
+    pub fn into_parts(self) -> (Vec<Waker>, ThreadKits)
+        ensures wakers { result.0 ≡ self.wakers }
+        ensures threads { result.1 ≡ self.threads }
+    {
+        let Self { wakers, threads } = self;
+        (wakers, threads)
+    }
 }
 
 /// What one thread is made of.

@@ -52,7 +52,7 @@ pub fn parts_of<N: Opened>(
 ) -> Result<Parts<N>, ServeFault>
     ensures { IfErr result IsAfterBinding }
 {
-    let ThreadKits { timer, workers } = kits;
+    let (timer, workers) = kits.into_parts();
     let mut outboxes = outboxes.into_iter();
     let mut parts = Vec::with_capacity(alloc, workers.len())?;
     let mut rest = seat;

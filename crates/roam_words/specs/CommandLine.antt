@@ -40,17 +40,18 @@ AsksOrder words path order.Watch = codes "ctl" ∷ path ∷ codes "status" ∷ c
 AsksOrder words path order.Metrics = codes "ctl" ∷ path ∷ codes "metrics" ∷ [] ≡ words
 AsksOrder words path order.Stop = codes "ctl" ∷ path ∷ codes "stop" ∷ [] ≡ words
 AsksOrder words path order.Reload = codes "ctl" ∷ path ∷ codes "reload" ∷ [] ≡ words
+AsksOrder words path order.ReloadAndLose = codes "ctl" ∷ path ∷ codes "reload" ∷ codes "--lose" ∷ [] ≡ words
 AsksOrder words path (order.Trace shard) =
     (word : List ℕ) × (codes "ctl" ∷ path ∷ codes "trace" ∷ word ∷ [] ≡ words)
     × (decimal_in 0 65535 word ≡ Some shard)
 
 -- ## Words of a command
 -- `check CONF`, `check OLD NEW`, `check --all CONF`, `ctl PATH` with `status` (and `--json` or `--watch` behind it),
--- `metrics`, `stop`, `reload` or `trace N`, `sim CONF SCRIPT`, `serve CONF`, `serve CONF MS`, these two with
--- `--seed-of-file` before CONF or without it; `help`, `--help` or `-h`; `version`, `--version` or `-V`. MS is a
--- decimal number from 1 to 86400000 without leading zeros, a CONF after `serve` isn't `--seed-of-file`, and a CONF or
--- OLD after `check` isn't `--all`. They are the words after the program's name, as many and no others. Other words
--- ask for nothing.
+-- `metrics`, `stop`, `reload` (and `--lose` behind it) or `trace N`, `sim CONF SCRIPT`, `serve CONF`, `serve CONF MS`,
+-- these two with `--seed-of-file` before CONF or without it; `help`, `--help` or `-h`; `version`, `--version` or `-V`.
+-- MS is a decimal number from 1 to 86400000 without leading zeros, a CONF after `serve` isn't `--seed-of-file`, and a
+-- CONF or OLD after `check` isn't `--all`. They are the words after the program's name, as many and no others. Other
+-- words ask for nothing.
 -- Source: ours
 -- Rules out: a word too many that is overlooked; a number that is read in part
 -- Stands in: `roam_words` `CommandLine.antt`: `Asks`, `AsksToServe`, `AsksNothing`; `Command::from_words`, `command`

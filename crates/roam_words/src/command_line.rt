@@ -4,6 +4,7 @@ ghost use Rattle.std.specs.Prelude.{[], ◌∷◌, codes, map, MatchOption};
 ghost use Rattle.roam_words.specs.CommandLine.{Asks, AsksNothing, seed_of_file};
 ghost use Rattle.roam_words.specs.Shown.{shown};
 
+use crate::control_words::{of_control, of_control_words};
 use roam_conf::decimal;
 use std::convert::AsStr;
 
@@ -23,8 +24,10 @@ pub enum ControlOrder {
     Metrics,
     /// To stop.
     Stop,
-    /// To read its configuration again, and to serve that one.
+    /// To read its configuration again, and to serve that one, if nothing is lost by that.
     Reload,
+    /// The same, whatever is lost.
+    ReloadAndLose,
     /// The stored steps of a shard, as a script.
     Trace(u16),
 }
@@ -74,7 +77,8 @@ pub enum Command<'a> {
     Control {
         /// The path of the socket.
         path: &'a str,
-        /// What it is asked for: `status`, `status --json`, `status --watch`, `metrics`, `stop`, `reload` or `trace N`.
+        /// What it is asked for: `status`, `status --json`, `status --watch`, `metrics`, `stop`,
+        /// `reload`, `reload --lose` or `trace N`.
         order: ControlOrder,
     },
     /// To print the usage: `help`, `--help` or `-h`.
@@ -167,21 +171,6 @@ fn of_serve_for<'a>(first: &'a str, last: &'a str) -> Option<Command<'a>>
     }
 }
 
-/// What `ctl` and two words ask for.
-fn of_control<'a>(path: &'a str, order: &str) -> Option<Command<'a>>
-    ensures { MatchOption result (AsksNothing (codes "ctl" ∷ path.now ∷ order.now ∷ []))
-        (λ c. Asks (codes "ctl" ∷ path.now ∷ order.now ∷ []) (shown c)) }
-{
-    let order = match order {
-        "status" => ControlOrder::Status,
-        "metrics" => ControlOrder::Metrics,
-        "stop" => ControlOrder::Stop,
-        "reload" => ControlOrder::Reload,
-        _ => return None,
-    };
-    Some(Command::Control { path, order })
-}
-
 /// What three words ask for.
 fn of_three_words<'a>(word: &str, configuration: &'a str, last: &'a str) -> Option<Command<'a>>
     ensures { MatchOption result (AsksNothing (word.now ∷ configuration.now ∷ last.now ∷ []))
@@ -211,39 +200,6 @@ fn of_serve_with_its_seed<'a>(configuration: &'a str, last: &str) -> Option<Comm
             milliseconds: Some(milliseconds),
         }),
         None => None,
-    }
-}
-
-/// What `ctl`, a path, `status` and a word ask for.
-fn of_status<'a>(path: &'a str, option: &str) -> Option<Command<'a>>
-    ensures { MatchOption result
-        (AsksNothing (codes "ctl" ∷ path.now ∷ codes "status" ∷ option.now ∷ []))
-        (λ c. Asks (codes "ctl" ∷ path.now ∷ codes "status" ∷ option.now ∷ []) (shown c)) }
-{
-    let order = match option {
-        "--json" => ControlOrder::StatusAsJson,
-        "--watch" => ControlOrder::Watch,
-        _ => return None,
-    };
-    Some(Command::Control { path, order })
-}
-
-/// What `ctl` and three words ask for.
-fn of_control_words<'a>(path: &'a str, word: &str, last: &str) -> Option<Command<'a>>
-    ensures { MatchOption result
-        (AsksNothing (codes "ctl" ∷ path.now ∷ word.now ∷ last.now ∷ []))
-        (λ c. Asks (codes "ctl" ∷ path.now ∷ word.now ∷ last.now ∷ []) (shown c)) }
-{
-    match word {
-        "status" => of_status(path, last),
-        "trace" => match decimal(last, 0, 65535) {
-            Some(shard) => Some(Command::Control {
-                path,
-                order: ControlOrder::Trace(shard as u16),
-            }),
-            None => None,
-        },
-        _ => None,
     }
 }
 

@@ -12,6 +12,7 @@
 #![tactic(auto)]
 
 mod command_line;
+mod control_words;
 mod fault_text;
 mod output;
 mod reasons;

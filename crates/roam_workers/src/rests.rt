@@ -1,8 +1,8 @@
 //! Which home servers keep silent, as it was told.
 
-use roam_conf::Config;
+use roam_conf::{Config, Realm};
 use roam_hub::SERVER_LINKS;
-use roam_reload::is_carried;
+use roam_reload::{is_carried, server_then};
 use std::alloc::{AllocError, Global};
 
 /// Which home servers kept silent when they were looked at last.
@@ -12,6 +12,32 @@ pub struct Rests {
     pub silent: Vec<[bool; SERVER_LINKS]>,
     /// From when on they are looked at again.
     pub next: u64,
+}
+
+/// What stands at a place, if there is one.
+fn is_set(silent: &[bool; SERVER_LINKS], place: usize) -> bool {
+    match silent.get(place) {
+        Some(is_silent) => *is_silent,
+        None => false,
+    }
+}
+
+/// What was told of a realm's servers, each at the place where it stands then: first those of `auth`, then of `acct`.
+fn moved(old: &[bool; SERVER_LINKS], before: &Realm, after: &Realm) -> [bool; SERVER_LINKS] {
+    let mut new = [false; SERVER_LINKS];
+    let (were, are) = (before.servers.len(), after.servers.len());
+    for server in 0..were {
+        if let Some(then) = server_then(before, after, server as u8) {
+            let then = usize::from(then);
+            if let Some(auth) = new.get_mut(then) {
+                *auth = is_set(old, server);
+            }
+            if let Some(acct) = new.get_mut(are.saturating_add(then)) {
+                *acct = is_set(old, were.saturating_add(server));
+            }
+        }
+    }
+    new
 }
 
 impl Rests {
@@ -24,13 +50,19 @@ impl Rests {
         Ok(Rests { silent, next: 0 })
     }
 
-    /// Goes on with what was told of the realms that are carried over from another configuration, so that it is told
+    /// Goes on with what was told of the realms that go on from another configuration, so that it is told
     /// of each server that answers again. Takes no memory.
     pub fn go_on_from(&mut self, others: &Rests, before: &Config, after: &Config) {
         for (number, (new, old)) in self.silent.iter_mut().zip(others.silent.iter()).enumerate() {
             if let Ok(realm) = u16::try_from(number) {
-                if is_carried(before, after, realm) {
-                    *new = *old;
+                if !is_carried(before, after, realm) {
+                    continue;
+                }
+                if let (Some(before), Some(after)) = (
+                    before.realms.get(number),
+                    after.realms.get(number),
+                ) {
+                    *new = moved(old, before, after);
                 }
             }
         }

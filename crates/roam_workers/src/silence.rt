@@ -61,7 +61,7 @@ pub fn tell_rests<R: Wait, G: Gate, N: Opened>(
     rests.next = now.saturating_add(BETWEEN_LOOKS);
     let config = context.shared.config;
     for (number, realm) in config.realms.iter().enumerate() {
-        if realm.rest > 0 {
+        if realm.rest > 0 && !realm.gone {
             tell_realm(rt, context, rests, number as u16, realm.servers.len());
         }
     }

@@ -5,9 +5,7 @@
 //! section 7.1.
 
 use md5::{Digest, Md5};
-use roam_auth::{
-    hmac_md5, message_auth, message_ok, request_auth, request_ok, response_auth, response_ok,
-};
+use roam_auth::{hmac_md5, message_auth, message_ok, response_ok};
 use roam_wire::View;
 use std::process::Abort;
 use test_fixtures::{octets, octets_mut};
@@ -23,13 +21,6 @@ const REQUEST: [u8; 16] = [
 
 /// The Access-Accept of RFC 2865, section 7.1.
 const ACCEPT: &str = "0200002686fe220e7624ba2a1005f6bf9b55e0b20606000000010f06000000000e06c0a80103";
-
-/// An Accounting-Request: User-Name `u@a.example`, Acct-Status-Type Start, Acct-Session-Id `01`.
-const START: &str =
-    "0405002b40d7b5a889c55fa9032ba5d6be378f2e010d7540612e6578616d706c652806000000012c043031";
-
-/// A Disconnect-Request: NAS-Identifier `nas1`, Acct-Session-Id `01`; the secret is `h1`.
-const DISCONNECT: &str = "2822001e98737cc5f650778d9e25e78d8098ea9320066e6173312c043031";
 
 /// An Access-Request: User-Name `u@a.example`, Message-Authenticator over its own Authenticator.
 const SEALED_ACCESS: &str =
@@ -152,47 +143,6 @@ pub(crate) fn published_replies_are_signed<R: Abort + AllocGlobal>(rt: &R) {
     }
 }
 
-/// A request, its Request Authenticator and the secret.
-const SIGNED: [(&str, [u8; 16], &[u8]); 2] = [
-    (
-        START,
-        *b"\x40\xd7\xb5\xa8\x89\xc5\x5f\xa9\x03\x2b\xa5\xd6\xbe\x37\x8f\x2e",
-        b"xyzzy5461",
-    ),
-    (
-        DISCONNECT,
-        *b"\x98\x73\x7c\xc5\xf6\x50\x77\x8d\x9e\x25\xe7\x8d\x80\x98\xea\x93",
-        b"h1",
-    ),
-];
-
-/// What is right of a request: the digest is this, it is signed, not with another secret; and where a
-/// bit of its Authenticator is changed, the digest is the same, and it isn't signed.
-fn request_facts(text: &str, digest: [u8; 16], secret: &[u8]) -> [bool; 5] {
-    let (mut room, mut other) = ([0; 160], [0; 160]);
-    let changed = octets_mut(text, &mut other);
-    if secret.is_empty() || secret.len() > 64 || changed.len() < 20 {
-        return [false; 5];
-    }
-    changed[19] ^= 1;
-    match (View::read(octets(text, &mut room)), View::read(changed)) {
-        (Ok(view), Ok(changed)) => [
-            request_auth(&view, secret) == digest,
-            request_ok(&view, secret),
-            !request_ok(&view, b"x"),
-            request_auth(&changed, secret) == digest,
-            !request_ok(&changed, secret),
-        ],
-        _ => [false; 5],
-    }
-}
-
-pub(crate) fn accounting_and_reverse_requests_are_signed<R: Abort + AllocGlobal>(rt: &R) {
-    for (text, digest, secret) in SIGNED {
-        assert!(rt; request_facts(text, digest, secret) == [true; 5], "{text}");
-    }
-}
-
 /// A packet, the Authenticator that its Message-Authenticator is over, that attribute's Value, and the
 /// octet at which that begins. The third one's Authenticator is that of the Accounting-Request to which
 /// the response belongs. The last three are published: the Status-Server packets of RFC 5997, sections
@@ -266,70 +216,5 @@ pub(crate) fn packets_are_well_sealed<R: Abort + AllocGlobal>(rt: &R) {
             seal_facts(text, over, seal, at + 15, 1),
         ];
         assert!(rt; facts == [[true; 4]; 3], "{text}");
-    }
-}
-
-/// Whether the sealed Accounting-Request is signed, and the response to it: the Message-Authenticator
-/// came first.
-fn sealed_are_signed() -> [bool; 2] {
-    let (mut room, mut other) = ([0; 160], [0; 160]);
-    let request = View::read(octets(SEALED_START, &mut room));
-    let reply = View::read(octets(SEALED_RESPONSE, &mut other));
-    match (request, reply) {
-        (Ok(request), Ok(reply)) => [
-            request_ok(&request, &SECRET),
-            response_ok(&reply, request.authenticator(), &SECRET),
-        ],
-        _ => [false; 2],
-    }
-}
-
-pub(crate) fn sealed_packets_are_signed<R: Abort + AllocGlobal>(rt: &R) {
-    assert!(rt; sealed_are_signed() == [true; 2]);
-}
-
-/// Access-Requests of which no Message-Authenticator is one, and whether they are well sealed.
-const NOT_SEALED: [(&str, bool); 5] = [
-    // The right one, twice.
-    (
-        "010700450f403f9473978057bd83d5cb98f4227a010d7540612e6578616d706c655012a0883c18cd874f1c65aa68a87530b5465012a0883c18cd874f1c65aa68a87530b546",
-        false,
-    ),
-    // Two that are right for zeros in both.
-    (
-        "010700450f403f9473978057bd83d5cb98f4227a010d7540612e6578616d706c655012ec8defe78a57f68f624d6883aa07355f5012ec8defe78a57f68f624d6883aa07355f",
-        false,
-    ),
-    // The first fifteen octets of the right one, and none.
-    (
-        "010700320f403f9473978057bd83d5cb98f4227a010d7540612e6578616d706c655011a0883c18cd874f1c65aa68a87530b5",
-        false,
-    ),
-    (
-        "010700230f403f9473978057bd83d5cb98f4227a010d7540612e6578616d706c655002",
-        false,
-    ),
-    // None at all: nothing is computed, and nothing is wrong.
-    (
-        "010700210f403f9473978057bd83d5cb98f4227a010d7540612e6578616d706c65",
-        true,
-    ),
-];
-
-/// Whether no seal is computed for a packet, and whether it is well sealed.
-fn unsealed_facts(text: &str) -> [bool; 2] {
-    let mut room = [0; 160];
-    match View::read(octets(text, &mut room)) {
-        Ok(view) => [
-            message_auth(&view, &SECRET, REQUEST).is_none(),
-            message_ok(&view, &SECRET, REQUEST),
-        ],
-        Err(_) => [false; 2],
-    }
-}
-
-pub(crate) fn just_one_message_authenticator_of_sixteen_octets<R: Abort + AllocGlobal>(rt: &R) {
-    for (text, well_sealed) in NOT_SEALED {
-        assert!(rt; unsealed_facts(text) == [true, well_sealed], "{text}");
     }
 }

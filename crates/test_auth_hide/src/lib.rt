@@ -1,4 +1,4 @@
-//! Digests, seals and hidden values, against octets from outside.
+//! Digests, seals and hidden passwords, against octets of the standards.
 #![tactic(auto)]
 
 #[cfg(test)]
@@ -7,5 +7,3 @@ mod auth_tests;
 mod examples;
 #[cfg(test)]
 mod hide_tests;
-#[cfg(test)]
-mod salted_tests;

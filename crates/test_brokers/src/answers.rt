@@ -12,7 +12,7 @@ use std::io::Write;
 pub const WANTING: &str = "no memory\n";
 
 /// The answers to an event that no realm and no shard takes: its refusal, or want of memory.
-const UNTAKEN: [&str; 15] = [
+const UNTAKEN: [&str; 17] = [
     WANTING,
     "refused 1\n",
     "refused 2\n",
@@ -28,6 +28,8 @@ const UNTAKEN: [&str; 15] = [
     "refused 24\n",
     "refused 25\n",
     "refused 26\n",
+    "refused 28\n",
+    "refused 29\n",
 ];
 
 /// Whether an event that is answered so was taken by a realm or a shard: it wasn't refused before that, nor rejected

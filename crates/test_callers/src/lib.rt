@@ -1,6 +1,6 @@
 //! A proved caller of each crate, as a server above would write it.
 //!
-//! They stand above all that they call. `test_exchange` plays an exchange by them.
+//! They stand above all that they call.
 #![tactic(auto)]
 
 pub mod broker_callers;

@@ -7,7 +7,7 @@ use std::process::Abort;
 use test_fixtures::configuration::{PLAIN_PEER, REALM, SECOND_SERVER, SERVER, TOP};
 
 /// One realm with two servers.
-pub(crate) const TWO_SERVERS: [&str; 5] = [TOP, PLAIN_PEER, REALM, SERVER, SECOND_SERVER];
+const TWO_SERVERS: [&str; 5] = [TOP, PLAIN_PEER, REALM, SERVER, SECOND_SERVER];
 
 /// What it says.
 pub(crate) fn two_servers(rt: &impl Abort, alloc: Global) -> Config {

@@ -6,14 +6,8 @@ mod configuration;
 #[cfg(test)]
 mod examples;
 #[cfg(test)]
-mod faults;
-#[cfg(test)]
 mod last_ticket;
 #[cfg(test)]
-mod lines;
-#[cfg(test)]
 mod realm;
-#[cfg(test)]
-mod scripts;
 #[cfg(test)]
 mod tick_room;

@@ -2,12 +2,6 @@
 #![tactic(auto)]
 
 #[cfg(test)]
-mod answer_tests;
-#[cfg(test)]
 mod examples;
 #[cfg(test)]
-mod statement_tests;
-#[cfg(test)]
-mod tests;
-#[cfg(test)]
-mod word_tests;
+mod told_tests;

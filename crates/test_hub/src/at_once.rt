@@ -179,19 +179,15 @@ pub(crate) fn called_at_once<N: Opened + Send + Sync, R: Abort + Threads + Wait 
     }
 }
 
-/// Whether a receipt is of this shard and number, and has just this packet, or none.
+/// Whether a receipt is of this shard and number, and has just this packet.
 fn is_receipt<N: Opened>(
     rt: &impl Abort,
     alloc: Global,
     receipt: &Receipt<Global, N>,
     (shard, number): (u16, u64),
-    packet: Option<&str>,
+    packet: &str,
 ) -> bool {
-    let has_packet = match packet {
-        Some(packet) => sends(rt, alloc, &receipt.answer, packet),
-        None => receipt.answer.outs.is_empty(),
-    };
-    has_packet && receipt.shard == shard && receipt.number == number
+    sends(rt, alloc, &receipt.answer, packet) && receipt.shard == shard && receipt.number == number
 }
 
 /// How many steps a shard has at the end; none where it isn't there.
@@ -208,28 +204,8 @@ fn go_on<N: Opened>(report: &Report<Global, N>) -> bool {
     report.starts.iter().all(|start| *start == next)
 }
 
-/// A shard in which a call is held keeps up its own calls: the second call, of the same request, is answered after the
-/// first, which waits some 50 milliseconds in vain, and sends nothing.
-pub(crate) fn holds_up_its_own<N: Opened + Send + Sync, R: Abort + Threads + Wait + Clock + Sync>(
-    rt: &R,
-    alloc: Global,
-    config: &Config,
-    hub: Hub<'_, Global, N>,
-    seat: Seat<Global, N>,
-) -> bool
-    requires { shown config.now ≡ N.opening.config }
-{
-    let ended = called_at_once(rt, alloc, config, hub, seat, 0, 5_000);
-    let (first, second) = (&ended.receipts.0, &ended.receipts.1);
-    let is_first = is_receipt(rt, alloc, first, (0, 0), Some(FIRST));
-    let is_second = is_receipt(rt, alloc, second, (0, 1), None);
-    let steps = [steps_of(&ended.report, 0), steps_of(&ended.report, 1)];
-    let told = (ended.stage, ended.shards) == (IN_VAIN, 2);
-    is_first && is_second && told && steps == [Some(2), None] && go_on(&ended.report)
-}
-
-/// It keeps up no call of another shard: a request of a second realm, which has a shard of its own, is answered
-/// meanwhile.
+/// A shard in which a call is held keeps up no call of another shard: a request of a second realm, which has a shard of
+/// its own, is answered meanwhile.
 pub(crate) fn holds_up_no_other<N: Opened + Send + Sync, R: Abort + Threads + Wait + Clock + Sync>(
     rt: &R,
     alloc: Global,
@@ -241,8 +217,8 @@ pub(crate) fn holds_up_no_other<N: Opened + Send + Sync, R: Abort + Threads + Wa
 {
     let ended = called_at_once(rt, alloc, config, hub, seat, 1, TURNS);
     let (first, second) = (&ended.receipts.0, &ended.receipts.1);
-    let is_first = is_receipt(rt, alloc, first, (0, 0), Some(FIRST));
-    let is_second = is_receipt(rt, alloc, second, (1, 0), Some(OTHER_FIRST));
+    let is_first = is_receipt(rt, alloc, first, (0, 0), FIRST);
+    let is_second = is_receipt(rt, alloc, second, (1, 0), OTHER_FIRST);
     let steps = [steps_of(&ended.report, 0), steps_of(&ended.report, 1)];
     let told = (ended.stage, ended.shards) == (ANSWERED, 3);
     is_first && is_second && told && steps == [Some(1), Some(1)] && go_on(&ended.report)

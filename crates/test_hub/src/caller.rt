@@ -7,7 +7,7 @@ ghost use Rattle.roam_route.specs.Shown.{shown_job};
 
 use roam_book::Answer;
 use roam_conf::{Address, Config, Endpoint, Place};
-use roam_hub::{Call, Gate, Hub, HubFault, Open, Opened, Receipt, Seat, Ticked};
+use roam_hub::{Gate, Hub, HubFault, Opened, Receipt, Seat};
 use roam_route::{Datagram, Job, Prepared, prepare};
 use roam_wire::Octets;
 use std::alloc::Allocator;
@@ -100,48 +100,6 @@ impl<'h, 'c, A: Allocator + Copy, N: Opened> Caller<'h, 'c, A, N> {
         gate: &G,
     ) -> Result<Receipt<A, N>, HubFault> {
         self.hub.submit(rt, &mut self.seat, 0, &self.job, gate)
-    }
-
-    /// Asks for a tick at a moment.
-    pub(crate) fn tick<R: Wait, G: Gate>(
-        &mut self,
-        rt: &R,
-        now: u64,
-        shard: u16,
-        gate: &G,
-    ) -> Result<Receipt<A, N>, HubFault> {
-        self.hub.tick(rt, &mut self.seat, now, shard, gate)
-    }
-
-    /// Asks for a tick at a moment, where something is due.
-    pub(crate) fn tick_if_due<R: Wait>(
-        &mut self,
-        rt: &R,
-        now: u64,
-        shard: u16,
-    ) -> Result<Option<Ticked<A>>, HubFault> {
-        let call = Call {
-            rt,
-            gate: &Open,
-            moment: now,
-        };
-        self.hub.tick_if_due(call, &mut self.seat, shard)
-    }
-
-    /// Asks whether anything is due at a moment.
-    pub(crate) fn is_due<R: Wait>(
-        &mut self,
-        rt: &R,
-        now: u64,
-        shard: u16,
-    ) -> Result<bool, HubFault> {
-        self.hub.is_due(rt, &mut self.seat, now, shard)
-    }
-
-    /// Lets go of the stored steps of a shard: how many there were.
-    pub(crate) fn let_go<R: Wait>(&mut self, rt: &R, shard: u16) -> Result<usize, HubFault> {
-        let steps = self.hub.let_go(rt, &mut self.seat, shard)?;
-        Ok(steps.len())
     }
 
     /// Its seat, once it calls no more.

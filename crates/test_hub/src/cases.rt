@@ -6,17 +6,12 @@ ghost use Rattle.roam_shard.specs.ShardView.{AreStarts};
 ghost use Rattle.roam_history.specs.HubOpening.{fresh_opening};
 ghost use Rattle.roam_history.specs.Books.{books_of, count_of};
 
-use crate::at_once::{holds_up_its_own, holds_up_no_other};
+use crate::at_once::holds_up_no_other;
 use crate::audits::audits;
-use crate::changes::goes_on_over_a_change;
 use crate::configuration::config_of;
-use crate::dues::due;
 use crate::growths::are_refused;
 use crate::growths_of_changes::are_refused as are_refused_of_a_change;
-use crate::let_go::{full, session};
 use crate::limits::full_and_goes_on;
-use crate::portions::portions;
-use crate::rolling::{LIMIT, rolls};
 use roam_book::Start;
 use roam_conf::Config;
 use roam_hub::{Blanks, Hub, Opened};
@@ -27,18 +22,12 @@ use std::process::Abort;
 use std::sync::Wait;
 use std::thread::Threads;
 use std::time::Clock;
-use test_fixtures::configuration::{SECOND_REALM, SECOND_SERVER, SERVER};
+use test_fixtures::configuration::{SECOND_REALM, SERVER};
 
 /// What a hub is played for.
 #[derive(Clone, Copy)]
 enum Case {
-    Due,
-    Portions,
-    Full,
     FullAndGoesOn,
-    Session,
-    Rolls,
-    HoldsUpItsOwn,
     HoldsUpNoOther,
     Audits,
 }
@@ -47,7 +36,6 @@ enum Case {
 #[derive(Clone, Copy)]
 enum Example {
     Of(Case),
-    Change,
     Growths,
     GrowthsOfAChange,
 }
@@ -56,10 +44,7 @@ enum Example {
 /// one realm of one server.
 fn setting(case: Case) -> (u16, u32, &'static [&'static str]) {
     match case {
-        Case::Due => (1, 1000, &[SECOND_SERVER]),
-        Case::Portions | Case::HoldsUpItsOwn => (1, 1000, &[]),
-        Case::Full | Case::FullAndGoesOn | Case::Session => (1, 1, &[]),
-        Case::Rolls => (1, LIMIT, &[]),
+        Case::FullAndGoesOn => (1, 1, &[]),
         Case::HoldsUpNoOther | Case::Audits => (2, 1000, &[SECOND_REALM, SERVER]),
     }
 }
@@ -82,13 +67,7 @@ fn is_so_in<N: Opened + Send + Sync, R: Abort + Threads + Wait + Clock + Sync>(
         .ok()
         .expect(rt, "a hub");
     match case {
-        Case::Due => due(rt, alloc, config, hub, seat),
-        Case::Portions => portions(rt, alloc, config, hub, seat),
-        Case::Full => full(rt, alloc, config, hub, seat),
         Case::FullAndGoesOn => full_and_goes_on(rt, alloc, config, hub, seat),
-        Case::Session => session(rt, alloc, config, hub, seat),
-        Case::Rolls => rolls(rt, alloc, config, hub, seat),
-        Case::HoldsUpItsOwn => holds_up_its_own(rt, alloc, config, hub, seat),
         Case::HoldsUpNoOther => holds_up_no_other(rt, alloc, config, hub, seat),
         Case::Audits => audits(rt, alloc, config, hub, seat),
     }
@@ -111,45 +90,22 @@ fn is_example<R: Abort + Threads + Wait + Clock + Sync>(
 ) -> bool {
     match example {
         Example::Of(case) => is_so(rt, alloc, case),
-        Example::Change => goes_on_over_a_change(rt, alloc),
         Example::Growths => are_refused(rt, alloc),
         Example::GrowthsOfAChange => are_refused_of_a_change(rt, alloc),
     }
 }
 
 /// The examples, by what they say.
-const EXAMPLES: [(&str, Example); 12] = [
-    (
-        "a tick is stored where something is due",
-        Example::Of(Case::Due),
-    ),
-    ("many that are due are parted", Example::Of(Case::Portions)),
-    ("a full trace lets go and goes on", Example::Of(Case::Full)),
+const EXAMPLES: [(&str, Example); 5] = [
     (
         "a full trace, and the hub that goes on",
         Example::Of(Case::FullAndGoesOn),
-    ),
-    (
-        "sessions, held replies and tickets go on",
-        Example::Of(Case::Session),
-    ),
-    (
-        "two threads let go a thousand times",
-        Example::Of(Case::Rolls),
-    ),
-    (
-        "a held shard holds up its own calls",
-        Example::Of(Case::HoldsUpItsOwn),
     ),
     (
         "a held shard holds up no call of another",
         Example::Of(Case::HoldsUpNoOther),
     ),
     ("the audit of two calls", Example::Of(Case::Audits)),
-    (
-        "a realm goes on over a change, and others begin",
-        Example::Change,
-    ),
     ("each growth of a hub", Example::Growths),
     ("each growth of a change", Example::GrowthsOfAChange),
 ];

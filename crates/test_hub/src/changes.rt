@@ -12,12 +12,10 @@ use crate::caller::{OTHER_FIRST, OTHER_REQUEST_7, datagram, nas, sends};
 use crate::configuration::config_of;
 use roam_book::Start;
 use roam_conf::{Address, Config, Endpoint, Place};
-use roam_hub::{Blanks, Call, Hub, Open, Opened, Paused, PausedHub, Seat, follow};
+use roam_hub::{Blanks, Call, Hub, Open, Opened, Paused, PausedHub, Seat};
 use roam_reload::hindrance_of;
 use roam_route::{Prepared, prepare};
-use roam_shard::first_starts;
 use std::alloc::{Allocator, Global};
-use std::marker::Brand;
 use std::process::Abort;
 use std::sync::Wait;
 use test_fixtures::configuration::{SECOND_REALM, SERVER};
@@ -63,17 +61,6 @@ const DISCONNECT: &str = "2822001e98737cc5f650778d9e25e78d8098ea9320066e6173312c
 
 const DISCONNECTED: &str =
     "28000028d59a9ca4eb378569da60a8ec6bb9ce1220066e6173312c043031210a0000000000000001";
-
-/// The first request of `b.example` where that realm begins at its fifth word and ticket 1, under another secret of its
-/// server: Identifier 0 again. By the RFCs' formulas.
-const OTHER_SECOND: &str =
-    "0100003d09631634d21e42ac33960bd138e50d3250129c784bd51d52c63837869359f0c85283010d7540622e6578616d706c65210a0000000000000001";
-
-/// Access-Request 7 for `u@c.example`, and as the first request of that realm leaves.
-const THIRD_REQUEST: &str = "010700210f403f9473978057bd83d5cb98f4227a010d7540632e6578616d706c65";
-
-const THIRD_FIRST: &str =
-    "0100003dd0c5b9b7442870728d812f034c635e815012cd71591c81ff4ce8754497b8e3332498010d7540632e6578616d706c65210a0000000000000000";
 
 /// The same home server with another secret.
 const SERVER_WITH_OTHER_SECRET: &str = "
@@ -152,25 +139,6 @@ pub(crate) fn what_goes_on() -> [Exchange; 3] {
             from: server_in_reverse(),
             octets: DISCONNECT,
             sent: DISCONNECTED,
-        },
-    ]
-}
-
-/// After the change: the second realm's request isn't known any more, and is sent as a new one; the third realm is
-/// there.
-fn begin() -> [Exchange; 2] {
-    [
-        Exchange {
-            at: Place::Auth,
-            from: nas(),
-            octets: OTHER_REQUEST_7,
-            sent: OTHER_SECOND,
-        },
-        Exchange {
-            at: Place::Auth,
-            from: nas(),
-            octets: THIRD_REQUEST,
-            sent: THIRD_FIRST,
         },
     ]
 }
@@ -257,32 +225,4 @@ pub(crate) fn two_configurations(rt: &impl Abort, alloc: Global) -> (Config, Con
     let new = config_of(rt, alloc, 1, 1000, &CHANGED);
     assert!(rt; hindrance_of(&old, &new).is_none());
     (old, new)
-}
-
-/// Whether all of these are answered over a change.
-fn are_answered_after<R: Abort + Wait>(
-    rt: &R,
-    alloc: Global,
-    old: &Config,
-    new: &Config,
-    exchanges: &[Exchange],
-) -> bool
-    requires { MayFollow (shown old.now) (shown new.now) }
-{
-    let starts = first_starts(alloc, old).ok().expect(rt, "memory");
-    let blanks = Blanks::new(alloc, old.shards).ok().expect(rt, "memory");
-    let mut shards = paused::<_, Brand, R>(rt, alloc, old, &starts, blanks);
-    follow(alloc, old, new, &mut shards)
-        .ok()
-        .expect(rt, "memory");
-    let blanks = Blanks::new(alloc, new.shards).ok().expect(rt, "memory");
-    goes_on::<_, Brand, R>(rt, alloc, new, shards, blanks, exchanges)
-}
-
-/// Whether the first realm goes on over a change, and the others begin.
-pub(crate) fn goes_on_over_a_change<R: Abort + Wait>(rt: &R, alloc: Global) -> bool {
-    let (old, new) = two_configurations(rt, alloc);
-    let goes_on = are_answered_after(rt, alloc, &old, &new, &what_goes_on());
-    let others_begin = are_answered_after(rt, alloc, &old, &new, &begin());
-    goes_on && others_begin
 }

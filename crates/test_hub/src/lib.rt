@@ -1,5 +1,6 @@
-//! Hubs by example: their calls, with steps that are let go of between them, their end and its audit, and
-//! the growths of their calls refused in turn.
+//! Hubs by example: calls at once, the end of one and its audit, the hub that goes on from there, and the growths of
+//! opening, closing and changing one refused in turn. Calls with and without memory, and steps that are let go of, are
+//! played with rows (`test_rows`).
 //!
 //! What a hub is played for is a case: a function that is lent an open hub of its own, and answers whether all is as it
 //! says. One test plays all cases, since a test costs the proof more than a case.
@@ -18,16 +19,8 @@ mod changes;
 #[cfg(test)]
 mod configuration;
 #[cfg(test)]
-mod dues;
-#[cfg(test)]
 mod growths;
 #[cfg(test)]
 mod growths_of_changes;
 #[cfg(test)]
-mod let_go;
-#[cfg(test)]
 mod limits;
-#[cfg(test)]
-mod portions;
-#[cfg(test)]
-mod rolling;

@@ -1,9 +1,7 @@
-//! The list of pending entries, and rounds in shared tables, by example, and the growths of their calls refused in turn.
+//! What rows can't show of entries in shared tables: how many of them a call looks at.
 #![tactic(auto)]
 
 #[cfg(test)]
 mod examples;
-#[cfg(test)]
-mod pending_tests;
 #[cfg(test)]
 mod round_tests;

@@ -1,5 +1,4 @@
-//! Rounds of conversations in shared tables: which one is found, how many entries a look at it looks at, and the growths
-//! of a reply that is held refused in turn.
+//! Rounds of conversations in shared tables: how many entries a look for one looks at.
 //!
 //! Which entry is expected is read off the tickets, peers and States written here.
 
@@ -15,7 +14,6 @@ use roam_wire::{NoMemory, Octets};
 use std::alloc::Allocator;
 use std::process::Abort;
 use std::test::Fail;
-use test_allocator::Refusing;
 
 /// The realm of these tests.
 const REALM: u16 = 1;
@@ -141,53 +139,6 @@ pub fn a_look_costs_the_same_whatever_is_held<R: Abort + AllocGlobal>(rt: &R) ->
         let tables = held(rt.alloc(), count)?;
         let looked = looks(&tables, count);
         assert!(rt; looked == [1, u64::from(count), 0, 0], "of {count}");
-    }
-    Ok(())
-}
-
-/// Three requests of peer 3 with one State, answered in the order of tickets 2, 3 and 1: which is found at first, once
-/// the one of ticket 3 went, once that of 2 did, and once that of 1 did.
-fn one_state<A: Allocator + Copy>(alloc: A) -> Result<[u64; 4], NoMemory> {
-    let mut tables = Tables::new(alloc, HashKey::new([0; 16]), 2)?;
-    for ticket in 1..4 {
-        admit(alloc, &mut tables, ticket, 3)?;
-    }
-    for ticket in [2, 3, 1] {
-        hold(alloc, &mut tables, ticket, 9)?;
-    }
-    let first = found(&tables, 3, 9);
-    let mut seen = [first, 0, 0, 0];
-    for (place, ticket) in [(1, 3), (2, 2), (3, 1)] {
-        tables.remove(REALM, ticket);
-        seen[place] = found(&tables, 3, 9);
-    }
-    Ok(seen)
-}
-
-pub fn the_last_by_ticket_counts<R: Abort + AllocGlobal>(rt: &R) -> Result<(), Fail> {
-    let seen = one_state(rt.alloc())?;
-    assert!(rt; seen == [3, 2, 1, 0], "found");
-    Ok(())
-}
-
-/// Where a growth is refused the request waits as before, and no round is found; then it is held.
-pub fn each_growth_of_a_held_challenge<R: Abort + AllocGlobal>(rt: &R) -> Result<(), Fail> {
-    let refusing = Refusing::new(rt.alloc());
-    for n in refusing.each_growth() {
-        let mut tables = Tables::new(&refusing, HashKey::new([0; 16]), 2)?;
-        admit(&refusing, &mut tables, 1, 3)?;
-        refusing.refuse_nth(n);
-        let result = hold(&refusing, &mut tables, 1, 5);
-        let was_refused = refusing.was_refused();
-        assert!(rt; result.is_err() == was_refused, "at growth {n}");
-        let wanted = if was_refused { 0 } else { 1 };
-        let seen = found(&tables, 3, 5);
-        assert!(rt; seen == wanted, "found at growth {n}");
-        if was_refused {
-            hold(&refusing, &mut tables, 1, 5)?;
-        }
-        let seen = found(&tables, 3, 5);
-        assert!(rt; seen == 1, "found behind growth {n}");
     }
     Ok(())
 }

@@ -1,9 +1,9 @@
 //! A program that plays the rows of a folder over the broker, and says which differ. It is a test alone.
 //!
-//! It reads three folders where it runs: `oracle/` has worked rows, `random/` random ones, and `configurations/` those
-//! that the rows name; `faulty-lines` has lines that are none of a script. What a row is stands in `row`; it is played
-//! with memory in `playing`, with growths refused in `growths` and `losses`, and through a hub in `hubs`. `stored` looks
-//! at the steps that a broker over traces stored.
+//! It reads three folders where it runs: `rows/` has worked rows and some random ones, `random/` the other random
+//! ones, and `configurations/` those that the rows name; `faulty-lines` has lines that are none of a script. What a
+//! row is stands in `row`; it is played with memory in `playing`, with growths refused in `growths` and `losses`, and
+//! through a hub in `hubs`. `stored` looks at the steps that a broker over traces stored.
 #![tactic(auto)]
 
 mod brokers;
@@ -63,15 +63,15 @@ fn plays_through_hubs<R: Wait>(
     Ok(())
 }
 
-/// Plays all rows, and says how many: all of them over each broker, and those of `oracle/` through hubs. Over traces no
-/// growths of random rows are refused. Whether all is as they say.
+/// Plays all rows, and says how many: all of them over each broker, and those of `rows/` with growths refused and
+/// through hubs too. Whether all is as they say.
 fn plays_all<R: Wait>(rt: &HostRuntime, waiting: &R) -> io::Result<bool> {
     let refusing = Refusing::new(rt.alloc());
     let mut player = Player::new(rt, &refusing);
     for kept in [Kept::InLists, Kept::InTables] {
         player.kept = kept;
         plays_folder(&mut player, "rows", true)?;
-        plays_folder(&mut player, "random", true)?;
+        plays_folder(&mut player, "random", false)?;
     }
     player.kept = Kept::InTraces;
     plays_folder(&mut player, "rows", true)?;

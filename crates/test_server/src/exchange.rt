@@ -25,7 +25,7 @@ fn answer(home: &UdpSocket, exchange: &Exchange) -> Verdict {
 }
 
 /// Whether what the client hears is the returned packet; nothing where it hears nothing.
-pub(crate) fn is_returned(ends: &Ends, to: SocketAddr, exchange: &Exchange) -> Option<Verdict> {
+fn is_returned(ends: &Ends, to: SocketAddr, exchange: &Exchange) -> Option<Verdict> {
     let arrival = hear(&ends.client)?;
     if arrival.from == to && arrival.octets() == exchange.returned {
         Some(Ok(()))

@@ -1,7 +1,7 @@
 //! What a realm keeps besides its entries: the numbers that it hands out, and the ledger of sessions.
 
 ghost use Rattle.std.specs.Prelude.{◌≡◌, ℕ, ◌<◌, ◌+◌, ◌*◌, ◌%◌, List, [], true, Some, None, length, replicate};
-ghost use Rattle.std.specs.Prelude.{slice_set, IfSome, IfNone, IfOk, IsOk, OnOk, is_some};
+ghost use Rattle.std.specs.Prelude.{slice_index_or, slice_set, IfSome, IfNone, IfOk, IsOk, OnOk, is_some};
 ghost use Rattle.roam_ids.specs.LaneState.{place_at, ticket_at};
 ghost use Rattle.roam_ids.specs.declared.id_state.IdState.TheVariants.{Free};
 ghost use Rattle.roam_pending.specs.PlainEntry.{PlainEntry, waits_at};
@@ -13,7 +13,7 @@ ghost use Rattle.roam_book.specs.RealmConfig.{IsLink, link_place, link_count};
 ghost use Rattle.roam_book.specs.RealmState.{next_toward};
 ghost use Rattle.roam_book.specs.Rests.{all_awake};
 ghost use Rattle.roam_book.specs.Stays.{IsStarted, KeepsButLanes, KeepsButSessions};
-ghost use Rattle.roam_book.specs.Sound.{AreOwnLanes, LanesTell, lane_of, cursors_of, has_free, marks_of, WaitsJustAt};
+ghost use Rattle.roam_book.specs.Sound.{AreOwnLanes, LanesTell, lane_of, cursors_of, has_free, marks_of, no_lane, WaitsJustAt};
 
 use crate::state::realm_settings::RealmSettings;
 use crate::state::rest::Rest;
@@ -27,7 +27,6 @@ use std::alloc::Allocator;
 /// What a realm keeps besides its entries: the numbers that it hands out (Identifiers toward its
 /// links, tickets, and random words), the ledger of the sessions that are open, and how its servers'
 /// links rest.
-#[derive(Drop)]
 pub struct RealmNumbers<A: Allocator> {
     /// Whence the memory of entries and packets comes.
     pub(crate) alloc: A,
@@ -42,6 +41,24 @@ pub struct RealmNumbers<A: Allocator> {
     pub(crate) sessions: Sessions<A>,
     /// How the servers' links rest that keep silent, in the order of their places.
     pub(crate) rests: Vec<Rest, A>,
+}
+
+// By hand, so that a proof sees one call wherever a realm's numbers end.
+impl<A: Allocator> Drop for RealmNumbers<A> {
+    fn drop(self) {
+        let Self {
+            alloc,
+            lanes,
+            ticket: _,
+            stream_position: _,
+            sessions,
+            rests,
+        } = self;
+        drop(lanes);
+        drop(sessions);
+        drop(rests);
+        drop(alloc);
+    }
 }
 
 /// The tag of a lane: its realm's index, and the place of its link.
@@ -74,13 +91,15 @@ fn new_lane<A: Allocator>(
 }
 
 /// A lane for each link, of which nothing is in use.
-fn new_lanes<A: Allocator + Copy>(
+pub(crate) fn new_lanes<A: Allocator + Copy>(
     alloc: A,
     settings: &RealmSettings<'_>,
 ) -> Result<Vec<LazyLane<A>, A>, NoMemory>
     ensures count { IfOk result (λ lanes. length lanes.items ≡ link_count settings.now) }
     ensures cursors { IfOk result (λ lanes. cursors_of lanes.items ≡ replicate (link_count settings.now) 0) }
     ensures free { IfOk result (λ lanes. LanesTell settings.now [] lanes.items) }
+    ensures places { IfOk result (λ lanes. (place id : ℕ)
+        → place_at (slice_index_or lanes.items place no_lane) id ≡ Free) }
     ensures lanes { IfOk result (λ lanes. AreOwnLanes settings.now (marks_of lanes.items)) }
 {
     let count = settings.link_count();
@@ -92,7 +111,7 @@ fn new_lanes<A: Allocator + Copy>(
 }
 
 /// All servers' links of a realm, awake.
-fn new_rests<A: Allocator + Copy>(
+pub(crate) fn new_rests<A: Allocator + Copy>(
     alloc: A,
     settings: &RealmSettings<'_>,
 ) -> Result<Vec<Rest, A>, NoMemory>

@@ -1,7 +1,6 @@
 //! What the rules of a realm read of the configuration.
 
-ghost use Rattle.std.specs.Prelude.{◌≡◌, ◌↔◌, ◌<◌, ◌≤◌, ◌+◌, IfOk, IsTrue, Some, length};
-ghost use Rattle.std.specs.Prelude.{slice_get, unwrap_or, vec_len};
+ghost use Rattle.std.specs.Prelude.{◌≡◌, ◌↔◌, ◌<◌, ◌≤◌, ◌+◌, IfOk, IsTrue, Some, length, map, slice_get, unwrap_or, vec_len};
 ghost use Rattle.std.specs.Result.{result_err};
 ghost use Rattle.roam_wire.specs.Secret.{IsSecret};
 ghost use Rattle.roam_conf.specs.Shown.{shown};
@@ -9,11 +8,11 @@ ghost use Rattle.roam_conf.specs.Parts.{shown_realm, shown_peer, shown_server};
 ghost use Rattle.roam_reverse.specs.Causes.{cause};
 ghost use Rattle.roam_reverse.specs.Target.{target};
 ghost use Rattle.roam_book.specs.RealmConfig.{realm_config, server_secret, peer_secret, link_secret, requester_secret};
-ghost use Rattle.roam_book.specs.RealmConfig.{seal_required, link_endpoint, link_place, link_count, nowhere, IsLink};
-ghost use Rattle.roam_book.specs.RealmConfig.{IsRequester};
+ghost use Rattle.roam_book.specs.RealmConfig.{seal_required, link_endpoint, link_place, link_count, nowhere, IsLink, IsRequester};
 
 use crate::state::hash_key::hash_key;
-use roam_conf::{Address, Config, Endpoint, Link, Peer, Realm, Server};
+use crate::state::nowhere::NOWHERE;
+use roam_conf::{Config, Endpoint, Link, Peer, Realm, Server};
 use roam_hash::HashKey;
 use roam_pending::Requester;
 use roam_reverse::{Sessions, route_of};
@@ -175,6 +174,14 @@ impl<'c> RealmSettings<'c> {
         self.config.peers.len()
     }
 
+    /// All peers.
+    pub(crate) fn peers(&self) -> &[Peer]
+        ensures peers { map shown_peer result.now ≡ self.now.peers }
+        ensures few { length result.now ≤ 1024 }
+    {
+        self.config.peers.as_slice()
+    }
+
     /// The home server of a place.
     fn server(&self, server: u8) -> &Server
         requires { server < length self.now.realm.servers }
@@ -240,8 +247,7 @@ impl<'c> RealmSettings<'c> {
     ) -> Result<u16, u32>
         ensures cause { result_err result ≡ cause (Some self.now.realm) self.now.peers self.now.index named
             request.now.attributes sessions.now.sessions }
-        ensures target { IfOk result (λ peer. Some peer
-            ≡ target self.now.peers request.now.attributes) }
+        ensures target { IfOk result (λ peer. Some peer ≡ target self.now.peers request.now.attributes) }
         ensures there { IfOk result (λ peer. peer < length self.now.peers) }
     {
         route_of(self.config, self.realm, named, request, sessions)
@@ -292,9 +298,3 @@ impl<'c> RealmSettings<'c> {
         }
     }
 }
-
-/// The endpoint of a peer that takes no reverse requests.
-const NOWHERE: Endpoint = Endpoint {
-    ip: Address::UNSPECIFIED,
-    port: 0,
-};

@@ -8,6 +8,10 @@ use Rattle.roam_pending.specs.DueOrder.{is_before, is_due, is_after, due_at}
 abbrev pub due_alone : ℕ → Option Due → PlainEntry → Option Due
 due_alone now last e = if is_due now e && is_after last (due_at e) then Some (due_at e) else None
 
+-- when it is due, if that is after the last one
+abbrev pub due_past : Option Due → PlainEntry → Option Due
+due_past last e = if is_after last (due_at e) then Some (due_at e) else None
+
 -- the one that comes before the other
 abbrev pub lesser : Due → Due → Due
 lesser a b = if is_before b a then b else a

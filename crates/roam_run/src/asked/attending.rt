@@ -1,22 +1,23 @@
 //! What the server's own thread does while the others serve: it answers what it is asked for.
 
-ghost use Rattle.std.specs.Prelude.{IfSome};
+ghost use Rattle.std.specs.Prelude.{IfOk, IfSome};
 ghost use Rattle.roam_conf.specs.Shown.{shown};
 ghost use Rattle.roam_reload.specs.Reload.{MayFollow};
 
+use crate::asked::losing::{objection, tell_what_goes};
 use crate::asked::overview::Overview;
-use crate::change::next::{Next, prepare_next};
-use crate::change::source::Source;
+use crate::change::configured::Configured;
+use crate::change::manner::StateFile;
+use crate::change::next::{Next, following_of, prepare_next};
+use crate::change::source::{Following, Source};
 use log::Log;
-use roam_conf::Config;
 use roam_control::{Course, Desk, Handed, Order, Reply, done, grace, plain_reply, script_of};
 use roam_counters::Process;
 use roam_hub::{HubFault, Opened, Seat};
 use roam_metrics::{StatusForm, page, status};
-use roam_notices::{DropCause, DroppedText, ReloadEnd};
-use roam_reload::{Fate, fate_of};
+use roam_notices::ReloadEnd;
 use roam_sockets::{BoundSocket, now};
-use roam_telling::{ThreadCounts, tell_dropped, tell_reload};
+use roam_telling::{ThreadCounts, tell_reload};
 use roam_trace::Step;
 use roam_workers::Shared;
 use std::alloc::{AllocError, Global};
@@ -35,6 +36,9 @@ pub struct Attendant<'s, 'c, R, G, N: Opened> {
     pub seat: Seat<Global, N>,
     /// In milliseconds since the server's start.
     pub now: u64,
+    /// Where ledgers of sessions outlast the server, if anywhere, and at which moment they are kept there next.
+    pub state: Option<&'s StateFile>,
+    pub due: u64,
 }
 
 impl<'s, 'c, R, G, N: Opened> Attendant<'s, 'c, R, G, N> {
@@ -42,15 +46,17 @@ impl<'s, 'c, R, G, N: Opened> Attendant<'s, 'c, R, G, N> {
     pub fn new(
         rt: &'s R,
         shared: &'s Shared<'s, 'c, G, N>,
-        sockets: &'s [BoundSocket],
+        configured: &'s Configured,
         seat: Seat<Global, N>,
     ) -> Attendant<'s, 'c, R, G, N> {
         Attendant {
             rt,
             shared,
-            sockets,
+            sockets: configured.sockets.as_slice(),
             seat,
             now: 0,
+            state: configured.manner.state.as_ref(),
+            due: 0,
         }
     }
 }
@@ -183,39 +189,30 @@ impl<R: Threads + Wait + Clock + Net + Log + Sync, G, N: Opened> Attendant<'_, '
         }
     }
 
-    /// Tells what of the realm of an index is dropped for this cause.
-    fn tell_dropped_of(&self, index: u16, cause: DropCause) {
-        let shared = self.shared;
-        let Some(realm) = shared.config.realms.get(usize::from(index)) else {
-            return;
-        };
-        if let Some(gauges) = shared.hub.look(self.rt, &self.seat, index) {
-            let dropped = DroppedText {
-                cause,
-                realm: realm.name.as_str(),
-                waiting: gauges.in_use as u64,
-                sessions: gauges.sessions as u64,
-            };
-            tell_dropped(self.rt, dropped);
+    /// The configuration that is to follow, which nobody objects to; or why none follows.
+    fn agreed_of<S: Source>(&self, source: &mut S, is_agreed: bool) -> Result<Following, Reply>
+        ensures { IfOk result (λ following. MayFollow N.opening.config (shown following.config)) }
+    {
+        let following = following_of(self.shared, source)?;
+        if is_agreed {
+            return Ok(following);
+        }
+        match objection(self.rt, self.shared, &self.seat, &following.config) {
+            Some(reply) => Err(reply),
+            None => Ok(following),
         }
     }
 
-    /// Tells what the realms drop that begin anew, or aren't there, under the configuration that follows.
-    fn tell_dropped_by(&self, next: &Config) {
-        let config = self.shared.config;
-        for index in 0..config.realms.len() {
-            match fate_of(config, next, index as u16) {
-                Fate::CarriedOver | Fate::Added => {}
-                _ => self.tell_dropped_of(index as u16, DropCause::Reload),
-            }
+    /// The same, with all that the server needs for it.
+    fn next_of<S: Source>(&self, source: &mut S, is_agreed: bool) -> Result<Next, Reply>
+        ensures { IfOk result (λ next. MayFollow N.opening.config (shown next.configured.config)) }
+    {
+        let following = self.agreed_of(source, is_agreed)?;
+        let next = prepare_next(self.rt, self.shared, self.sockets, source, following)?;
+        if is_agreed {
+            tell_what_goes(self.rt, self.shared, &self.seat, &next.configured.config);
         }
-    }
-
-    /// Tells what all realms drop, since the server ends.
-    fn tell_dropped_at_end(&self) {
-        for index in 0..self.shared.config.realms.len() {
-            self.tell_dropped_of(index as u16, DropCause::End);
-        }
+        Ok(next)
     }
 
     /// Answers an order, unless a configuration comes by it that is to follow.
@@ -229,10 +226,9 @@ impl<R: Threads + Wait + Clock + Net + Log + Sync, G, N: Opened> Attendant<'_, '
             Order::Status(form) => self.status(form),
             Order::Stop => Ok(self.stop()),
             Order::Trace(shard) => self.trace(shard),
-            Order::Reload => {
-                match prepare_next(self.rt, self.shared, self.sockets, source) {
+            Order::Reload(is_agreed) => {
+                match self.next_of(source, is_agreed) {
                     Ok(next) => {
-                        self.tell_dropped_by(&next.configured.config);
                         self.let_go_all();
                         return Some(next);
                     }
@@ -274,7 +270,8 @@ impl<R: Threads + Wait + Clock + Net + Log + Sync, G, N: Opened> Attendant<'_, '
         self.attend_at(&office.control, source)
     }
 
-    /// Answers who asks, until the threads end or a configuration comes that is to follow.
+    /// Answers who asks, and keeps the ledgers of sessions, until the threads end or a configuration comes that is to
+    /// follow.
     pub fn attend<S: Source>(&mut self, source: &mut S) -> Option<Next>
         ensures { IfSome result (λ next.
             MayFollow N.opening.config (shown next.configured.config)) }
@@ -288,7 +285,8 @@ impl<R: Threads + Wait + Clock + Net + Log + Sync, G, N: Opened> Attendant<'_, '
             if let Some(next) = self.attend_both(source) {
                 return Some(next);
             }
-            self.shared.office.attendant.park(rt);
+            self.keep_if_due(source);
+            self.rest();
         }
         unreachable!()
     }

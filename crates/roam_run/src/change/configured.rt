@@ -1,22 +1,34 @@
 //! A configuration that is served, with what belongs to it alone.
 
-use roam_conf::{Config, ExchangeLines};
+use crate::change::manner::Manner;
+use roam_conf::Config;
 use roam_control::Reply;
 use roam_sockets::BoundSocket;
-use roam_stations::StationForm;
 use roam_telling::Counters;
 
 /// A configuration that is served, with its sockets and its counts.
-#[derive(Drop)]
 pub struct Configured {
     pub config: Config,
     pub sockets: Vec<BoundSocket>,
-    /// Of which exchanges that end a line tells.
-    pub told_exchanges: ExchangeLines,
-    /// How these lines have a station.
-    pub stations: StationForm,
+    pub manner: Manner,
     /// What is counted; none where nothing is, or where the counts are those of whoever watches the server.
     pub counters: Option<Counters>,
+}
+
+// By hand, so that a proof sees one call wherever it ends, and not each of its parts.
+impl Drop for Configured {
+    fn drop(self) {
+        let Self {
+            config,
+            sockets,
+            manner,
+            counters,
+        } = self;
+        drop(config);
+        drop(sockets);
+        drop(manner);
+        drop(counters);
+    }
 }
 
 impl Configured {
@@ -30,7 +42,6 @@ impl Configured {
 }
 
 /// What is left of a change for when the threads run again: it holds nobody up then.
-#[derive(Drop)]
 pub struct Handover {
     /// What is answered to who asked for the configuration.
     pub reply: Option<Reply>,
@@ -38,4 +49,29 @@ pub struct Handover {
     pub before: Option<Configured>,
     /// Whether who asked for it still waits for the answer.
     pub is_awaited: bool,
+}
+
+// By hand, so that a proof sees one call wherever it ends, and not each of its parts.
+impl Drop for Handover {
+    fn drop(self) {
+        let Self {
+            reply,
+            before,
+            is_awaited: _,
+        } = self;
+        drop(reply);
+        drop(before);
+    }
+}
+
+impl Handover {
+    /// The answer, the configuration of before, and whether who asked still waits.
+    pub(crate) fn into_parts(self) -> (Option<Reply>, Option<Configured>, bool) {
+        let Self {
+            reply,
+            before,
+            is_awaited,
+        } = self;
+        (reply, before, is_awaited)
+    }
 }

@@ -41,7 +41,7 @@ impl FreshMeans {
             alloc,
             config,
             sockets,
-            configured.told_exchanges,
+            configured.manner.told_exchanges,
             wanted,
         )?;
         Ok(FreshMeans {

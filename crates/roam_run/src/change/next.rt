@@ -7,19 +7,20 @@ ghost use Rattle.roam_history.specs.Books.{count_of};
 
 use crate::change::configured::Configured;
 use crate::change::fresh::FreshMeans;
+use crate::change::manner::Manner;
 use crate::change::source::{Following, Source};
 use log::Log;
-use roam_conf::{Config, ExchangeLines};
+use roam_conf::Config;
 use roam_control::{Course, Reply, plain_reply};
 use roam_hub::{Blanks, Opened};
 use roam_sockets::{
-    BoundSocket, RECEIVE_BUFFER, ServeFault, bind_following, descriptors_wanted, widen,
+    BoundSocket, RECEIVE_BUFFER, ServeFault, bind_following, descriptors_wanted, open_beside, widen,
 };
-use roam_stations::StationForm;
 use roam_telling::{Counters, Notice};
 use roam_threads::{Kits, can_start};
 use roam_workers::{Rests, Shared, tell_or_drop};
 use std::alloc::Global;
+use std::io::Write;
 use std::net::Net;
 use std::sync::Wait;
 use std::thread::Threads;
@@ -115,8 +116,7 @@ fn bind_next<R: Net + Log, G, N: Opened>(
     shared: &Shared<'_, '_, G, N>,
     sockets: &[BoundSocket],
     config: Config,
-    told_exchanges: ExchangeLines,
-    stations: StationForm,
+    manner: Manner,
 ) -> Result<Configured, ServeFault>
     ensures { IfOk result (λ configured. configured.config ≡ config) }
 {
@@ -130,10 +130,21 @@ fn bind_next<R: Net + Log, G, N: Opened>(
     Ok(Configured {
         config,
         sockets,
-        told_exchanges,
-        stations,
+        manner,
         counters,
     })
+}
+
+/// What is said of a fault for which a configuration doesn't follow: of a socket that can't be bound also beside which
+/// one that is open.
+fn words_of<S: Source>(source: &mut S, sockets: &[BoundSocket], fault: ServeFault) -> Vec<u8> {
+    let mut words = source.words_of(fault);
+    if let ServeFault::Bind(endpoint, _) = fault {
+        if let Some(beside) = open_beside(sockets, endpoint) {
+            let _is_said = writeln!(words, "{beside} is served").is_ok();
+        }
+    }
+    words
 }
 
 /// All that the server needs for a configuration that follows the one that is served.
@@ -147,12 +158,11 @@ fn make_next<R: Threads + Wait + Net + Log + Sync, G, N: Opened>(
 {
     let Following {
         config,
-        told_exchanges,
-        stations,
+        manner,
         report,
     } = following;
     let alloc = shared.alloc;
-    let configured = bind_next(rt, shared, sockets, config, told_exchanges, stations)?;
+    let configured = bind_next(rt, shared, sockets, config, manner)?;
     let wanted = descriptors_wanted(shared.config, &configured.config);
     let spare = room_for_threads(rt, alloc, &configured)?;
     let FreshMeans {
@@ -170,29 +180,42 @@ fn make_next<R: Threads + Wait + Net + Log + Sync, G, N: Opened>(
     })
 }
 
-/// Has a configuration come that is to follow the one that is served, and makes all that the server needs for it.
-/// Nothing changes yet.
+/// Has a configuration come that is to follow the one that is served.
 ///
 /// # Errors
 ///
 /// What is answered where none follows.
+pub fn following_of<G, N: Opened, S: Source>(
+    shared: &Shared<'_, '_, G, N>,
+    source: &mut S,
+) -> Result<Following, Reply>
+    ensures { IfOk result (λ following. MayFollow N.opening.config (shown following.config)) }
+{
+    if shared.stopping.is_asked() {
+        return Err(is_stopping(shared.alloc));
+    }
+    match source.following(shared.config) {
+        Ok(following) => Ok(following),
+        Err(body) => Err(declined(body)),
+    }
+}
+
+/// Makes all that the server needs for a configuration that follows the one that is served. Nothing changes yet.
+///
+/// # Errors
+///
+/// What is answered where it can't be had.
 pub fn prepare_next<R: Threads + Wait + Net + Log + Sync, G, N: Opened, S: Source>(
     rt: &R,
     shared: &Shared<'_, '_, G, N>,
     sockets: &[BoundSocket],
     source: &mut S,
+    following: Following,
 ) -> Result<Next, Reply>
-    ensures { IfOk result (λ next. MayFollow N.opening.config (shown next.configured.config)) }
+    ensures { IfOk result (λ next. next.configured.config ≡ following.config) }
 {
-    if shared.stopping.is_asked() {
-        return Err(is_stopping(shared.alloc));
-    }
-    let following = match source.following(shared.config) {
-        Ok(following) => following,
-        Err(body) => return Err(declined(body)),
-    };
     match make_next(rt, shared, sockets, following) {
         Ok(next) => Ok(next),
-        Err(fault) => Err(declined(source.words_of(fault))),
+        Err(fault) => Err(declined(words_of(source, sockets, fault))),
     }
 }

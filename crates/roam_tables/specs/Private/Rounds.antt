@@ -3,6 +3,7 @@ use Rattle.std.specs.Prelude.{◌≡◌, ◌≢◌, ◌⊎◌, ◌<◌, ℕ, len
 use Rattle.std.specs.Ordering.{nat_cmp}
 use Rattle.indexmap.specs.IndexMap as map
 use Rattle.indexmap.specs.IndexMap.{IndexMap}
+use Rattle.roam_conf.specs.declared.place.Link.{Link}
 use Rattle.roam_hash.specs.Keyed.{hash_of}
 use Rattle.roam_hash.specs.declared.hash_key.HashKey.{HashKey}
 use Rattle.roam_pending.specs.Conversations.{Round, round_of}
@@ -76,6 +77,11 @@ round_hash key round = hash_of key round.peer round.state
 
 abbrev pub kept_hash : HashKey → PlainEntry → Option ℕ
 kept_hash key e = option_map (round_hash key) (round_of e)
+
+-- the hash that an entry has no more once its link is another one, or none: what it keeps, if no link is given
+abbrev pub lost_hash : HashKey → Option Link → PlainEntry → Option ℕ
+lost_hash key None e = kept_hash key e
+lost_hash key (Some link) e = None
 
 -- the runs are those of these entries, of each realm and ticket
 pub record RoundsTell (hash : PlainEntry → Option ℕ) (E : ℕ → ℕ → Option PlainEntry)

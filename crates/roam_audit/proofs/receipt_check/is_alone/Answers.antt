@@ -16,9 +16,10 @@ isnt false is = refl
 pub returns : goal.returns
 returns g c =
     let test : Receipt g.row.A.Denot g.row.N.Denot g.N.Opened → Bool =
-      λ earlier. not (are_of_one_call (shown_receipt earlier) (shown_receipt c.args.receipt.now)) in
+    λ earlier. not (are_of_one_call (shown_receipt earlier) (shown_receipt c.args.receipt.now)) in
     let all : c.all.result ≡ list_all test c.args.before.now =
-      all_from_yields_List test _ _ c.all.result c.all.ensures.ran (YieldsList-from_slice c.args.before.now cc)
-      (λ x b q k. search (rules, tests)) in (
+    all_from_yields_List test _ _ c.all.result c.all.ensures.ran (YieldsList-from_slice c.args.before.now cc)
+    (λ x b q k. search (rules, tests)) in (
       λ yes k d lt. isnt _ (AllPass-from_list_all test c.args.before.now (sym all ∙ yes) k d lt),
-      λ apart. all ∙ list_all-from_AllPass test c.args.before.now (λ k d lt. ap not (apart k d lt)))
+      λ apart. all ∙ list_all-from_AllPass test c.args.before.now (λ k d lt. ap not (apart k d lt)),
+    )

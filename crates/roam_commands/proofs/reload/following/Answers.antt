@@ -9,7 +9,7 @@ none-holds : {X : Type 0} (P : Type 0) (o : Option X) → is_some o ≡ false �
 none-holds P None nothing holds = holds
 none-holds P (Some x) nothing holds = absurd (let k : true ≡ false = nothing in cc)
 
-pub returns : goal.returns
-returns g c =
+pub returns-in-Ok : goal.returns-in-Ok
+returns-in-Ok g c =
     none-holds (MayFollow (shown c.args.old.now) (shown c.in_ok-config.config)) c.hindrance_of-hindrance.result
     (sym c.is_some.ensures ∙ c.if-is_some.false) c.hindrance_of-hindrance.ensures.none

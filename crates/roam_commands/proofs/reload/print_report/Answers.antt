@@ -5,6 +5,6 @@ use Rattle.roam_commands.proofs.reload.print_report.Goals as goal
 pub returns : goal.returns
 returns g c =
     let contents = g.W.Write.contents in
-    printed_then (contents c.args.writer.now) (contents c.print_fates.new.writer) (contents c.print_kept.new.writer)
+    printed_then (contents c.args.writer.now) (contents c.print_changes.new.writer) (contents c.print_kept.new.writer)
     c.print_kept.result
-    c.in_ok-print_fates.ensures c.print_kept.ensures
+    c.in_ok-print_changes.ensures c.print_kept.ensures

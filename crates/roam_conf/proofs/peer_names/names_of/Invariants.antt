@@ -1,4 +1,4 @@
-use Rattle.std.proofs.Common.{◌≡◌, ℕ, List, map, drop}
+use Rattle.std.proofs.Common.{◌≡◌, ◌&&◌, not, ℕ, List, map, drop}
 use Rattle.std.specs.List.{position_from}
 use Rattle.std.specs.Option.{option_or}
 use Rattle.std.specs.Str.{bytes_eq}
@@ -12,6 +12,6 @@ use Rattle.roam_conf.proofs.peer_names.names_of.Given as goal
 abbrev pub invariant-loop-place : goal.invariant-loop-place
 invariant-loop-place l =
     (name : List ℕ) → option_or (owner_of (owners l.index) name)
-    (position_from (λ (peer : PeerView). bytes_eq peer.name name) l.place
+    (position_from (λ (peer : PeerView). not peer.gone && bytes_eq peer.name name) l.place
     (map shown_peer (drop l.place l.peers)))
-    ≡ first_place (λ (peer : PeerView). bytes_eq peer.name name) (map shown_peer l.fn.peers)
+    ≡ first_place (λ (peer : PeerView). not peer.gone && bytes_eq peer.name name) (map shown_peer l.fn.peers)

@@ -86,7 +86,7 @@ invariant_of-result c =
       rest_range = (number_or_at 30000 0 3600000 (codes "rest") members _ (omega arith) (omega arith) stated.rest).1;
       rest_after_range = number_or_at 3 1 256 (codes "rest_after") members _ (omega arith) (omega arith)
           stated.rest_after;
-      server_count = (omega (arith, count, servers.ok), omega (arith, count, servers.ok));
+      server_count = (λ here. omega (arith, count, servers.ok), omega (arith, count, servers.ok));
     }
 
 -- The table states the realm: its own values, and those of its lists.

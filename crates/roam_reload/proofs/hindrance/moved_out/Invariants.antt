@@ -4,11 +4,12 @@ use Rattle.roam_conf.specs.Config.{RealmView}
 use Rattle.roam_conf.specs.Parts.{shown_realm}
 use Rattle.roam_conf.specs.Shown.{shown}
 use Rattle.roam_reload.specs.Moves.{is_moved}
+use Rattle.roam_reload.specs.Reload.{here}
 use Rattle.roam_reload.specs.declared.kind.PlaceKind.TheVariants as kind
 use Rattle.roam_reload.proofs.hindrance.moved_out.Given as goal
 
 abbrev pub invariant-loop-realm : goal.invariant-loop-realm
 invariant-loop-realm l =
     find (is_moved (shown l.new) kind.Out)
-    (map (λ (x : RealmView). x.out) (map shown_realm (drop l.realm-index l.realms)))
-    ≡ find (is_moved (shown l.fn.new) kind.Out) (map (λ (x : RealmView). x.out) (map shown_realm l.fn.realms))
+    (map (λ (x : RealmView). x.out) (here (map shown_realm (drop l.realm-index l.realms))))
+    ≡ find (is_moved (shown l.fn.new) kind.Out) (map (λ (x : RealmView). x.out) (here (map shown_realm l.fn.realms)))

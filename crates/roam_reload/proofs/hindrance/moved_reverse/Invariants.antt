@@ -4,12 +4,13 @@ use Rattle.roam_conf.specs.Config.{RealmView}
 use Rattle.roam_conf.specs.Parts.{shown_realm}
 use Rattle.roam_conf.specs.Shown.{shown}
 use Rattle.roam_reload.specs.Moves.{is_moved}
+use Rattle.roam_reload.specs.Reload.{here}
 use Rattle.roam_reload.specs.declared.kind.PlaceKind.TheVariants as kind
 use Rattle.roam_reload.proofs.hindrance.moved_reverse.Given as goal
 
 abbrev pub invariant-loop-realm : goal.invariant-loop-realm
 invariant-loop-realm l =
     find (is_moved (shown l.new) kind.Reverse)
-    (filter_map (λ (x : RealmView). x.reverse) (map shown_realm (drop l.realm-index l.realms)))
+    (filter_map (λ (x : RealmView). x.reverse) (here (map shown_realm (drop l.realm-index l.realms))))
     ≡ find (is_moved (shown l.fn.new) kind.Reverse)
-    (filter_map (λ (x : RealmView). x.reverse) (map shown_realm l.fn.realms))
+    (filter_map (λ (x : RealmView). x.reverse) (here (map shown_realm l.fn.realms)))

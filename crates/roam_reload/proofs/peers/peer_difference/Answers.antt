@@ -39,8 +39,8 @@ pub returns-then-ne-10-clause-some : goal.returns-then-ne-10-clause-some
 returns-then-ne-10-clause-some c =
     let old = c.args.old.now.request_without.items in
     let new = c.args.new.now.request_without.items in
-    differs old new (pointwise removed_eq old new) c.ne-else-old-new.result
-    (whole_list_decides removed_eq removed_decides old new) c.ne-else-old-new.ensures c.if-ne-10.true
+    differs old new (pointwise removed_eq old new) c.ne-else-old-new-2.result
+    (whole_list_decides removed_eq removed_decides old new) c.ne-else-old-new-2.ensures c.if-ne-10.true
 
 -- other attributes are taken out of replies
 pub returns-then-ne-11-clause-some : goal.returns-then-ne-11-clause-some
@@ -51,26 +51,28 @@ returns-then-ne-11-clause-some c =
     (whole_list_decides removed_eq removed_decides old new) c.ne-else-ne-10.ensures c.if-ne-11.true
 
 -- peers with equal keys have equal parts
-same_part : (a b : PeerView) → b.name ≡ a.name → b.ip ≡ a.ip → b.secret ≡ a.secret → b.coa ≡ a.coa →
+same_part : (a b : PeerView) → b.gone ≡ a.gone → b.name ≡ a.name → b.ip ≡ a.ip → b.secret ≡ a.secret → b.coa ≡ a.coa →
     b.nas_ip ≡ a.nas_ip → b.nas_ipv6 ≡ a.nas_ipv6 → b.nas_id ≡ a.nas_id → b.nas_ids ≡ a.nas_ids →
     b.operator_name ≡ a.operator_name → b.ask_cui ≡ a.ask_cui → b.request_without ≡ a.request_without →
     b.reply_without ≡ a.reply_without → peer_part b ≡ peer_part a
-same_part a b name ip secret coa nas_ip nas_ipv6 nas_id nas_ids operator_name ask_cui requests replies = λ i. record {
-  name = name i;
-  ip = ip i;
-  secret = secret i;
-  coa = coa i;
-  nas_ip = nas_ip i;
-  nas_ipv6 = nas_ipv6 i;
-  nas_id = nas_id i;
-  nas_ids = nas_ids i;
-  require_seal = false;
-  limit_proxy_state = false;
-  operator_name = operator_name i;
-  ask_cui = ask_cui i;
-  request_without = requests i;
-  reply_without = replies i;
-}
+same_part a b gone name ip secret coa nas_ip nas_ipv6 nas_id nas_ids operator_name ask_cui requests replies =
+    λ i. record {
+      gone = gone i;
+      name = name i;
+      ip = ip i;
+      secret = secret i;
+      coa = coa i;
+      nas_ip = nas_ip i;
+      nas_ipv6 = nas_ipv6 i;
+      nas_id = nas_id i;
+      nas_ids = nas_ids i;
+      require_seal = false;
+      limit_proxy_state = false;
+      operator_name = operator_name i;
+      ask_cui = ask_cui i;
+      request_without = requests i;
+      reply_without = replies i;
+    }
 
 -- no key differs
 pub returns-else-ne-11-clause-none : goal.returns-else-ne-11-clause-none
@@ -84,14 +86,15 @@ returns-else-ne-11-clause-none c =
     c.ne-else-ne-7.ensures c.if-ne-8.false in
     let requests : new.request_without.items ≡ old.request_without.items =
     agrees old.request_without.items new.request_without.items
-    (pointwise removed_eq old.request_without.items new.request_without.items) c.ne-else-old-new.result
+    (pointwise removed_eq old.request_without.items new.request_without.items) c.ne-else-old-new-2.result
     (whole_list_decides removed_eq removed_decides old.request_without.items new.request_without.items)
-    c.ne-else-old-new.ensures c.if-ne-10.false in
+    c.ne-else-old-new-2.ensures c.if-ne-10.false in
     let replies : new.reply_without.items ≡ old.reply_without.items =
     agrees old.reply_without.items new.reply_without.items
     (pointwise removed_eq old.reply_without.items new.reply_without.items) c.ne-else-ne-10.result
     (whole_list_decides removed_eq removed_decides old.reply_without.items new.reply_without.items)
     c.ne-else-ne-10.ensures c.if-ne-11.false in
+    let gone : new.gone ≡ old.gone = search rules in
     let name : string_bytes new.name ≡ string_bytes old.name = search rules in
     let ip : shown_prefix new.ip ≡ shown_prefix old.ip =
     agrees (shown_prefix old.ip) (shown_prefix new.ip) (prefix_eq old.ip new.ip) c.ne-else-ne.result
@@ -106,5 +109,5 @@ returns-else-ne-11-clause-none c =
     let operator_name : option_map string_bytes new.operator_name ≡ option_map string_bytes old.operator_name =
     search rules in
     let ask_cui : new.ask_cui ≡ old.ask_cui = search rules in
-    same_part (shown_peer old) (shown_peer new) name ip secret coa nas_ip nas_ipv6 nas_id identifiers operator_name
+    same_part (shown_peer old) (shown_peer new) gone name ip secret coa nas_ip nas_ipv6 nas_id identifiers operator_name
     ask_cui requests replies

@@ -1,4 +1,4 @@
-use Rattle.std.proofs.Common.{◌≡◌, Bool, true, false, not, [], Option, Some, None, IfNone, List, map, refl, sym, ap, ◌∙◌}
+use Rattle.std.proofs.Common.{rules, ◌≡◌, Bool, true, false, not, [], Option, Some, None, IfNone, List, map, refl, sym, ap, ◌∙◌}
 use Rattle.std.proofs.lemmas.Bool.{true≢false}
 use Rattle.std.specs.Cmp.Lexicographic.{pointwise}
 use Rattle.roam_conf.specs.Config.{RealmView}
@@ -30,9 +30,10 @@ sames a b test is no' = sym ((list_decides server_eq shown_server server_decides
     passed false e = absurd (true≢false e)
 
 -- the same tables in this part
-same_part : (a b : RealmView) → b.out ≡ a.out → b.reverse ≡ a.reverse → b.servers ≡ a.servers →
+same_part : (a b : RealmView) → b.gone ≡ a.gone → b.out ≡ a.out → b.reverse ≡ a.reverse → b.servers ≡ a.servers →
     HaveSamePolicy a b × (HaveSameParts a b × HaveSameLimits a b) → realm_part b ≡ realm_part a
-same_part a b out reverse servers same = λ i. record {
+same_part a b gone out reverse servers same = λ i. record {
+  gone = gone i;
   name = [];
   also = [];
   peers = same.0.peers i;
@@ -70,11 +71,12 @@ pub returns-else-ne-clause-none : goal.returns-else-ne-clause-none
 returns-else-ne-clause-none c =
     let old = c.args.old.now in
     let new = c.args.new.now in
+    let gone : new.gone ≡ old.gone = search rules in
     let out : new.out ≡ old.out =
     sym ((endpoint_decides old.out new.out).0 (sym c.is_same_endpoint.ensures ∙ c.if-not-is_same_endpoint.false)) in
     let reverse : new.reverse ≡ old.reverse =
     c.is_same_reverse.ensures.same c.if-not-is_same_reverse.false in
     if_none c.other_difference.result
-    (same_part (shown_realm old) (shown_realm new) out reverse
+    (same_part (shown_realm old) (shown_realm new) gone out reverse
     (sames old.servers.items new.servers.items c.ne.result c.ne.ensures c.if-ne.false))
     c.other_difference.ensures.none

@@ -1,32 +1,88 @@
--- The numbers of one realm go over after those of another.
-use Rattle.std.proofs.Common.{ℕ, ◌<◌, ◌∙◌, sym, subst, arith}
+-- One realm goes over after the other.
+use Rattle.std.proofs.Common.{◌≡◌, ◌∙◌, ℕ, suc, ◌+◌, ◌<◌, length, List, refl, sym, subst, ap, arith}
+use Rattle.std.specs.Prelude.{slice_get}
+use Rattle.std.specs.Vec.Iter.{into_iter_items}
 use Rattle.roam_conf.specs.Shown.{shown}
-use Rattle.roam_shard.proofs.FollowLemmas.{none_moved, one_moved}
+use Rattle.roam_tables.specs.Stands.{entries_in}
+use Rattle.roam_shard.proofs.OverLemmas.{all_over, can_still, next_made, none_over, one_over}
 use Rattle.roam_shard.proofs.following.all_over.Goals as goal
 
 pub loop-realm-init : goal.loop-realm-init
-loop-realm-init g c = none_moved (shown c.args.change.from.now) (shown c.args.change.to.now) c.args.change.shard
-    c.args.before.now.items c.args.after.items
+loop-realm-init g c =
+    let iter = c.into_iter-realm-iterator.ensures.into_iter_gives in
+    let realms = c.args.fresh.realms in
+    record {
+      over = rw c.requires.none_yet (none_over (shown c.args.change.from.now) (shown c.args.change.to.now)
+          c.args.change.shard c.args.before.now.items (entries_in c.args.entries.now) realms.items);
+      realms = refl;
+      behind = λ k. (let e : k ≡ 0 + k = omega arith in ap (λ (l : List _). slice_get l k) iter.0
+          ∙ ap (slice_get realms.items) e);
+      left = iter.1 ∙ realms.ok.0 ∙ ap length (sym iter.0);
+      count = (let n = ap length iter.0 in omega (arith, n));
+      len = c.args.fresh.numbers.ok.0 ∙ ap length c.requires.none_yet;
+      room = c.requires.room;
+    }
+
+pub go_over-after-requires-clause-configured : goal.go_over-after-requires-clause-configured
+go_over-after-requires-clause-configured g c =
+    let inv = c.loop-realm.invariant in
+    let short = ap length c.in-Some.ensures.steps.0 in
+    omega (arith, short, inv.count, c.requires.count)
+
+pub go_over-after-requires-clause-within : goal.go_over-after-requires-clause-within
+go_over-after-requires-clause-within g c =
+    λ goes. subst (λ (n : ℕ). c.loop-realm.index < n) (sym c.loop-realm.invariant.over.left)
+    (c.requires.within c.loop-realm.index goes)
+
+pub go_over-after-requires-clause-can : goal.go_over-after-requires-clause-can
+go_over-after-requires-clause-can g c = λ goes.
+    let made = next_made c.args.fresh.realms.items (into_iter_items c.loop-realm.realm-iterator) c.loop-realm.index
+    c.in-Some.realm c.loop-realm.invariant.behind (ap (λ (l : List _). slice_get l 0) c.in-Some.ensures.steps.0) in
+    can_still (shown c.args.change.from.now) (shown c.args.change.to.now) c.args.change.shard c.args.before.now.items
+    c.loop-realm.before.items (entries_in c.args.entries.now) (entries_in c.loop-realm.entries)
+    c.args.fresh.realms.items c.loop-realm.numbers.items c.loop-realm.index c.in-Some.realm
+    c.loop-realm.invariant.over c.requires.can made goes
+
+pub push_reserved-requires : goal.push_reserved-requires
+push_reserved-requires g c =
+    let inv = c.loop-realm.invariant in
+    let short = ap length c.in-Some.ensures.steps.0 in
+    omega (arith, short, inv.count, c.requires.count, inv.len, inv.room)
 
 pub loop-realm-preserved : goal.loop-realm-preserved
 loop-realm-preserved g c =
-    one_moved (shown c.args.change.from.now) (shown c.args.change.to.now) c.args.change.shard c.args.before.now.items
-    c.args.after.items
-    c.loop-realm.before.items c.loop-realm.after.items c.go_over.new.before.items c.go_over.new.after.items
-    c.loop-realm.realm
-    c.loop-realm.invariant c.go_over.ensures.moved c.go_over.ensures.others c.go_over.ensures.before
-    c.go_over.ensures.count c.go_over.ensures.before_count
+    let inv = c.loop-realm.invariant in
+    let k = c.loop-realm.index in
+    let steps = c.in-Some.ensures.steps in
+    let short = ap length steps.0 in
+    let one = c.go_over-after.ensures in
+    let made = next_made c.args.fresh.realms.items (into_iter_items c.loop-realm.realm-iterator) k c.in-Some.realm
+    inv.behind (ap (λ (l : List _). slice_get l 0) steps.0) in
+    record {
+      over = rw c.push_reserved.ensures.items
+          (one_over (shown c.args.change.from.now) (shown c.args.change.to.now) c.args.change.shard
+          c.args.before.now.items c.loop-realm.before.items c.go_over-after.new.before.items
+          (entries_in c.args.entries.now)
+          (entries_in c.loop-realm.entries) (entries_in c.go_over-after.new.entries) c.args.fresh.realms.items
+          c.loop-realm.numbers.items k c.in-Some.realm c.go_over-after.result inv.over made one.over one.others
+          one.before one.before_count);
+      realms = one.realms ∙ inv.realms;
+      behind = λ j. (
+          let e : k + suc j ≡ k + 1 + j = omega arith in
+          ap (λ (l : List _). slice_get l (suc j)) (sym steps.0) ∙ inv.behind (suc j)
+          ∙ ap (slice_get c.args.fresh.realms.items) e);
+      left = omega (arith, short, steps.1, inv.left);
+      count = omega (arith, short, inv.count);
+      len = (let len = c.push_reserved.ensures.len in omega (arith, len, inv.len));
+      room = (let same = c.push_reserved.ensures.capacity in omega (arith, same, inv.room));
+    }
 
-pub go_over-requires-clause-within : goal.go_over-requires-clause-within
-go_over-requires-clause-within g c =
-    λ goes. subst (λ (n : ℕ). c.loop-realm.realm < n) (sym c.loop-realm.invariant.left)
-    (c.requires.within c.loop-realm.realm goes)
-
-pub go_over-requires-clause-can : goal.go_over-requires-clause-can
-go_over-requires-clause-can g c = λ goes n at.
-    c.requires.can c.loop-realm.realm (omega (arith, c.loop-realm-test.true, c.len-realm-end.ensures)) goes n
-    (sym (c.loop-realm.invariant.rest_before c.loop-realm.realm (omega arith)) ∙ at)
-
-pub returns-clause-moved : goal.returns-clause-moved
-returns-clause-moved g c = λ r lt. c.loop-realm.invariant.done r
-    (omega (arith, lt, c.loop-realm-test.false, c.loop-realm.auto.realm-end, c.len-realm-end.ensures))
+pub returns-clause-over : goal.returns-clause-over
+returns-clause-over g c =
+    let inv = c.loop-realm.invariant in
+    let none : length (into_iter_items c.loop-realm.realm-iterator) ≡ 0 = sym inv.left
+    ∙ c.in-None.ensures.steps.0 in
+    all_over (shown c.args.change.from.now) (shown c.args.change.to.now) c.args.change.shard c.args.before.now.items
+    c.loop-realm.before.items (entries_in c.args.entries.now) (entries_in c.loop-realm.entries)
+    c.args.fresh.realms.items c.loop-realm.numbers.items c.loop-realm.index inv.over
+    (omega (arith, none, inv.count))

@@ -1,46 +1,62 @@
--- The numbers of a realm that goes on stand in their place.
-use Rattle.std.proofs.Common.{Some, sym, subst, ◌∙◌, refl}
+-- The numbers of a realm that goes on go over with its entries.
+use Rattle.std.proofs.Common.{◌≡◌, ◌∙◌, Some, None, inl, inr, sym, refl, ap}
+use Rattle.std.specs.Prelude.{Option, slice_get, unwrap_or}
 use Rattle.roam_conf.specs.Shown.{shown}
-use Rattle.roam_tables.proofs.RealmLemmas.{get-set_other}
-use Rattle.roam_book.specs.RealmConfig.{RealmConfig}
-use Rattle.roam_shard.specs.Pausing.{CanGoOver}
-use Rattle.roam_shard.proofs.FollowLemmas.{moved_away, moved_over, read_there}
+use Rattle.roam_tables.specs.Stands.{entries_in}
+use Rattle.roam_tables.proofs.RealmLemmas.{get-read, get-set_other}
+use Rattle.roam_book.specs.declared.state.realm_numbers.RealmNumbers.{RealmNumbers}
+use Rattle.roam_shard.proofs.OverLemmas.{over_from, ready_from, sound_from}
 use Rattle.roam_shard.proofs.following.go_over.Goals as goal
 
-pub carried-requires : goal.carried-requires
-carried-requires g c =
-    let goes = c.if-not-goes_on.ensures.0 refl in
-    let n = c.in-Some.numbers in
-    let at = read_there (shown c.args.change.from.now) (shown c.args.change.to.now) c.args.change.shard c.args.realm
-    c.args.before.now.items
-    c.index_mut.result.now n (c.requires.within goes) c.index_mut.ensures.value (sym c.take.ensures.value
-    ∙ c.in-Some.is) in
-    subst (λ (x : RealmConfig). CanGoOver x n) (sym c.new-settings.ensures) (c.requires.can goes n at)
+pub carried-requires-clause-carried : goal.carried-requires-clause-carried
+carried-requires-clause-carried g c = c.if-not-goes_on.ensures.0 refl
 
-pub returns-in-Some-clause-moved : goal.returns-in-Some-clause-moved
-returns-in-Some-clause-moved g c =
+pub carried-requires-clause-sound : goal.carried-requires-clause-sound
+carried-requires-clause-sound g c =
     let goes = c.if-not-goes_on.ensures.0 refl in
-    let n = c.in-Some.numbers in
-    let old = shown c.args.change.from.now in
-    let new = shown c.args.change.to.now in
-    let before = c.args.before.now.items in
-    let at = read_there old new c.args.change.shard c.args.realm before c.index_mut.result.now n
-    (c.requires.within goes) c.index_mut.ensures.value (sym c.take.ensures.value ∙ c.in-Some.is) in
-    moved_over old new c.args.change.shard c.args.realm before c.args.after.now.items c.new-settings.result n
-    c.carried.result goes at
-    c.requires.there c.new-settings.ensures c.carried.ensures
+    let at = get-read c.args.before.now.items c.args.realm c.index_mut.result.now (c.requires.within goes)
+    c.index_mut.ensures.value ∙ ap Some (sym c.take.ensures.value ∙ c.in-Some.is) in
+    sound_from (shown c.args.change.from.now) (shown c.args.change.to.now) c.args.realm
+    (slice_get c.args.before.now.items c.args.realm) (entries_in c.args.entries.now c.args.realm)
+    c.args.fresh.lanes (c.requires.can goes) c.in-Some.numbers at
 
-pub returns-in-Some-clause-others : goal.returns-in-Some-clause-others
-returns-in-Some-clause-others g c =
-    λ r ne. get-set_other c.args.after.now.items c.args.realm r (Some c.carried.result) ne
+pub carried-requires-clause-ready : goal.carried-requires-clause-ready
+carried-requires-clause-ready g c =
+    let goes = c.if-not-goes_on.ensures.0 refl in
+    let at = get-read c.args.before.now.items c.args.realm c.index_mut.result.now (c.requires.within goes)
+    c.index_mut.ensures.value ∙ ap Some (sym c.take.ensures.value ∙ c.in-Some.is) in
+    ready_from (shown c.args.change.from.now) (shown c.args.change.to.now) c.args.realm
+    (slice_get c.args.before.now.items c.args.realm) (entries_in c.args.entries.now c.args.realm)
+    c.args.fresh.lanes (c.requires.can goes) c.in-Some.numbers at
+
+pub returns-then-not-goes_on-clause-over : goal.returns-then-not-goes_on-clause-over
+returns-then-not-goes_on-clause-over g c =
+    inr (λ goes. absurd (cc (c.if-not-goes_on.ensures.1 goes)), refl, refl)
+
+pub returns-in-Some-clause-over : goal.returns-in-Some-clause-over
+returns-in-Some-clause-over g c =
+    let goes = c.if-not-goes_on.ensures.0 refl in
+    let at = get-read c.args.before.now.items c.args.realm c.index_mut.result.now (c.requires.within goes)
+    c.index_mut.ensures.value ∙ ap Some (sym c.take.ensures.value ∙ c.in-Some.is) in
+    inl (
+      goes,
+      over_from (shown c.args.change.from.now) (shown c.args.change.to.now) c.args.realm
+          (slice_get c.args.before.now.items c.args.realm) (entries_in c.args.entries.now c.args.realm)
+          (entries_in c.carried.new.entries c.args.realm) c.in-Some.numbers c.carried.result at c.carried.ensures.over,
+    )
 
 pub returns-in-Some-clause-before : goal.returns-in-Some-clause-before
 returns-in-Some-clause-before g c = λ r ne. get-set_other c.args.before.now.items c.args.realm r c.take.new.self ne
 
-pub returns-in_default-clause-moved : goal.returns-in_default-clause-moved
-returns-in_default-clause-moved g c =
+pub returns-in-None-clause-over : goal.returns-in-None-clause-over
+returns-in-None-clause-over g c =
     let goes = c.if-not-goes_on.ensures.0 refl in
-    moved_away (shown c.args.change.from.now) (shown c.args.change.to.now) c.args.change.shard c.args.realm
-    c.args.before.now.items c.args.after.now.items
-    c.index_mut.result.now goes (c.requires.within goes) c.index_mut.ensures.value (sym c.take.ensures.value
-    ∙ c.in_default.is)
+    let can = c.requires.can goes in
+    let at : Some None ≡ Some (Some can.numbers) = sym (get-read c.args.before.now.items c.args.realm
+    c.index_mut.result.now (c.requires.within goes) c.index_mut.ensures.value
+    ∙ ap Some (sym c.take.ensures.value ∙ c.in-None.is)) ∙ can.at in
+    absurd (let bad : None ≡ Some can.numbers =
+    ap (λ (o : Option (Option (RealmNumbers _))). unwrap_or o None) at in cc)
+
+pub returns-in-None-clause-before : goal.returns-in-None-clause-before
+returns-in-None-clause-before g c = λ r ne. get-set_other c.args.before.now.items c.args.realm r c.take.new.self ne

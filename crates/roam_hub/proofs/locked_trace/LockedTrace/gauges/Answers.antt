@@ -7,7 +7,7 @@ use Rattle.roam_book.specs.RealmState.{RealmState}
 use Rattle.roam_core.specs.ManyRealms.{state_at}
 use Rattle.roam_shard.specs.Looks.{StandsAs}
 use Rattle.roam_hub.specs.Keeping.{KeptView}
-use Rattle.roam_hub.proofs.KeptLemmas.{stands_in}
+use Rattle.roam_hub.proofs.EndLemmas.{stands_in}
 use Rattle.roam_hub.proofs.locked_trace.LockedTrace.gauges.Goals as goal
 
 pub returns : goal.returns

@@ -13,8 +13,18 @@ returns-in_err-add_realms-clause-still g c =
     more_realms_still (shown c.args.old.now) c.args.self.now c.add_realms.new.self c.requires.stands
     c.add_realms.ensures.entries c.add_realms.ensures.realms
 
+pub returns-in_err-changed-clause-still : goal.returns-in_err-changed-clause-still
+returns-in_err-changed-clause-still g c =
+    more_realms_still (shown c.args.old.now) c.args.self.now c.add_realms.new.self c.requires.stands
+    c.add_realms.ensures.entries c.add_realms.ensures.realms
+
 pub returns-in_err-numbers-clause-still : goal.returns-in_err-numbers-clause-still
 returns-in_err-numbers-clause-still g c =
+    more_realms_still (shown c.args.old.now) c.args.self.now c.add_realms.new.self c.requires.stands
+    c.add_realms.ensures.entries c.add_realms.ensures.realms
+
+pub returns-in_err-realms-clause-still : goal.returns-in_err-realms-clause-still
+returns-in_err-realms-clause-still g c =
     more_realms_still (shown c.args.old.now) c.args.self.now c.add_realms.new.self c.requires.stands
     c.add_realms.ensures.entries c.add_realms.ensures.realms
 
@@ -25,13 +35,13 @@ loop-realm-init g c =
       still = more_realms_still (shown c.args.old.now) c.args.self.now c.add_realms.new.self c.requires.stands
           c.add_realms.ensures.entries
           c.add_realms.ensures.realms;
-      ready = rw c.in_ok-numbers.ensures.items
+      ready = rw c.in_ok-realms.ensures.items
           (none_ready (shown c.args.old.now) (shown c.args.new.now) c.args.self.now.shard
           c.args.self.now.numbers.items);
       kept = (let le = c.in_ok-add_realms.ensures.ok in
           omega (arith, le, length-map realms.items shown_realm, realms.ok.0, c.len.ensures));
-      len = c.in_ok-numbers.ensures.len;
-      room = (let le = c.in_ok-numbers.ensures.capacity in omega (arith, le, c.len-2.ensures));
+      len = c.in_ok-realms.ensures.len;
+      room = (let le = c.in_ok-realms.ensures.capacity in omega (arith, le, c.len-3.ensures));
     }
 
 pub returns-in_err-fresh-clause-still : goal.returns-in_err-fresh-clause-still
@@ -54,7 +64,7 @@ loop-realm-preserved g c =
       still = still;
       ready = rw c.push_reserved.ensures.items
           (one_ready old new c.args.self.now.shard c.loop-realm.self.numbers.items c.reserve_one.new.self.numbers.items
-          c.loop-realm.numbers.items fresh c.loop-realm.realm inv.ready one.others.others ready);
+          c.loop-realm.realms.items fresh c.loop-realm.realm inv.ready one.others.others ready);
       kept = (let same = ap (λ (t : List RealmView). length t) one.others.entries in let kept = inv.kept in
           omega (arith, same, kept));
       len = (let len = c.push_reserved.ensures.len in omega (arith, len, inv.len));
@@ -78,7 +88,11 @@ returns-clause-ready g c =
         c.loop-realm.auto.realm-end,
         c.len-realm-end.ensures,
       );
+      room = (let le = c.in_ok-numbers.ensures.capacity in
+          omega (arith, le, length-map realms.items shown_realm, realms.ok.0, c.len-2.ensures));
+      none_yet = c.in_ok-numbers.ensures.items;
       kept = inv.kept;
+      changed = rw (← c.as_slice.ensures.value, ← c.as_slice-2.ensures.value) c.in_ok-changed.ensures;
       each = λ r n at. subst (λ (k : ℕ). IsReadyAt old new k r c.loop-realm.self.numbers.items n)
           (sym inv.still.shard) (inv.ready.each r n at);
     }

@@ -1,12 +1,11 @@
 -- A realm that goes on has numbers, which stand for the same with more room.
-use Rattle.std.proofs.Common.{◌≡◌, ◌≤◌, ◌∙◌, Some, refl, arith}
-use Rattle.std.specs.Prelude.{slice_get, vec_capacity}
+use Rattle.std.proofs.Common.{◌≡◌, ◌∙◌, Some, refl, arith}
+use Rattle.std.specs.Prelude.{slice_get}
+use Rattle.std.proofs.lemmas.Result.{IfOk-weaker}
 use Rattle.roam_conf.specs.Shown.{shown}
-use Rattle.roam_book.specs.RealmConfig.{link_count}
-use Rattle.roam_tables.proofs.GrowthLemmas.{on_ok}
 use Rattle.roam_tables.proofs.RealmLemmas.{get-set_other}
 use Rattle.roam_shard.specs.Pausing.{opening_under}
-use Rattle.roam_shard.proofs.FollowLemmas.{AreSame, not_none, read_there, ready_lanes, reserved_shard, reserved_states, still_own, within_numbers}
+use Rattle.roam_shard.proofs.FollowLemmas.{StandFor, here_within, not_none, read_there, ready_lanes, reserved_shard, reserved_states, still_own, within_numbers}
 use Rattle.roam_shard.proofs.paused.Paused.reserve_lanes.Given.{Over}
 use Rattle.roam_shard.proofs.paused.Paused.reserve_lanes.Goals as goal
 
@@ -15,7 +14,7 @@ unreachable-requires g c =
     let old = shown c.args.old.now in
     let p = c.args.self.now in
     let own = still_own old (shown c.args.new.now) p.shard c.requires.shards c.args.realm c.requires.goes_on.own in
-    let there = c.requires.goes_on.carried.there in
+    let there = here_within old c.args.realm c.requires.goes_on.carried.was_here in
     not_none (opening_under old p) p.entries p.numbers.items c.requires.stands c.from.result c.index_mut.result.now
     (omega (arith, there, c.from.ensures)) (rw c.from.ensures own) c.index_mut.ensures.value c.in_default.is
 
@@ -23,7 +22,7 @@ unreachable-requires g c =
 at : (g : Over) (c : goal.After-self-2-1 g) →
     slice_get c.args.self.now.numbers.items c.from.result ≡ Some (Some c.in-Some.numbers)
 at g c =
-    let there = c.requires.goes_on.carried.there in
+    let there = here_within (shown c.args.old.now) c.args.realm c.requires.goes_on.carried.was_here in
     read_there (shown c.args.old.now) (shown c.args.new.now) c.args.self.now.shard c.from.result
     c.args.self.now.numbers.items
     c.index_mut.result.now c.in-Some.numbers
@@ -31,17 +30,8 @@ at g c =
     c.args.self.now.numbers.items c.requires.stands c.from.result (omega (arith, there, c.from.ensures)))
     c.index_mut.ensures.value c.in-Some.is
 
-same : (g : Over) (c : goal.After-self-2-1 g) → AreSame c.in-Some.numbers c.reserve_lanes.new.self
-same g c =
-    let is = c.reserve_lanes.ensures in
-    record {
-      lanes = is.lanes;
-      ticket = is.ticket;
-      place = is.stream_position;
-      rests = is.rests;
-      sessions =
-          is.sessions;
-    }
+same : (g : Over) (c : goal.After-self-2-1 g) → StandFor c.in-Some.numbers c.reserve_carry.new.self
+same g c = record { state = c.reserve_carry.ensures.state; sound = c.reserve_carry.ensures.sound }
 
 pub returns-clause-still : goal.returns-clause-still
 returns-clause-still g c =
@@ -50,26 +40,24 @@ returns-clause-still g c =
     record {
       stands = reserved_shard (opening_under old p) p.entries p.numbers.items c.requires.stands c.from.result
           c.in-Some.numbers
-          c.reserve_lanes.new.self (at g c) (same g c);
+          c.reserve_carry.new.self (at g c) (same g c);
       states = reserved_states (opening_under old p) p.entries p.numbers.items c.requires.stands c.from.result
           c.in-Some.numbers
-          c.reserve_lanes.new.self (at g c) (same g c);
+          c.reserve_carry.new.self (at g c) (same g c);
       shard = refl;
     }
 
 pub returns-clause-others : goal.returns-clause-others
 returns-clause-others g c = record {
-  others = λ r ne. get-set_other c.args.self.now.numbers.items c.from.result r (Some c.reserve_lanes.new.self)
+  others = λ r ne. get-set_other c.args.self.now.numbers.items c.from.result r (Some c.reserve_carry.new.self)
       (λ is. ne (is ∙ c.from.ensures));
   entries = refl;
 }
 
 pub returns-clause-ready : goal.returns-clause-ready
 returns-clause-ready g c =
-    let old = shown c.args.old.now in
-    let new = shown c.args.new.now in
-    let p = c.args.self.now in
-    on_ok (link_count c.new-settings.result ≤ vec_capacity c.reserve_lanes.new.self.lanes) _ c.reserve_lanes.result
-    (ready_lanes old new p.shard c.args.realm c.from.result p.numbers.items c.in-Some.numbers
-    c.reserve_lanes.new.self c.new-settings.result
-    c.from.ensures c.requires.goes_on (at g c) c.new-settings.ensures) c.reserve_lanes.ensures.room
+    IfOk-weaker c.reserve_carry.result _ _
+    (λ lanes ready. ready_lanes (shown c.args.old.now) (shown c.args.new.now) c.args.realm c.from.result
+    c.args.self.now.numbers.items c.in-Some.numbers c.reserve_carry.new.self lanes c.new-before.result
+    c.new-after.result c.from.ensures (at g c) c.new-before.ensures c.new-after.ensures ready)
+    c.reserve_carry.ensures.ready

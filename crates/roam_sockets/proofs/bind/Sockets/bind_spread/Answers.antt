@@ -1,9 +1,10 @@
--- One more came in behind.
-use Rattle.std.proofs.Common.{refl}
-use Rattle.roam_sockets.proofs.BoundLemmas.{gains_more}
+-- One for each worker.
+use Rattle.std.proofs.Common.{arith}
 use Rattle.roam_sockets.proofs.bind.Sockets.bind_spread.Goals as goal
 
-pub loop-worker-preserved : goal.loop-worker-preserved
-loop-worker-preserved g c =
-    gains_more _ _ _ c.loop-worker.self.bound.items _ _ _ c.loop-worker.invariant c.in_ok-push-in-Ok.ensures.items
-    refl refl
+pub returns-in-Ok-clause-ok : goal.returns-in-Ok-clause-ok
+returns-in-Ok-clause-ok g c = record {
+  count = _;
+  gains = c.in-Ok.ensures.ok;
+  some = omega (arith, c.from-wanted.ensures, c.args.config.now.shards_range.0);
+}

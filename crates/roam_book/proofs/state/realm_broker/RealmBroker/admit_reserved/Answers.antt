@@ -28,7 +28,8 @@ forward_new-sent-requires-clause-way g c =
     let mid = c.make_way.new.self in
     let last = c.choose.new.self in
     let q = shown_request c.args.asked in
-    let rests = rests_chosen mid.settings.now c.args.now (state g.E.Entries mid).rests c.args.way.bound c.args.way.link in
+    let rests = rests_chosen mid.settings.now c.args.now (state g.E.Entries mid).rests c.args.way.bound
+    c.args.way.link in
     let chosen : IsWay config (with_rests (state g.E.Entries mid) rests) q (straight_to c.args.way.link false) =
     way-chosen config (state g.E.Entries mid) q c.args.way rests (c.make_way.ensures.way q c.requires.way) in
     let way : IsWay config (state g.E.Entries last) q (straight_to c.args.way.link false) =

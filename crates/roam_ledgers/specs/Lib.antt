@@ -1,0 +1,4 @@
+pub mod Ledgers
+pub mod Reading
+pub mod Shown
+pub mod LedgerLaws

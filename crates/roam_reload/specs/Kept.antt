@@ -1,0 +1,125 @@
+-- What stays the same between two configurations, as far as what waits in a realm, what is held there and what its
+-- ledger has depend on it: tests of the tables that stand at one number in both. Each is true of equal tables. Ours.
+use Rattle.std.specs.Prelude.{ℕ, ◌-◌, ◌&&◌, ◌||◌, not, nat_lt, Bool, true, false, List, [], ◌∷◌, length, Option, Some, None, is_some, option_and_then, option_map, slice_get, if◌then◌else◌}
+use Rattle.std.specs.Cmp.Lexicographic.{pointwise}
+use Rattle.std.specs.Option.{option_map_or, option_to_list}
+use Rattle.std.specs.Str.{bytes_eq}
+use Rattle.roam_address.specs.declared.address.Address.{Address}
+use Rattle.roam_address.specs.Same.{same_address, same_prefix}
+use Rattle.roam_conf.specs.Config.{CoaClientView, PeerView, RealmView, ServerView}
+use Rattle.roam_conf.specs.Duplicates.{same_endpoint}
+use Rattle.roam_conf.specs.Lookup.{first_place, reverse_home}
+use Rattle.roam_conf.specs.Secrets.{home_secret}
+
+-- both are there and the same by a test, or neither is
+abbrev pub both_or_none : {X : Type 0} → (X → X → Bool) → Option X → Option X → Bool
+both_or_none same None None = true
+both_or_none same (Some a) (Some b) = same a b
+both_or_none same _ _ = false
+
+-- one that was here still is
+abbrev pub stays : Bool → Bool → Bool
+stays was_gone is_gone = was_gone || not is_gone
+
+abbrev pub same_values : Bool → Bool → Bool
+same_values true b = b
+same_values false b = not b
+
+-- ## What stays with a peer
+-- The requests of a peer stay, waiting or answered, where it is here in both with the same `ip` and `secret`: their
+-- replies go there, and are signed with that. What waits at its `coa` stays where `coa` and `secret` are the same. Its
+-- sessions stay where it is here, whatever else changes.
+-- Source: ours
+-- Rules out: a reply signed with another secret than that by which the request came; one that goes to another
+-- address; sessions lost by a new secret
+-- Stands in: `roam_reload` `Kept.antt`: `keeps_requests`, `keeps_coa`, `stays`; `peer_keeps_requests`,
+-- `peer_keeps_coa`
+--
+abbrev pub keeps_requests : PeerView → PeerView → Bool
+keeps_requests old new = stays old.gone new.gone && same_prefix old.ip new.ip && bytes_eq old.secret new.secret
+
+abbrev pub keeps_coa : PeerView → PeerView → Bool
+keeps_coa old new =
+    stays old.gone new.gone && both_or_none same_endpoint old.coa new.coa && bytes_eq old.secret new.secret
+
+abbrev pub keeps_sessions : PeerView → PeerView → Bool
+keeps_sessions old new = stays old.gone new.gone
+
+-- such a test of the peers that stand at a number in two lists. Where none stood there, nothing changes
+abbrev pub of_peer : (PeerView → PeerView → Bool) → List PeerView → List PeerView → ℕ → Bool
+of_peer test old new peer =
+    option_map_or (λ before. option_map_or (test before) (slice_get new peer) false) (slice_get old peer) true
+
+-- ## Same server
+-- A server of a realm is the same in both where `auth`, `acct` and `secret` are equal, wherever it stands in the order
+-- of use; `require_seal` may differ. What waits at a server, its cursors, its rests and counts, and which conversations
+-- it has, go with it.
+-- Source: ours
+-- Rules out: what waits at one server taken for another's, since it stands at its place; a rest lost by another order
+-- Stands in: `roam_reload` `Kept.antt`: `same_server`, `server_then`; `server_then`
+--
+abbrev pub same_server : ServerView → ServerView → Bool
+same_server a b =
+    same_endpoint a.auth b.auth && both_or_none same_endpoint a.acct b.acct && bytes_eq a.secret b.secret
+
+-- the place where a server of the old list stands in the new one: its own, if it is the same there, else the first
+abbrev pub server_then : List ServerView → List ServerView → ℕ → Option ℕ
+server_then old new server =
+    if both_or_none same_server (slice_get old server) (slice_get new server) then Some server
+    else option_and_then (λ s. first_place (same_server s) new) (slice_get old server)
+
+-- all servers stand where they stood
+abbrev pub same_servers : List ServerView → List ServerView → Bool
+same_servers old new = pointwise same_server old new
+
+-- a source of a realm's reverse requests: its addresses, and the secret shared with it
+pub record Source : Type 0 where
+  pub ips : List Address
+  pub secret : List ℕ
+
+abbrev pub server_source : ServerView → Source
+server_source s = record { ips = s.auth.ip ∷ option_to_list (option_map (λ e. e.ip) s.acct); secret = s.secret }
+
+abbrev pub client_source : CoaClientView → Source
+client_source c = record { ips = c.ip ∷ []; secret = c.secret }
+
+abbrev pub source : RealmView → ℕ → Option Source
+source realm home =
+    if nat_lt home (length realm.servers) then option_map server_source (slice_get realm.servers home)
+    else option_map client_source (slice_get realm.coa_clients (home - length realm.servers))
+
+abbrev pub same_source : Source → Source → Bool
+same_source a b = pointwise same_address a.ips b.ips && bytes_eq a.secret b.secret
+
+-- a realm takes reverse requests no more
+abbrev pub closes_reverse : RealmView → RealmView → Bool
+closes_reverse old new = is_some old.reverse && not (is_some new.reverse)
+
+-- the source at an address, if the secret shared with it is this
+abbrev pub home_at : RealmView → Address → List ℕ → Option ℕ
+home_at realm ip secret =
+    option_and_then (λ home. if bytes_eq (home_secret realm home) secret then Some home else None)
+    (reverse_home realm ip)
+
+-- ## Same source of reverse requests
+-- The reverse requests of a source stay where under the new table its address and its secret are a source's: the one of
+-- the same number, where addresses and secret are equal; else whose reverse requests come from the address from which
+-- this one came, if the secret is the same. None stays where the realm takes no reverse requests any more.
+-- Source: ours
+-- Rules out: an answer signed with another secret than the request's; a request lost since servers stand in another
+-- order
+-- Stands in: `roam_reload` `Kept.antt`: `home_then`, `same_source`; `home_then`
+--
+abbrev pub home_then : RealmView → RealmView → Address → ℕ → Option ℕ
+home_then old new ip home =
+    if closes_reverse old new then None
+    else if both_or_none same_source (source old home) (source new home) then Some home
+    else home_at new ip (home_secret old home)
+
+-- what a realm forwards leaves from the same endpoint
+abbrev pub same_out : RealmView → RealmView → Bool
+same_out old new = same_endpoint old.out new.out
+
+-- the ledger holds sessions told by their access servers in both, or in neither
+abbrev pub same_sessions : RealmView → RealmView → Bool
+same_sessions old new = same_values old.own_sessions new.own_sessions

@@ -1,0 +1,66 @@
+//! What stands where a realm or a peer went.
+
+ghost use Rattle.std.specs.Prelude.{◌≡◌, IfOk};
+ghost use Rattle.roam_conf.specs.Parts.{shown_peer, shown_realm};
+ghost use Rattle.roam_reload.specs.Numbers.{gone_peer, gone_realm};
+
+use roam_conf::{Peer, Realm};
+use std::alloc::{AllocError, Global};
+
+/// What stands where a peer went: its name and address, which nothing means any more.
+pub(crate) fn gone_peer(alloc: Global, peer: &Peer) -> Result<Peer, AllocError>
+    ensures { IfOk result (λ gone. shown_peer gone ≡ gone_peer (shown_peer peer.now)) }
+{
+    let name = String::from_str(alloc, peer.name.as_str())?;
+    let secret = String::from_str(alloc, "-")?;
+    Ok(Peer {
+        gone: true,
+        name,
+        ip: peer.ip,
+        secret,
+        coa: None,
+        nas_ip: None,
+        nas_ipv6: None,
+        nas_id: None,
+        nas_ids: Vec::new(alloc),
+        require_seal: peer.require_seal,
+        limit_proxy_state: peer.limit_proxy_state,
+        operator_name: None,
+        ask_cui: peer.ask_cui,
+        request_without: Vec::new(alloc),
+        reply_without: Vec::new(alloc),
+    })
+}
+
+/// What stands where a realm went: its name, which nothing means any more, without sockets and servers.
+pub(crate) fn gone_realm(alloc: Global, realm: &Realm) -> Result<Realm, AllocError>
+    ensures { IfOk result (λ gone. shown_realm gone ≡ gone_realm (shown_realm realm.now)) }
+{
+    let name = String::from_str(alloc, realm.name.as_str())?;
+    Ok(Realm {
+        gone: true,
+        name,
+        also: Vec::new(alloc),
+        peers: None,
+        loop_prevention: realm.loop_prevention,
+        accounting: realm.accounting,
+        request_without: Vec::new(alloc),
+        reply_without: Vec::new(alloc),
+        share: realm.share,
+        peer_share: realm.peer_share,
+        own_names: realm.own_names,
+        conversations: realm.conversations,
+        own_sessions: realm.own_sessions,
+        coa_clients: Vec::new(alloc),
+        out: realm.out,
+        reverse: None,
+        tries: realm.tries,
+        wait: realm.wait,
+        hold: realm.hold,
+        max_pending: realm.max_pending,
+        max_sessions: realm.max_sessions,
+        rest: realm.rest,
+        rest_after: realm.rest_after,
+        servers: Vec::new(alloc),
+    })
+}

@@ -1,0 +1,142 @@
+//! What stays the same between two tables, as far as what waits, what is held and what is open depends on it.
+
+ghost use Rattle.std.specs.Prelude.{◌≡◌, ◌≤◌, length, map, slice_get};
+ghost use Rattle.roam_conf.specs.Duplicates.{same_endpoint};
+ghost use Rattle.roam_conf.specs.Lookup.{first_place};
+ghost use Rattle.roam_conf.specs.Parts.{shown_peer, shown_realm, shown_server};
+ghost use Rattle.roam_reload.specs.Kept.{both_or_none, keeps_coa, keeps_requests, keeps_sessions, of_peer};
+ghost use Rattle.roam_reload.specs.Kept.{same_out, same_server, same_servers, server_then, stays};
+
+use roam_conf::{Endpoint, Peer, Realm, Server, is_same_endpoint};
+
+/// Whether one that was here still is.
+fn stays(old: &Peer, new: &Peer) -> bool
+    ensures { result ≡ stays (shown_peer old.now).gone (shown_peer new.now).gone }
+{
+    old.gone || !new.gone
+}
+
+/// Whether both are equal, or neither is there.
+fn is_same_if_any(a: Option<Endpoint>, b: Option<Endpoint>) -> bool
+    ensures { result ≡ both_or_none same_endpoint a b }
+{
+    match (a, b) {
+        (Some(a), Some(b)) => is_same_endpoint(a, b),
+        (None, None) => true,
+        _ => false,
+    }
+}
+
+/// Whether the requests of a peer stay.
+fn keeps_requests(old: &Peer, new: &Peer) -> bool
+    ensures { result ≡ keeps_requests (shown_peer old.now) (shown_peer new.now) }
+{
+    stays(old, new) && old.ip.leading() == new.ip.leading() && old.secret == new.secret
+}
+
+/// Whether what waits at a peer's `coa` stays.
+fn keeps_coa(old: &Peer, new: &Peer) -> bool
+    ensures { result ≡ keeps_coa (shown_peer old.now) (shown_peer new.now) }
+{
+    stays(old, new) && is_same_if_any(old.coa, new.coa) && old.secret == new.secret
+}
+
+/// Whether the requests of the peer of an index stay.
+pub fn peer_keeps_requests(old: &[Peer], new: &[Peer], peer: u16) -> bool
+    ensures { result ≡ of_peer keeps_requests (map shown_peer old.now) (map shown_peer new.now) peer }
+{
+    match (old.get(usize::from(peer)), new.get(usize::from(peer))) {
+        (Some(old), Some(new)) => keeps_requests(old, new),
+        (None, _) => true,
+        (Some(_), None) => false,
+    }
+}
+
+/// Whether what waits at the `coa` of the peer of an index stays.
+pub fn peer_keeps_coa(old: &[Peer], new: &[Peer], peer: u16) -> bool
+    ensures { result ≡ of_peer keeps_coa (map shown_peer old.now) (map shown_peer new.now) peer }
+{
+    match (old.get(usize::from(peer)), new.get(usize::from(peer))) {
+        (Some(old), Some(new)) => keeps_coa(old, new),
+        (None, _) => true,
+        (Some(_), None) => false,
+    }
+}
+
+/// Whether the sessions of the peer of an index stay.
+pub fn peer_keeps_sessions(old: &[Peer], new: &[Peer], peer: u16) -> bool
+    ensures { result ≡ of_peer keeps_sessions (map shown_peer old.now) (map shown_peer new.now) peer }
+{
+    match (old.get(usize::from(peer)), new.get(usize::from(peer))) {
+        (Some(old), Some(new)) => stays(old, new),
+        (None, _) => true,
+        (Some(_), None) => false,
+    }
+}
+
+/// Whether two tables are of the same server.
+fn is_same_server(a: &Server, b: &Server) -> bool
+    ensures { result ≡ same_server (shown_server a.now) (shown_server b.now) }
+{
+    is_same_endpoint(a.auth, b.auth) && is_same_if_any(a.acct, b.acct) && a.secret == b.secret
+}
+
+/// Whether the same server, or none, stands at a place in both.
+fn stands_there(old: &[Server], new: &[Server], server: u8) -> bool
+    ensures { result ≡ both_or_none same_server (slice_get (map shown_server old.now) server)
+        (slice_get (map shown_server new.now) server) }
+{
+    match (old.get(usize::from(server)), new.get(usize::from(server))) {
+        (Some(old), Some(new)) => is_same_server(old, new),
+        (None, None) => true,
+        _ => false,
+    }
+}
+
+/// Whether all servers stand where they stood.
+pub fn has_same_servers(old: &Realm, new: &Realm) -> bool
+    ensures { result ≡ same_servers (shown_realm old.now).servers (shown_realm new.now).servers }
+{
+    if old.servers.len() != new.servers.len() {
+        return false;
+    }
+    for place in 0..old.servers.len() {
+        if !is_same_server(&old.servers[place], &new.servers[place]) {
+            return false;
+        }
+    }
+    true
+}
+
+/// The first place of a server.
+fn place_of(server: &Server, servers: &[Server]) -> Option<u8>
+    requires { length servers.now ≤ 8 }
+    ensures { result ≡ first_place (same_server (shown_server server.now)) (map shown_server servers.now) }
+{
+    for (place, other) in servers.iter().enumerate() {
+        if is_same_server(server, other) {
+            return Some(place as u8);
+        }
+    }
+    None
+}
+
+/// The place where a server of the old realm stands in the new one, if it does.
+pub fn server_then(old: &Realm, new: &Realm, server: u8) -> Option<u8>
+    ensures { result ≡ server_then (shown_realm old.now).servers (shown_realm new.now).servers server }
+{
+    if stands_there(old.servers.as_slice(), new.servers.as_slice(), server) {
+        return Some(server);
+    }
+    match old.servers.get(usize::from(server)) {
+        Some(server) => place_of(server, new.servers.as_slice()),
+        None => None,
+    }
+}
+
+/// Whether what a realm forwards leaves from the same endpoint.
+pub fn is_same_out(old: &Realm, new: &Realm) -> bool
+    ensures { result ≡ same_out (shown_realm old.now) (shown_realm new.now) }
+{
+    is_same_endpoint(old.out, new.out)
+}

@@ -1,0 +1,14 @@
+//! What follows of configurations that are laid out.
+
+ghost use Rattle.roam_reload.specs.Numbers.{LaidOutHoldsFile, LaidOutKeepsNumbers};
+
+/// In a configuration that is laid out by another one each index is the same realm's, or the same peer's, or its
+/// place is empty.
+pub fn laid_out_keeps_numbers()
+    ensures { LaidOutKeepsNumbers }
+{}
+
+/// What is here in it is what stands in the file.
+pub fn laid_out_holds_file()
+    ensures { LaidOutHoldsFile }
+{}

@@ -1,0 +1,93 @@
+//! A configuration is laid out by the one which it follows, so that an index is one realm's, or one peer's, for as long
+//! as a server runs.
+
+ghost use Rattle.std.specs.Prelude.{◌≡◌, ◌⊎◌, ◌≤◌, ◌<◌, Err, IfOk, OnErr, OnOk};
+ghost use Rattle.roam_conf.specs.Shown.{shown, shown_parts};
+ghost use Rattle.roam_reload.specs.Numbers.{TooMany, laid_out};
+ghost use Rattle.roam_reload.specs.declared.laying_out.LayFault.TheVariants.{Memory};
+
+use crate::laying_peers::laid_peers;
+use crate::laying_realms::laid_realms;
+use roam_conf::{Config, ConfigParts};
+use std::alloc::{AllocError, Global};
+
+/// Why a configuration isn't laid out.
+#[derive(Clone, Copy, PartialEq, Eq)]
+pub enum LayFault {
+    Memory,
+    /// More realms or peers were there since the start than have a number.
+    Numbers,
+}
+
+impl From<AllocError> for LayFault {
+    ghost from_gives = { λ _ fault. fault ≡ Memory };
+
+    fn from(_error: AllocError) -> LayFault {
+        LayFault::Memory
+    }
+}
+
+/// The highest number that realms, or peers, have.
+const MOST: usize = 1024;
+
+/// `Numbers` where there are more peers or realms than have a number.
+fn have_numbers(peers: usize, realms: usize) -> Result<(), LayFault>
+    ensures ok { OnOk result ((peers ≤ 1024) × (realms ≤ 1024)) }
+    ensures err { OnErr result ((1024 < peers) ⊎ (1024 < realms)) }
+{
+    if peers > MOST || realms > MOST {
+        Err(LayFault::Numbers)
+    } else {
+        Ok(())
+    }
+}
+
+/// A configuration laid out by the one which it is to follow, and with that one's seed.
+///
+/// # Errors
+///
+/// `Memory`; `Numbers` where realms or peers are more than have a number.
+pub fn lay_out(alloc: Global, old: &Config, new: Config) -> Result<ConfigParts, LayFault>
+    ensures ok { IfOk result (λ parts. shown_parts parts ≡ laid_out (shown old.now) (shown new)) }
+    ensures err { result ≡ Err LayFault.Numbers → TooMany (laid_out (shown old.now) (shown new)) }
+{
+    let ConfigParts {
+        shards,
+        seed: _,
+        auth,
+        acct,
+        trace_limit,
+        trace_octets,
+        max_hops,
+        max_attributes,
+        status_server,
+        spread,
+        reject,
+        well_formed,
+        answer_unnamed,
+        fresh,
+        peers,
+        realms,
+    } = new.into_parts();
+    let peers = laid_peers(alloc, old.peers.as_slice(), peers)?;
+    let realms = laid_realms(alloc, old.realms.as_slice(), realms)?;
+    have_numbers(peers.len(), realms.len())?;
+    Ok(ConfigParts {
+        shards,
+        seed: old.seed,
+        auth,
+        acct,
+        trace_limit,
+        trace_octets,
+        max_hops,
+        max_attributes,
+        status_server,
+        spread,
+        reject,
+        well_formed,
+        answer_unnamed,
+        fresh,
+        peers,
+        realms,
+    })
+}

@@ -1,0 +1,6 @@
+use Rattle.std.proofs.Common.{sym, ◌∙◌}
+use Rattle.roam_reverse.specs.Stands.{session_at}
+use Rattle.roam_reverse.proofs.chain.Chain.count_of_peer.Goals as goal
+
+pub returns : goal.returns
+returns g c = λ sound is. c.count.ensures (session_at c.args.self.now) sound.of_peer (is ∙ sym sound.no_ids)

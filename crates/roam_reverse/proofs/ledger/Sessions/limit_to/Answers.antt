@@ -1,0 +1,16 @@
+use Rattle.std.proofs.Common.{◌-◌, ◌≤◌, length, drop, ap, ◌∙◌, subst, arith}
+use Rattle.roam_reverse.specs.Shown.{Ledger}
+use Rattle.roam_reverse.proofs.ledger.Sessions.limit_to.Goals as goal
+
+pub invariant_of-self : goal.invariant_of-self
+invariant_of-self g c = (c.keep_newest.ensures.sound, c.keep_newest.ensures.count)
+
+pub returns-clause-sessions : goal.returns-clause-sessions
+returns-clause-sessions g c =
+    c.keep_newest.ensures.sessions
+    ∙ ap (λ (l : Ledger). drop (length l.sessions - c.args.limit) l.sessions) c.self.view_is
+
+pub returns-clause-few : goal.returns-clause-few
+returns-clause-few g c =
+    subst (λ (l : Ledger). length l.sessions ≤ l.limit) c.self.view_is
+    (omega (arith, c.self.invariant.0.count, c.self.invariant.1))

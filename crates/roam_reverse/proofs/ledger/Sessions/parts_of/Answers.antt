@@ -1,0 +1,22 @@
+use Rattle.std.proofs.Common.{◌≡◌, ℕ, true, Option, Some, None, sym, subst}
+use Rattle.std.specs.Prelude.{IfSome, option_map}
+use Rattle.roam_reverse.specs.Parts.{shown_parts}
+use Rattle.roam_reverse.specs.Private.Tickets.{all_listed}
+use Rattle.roam_reverse.specs.Sessions.{Session, has_session}
+use Rattle.roam_reverse.specs.Shown.{Ledger}
+use Rattle.roam_reverse.specs.Stands.{AreTickets, session_at}
+use Rattle.roam_reverse.specs.declared.parts.SessionParts.{SessionParts}
+use Rattle.roam_reverse.proofs.SoundLemmas.{there}
+use Rattle.roam_reverse.proofs.ledger.Sessions.parts_of.Goals as goal
+
+is-there : (F : ℕ → Option Session) (next t : ℕ) → AreTickets F next → (o : Option SessionParts)
+    → option_map shown_parts o ≡ F t → IfSome o (λ parts. has_session (shown_parts parts) (all_listed F) ≡ true)
+is-there F next t are None is = tt
+is-there F next t are (Some parts) is = sym (there F next are (shown_parts parts) (Some t) (sym is))
+
+pub returns : goal.returns
+returns g c =
+    let chain = c.self.inside.chain in
+    subst (λ (l : Ledger). IfSome c.parts_of.result (λ parts. has_session (shown_parts parts) l.sessions ≡ true))
+    c.self.view_is (is-there (session_at chain) chain.next c.args.ticket c.self.invariant.0.tickets c.parts_of.result
+    c.parts_of.ensures)

@@ -1,0 +1,687 @@
+"""Configurations for try-configurations.py: the parts of documents, what is changed in them, and the fault of what comes.
+
+What is expected is that of the format's description: its sample configuration, its table of changes, and its ranges.
+"""
+
+# The keys of the broker.
+TOP = """\
+shards = 1
+seed = "0000000000000000000000000000000000000000000000000000000000000000"
+auth = "127.0.0.1:1812"
+acct = "127.0.0.1:1813"
+trace_limit = 1000
+"""
+
+SEED = """\
+seed = "0000000000000000000000000000000000000000000000000000000000000000"
+"""
+
+# An access server, and where and by which names it takes reverse requests.
+PEER = """\
+
+[[peer]]
+name = "nas1"
+ip = "192.0.2.1"
+secret = "xyzzy5461"
+coa = "192.0.2.1:3799"
+nas_ip = "192.0.2.1"
+nas_id = "nas1"
+"""
+
+# The same access server, which takes no reverse requests.
+PLAIN_PEER = """\
+
+[[peer]]
+name = "nas1"
+ip = "192.0.2.1"
+secret = "xyzzy5461"
+"""
+
+SECOND_PEER = """\
+
+[[peer]]
+name = "nas2"
+ip = "192.0.2.2"
+secret = "s"
+"""
+
+THIRD_PEER = """\
+
+[[peer]]
+name = "nas3"
+ip = "192.0.2.3"
+secret = "s"
+"""
+
+# Another one, whose name no other text has.
+SECOND = """\
+
+[[peer]]
+name = "n2"
+ip = "192.0.2.2"
+secret = "s2"
+"""
+
+REALM = """\
+
+[[realm]]
+name = "a.example"
+out = "127.0.0.1:2000"
+reverse = "127.0.0.1:3000"
+tries = 2
+wait = 1000
+hold = 5000
+max_pending = 300
+max_sessions = 100
+"""
+
+SECOND_REALM = """\
+
+[[realm]]
+name = "b.example"
+out = "127.0.0.1:2001"
+reverse = "127.0.0.1:3001"
+tries = 2
+wait = 1000
+hold = 5000
+max_pending = 300
+max_sessions = 100
+"""
+
+SERVER = """\
+
+[[realm.server]]
+auth = "198.51.100.1:1812"
+acct = "198.51.100.1:1813"
+secret = "h1"
+"""
+
+SECOND_SERVER = """\
+
+[[realm.server]]
+auth = "198.51.100.2:1812"
+acct = "198.51.100.2:1813"
+secret = "h2"
+"""
+
+# A home server whose secret is missing, and one that takes no accounting.
+NO_SECRET = """\
+
+[[realm.server]]
+auth = "198.51.100.1:1812"
+acct = "198.51.100.1:1813"
+"""
+
+NO_ACCT = """\
+
+[[realm.server]]
+auth = "198.51.100.1:1812"
+secret = "h1"
+"""
+
+# Sources of reverse requests.
+CLIENT = """\
+
+[[realm.coa_client]]
+ip = "198.51.100.1"
+secret = "pc"
+"""
+
+OTHER_CLIENT = """\
+
+[[realm.coa_client]]
+ip = "1.2.3.4"
+secret = "pc"
+"""
+
+# The keys that must be written of a configuration and of a realm.
+LEAST_TOP = """\
+auth = "127.0.0.1:1812"
+acct = "127.0.0.1:1813"
+"""
+
+LEAST_REALM = """\
+
+[[realm]]
+name = "a.example"
+out = "127.0.0.1:2000"
+"""
+
+# Nothing is replaced: the line ends before the first table.
+AS_IT_IS = "\n"
+
+# The sample: each of its parts once.
+SAMPLE = [TOP, PEER, REALM, SERVER]
+
+# Changes of the sample: the first text that is replaced, what stands there then, and the fault of what comes.
+CHANGES = [
+    # The two ends of each range.
+    ("shards = 1", "shards = 1", None),
+    ("shards = 1", "shards = 64", None),
+    ("trace_limit = 1000", "trace_limit = 1", None),
+    ("trace_limit = 1000", "trace_limit = 1000000", None),
+    ("tries = 2", "tries = 1", None),
+    ("tries = 2", "tries = 10", None),
+    ("wait = 1000", "wait = 1", None),
+    ("wait = 1000", "wait = 60000", None),
+    ("hold = 5000", "hold = 0", None),
+    ("hold = 5000", "hold = 60000", None),
+    ("max_pending = 300", "max_pending = 1", None),
+    ("max_pending = 300", "max_pending = 4096", None),
+    ("max_sessions = 100", "max_sessions = 0", None),
+    ("max_sessions = 100", "max_sessions = 65536", None),
+    (":1812", ":1", None),
+    (":1812", ":65535", None),
+    # One past each end, and numbers that no range has. Past 64 bits an integer is no TOML integer.
+    ("shards = 1", "shards = 0", "BadValue"),
+    ("shards = 1", "shards = 65", "BadValue"),
+    ("trace_limit = 1000", "trace_limit = 0", "BadValue"),
+    ("trace_limit = 1000", "trace_limit = 1000001", "BadValue"),
+    ("tries = 2", "tries = 0", "BadValue"),
+    ("tries = 2", "tries = 11", "BadValue"),
+    ("wait = 1000", "wait = 0", "BadValue"),
+    ("wait = 1000", "wait = 60001", "BadValue"),
+    ("hold = 5000", "hold = -1", "BadValue"),
+    ("hold = 5000", "hold = 60001", "BadValue"),
+    ("max_pending = 300", "max_pending = 0", "BadValue"),
+    ("max_pending = 300", "max_pending = 4097", "BadValue"),
+    ("max_sessions = 100", "max_sessions = -1", "BadValue"),
+    ("max_sessions = 100", "max_sessions = 65537", "BadValue"),
+    ("max_sessions = 100", "max_sessions = 4294967396", "BadValue"),
+    ("max_sessions = 100", "max_sessions = 9223372036854775807", "BadValue"),
+    (":1812", ":0", "BadValue"),
+    (":1812", ":65536", "BadValue"),
+    ("tries = 2", "tries = 9223372036854775808", "Syntax"),
+    # The ends of the ranges of keys that may be absent, and one past each.
+    ("shards = 1", "shards = 1\nmax_hops = 1", None),
+    ("shards = 1", "shards = 1\nmax_hops = 100", None),
+    ("shards = 1", "shards = 1\nmax_hops = 0", "BadValue"),
+    ("shards = 1", "shards = 1\nmax_hops = 101", "BadValue"),
+    ("shards = 1", "shards = 1\nmax_hops = 257", "BadValue"),
+    ("shards = 1", "shards = 1\ntrace_octets = 1", None),
+    ("shards = 1", "shards = 1\ntrace_octets = 1073741824", None),
+    ("shards = 1", "shards = 1\ntrace_octets = 0", "BadValue"),
+    ("shards = 1", "shards = 1\ntrace_octets = 1073741825", "BadValue"),
+    ("tries = 2", "tries = 2\nrest = 0", None),
+    ("tries = 2", "tries = 2\nrest = 3600000", None),
+    ("tries = 2", "tries = 2\nrest = -1", "BadValue"),
+    ("tries = 2", "tries = 2\nrest = 3600001", "BadValue"),
+    ("tries = 2", "tries = 2\nrest_after = 1", None),
+    ("tries = 2", "tries = 2\nrest_after = 256", None),
+    ("tries = 2", "tries = 2\nrest_after = 0", "BadValue"),
+    ("tries = 2", "tries = 2\nrest_after = 257", "BadValue"),
+    ("shards = 1", "shards = 1\nstatus_server = true", None),
+    ("shards = 1", "shards = 1\nspread = true", None),
+    ("shards = 1", 'shards = 1\nlog_station = "hmac"', None),
+    ("shards = 1", 'shards = 1\nstate = "sessions"', None),
+    ("shards = 1", "shards = 1\nstate_every = 86400", None),
+    ('secret = "h1"', 'secret = "h1"\nrequire_seal = true', None),
+    ('secret = "h1"', 'secret = "h1"\nrequire_seal = false', None),
+    ("shards = 1", 'shards = 1\nmetrics = "127.0.0.1:9812"', None),
+    ("shards = 1", 'shards = 1\ncontrol = "/run/roam/control"', None),
+    ("shards = 1", 'shards = 1\ncontrol = "ccccccccccccccccccccccccccccccccccccccccccccccccccccccccccccccccccccccccccccccccccccccccccccccccccccccccccc"', None),
+    # Keys that may be absent, with a value of a wrong type, or in a table that does not have them.
+    ("shards = 1", 'shards = 1\nmax_hops = "1"', "BadValue"),
+    ("shards = 1", "shards = 1\nmax_hops = true", "BadValue"),
+    ("shards = 1", "shards = 1\ntrace_octets = 1.0", "BadValue"),
+    ("shards = 1", "shards = 1\nstatus_server = 1", "BadValue"),
+    ("shards = 1", 'shards = 1\nspread = "true"', "BadValue"),
+    ("shards = 1", 'shards = 1\nlog_station = "md5"', "BadValue"),
+    ("shards = 1", "shards = 1\nlog_station = true", "BadValue"),
+    ("shards = 1", 'shards = 1\nstate = ""', "BadValue"),
+    ("shards = 1", "shards = 1\nstate_every = 0", "BadValue"),
+    ("shards = 1", "shards = 1\nstate_every = 86401", "BadValue"),
+    ("tries = 2", 'tries = 2\nrest = "0"', "BadValue"),
+    ("tries = 2", "tries = 2\nrest_after = [1]", "BadValue"),
+    ('secret = "h1"', 'secret = "h1"\nrequire_seal = 1', "BadValue"),
+    ("tries = 2", "tries = 2\nrequire_seal = true", "BadValue"),
+    ("tries = 2", "tries = 2\nmax_hops = 1", "BadValue"),
+    ("shards = 1", "shards = 1\nrest = 0", "BadValue"),
+    ("shards = 1", "shards = 1\nalso = []", "BadValue"),
+    ('secret = "h1"', 'secret = "h1"\nrest = 0', "BadValue"),
+    ('nas_id = "nas1"', "also = []", "BadValue"),
+    ('nas_id = "nas1"', "spread = true", "BadValue"),
+    ("shards = 1", "shards = 1\nmetrics = 9812", "BadValue"),
+    ("shards = 1", 'shards = 1\nmetrics = "127.0.0.1"', "BadValue"),
+    ("shards = 1", 'shards = 1\nmetrics = "127.0.0.1:0"', "BadValue"),
+    ("shards = 1", 'shards = 1\ncontrol = ""', "BadValue"),
+    ("shards = 1", "shards = 1\ncontrol = 1", "BadValue"),
+    ("shards = 1", 'shards = 1\ncontrol = "cccccccccccccccccccccccccccccccccccccccccccccccccccccccccccccccccccccccccccccccccccccccccccccccccccccccccccc"', "BadValue"),
+    ("shards = 1", 'shards = 1\ncontrol = "a\\u0000b"', "BadValue"),
+    ("tries = 2", 'tries = 2\nmetrics = "127.0.0.1:9812"', "BadValue"),
+    ('nas_id = "nas1"', 'control = "c"', "BadValue"),
+    # Addresses, ports, names, secrets and seeds in other spellings.
+    ('"192.0.2.1"', '"0.0.0.0"', None),
+    ('"192.0.2.1"', '"255.255.255.255"', None),
+    ('"nas1"', '"A-z_0.9"', None),
+    ('"a.example"', '"A-z.0-9"', None),
+    ('"xyzzy5461"', '"\\u0000 é"', None),
+    ('00000"', 'aBcDe"', None),
+    ('"192.0.2.1"', '"192.0.2.01"', "BadValue"),
+    ('"192.0.2.1"', '"192.0.2.256"', "BadValue"),
+    ('"192.0.2.1"', '"192.0.2"', "BadValue"),
+    ('"192.0.2.1"', '"192.0.2.1.1"', "BadValue"),
+    ('"192.0.2.1"', '"192.0..1"', "BadValue"),
+    ('"192.0.2.1"', '" 192.0.2.1"', "BadValue"),
+    ('"192.0.2.1"', '"192.0.2.+1"', "BadValue"),
+    ('"192.0.2.1"', '"192.0.2.1:1"', "BadValue"),
+    ('"192.0.2.1"', '""', "BadValue"),
+    (":1812", ":01812", "BadValue"),
+    (":1812", ":", "BadValue"),
+    (":1812", ":+1812", "BadValue"),
+    (":1812", ":18446744073709551617", "BadValue"),
+    (":1812", "", "BadValue"),
+    (":1812", ":1812:1", "BadValue"),
+    ('"nas1"', '"nas 1"', "BadValue"),
+    ('"nas1"', '"näs1"', "BadValue"),
+    ('"a.example"', '"a_example"', "BadValue"),
+    ('"a.example"', '"u@a.example"', "BadValue"),
+    ('00000"', '0000"', "BadValue"),
+    ('00000"', '000000"', "BadValue"),
+    ('00000"', '0000g"', "BadValue"),
+    # Every required key, and the tables of which one is required, left out.
+    ('auth = "127.0.0.1:1812"\n', "", "Missing"),
+    ('acct = "127.0.0.1:1813"\n', "", "Missing"),
+    (PEER, "", "Missing"),
+    ('name = "nas1"\n', "", "Missing"),
+    ('ip = "192.0.2.1"\n', "", "Missing"),
+    ('secret = "xyzzy5461"\n', "", "Missing"),
+    ('name = "a.example"\n', "", "Missing"),
+    ('out = "127.0.0.1:2000"\n', "", "Missing"),
+    (SERVER, "", "Missing"),
+    ('auth = "198.51.100.1:1812"\n', "", "Missing"),
+    ('acct = "198.51.100.1:1813"\n', "", "Missing"),
+    ('secret = "h1"\n', "", "Missing"),
+    # The keys that may be absent, left out.
+    ('coa = "192.0.2.1:3799"\n', "", None),
+    ('nas_ip = "192.0.2.1"\n', "", None),
+    ('nas_id = "nas1"\n', "", None),
+    ("shards = 1\n", "", None),
+    (SEED, "", None),
+    ("trace_limit = 1000\n", "", None),
+    ('reverse = "127.0.0.1:3000"\n', "", None),
+    ("tries = 2\n", "", None),
+    ("wait = 1000\n", "", None),
+    ("hold = 5000\n", "", None),
+    ("max_pending = 300\n", "", None),
+    ("max_sessions = 100\n", "", None),
+    # Every key with a value of a wrong type, and keys that no table has.
+    ("shards = 1", 'shards = "1"', "BadValue"),
+    (SEED, "seed = 0\n", "BadValue"),
+    ('auth = "127.0.0.1:1812"', "auth = 1812", "BadValue"),
+    ('acct = "127.0.0.1:1813"', "acct = true", "BadValue"),
+    ("trace_limit = 1000", "trace_limit = 1000.0", "BadValue"),
+    ("[[peer]]", "[peer]", "BadValue"),
+    ('name = "nas1"', "name = 1", "BadValue"),
+    ('ip = "192.0.2.1"', "ip = 192", "BadValue"),
+    ('secret = "xyzzy5461"', "secret = 5461", "BadValue"),
+    ('coa = "192.0.2.1:3799"', "coa = 3799", "BadValue"),
+    ('nas_ip = "192.0.2.1"', "nas_ip = false", "BadValue"),
+    ('nas_id = "nas1"', 'nas_id = ["nas1"]', "BadValue"),
+    ('nas_id = "nas1"', "require_seal = 1", "BadValue"),
+    ('nas_id = "nas1"', 'require_seal = "true"', "BadValue"),
+    ('name = "a.example"', "name = 1979-05-27", "BadValue"),
+    ('out = "127.0.0.1:2000"', "out = 2000", "BadValue"),
+    ('reverse = "127.0.0.1:3000"', "reverse = {}", "BadValue"),
+    ("tries = 2", 'tries = "2"', "BadValue"),
+    ("wait = 1000", "wait = 1e3", "BadValue"),
+    ("hold = 5000", "hold = true", "BadValue"),
+    ("max_pending = 300", 'max_pending = "300"', "BadValue"),
+    ("max_sessions = 100", "max_sessions = []", "BadValue"),
+    ("[[realm.server]]", "[realm.server]", "BadValue"),
+    ('auth = "198.51.100.1:1812"', "auth = 1812", "BadValue"),
+    ('acct = "198.51.100.1:1813"', "acct = 1813", "BadValue"),
+    ('secret = "h1"', "secret = 1", "BadValue"),
+    ("shards = 1", "shards = 1\nother = 1", "BadValue"),
+    ('ip = "192.0.2.1"', 'ip = "192.0.2.1"\nother = 1', "BadValue"),
+    ("tries = 2", "tries = 2\nother = 2", "BadValue"),
+    ('secret = "h1"', 'secret = "h1"\nother = 1', "BadValue"),
+    ("tries = 2", "tries = 2\nTries = 2", "BadValue"),
+    # Endpoints that are made equal.
+    ("127.0.0.1:2000", "127.0.0.1:1812", "DuplicateEndpoint"),
+    ("198.51.100.1:1813", "198.51.100.1:1812", "DuplicateServer"),
+    ("192.0.2.1:3799", "198.51.100.1:1812", "DuplicateLink"),
+    ("192.0.2.1:3799", "198.51.100.1:1813", "DuplicateLink"),
+    ("127.0.0.1:1813", "127.0.0.1:1812", "DuplicateEndpoint"),
+    ("127.0.0.1:3000", "127.0.0.1:2000", "DuplicateEndpoint"),
+    ("127.0.0.1:3000", "127.0.0.1:1813", "DuplicateEndpoint"),
+    # Names to reject.
+    ("shards = 1", "reject = []", None),
+    ("shards = 1", 'reject = ["x", "*.x"]', None),
+    ("shards = 1", 'reject = ["A.EXAMPLE"]', "DuplicateRealm"),
+    ("shards = 1", 'reject = ["x", "X"]', "DuplicateRealm"),
+    ("shards = 1", 'reject = ["*.x", "*.X"]', "DuplicateRealm"),
+    ("shards = 1", 'reject = ["*"]', "BadValue"),
+    ("shards = 1", 'reject = ["x", "*"]', "BadValue"),
+    ("shards = 1", 'reject = ["a.*"]', "BadValue"),
+    ("shards = 1", "reject = [1]", "BadValue"),
+    ("shards = 1", 'reject = "x"', "BadValue"),
+    # What an operator decides, at the ends of its ranges, past them, and with values of another type.
+    ("shards = 1", "well_formed = true\nanswer_unnamed = false", None),
+    ("shards = 1", "well_formed = 1", "BadValue"),
+    ("shards = 1", 'answer_unnamed = "true"', "BadValue"),
+    ("tries = 2", "well_formed = true", "BadValue"),
+    ("nas_id", "limit_proxy_state = true\nask_cui = true\nnas_id", None),
+    ("nas_id", "limit_proxy_state = 0\nnas_id", "BadValue"),
+    ("nas_id", 'ask_cui = ""\nnas_id', "BadValue"),
+    ("nas_id", 'operator_name = "x"\nnas_id', None),
+    ("nas_id", 'operator_name = ""\nnas_id', "BadValue"),
+    ("nas_id", "operator_name = 1\nnas_id", "BadValue"),
+    ("tries = 2", 'operator_name = "x"', "BadValue"),
+    ("tries = 2", "loop_prevention = true", None),
+    ("tries = 2", 'loop_prevention = "yes"', "BadValue"),
+    ("tries = 2", 'accounting = "forward"', None),
+    ("tries = 2", 'accounting = "Answer"', "BadValue"),
+    ("tries = 2", "accounting = true", "BadValue"),
+    ("tries = 2", "share = 1", None),
+    ("tries = 2", "share = 4096", None),
+    ("tries = 2", "share = 0", "BadValue"),
+    ("tries = 2", "share = 4097", "BadValue"),
+    ("shards = 1", "max_attributes = 1", None),
+    ("shards = 1", "max_attributes = 2000", None),
+    ("shards = 1", "max_attributes = 0", "BadValue"),
+    ("shards = 1", "max_attributes = 2001", "BadValue"),
+    ("shards = 1", "max_attributes = -1", "BadValue"),
+    ("tries = 2", "max_attributes = 3", "BadValue"),
+    ("shards = 1", "fresh = 10", None),
+    ("shards = 1", "fresh = 3600", None),
+    ("shards = 1", "fresh = 9", "BadValue"),
+    ("shards = 1", "fresh = 3601", "BadValue"),
+    ("shards = 1", "fresh = true", "BadValue"),
+    ("tries = 2", "fresh = 60", "BadValue"),
+    ("tries = 2", "peer_share = 1", None),
+    ("tries = 2", "peer_share = 4096", None),
+    ("tries = 2", "peer_share = 0", "BadValue"),
+    ("tries = 2", "peer_share = 4097", "BadValue"),
+    ("tries = 2", "peer_share = true", "BadValue"),
+    ("tries = 2", "own_names = false", None),
+    ("tries = 2", "own_names = 1", "BadValue"),
+    ("tries = 2", 'own_names = "true"', "BadValue"),
+    ("tries = 2", "conversations = true", None),
+    ("tries = 2", "conversations = 0", "BadValue"),
+    ("tries = 2", "conversations = []", "BadValue"),
+    ("shards = 1", "conversations = true", "BadValue"),
+    ("nas_id", "own_names = true\nnas_id", "BadValue"),
+    ("tries = 2", "own_sessions = true", None),
+    ("tries = 2", "own_sessions = 1", "BadValue"),
+    ("tries = 2", "coa_client = []", None),
+    ("tries = 2", "coa_client = 1", "BadValue"),
+    ("tries = 2", "coa_client = [1]", "BadValue"),
+    ("nas_id", "nas_ids = []\nnas_id", None),
+    ("nas_id", 'nas_ids = ["a", "*"]\nnas_id', None),
+    ("nas_id", 'nas_ids = [""]\nnas_id', "BadValue"),
+    ("nas_id", "nas_ids = [1]\nnas_id", "BadValue"),
+    ("nas_id", 'nas_ids = "a"\nnas_id', "BadValue"),
+    ("nas_id", 'nas_ids = ["nas1"]\nnas_id', "DuplicatePeer"),
+    ("nas_id", 'nas_ids = ["a*", "a*"]\nnas_id', "DuplicatePeer"),
+    ("nas_id", 'nas_ids = ["NAS1"]\nnas_id', None),
+]
+
+# Documents: their parts, in which the first text is replaced by the second, and the fault.
+DOCUMENTS = [
+    # Two neighbouring faults at once, for each pair of neighbours: the earlier one is the answer.
+    ([TOP, PEER, REALM], "shards = 1", "shards = ", "Syntax"),
+    (["shards = 0\n", PEER, REALM, SERVER], AS_IT_IS, AS_IT_IS, "Missing"),
+    ([TOP, PEER, REALM, NO_SECRET], '"nas1"', "1", "Missing"),
+    ([TOP, PEER, REALM, SERVER, REALM, SERVER], "wait = 1000", "wait = 0", "BadValue"),
+    ([TOP, PEER, PEER, REALM, SERVER, REALM, SERVER], AS_IT_IS, AS_IT_IS, "DuplicateRealm"),
+    ([TOP, PEER, PEER, REALM, SERVER], "127.0.0.1:2000", "127.0.0.1:1813", "DuplicatePeer"),
+    ([TOP, PEER, REALM, SERVER, SERVER], "127.0.0.1:2000", "127.0.0.1:1813", "DuplicateEndpoint"),
+    ([TOP, PEER, REALM, SERVER, SERVER], "192.0.2.1:3799", "198.51.100.1:1813", "DuplicateServer"),
+    # A second peer, realm or server that is equal to the first in something, or in nothing.
+    ([TOP, PEER, REALM, SERVER], AS_IT_IS, AS_IT_IS, None),
+    ([TOP, PEER], AS_IT_IS, AS_IT_IS, "Missing"),
+    ([TOP, PEER, REALM, SERVER, REALM, SERVER], "a.example", "A.EXAMPLE", "DuplicateRealm"),
+    ([TOP, PEER, SECOND_PEER, REALM, SERVER], "192.0.2.2", "192.0.2.1", "DuplicatePeer"),
+    ([TOP, PEER, SECOND_PEER, REALM, SERVER], "nas2", "nas1", "DuplicatePeer"),
+    ([TOP, PEER, SECOND_PEER, THIRD_PEER, REALM, SERVER], "nas2", "NAS1", None),
+    ([TOP, PEER, SECOND_PEER, REALM, SERVER], 'secret = "s"\n', 'secret = "s"\nnas_ip = "192.0.2.1"\n', "DuplicatePeer"),
+    ([TOP, PEER, SECOND_PEER, REALM, SERVER], 'secret = "s"\n', 'secret = "s"\nnas_id = "nas1"\n', "DuplicatePeer"),
+    ([TOP, PEER, SECOND_PEER, REALM, SERVER], 'secret = "s"\n', 'secret = "s"\ncoa = "192.0.2.1:3799"\n', "DuplicateLink"),
+    ([TOP, PEER, REALM, SERVER, SECOND_REALM, SERVER], "127.0.0.1:3001", "127.0.0.1:2000", "DuplicateEndpoint"),
+    ([TOP, PEER, REALM, SERVER, SECOND_REALM, SERVER], AS_IT_IS, AS_IT_IS, None),
+    ([TOP, PEER, REALM, SERVER, SECOND_REALM, SECOND_SERVER], "198.51.100.2:1812", "192.0.2.1:3799", "DuplicateLink"),
+    # Arrays that mix tables and other values: the keys of the tables are looked for first.
+    (['peer = [{ name = "nas1" }, 1]\n', TOP, REALM, SERVER], AS_IT_IS, AS_IT_IS, "Missing"),
+    (['peer = [{ name = "nas1", ip = "192.0.2.1", secret = "s" }, 1]\n', TOP, REALM, SERVER], AS_IT_IS, AS_IT_IS, "BadValue"),
+    (["peer = []\n", TOP, REALM, SERVER], AS_IT_IS, AS_IT_IS, "BadValue"),
+    # Where a server needs `acct`.
+    ([TOP, PEER, REALM, NO_ACCT], AS_IT_IS, AS_IT_IS, "Missing"),
+    ([TOP, PEER, REALM, 'accounting = "forward"\n', NO_ACCT], AS_IT_IS, AS_IT_IS, "Missing"),
+    ([TOP, PEER, REALM, 'accounting = "answer"\n', NO_ACCT], AS_IT_IS, AS_IT_IS, None),
+    ([TOP, PEER, REALM, 'accounting = "drop"\n', NO_ACCT], AS_IT_IS, AS_IT_IS, None),
+    ([TOP, PEER, REALM, 'accounting = "answer"\n', SERVER], AS_IT_IS, AS_IT_IS, None),
+    ([TOP, PEER, REALM, "accounting = 1\n", NO_ACCT], AS_IT_IS, AS_IT_IS, "BadValue"),
+    # Names of peers that are not there, or are there twice; that is the last of the faults.
+    ([TOP, PEER, SECOND_PEER, REALM, 'peers = ["nas2", "nas1"]\n', SERVER], AS_IT_IS, AS_IT_IS, None),
+    ([TOP, PEER, SECOND_PEER, REALM, 'peers = ["nas2", "nas2"]\n', SERVER], AS_IT_IS, AS_IT_IS, None),
+    ([TOP, PEER, SECOND_PEER, REALM, 'peers = ["nas2", "nas3"]\n', SERVER], AS_IT_IS, AS_IT_IS, "UnknownPeer"),
+    ([TOP, PEER, SECOND_PEER, REALM, 'peers = ["NAS2"]\n', SERVER], AS_IT_IS, AS_IT_IS, "UnknownPeer"),
+    ([TOP, PEER, REALM, "peers = []\n", SERVER], AS_IT_IS, AS_IT_IS, "BadValue"),
+    ([TOP, PEER, REALM, 'peers = ["nas3"]\n', SERVER], "192.0.2.1:3799", "198.51.100.1:1812", "DuplicateLink"),
+    # Operator-Names that differ in case alone.
+    ([TOP, PEER, 'operator_name = "a.b"\n', SECOND_PEER, 'operator_name = "A.B"\n', REALM, SERVER], AS_IT_IS, AS_IT_IS, "DuplicatePeer"),
+    ([TOP, PEER, 'operator_name = "a.b"\n', SECOND_PEER, 'operator_name = "a.c"\n', REALM, SERVER], AS_IT_IS, AS_IT_IS, None),
+    # Texts of two peers, and sources of one realm and of two.
+    ([TOP, PEER, 'nas_ids = ["c", "a*"]\n', SECOND_PEER, 'nas_ids = ["a*", "b"]\n', REALM, SERVER], AS_IT_IS, AS_IT_IS, "DuplicatePeer"),
+    ([TOP, PEER, SECOND_PEER, 'nas_ids = ["nas1"]\n', REALM, SERVER], AS_IT_IS, AS_IT_IS, "DuplicatePeer"),
+    ([TOP, PEER, SECOND_PEER, 'nas_ids = ["nas1*", "nas11"]\n', REALM, SERVER], AS_IT_IS, AS_IT_IS, None),
+    ([TOP, PEER, REALM, SERVER, CLIENT], AS_IT_IS, AS_IT_IS, None),
+    ([TOP, PEER, REALM, SERVER, OTHER_CLIENT, CLIENT, OTHER_CLIENT], AS_IT_IS, AS_IT_IS, "DuplicateServer"),
+    ([TOP, PEER, REALM, SERVER, CLIENT, SECOND_REALM, SERVER, CLIENT], AS_IT_IS, AS_IT_IS, None),
+    ([TOP, PEER, REALM, SERVER, CLIENT], 'secret = "pc"', "", "Missing"),
+    ([TOP, PEER, REALM, SERVER, CLIENT], 'secret = "pc"', 'secret = ""', "BadValue"),
+    ([TOP, PEER, REALM, SERVER, CLIENT], 'secret = "pc"', 'secret = "pc"\nport = 1', "BadValue"),
+    ([TOP, PEER, REALM, SERVER, CLIENT, CLIENT], "192.0.2.1:3799", "198.51.100.1:1813", "DuplicateServer"),
+    ([TOP, PEER, REALM, SERVER, CLIENT, CLIENT, CLIENT, CLIENT, CLIENT, CLIENT, CLIENT, CLIENT, CLIENT], AS_IT_IS, AS_IT_IS, "BadValue"),
+]
+
+# A line of patterns in each of two realms, `a.example` and `b.example`, and the fault.
+PATTERNS = [
+    ("", "", None),
+    ("also = []\n", "", None),
+    ('also = ["b.example"]\n', "", "DuplicateRealm"),
+    ('also = ["*", "*"]\n', "", "DuplicateRealm"),
+    ('also = ["*.c", "*.C"]\n', "", "DuplicateRealm"),
+    ('also = ["A.example"]\n', "", "DuplicateRealm"),
+    ('also = ["c", "d", "C"]\n', "", "DuplicateRealm"),
+    ('also = ["c"]\n', 'also = ["d", "C"]\n', "DuplicateRealm"),
+    ('also = ["*.c"]\n', 'also = ["*.c"]\n', "DuplicateRealm"),
+    ('also = ["*"]\n', 'also = ["*"]\n', "DuplicateRealm"),
+    ("", 'also = ["A.EXAMPLE"]\n', "DuplicateRealm"),
+    ('also = ["*.a.example", "*.b.example"]\n', "", None),
+    ('also = ["c", "*.c", "*"]\n', 'also = ["*.d.c"]\n', None),
+    ('also = ["*."]\n', "", "BadValue"),
+    ('also = ["*a"]\n', "", "BadValue"),
+    ('also = ["a.*"]\n', "", "BadValue"),
+    ('also = [""]\n', "", "BadValue"),
+    ("also = [1]\n", "", "BadValue"),
+    ('also = "*"\n', "", "BadValue"),
+    ('also = ["**"]\n', "", "BadValue"),
+    ('also = ["*.*"]\n', "", "BadValue"),
+    ('also = ["c", "c_d"]\n', "", "BadValue"),
+    ('also = ["c", ["d"]]\n', "", "BadValue"),
+    ('also = ["u@c"]\n', "", "BadValue"),
+    ("also = true\n", "", "BadValue"),
+    ('also = { c = "d" }\n', "", "BadValue"),
+]
+
+# What may stand in a list of attributes to remove: whether in one of requests, and in one of replies.
+REMOVED = [
+    ('["26.9.1", "31", "26.0", "26.16777215.255", "255", "26", "31"]', True, True),
+    ("[]", True, True),
+    ('["0"]', False, False),
+    ('["256"]', False, False),
+    ('["031"]', False, False),
+    ('["26.16777216"]', False, False),
+    ('["26.9.0"]', False, False),
+    ('["26.9.256"]', False, False),
+    ('["25.9"]', False, False),
+    ('["26."]', False, False),
+    ('["26.9.1.1"]', False, False),
+    ("[31]", False, False),
+    ('"31"', False, False),
+    ('[" 31"]', False, False),
+    ('["24"]', False, False),
+    ('["80"]', False, False),
+    ('["33"]', False, False),
+    ('["79"]', False, False),
+    ('["-1"]', False, False),
+    ('["1"]', False, True),
+    ('["2"]', False, True),
+    ('["3"]', False, True),
+    ('["60"]', False, True),
+    ('["4", ""]', False, False),
+]
+
+# A text of the sample, what stands before a text of `x` in its place, how many, and the fault: the ends of the ranges.
+LENGTHS = [
+    ('name = "nas1', 'name = "', 0, "BadValue"),
+    ('name = "nas1', 'name = "', 1, None),
+    ('name = "nas1', 'name = "', 64, None),
+    ('name = "nas1', 'name = "', 65, "BadValue"),
+    ('secret = "xyzzy5461', 'secret = "', 0, "BadValue"),
+    ('secret = "xyzzy5461', 'secret = "', 1, None),
+    ('secret = "xyzzy5461', 'secret = "', 64, None),
+    ('secret = "xyzzy5461', 'secret = "', 65, "BadValue"),
+    ('nas_id = "nas1', 'nas_id = "', 0, "BadValue"),
+    ('nas_id = "nas1', 'nas_id = "', 1, None),
+    ('nas_id = "nas1', 'nas_id = "', 253, None),
+    ('nas_id = "nas1', 'nas_id = "', 254, "BadValue"),
+    ('name = "a.example', 'name = "', 0, "BadValue"),
+    ('name = "a.example', 'name = "', 1, None),
+    ('name = "a.example', 'name = "', 253, None),
+    ('name = "a.example', 'name = "', 254, "BadValue"),
+    ('secret = "h1', 'secret = "', 0, "BadValue"),
+    ('secret = "h1', 'secret = "', 1, None),
+    ('secret = "h1', 'secret = "', 64, None),
+    ('secret = "h1', 'secret = "', 65, "BadValue"),
+]
+
+# How many peers, realms, and servers of each realm, and the fault: the most of each, and one more.
+COUNTS = [
+    (1024, 1, 1, None),
+    (1, 1024, 1, None),
+    (1, 1, 8, None),
+    (1025, 1, 1, "BadValue"),
+    (1, 1025, 1, "BadValue"),
+    (1, 1, 9, "BadValue"),
+]
+
+# Names and their realms, where `a.example` has `*.a.example` and `*`, and `b.example` `x.a.example` and `*.b.a.example`.
+NAMED = [
+    ("a.example", 0),
+    ("y.a.example", 0),
+    (".a.example", 0),
+    ("example", 0),
+    ("A.EXAMPLE", 0),
+    ("x.a.example", 1),
+    ("X.a.Example", 1),
+    ("b.example", 1),
+    ("c.b.a.example", 1),
+    ("b.a.example", 0),
+    ("", None),
+    ("e.d.c.B.A.EXAMPLE", 1),
+    ("y.x.a.example", 0),
+    ("b.a.example.", 0),
+    ("..b.a.example", 1),
+    (".b.a.example", 0),
+]
+
+# The same where they have `*.Test` and `*.test.test`.
+NAMED_BY_SUFFIX = [
+    ("a.example", 0),
+    ("y.a.example", None),
+    ("b.example", 1),
+    ("y.test", 0),
+    ("test", None),
+    (".test", None),
+    ("..test", 0),
+    ("test.test", 0),
+    ("y.TEST.test", 1),
+    ("ytest", None),
+    ("", None),
+]
+
+# The same where the first has `*.a.example` and `*`, and `x.a.example` and `*.gone` are rejected: where names need not be well
+# formed, and where they have to be.
+REJECTED = [
+    ("y.a.example", 0, 0),
+    ("b.c", 0, 0),
+    ("x.a.example", None, None),
+    ("X.A.example", None, None),
+    ("y.gone", None, None),
+    (".gone", 0, None),
+    ("gone", 0, None),
+    ("b..c", 0, None),
+    ("b.", 0, None),
+    (".b", 0, None),
+    ("b c.d", 0, None),
+    ("-a.b", 0, None),
+    ("a-.b", 0, None),
+    ("b", 0, None),
+    ("b-1.C", 0, 0),
+    ("é.fr", 0, 0),
+    ("a.example", 0, 0),
+    ("b.example", 1, 1),
+]
+
+# NAS-Identifiers, and the peers that they mean, of CONTROLLERS.
+OF_CONTROLLERS = [
+    ("wlc-12", 0),
+    ("wlc-1", 0),
+    ("wlc-1*", 0),
+    ("wlc-2", 1),
+    ("wlc-7", 1),
+    ("wlc-70", 1),
+    ("wlc-", 1),
+    ("wlc", None),
+    ("WLC-2", None),
+    ("nas1", 0),
+    ("nas12", None),
+    ("", None),
+]
+
+# The same of STARS.
+OF_STARS = [
+    ("wx", 0),
+    ("wlc-1", 1),
+    ("wap", 1),
+    ("wapx", 0),
+    ("*", 0),
+    ("x", None),
+    ("*x", 1),
+    ("**", 1),
+]
+
+# The same of STARRED.
+OF_STARRED = [
+    ("ap-*", 1),
+    ("ap-1", None),
+    ("ap-", None),
+]
+
+# Two peers that stand before controllers, and others with texts of stars. A `nas_id` is a name, also with a star at its end.
+CONTROLLERS = [TOP, PEER, 'nas_ids = ["wlc-1*"]\n', SECOND, 'coa = "192.0.2.2:3799"\nnas_id = "n2"\nnas_ids = ["wlc-*", "wlc-7"]\n', REALM, SERVER]
+STARS = [TOP, PEER, 'nas_ids = ["w*", "*", "ap*"]\n', SECOND, 'coa = "192.0.2.2:3799"\nnas_ids = ["wlc*", "wap", "**"]\n', REALM, SERVER]
+STARRED = [TOP, PEER, SECOND, 'coa = "192.0.2.2:3799"\nnas_id = "ap-*"\nnas_ids = []\noperator_name = "Inst.Example"\nnas_ip = "10.0.0.1"\n', REALM, SERVER]
+
+# Documents that have each of the keys, and those that have no key that may be absent.
+WHOLE = [
+    ["max_hops = 7\nstatus_server = true\ntrace_octets = 4096\nspread = true\n", TOP, PEER, REALM,
+     'also = ["c.example", "*.d.example", "*"]\nrest = 10000\nrest_after = 3\n', SERVER, "require_seal = true\n"],
+    ["max_attributes = 195\nfresh = 300\n", TOP, PEER, 'nas_ids = ["wlc-1", "ap-*"]\n', REALM,
+     "peer_share = 7\nown_names = true\nconversations = true\nown_sessions = true\n", SERVER, CLIENT, OTHER_CLIENT],
+    ['reject = ["*.gone"]\nwell_formed = true\nanswer_unnamed = true\n', TOP, PEER,
+     'limit_proxy_state = true\noperator_name = "inst.example"\nask_cui = true\n',
+     'request_without = ["26.9.1", "31"]\nreply_without = ["26.311"]\n', REALM,
+     'peers = ["nas1"]\nloop_prevention = true\naccounting = "drop"\n',
+     'request_without = ["126"]\nreply_without = ["6"]\nshare = 7\n', NO_ACCT],
+    [TOP, PEER, SECOND_PEER, "require_seal = true\n", REALM, SERVER, SECOND_SERVER, SECOND_REALM, SERVER],
+]
+LEAST = [LEAST_TOP, PLAIN_PEER, LEAST_REALM, SERVER]
+LEAST_WITH_REVERSE = [LEAST_TOP, PLAIN_PEER, LEAST_REALM, 'reverse = "127.0.0.1:3000"\n', SERVER]
+
+# What counts where a number isn't written: at the top, and in a realm.
+NUMBERS_AT_TOP = {"shards": 1, "seed": "0" * 64, "trace_limit": 100000, "trace_octets": 67108864, "status_server": False, "spread": False}
+NUMBERS_OF_REALM = {"tries": 3, "wait": 2000, "hold": 10000, "max_pending": 4096, "rest": 30000, "rest_after": 3}

@@ -1,0 +1,320 @@
+#!/usr/bin/env python3
+"""try-restart.py PROGRAM
+
+Serves two realms with `state` in the configuration, on loopback, while sessions are opened as fast as they are answered, and
+ends and starts it again. It fails unless
+
+1. after `roam ctl PATH stop` and a start each session that was open is disconnected, and one that was closed isn't known;
+   so also by `roam-run` and the signal TERM, and where tables stand in another order then;
+2. after a kill (KILL) each session is that was open `state_every` seconds before;
+3. the file has mode 0600, and no other is left beside it;
+4. a file that was cut (wherever), one of another version and one that is somebody else's is said, stays beside under another
+   name, and the server begins without; where the file can't be written that is said, and all else goes on;
+5. a session of a peer that went isn't taken up, nor one whose realm tells its sessions otherwise now.
+
+It prints how many sessions there were.
+"""
+import importlib
+import os
+import signal
+import socket
+import struct
+import subprocess
+import sys
+import tempfile
+import threading
+import time
+
+sys.dont_write_bytecode = True
+sys.path.insert(0, os.path.dirname(os.path.abspath(__file__)))
+told = importlib.import_module('try-reload')
+answer, attribute, signed, want = told.answer, told.attribute, told.signed, told.want
+HERE, PORT, HOME, COA = '127.0.0.1', 17520, 27520, 17920
+PEERS = [('nas1', HERE, b'a-secret-of-nas1', COA), ('nas2', '127.0.0.2', b'a-secret-of-nas2', COA + 1)]
+REALMS = ['a.example', 'b.example']
+SECRET = b'a-secret-of-home'
+RUN = os.path.join(os.path.dirname(os.path.abspath(__file__)), '..', 'installed', 'roam-run')
+HEAD = '''shards = 2
+auth = "127.0.0.1:{auth}"
+acct = "127.0.0.1:{acct}"
+log_exchanges = "none"
+control = "{control}"
+state = "{state}"
+state_every = 1
+'''
+PEER = '''
+[[peer]]
+name = "{name}"
+ip = "{ip}"
+secret = "{secret}"
+coa = "{ip}:{coa}"
+nas_id = "{name}"
+'''
+REALM = '''
+[[realm]]
+name = "{name}"
+out = "127.0.0.1:{out}"
+reverse = "127.0.0.1:{reverse}"
+own_sessions = {own}
+tries = 2
+wait = 500
+
+[[realm.server]]
+auth = "127.0.0.1:{home}"
+acct = "127.0.0.1:{home_acct}"
+secret = "a-secret-of-home"
+'''
+
+
+def bound(ip, port):
+    one = socket.socket(socket.AF_INET, socket.SOCK_DGRAM)
+    one.bind((ip, port))
+    one.settimeout(3)
+    return one
+
+
+def answering(port, code, secret):
+    """A home server, or an access server, that answers everything by this code."""
+    one = bound(*port)
+    one.settimeout(None)
+
+    def serve():
+        while True:
+            packet, source = one.recvfrom(4096)
+            one.sendto(answer(code, packet, secret), source)
+    threading.Thread(target=serve, daemon=True).start()
+
+
+class Server:
+    def __init__(self, program, work):
+        self.program, self.work = program, work
+        self.control, self.conf, self.state = (os.path.join(work, it) for it in ('control', 'roam.conf', 'sessions'))
+        self.peers, self.realms, self.own = list(PEERS), list(REALMS), 'false'
+        self.process = None
+
+    def write(self):
+        with open(self.conf, 'w') as file:
+            file.write(HEAD.format(auth=PORT, acct=PORT + 1, control=self.control, state=self.state))
+            for name, ip, secret, coa in self.peers:
+                file.write(PEER.format(name=name, ip=ip, secret=secret.decode(), coa=coa))
+            for name in self.realms:
+                at = REALMS.index(name)
+                file.write(REALM.format(name=name, out=PORT + 200 + at, reverse=PORT + 300 + at, own=self.own, home=HOME + at,
+                                        home_acct=HOME + 100 + at))
+
+    def start(self, by_script=False):
+        self.write()
+        self.log = open(os.path.join(self.work, 'log'), 'w+')
+        words = [RUN, self.conf] if by_script else [self.program, 'serve', self.conf]
+        self.process = subprocess.Popen(words, stdout=subprocess.DEVNULL, stderr=self.log,
+                                        env={**os.environ, 'ROAM': self.program})
+        for _ in range(200):
+            if 'serving' in self.said():
+                return
+            time.sleep(.05)
+        sys.exit('it does not serve: ' + self.said())
+
+    def said(self):
+        with open(self.log.name) as file:
+            return file.read()
+
+    def stop(self):
+        result = subprocess.run([self.program, 'ctl', self.control, 'stop'], capture_output=True, text=True, timeout=60)
+        want(result.returncode == 0 and self.process.wait(timeout=60) == 0, 'it stops')
+
+    def restart(self):
+        self.stop()
+        self.start()
+
+
+def accounting(peer, realm, status, session, number):
+    """Whether an Accounting-Request of a peer is answered."""
+    name, ip, secret, _ = PEERS[peer]
+    body = (attribute(1, b'user@' + realm.encode()) + attribute(40, struct.pack('!I', status)) + attribute(44, session)
+            + attribute(32, name.encode()))
+    one = bound(ip, 0)
+    one.sendto(signed(4, number % 256, body, secret), (HERE, PORT + 1))
+    try:
+        return one.recv(4096)[0] == 5
+    except TimeoutError:
+        return False
+    finally:
+        one.close()
+
+
+def is_disconnected(realm, session, peer):
+    """Whether a Disconnect-Request of the realm's home server, which names a session and no user, is acknowledged."""
+    body = attribute(32, PEERS[peer][0].encode()) + attribute(44, session)
+    one = bound(HERE, 0)
+    one.sendto(signed(40, 7, body, SECRET), (HERE, PORT + 300 + REALMS.index(realm)))
+    try:
+        return one.recv(4096)[0] == 41
+    except TimeoutError:
+        return False
+    finally:
+        one.close()
+
+
+class Sessions:
+    """Opens sessions of both peers in both realms, one after the other, and closes each tenth."""
+
+    def __init__(self):
+        self.open, self.closed, self.count, self.is_over = {}, {}, 0, False
+        self.thread = None
+
+    def some(self, count):
+        for _ in range(count):
+            peer, realm = self.count % 2, REALMS[self.count // 2 % 2]
+            session = b'%08X' % self.count
+            self.count += 1
+            if accounting(peer, realm, 1, session, self.count):
+                self.open[session] = realm, peer, time.monotonic()
+                if self.count % 10 == 0 and accounting(peer, realm, 2, session, self.count):
+                    self.closed[session] = self.open.pop(session)
+
+    def go_on(self):
+        self.is_over = False
+
+        def run():
+            while not self.is_over:
+                self.some(1)
+        self.thread = threading.Thread(target=run)
+        self.thread.start()
+
+    def end(self):
+        self.is_over = True
+        self.thread.join()
+
+    def are_disconnected(self, what, before=None):
+        """Each that was open then is disconnected, and none that was closed."""
+        lost = [it for it, (realm, peer, when) in self.open.items()
+                if (before is None or when < before) and not is_disconnected(realm, it, peer)]
+        want(self.open and not lost, f'{what}: of {len(self.open)} sessions that were open {len(lost)} are lost')
+        known = [it for it, (realm, peer, when) in list(self.closed.items())[:20]
+                 if (before is None or when < before) and is_disconnected(realm, it, peer)]
+        want(not known, 'and none is known that was closed')
+
+
+def try_stop(server):
+    sessions = Sessions()
+    sessions.some(200)
+    sessions.go_on()
+    time.sleep(2)
+    server.stop()
+    sessions.end()
+    want(os.stat(server.state).st_mode & 0o777 == 0o600, 'the file is for its owner alone')
+    want(not os.path.exists(server.state + '.new'), 'and none is left beside it')
+    server.peers.reverse()
+    server.realms.reverse()
+    server.start()
+    want('sessions read from ' + server.state in server.said(), 'it says what it reads')
+    sessions.are_disconnected('after a stop, with all tables turned about')
+
+
+def try_signal(server):
+    server.stop()
+    server.start(by_script=True)
+    sessions = Sessions()
+    sessions.some(50)
+    server.process.send_signal(signal.SIGTERM)
+    want(server.process.wait(timeout=60) == 0, 'roam-run ends it by TERM')
+    server.start()
+    sessions.are_disconnected('after TERM')
+
+
+def try_kill(server):
+    sessions = Sessions()
+    sessions.some(50)
+    time.sleep(1.5)
+    sessions.go_on()
+    time.sleep(2)
+    killed = time.monotonic()
+    server.process.kill()
+    server.process.wait()
+    sessions.end()
+    server.start()
+    sessions.are_disconnected('after a kill', killed - 1.5)
+
+
+def try_faulty(server):
+    sessions = Sessions()
+    sessions.some(10)
+    server.stop()
+    with open(server.state, 'rb') as file:
+        whole = file.read()
+    faulty = [('cut', whole[:-1]), ('cut', whole[:len(whole) // 2]), ('cut', whole[:15]), ('no file of ledgers', b''),
+              ("another version's file of ledgers", whole.replace(b'ledgers 1\n', b'ledgers 2\n', 1)),
+              ('no file of ledgers', b'somebody else\'s\n'), ('octets behind the end', whole + b'\0')]
+    for word, octets in faulty:
+        with open(server.state, 'wb') as file:
+            file.write(octets)
+        server.start()
+        with open(server.state + '.old', 'rb') as file:
+            kept = file.read()
+        want(f'{word}; it is {server.state}.old now' in server.said() and kept == octets, f'said and put aside: {word}')
+        server.stop()
+    with open(server.state, 'wb') as file:
+        file.write(whole)
+    server.start()
+    sessions.are_disconnected('of the whole file')
+    server.stop()
+
+
+def try_unwritable(server):
+    state, server.state = server.state, os.path.join(server.work, 'no', 'sessions')
+    server.start()
+    time.sleep(.5)
+    want(f"sessions aren't kept in {server.state} (errno 2)" in server.said(), 'where it cannot be written that is said')
+    sessions = Sessions()
+    sessions.some(4)
+    sessions.are_disconnected('and all else goes on')
+    server.state = state
+    server.write()
+    result = subprocess.run([server.program, 'ctl', server.control, 'reload'], capture_output=True, text=True)
+    sessions.some(4)
+    server.stop()
+    want(result.returncode == 0, 'a reload takes another path')
+    server.start()
+    sessions.open = dict(list(sessions.open.items())[-3:])
+    sessions.are_disconnected('which counts from then on')
+
+
+def try_other(server):
+    sessions = Sessions()
+    sessions.some(20)
+    server.stop()
+    server.peers = [peer for peer in server.peers if peer[0] == 'nas1']
+    server.start()
+    server.stop()
+    server.peers = list(PEERS)
+    server.start()
+    want(all(is_disconnected(realm, it, peer) == (peer == 0) for it, (realm, peer, _) in sessions.open.items()),
+         'sessions of a peer that went are not taken up, all others are')
+    server.stop()
+    server.own = 'true'
+    server.start()
+    want(not any(is_disconnected(realm, it, peer) for it, (realm, peer, _) in sessions.open.items()),
+         'nor are those of a realm that tells its sessions otherwise now')
+    server.stop()
+
+
+def main():
+    if len(sys.argv) != 2 or not os.access(sys.argv[1], os.X_OK):
+        sys.exit('usage: try-restart.py PROGRAM')
+    for at in range(2):
+        answering((HERE, HOME + at), 2, SECRET)
+        answering((HERE, HOME + 100 + at), 5, SECRET)
+    for _, ip, secret, coa in PEERS:
+        answering((ip, coa), 41, secret)
+    with tempfile.TemporaryDirectory() as work:
+        server = Server(os.path.realpath(sys.argv[1]), work)
+        server.start()
+        try:
+            for part in try_stop, try_signal, try_kill, try_faulty, try_unwritable, try_other:
+                part(server)
+        finally:
+            server.process.kill()
+
+
+if __name__ == '__main__':
+    main()
