@@ -266,6 +266,20 @@ CHANGES = [
     ('"192.0.2.1"', '"192.0.2.+1"', "BadValue"),
     ('"192.0.2.1"', '"192.0.2.1:1"', "BadValue"),
     ('"192.0.2.1"', '""', "BadValue"),
+    # Addresses of both kinds, and prefixes.
+    ('"192.0.2.1"', '"192.0.2.0/24"', None),
+    ('"192.0.2.1"', '"192.0.2.1/32"', None),
+    ('"192.0.2.1"', '"192.0.2.1/24"', "BadValue"),
+    ('"192.0.2.1"', '"192.0.2.0/33"', "BadValue"),
+    ('"192.0.2.1"', '"2001:db8::/48"', None),
+    ('"192.0.2.1"', '"2001:DB8:0:0:0:0:192.0.2.1"', None),
+    ('"192.0.2.1"', '"::ffff:192.0.2.1"', "BadValue"),
+    ('"192.0.2.1"', '"[2001:db8::1]"', "BadValue"),
+    ('nas_ip = "192.0.2.1"', 'nas_ipv6 = "2001:db8::1"', None),
+    ('nas_ip = "192.0.2.1"', 'nas_ipv6 = "192.0.2.1"', "BadValue"),
+    ('nas_ip = "192.0.2.1"', 'nas_ip = "2001:db8::1"', "BadValue"),
+    ('coa = "192.0.2.1:3799"', 'coa = "[2001:db8::1]:3799"', None),
+    ('coa = "192.0.2.1:3799"', 'coa = "2001:db8::1:3799"', "BadValue"),
     (":1812", ":01812", "BadValue"),
     (":1812", ":", "BadValue"),
     (":1812", ":+1812", "BadValue"),
@@ -441,6 +455,10 @@ DOCUMENTS = [
     ([TOP, PEER, REALM, SERVER, SECOND_REALM, SERVER], "127.0.0.1:3001", "127.0.0.1:2000", "DuplicateEndpoint"),
     ([TOP, PEER, REALM, SERVER, SECOND_REALM, SERVER], AS_IT_IS, AS_IT_IS, None),
     ([TOP, PEER, REALM, SERVER, SECOND_REALM, SECOND_SERVER], "198.51.100.2:1812", "192.0.2.1:3799", "DuplicateLink"),
+    # Two prefixes that are the same, in other spellings; a socket of another kind than its server.
+    ([TOP, PEER, SECOND_PEER, REALM, SERVER], '"192.0.2.2"', '"192.0.2.1/32"', "DuplicatePeer"),
+    ([TOP, PEER, SECOND_PEER, REALM, SERVER], '"192.0.2.2"', '"192.0.2.0/24"', None),
+    ([TOP, PEER, REALM, SERVER], "127.0.0.1:2000", "[2001:db8::10]:2000", "NoWayOut"),
     # Arrays that mix tables and other values: the keys of the tables are looked for first.
     (['peer = [{ name = "nas1" }, 1]\n', TOP, REALM, SERVER], AS_IT_IS, AS_IT_IS, "Missing"),
     (['peer = [{ name = "nas1", ip = "192.0.2.1", secret = "s" }, 1]\n', TOP, REALM, SERVER], AS_IT_IS, AS_IT_IS, "BadValue"),
@@ -685,3 +703,32 @@ LEAST_WITH_REVERSE = [LEAST_TOP, PLAIN_PEER, LEAST_REALM, 'reverse = "127.0.0.1:
 # What counts where a number isn't written: at the top, and in a realm.
 NUMBERS_AT_TOP = {"shards": 1, "seed": "0" * 64, "trace_limit": 100000, "trace_octets": 67108864, "status_server": False, "spread": False}
 NUMBERS_OF_REALM = {"tries": 3, "wait": 2000, "hold": 10000, "max_pending": 4096, "rest": 30000, "rest_after": 3}
+
+# Peers at prefixes, of both kinds, one within the other; addresses, and by its place the peer that each is of.
+NETWORKS = """
+[[peer]]
+name = "all"
+ip = "0.0.0.0/0"
+secret = "s1"
+[[peer]]
+name = "network"
+ip = "192.0.2.0/24"
+secret = "s2"
+[[peer]]
+name = "site"
+ip = "2001:DB8:0:0::/32"
+secret = "s3"
+[[peer]]
+name = "host"
+ip = "2001:db8::1"
+secret = "s4"
+"""
+SECRETS_OF_NETWORKS = [b"xyzzy5461", b"s1", b"s2", b"s3", b"s4"]
+AT_NETWORKS = [
+    ("192.0.2.1:5000", 0),
+    ("192.0.2.2:5000", 2),
+    ("192.0.3.1:5000", 1),
+    ("[2001:db8::1]:5000", 4),
+    ("[2001:db8:ffff::1]:5000", 3),
+    ("[2001:db9::1]:5000", None),
+]

@@ -73,11 +73,17 @@ TOLD = [
     ('"xyzzy5461"', "5461", 'BadValue\na.conf:10: peer "nas1": secret: is not a text of 1..64 octets: put it in quotation marks\n'),
     ("0001", "001", "BadValue\na.conf:2: seed: is not a text of 64 hexadecimal digits\n"),
     ('"192.0.2.1"',
-     '"192.0.2.0/24"',
-     'BadValue\na.conf:9: peer "nas1": ip: "192.0.2.0/24" is no IPv4 address in decimal, as "192.0.2.1"\n'),
+     '"192.0.2.1/24"',
+     "BadValue\n"
+     'a.conf:9: peer "nas1": ip: "192.0.2.1/24" is no address or prefix, as "192.0.2.1", "2001:db8::1" or "192.0.2.0/24", whose other bits are 0\n'),
+    ('coa = "192.0.2.1:3799"',
+     'nas_ip = "2001:db8::1"\nnas_ipv6 = "192.0.2.1"',
+     "BadValue\n"
+     'a.conf:11: peer "nas1": nas_ip: "2001:db8::1" is no IPv4 address in decimal, as "192.0.2.1"\n'
+     'a.conf:12: peer "nas1": nas_ipv6: "192.0.2.1" is no IPv6 address, as "2001:db8::1"\n'),
     ('"127.0.0.1:1813"',
      '"localhost:1813"',
-     'BadValue\na.conf:4: acct: "localhost:1813" is no IPv4 address with a port of 1..65535, as "192.0.2.1:1812"\n'),
+     'BadValue\na.conf:4: acct: "localhost:1813" is no address with a port of 1..65535, as "192.0.2.1:1812" or "[2001:db8::1]:1812"\n'),
     ('"nas1"',
      '"a\\u001b\\"\\\\"',
      'BadValue\na.conf:8: peer "a\\u{1b}\\"\\\\": name: "a\\u{1b}\\"\\\\" is not 1..64 of ASCII letters, digits, . - and _\n'),
@@ -105,7 +111,7 @@ TOLD = [
     ("coa =",
      'nas_id = """\n[[realm]]\nwait = 0"""\ncoa = 1 #',
      "BadValue\n"
-     'a.conf:14: peer "nas1": coa: 1 is no IPv4 address with a port of 1..65535, as "192.0.2.1:1812": put it in quotation marks\n'),
+     'a.conf:14: peer "nas1": coa: 1 is no address with a port of 1..65535, as "192.0.2.1:1812" or "[2001:db8::1]:1812": put it in quotation marks\n'),
     ("tries = 2\nwait = 1000\nhold = 5000\nmax_pending = 300\nmax_sessions = 100\n",
      "tries = 0\nwait = 0\nhold = -1\nmax_pending = 0\nmax_sessions = -1\nrest = -1\nrest_after = 0\nalso = 0\na = 0\nb = 0\nc = 0\n",
      "BadValue\n"
@@ -162,7 +168,7 @@ TOLD = [
     ("[[realm.server]]",
      '[[realm.coa_client]]\nip = "198.51.100.9/32"\nsecret = "of the client"\nport = 1\n[[realm.server]]',
      "BadValue\n"
-     'a.conf:25: realm "a.example", coa_client 1: ip: "198.51.100.9/32" is no IPv4 address in decimal, as "192.0.2.1"\n'
+     'a.conf:25: realm "a.example", coa_client 1: ip: "198.51.100.9/32" is no address, as "192.0.2.1" or "2001:db8::1"\n'
      'a.conf:27: realm "a.example", coa_client 1: port: is no key of a coa_client\n'),
     ("[[realm]]",
      '[[coa_client]]\nip = "198.51.100.9"\n[[realm]]',
@@ -198,6 +204,15 @@ TOLD = [
     ('"192.0.2.1:3799"',
      '"198.51.100.1:1813"',
      'DuplicateLink\na.conf:26: realm "a.example", server 1: acct: "198.51.100.1:1813" stands also in line 11: peer "nas1": coa\n'),
+    ("\n[[realm]]\n",
+     '[[peer]]\nname = "nas2"\nip = "2001:db8::/32"\nsecret = "s"\n[[peer]]\nname = "nas3"\nip = "2001:DB8:0::/32"\nsecret = "s"\n[[realm]]\n',
+     'DuplicatePeer\na.conf:19: peer "nas3": ip: "2001:DB8:0::/32" stands also in line 15: peer "nas2": ip\n'),
+    # A socket of the other kind than the servers.
+    ('"127.0.0.1:2000"',
+     '"[2001:db8::10]:2000"',
+     "NoWayOut\n"
+     'a.conf:25: realm "a.example", server 1: auth: "198.51.100.1:1812" is IPv4, but out is IPv6\n'
+     'a.conf:26: realm "a.example", server 1: acct: "198.51.100.1:1813" is IPv4, but out is IPv6\n'),
     # What is advised.
     ("shards = 1", "shards = 1", ""),
     ("0001", "0000", ""),
@@ -221,7 +236,7 @@ TOLD = [
      "a.conf:27: realm \"a.example\", server 1: secret: is a sample's, which everybody knows: make one of your own\n"),
     ('"127.0.0.1:2000"',
      '"0.0.0.0:2000"',
-     'a.conf:16: realm "a.example": out: is 0.0.0.0: replies may leave from another address than the one that was asked\n'),
+     'a.conf:16: realm "a.example": out: is every address: replies may leave from another address than the one that was asked\n'),
     ('auth = "198.51.100.1:1812"',
      'auth = "127.0.0.1:1812"',
      "a.conf:25: realm \"a.example\", server 1: auth: is the broker's own: what is sent there comes back to it\n"),

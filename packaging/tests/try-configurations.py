@@ -3,7 +3,8 @@
 
 Runs `PROGRAM check` on each document of configuration_rows.py: it must accept it, or refuse it with the fault that stands there. What
 `PROGRAM check --all` prints of an accepted one must state each value of the document, as Python's own reader of TOML finds them.
-`PROGRAM sim` tells which realm a name means, by requests that it forwards, and which access server a NAS-Identifier.
+`PROGRAM sim` tells which realm a name means, by requests that it forwards, which access server a NAS-Identifier, and which peer is at an
+address, by whose secret a request from there is taken.
 """
 import concurrent.futures
 import hashlib
@@ -193,6 +194,16 @@ def look_at_access_servers(trial, parts, names):
         want(len(packets) == 1 and (to, code) == wanted, f"{name!r}: {packets}, not {wanted}")
 
 
+def look_at_addresses(trial):
+    """What comes from an address is taken where it is signed by the secret of the longest prefix that has it, and by no other."""
+    text = "".join([rows.TOP, rows.PEER, rows.NETWORKS, rows.REALM, rows.SERVER])
+    for at, peer in rows.AT_NETWORKS:
+        for number, secret in enumerate(rows.SECRETS_OF_NETWORKS):
+            attributes = attribute(1, b"u@a.example") + attribute(40, bytes([0, 0, 0, 1])) + attribute(44, b"1")
+            packets = simulated(trial, text, [f"A 0 acct {at} {signed(4, 7, attributes, secret).hex()}"])
+            want(bool(packets) == (number == peer), f"{at} by the secret of peer {number}: {packets}")
+
+
 def main():
     if len(sys.argv) != 2:
         sys.exit(__doc__)
@@ -211,6 +222,7 @@ def main():
         for top, nth in (("", 1), ("well_formed = true\n", 2)):
             text = with_patterns(by_all, "", 'reject = ["x.a.example", "*.gone"]\n' + top)
             look_at_names(trial, text, [(row[0], row[nth]) for row in rows.REJECTED])
+        look_at_addresses(trial)
         for parts, names in ((rows.CONTROLLERS, rows.OF_CONTROLLERS), (rows.STARS, rows.OF_STARS), (rows.STARRED, rows.OF_STARRED)):
             look_at_access_servers(trial, parts, names)
     print(f"{len(tried)} configurations are accepted or refused as they should be, and mean what they state")

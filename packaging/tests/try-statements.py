@@ -7,6 +7,7 @@ must find in it each value of the file, and it must have each key of docs/FILES.
 tries what the program says of words and files that it can't take.
 """
 
+import ipaddress
 import os
 import re
 import shutil
@@ -19,8 +20,9 @@ sys.dont_write_bytecode = True
 ROOT = os.path.dirname(os.path.dirname(os.path.dirname(os.path.abspath(__file__))))
 FOLDERS = ("packaging/samples", "examples")
 # What counts where one of these is absent can't be written.
-WITHOUT_DEFAULT = {"max_hops", "metrics", "control", "coa", "nas_ip", "nas_id", "reverse", "operator_name", "peers", "share", "acct", "max_attributes", "fresh",
-                   "peer_share", "coa_client", "state"}
+WITHOUT_DEFAULT = {"max_hops", "metrics", "control", "coa", "nas_ip", "nas_ipv6", "nas_id", "reverse", "operator_name", "peers", "share", "acct",
+                   "max_attributes", "fresh", "peer_share", "coa_client", "state"}
+ENDPOINTS = {"auth", "acct", "out", "reverse", "coa", "metrics"}
 USAGE = "usage: roam check CONF\n"
 
 
@@ -45,6 +47,17 @@ def keys_of_page():
     return keys
 
 
+def spelled(key, value):
+    """A value as it is printed: of an address, a prefix and an endpoint there is one text (RFC 5952)."""
+    if key in ("ip", "nas_ipv6"):
+        network = ipaddress.ip_network(value)
+        return str(network.network_address if network.num_addresses == 1 else network)
+    if key in ENDPOINTS:
+        host, port = value.rsplit(":", 1)
+        return f"[{ipaddress.ip_address(host[1:-1])}]:{port}" if host.startswith("[") else value
+    return value
+
+
 def look_at_table(given, stated, kind, keys, where):
     """All keys stand there in their order, and those of the file with its values."""
     wanted = [key for key in keys[kind] if key not in WITHOUT_DEFAULT or key in given]
@@ -57,7 +70,7 @@ def look_at_table(given, stated, kind, keys, where):
         elif key == "log_exchanges" and isinstance(value, bool):
             want(stated[key] == ("all" if value else "none"), f"{where}: {key} is {stated[key]}")
         else:
-            want(stated[key] == value, f"{where}: {key} is {stated[key]!r}, not {value!r}")
+            want(stated[key] == spelled(key, value), f"{where}: {key} is {stated[key]!r}, not {value!r}")
 
 
 def look_at_file(program, path, keys, folder):

@@ -11,6 +11,7 @@ use Rattle.roam_wire.specs.declared.packet_size.TheConstants.{MAX_PACKET_LENGTH}
 use Rattle.roam_conf.specs.Config.{CoaClientView, PeerView, RealmView, ServerView}
 use Rattle.roam_conf.specs.Lookup.{client_with_ip, home_with_ip, homes, reverse_home, server_with_ip}
 use Rattle.roam_conf.specs.Secrets.{home_secret}
+use Rattle.roam_address.specs.declared.address.Address.{Address}
 use Rattle.roam_address.specs.declared.endpoint.Endpoint.{Endpoint}
 use Rattle.roam_conf.specs.declared.place.Link.{Link}
 use Rattle.roam_fwd.specs.Forwarded.{forwarded_length}
@@ -161,17 +162,17 @@ place_below test xs i is =
     let within = slice_get_within xs k.0 k.1 k.2 in
     omega (arith, within, k.4)
 
-server_below : (servers : List ServerView) (ip : List ℕ) (i : ℕ) → server_with_ip servers ip ≡ Some i
+server_below : (servers : List ServerView) (ip : Address) (i : ℕ) → server_with_ip servers ip ≡ Some i
     → i < length servers
 unfolding server_with_ip
 server_below servers ip i is = place_below _ servers i is
 
-client_below : (clients : List CoaClientView) (ip : List ℕ) (i : ℕ) → client_with_ip clients ip ≡ Some i
+client_below : (clients : List CoaClientView) (ip : Address) (i : ℕ) → client_with_ip clients ip ≡ Some i
     → i < length clients
 unfolding client_with_ip
 client_below clients ip i is = place_below _ clients i is
 
-found_below : (r : RealmView) (ip : List ℕ) (i : ℕ) (server client : Option ℕ)
+found_below : (r : RealmView) (ip : Address) (i : ℕ) (server client : Option ℕ)
     → server_with_ip r.servers ip ≡ server → client_with_ip r.coa_clients ip ≡ client
     → option_or server (option_map (λ k. length r.servers + k) client) ≡ Some i → i < homes r
 found_below r ip i (Some j) client at behind is =
@@ -180,13 +181,13 @@ found_below r ip i None (Some k) at behind is =
     omega (arith, client_below r.coa_clients ip k behind, same_Some (length r.servers + k) i is)
 found_below r ip i None None at behind is = absurd (cc is)
 
-reverse_below : (r : RealmView) (ip : List ℕ) (i : ℕ) (o : Option Endpoint)
+reverse_below : (r : RealmView) (ip : Address) (i : ℕ) (o : Option Endpoint)
     → option_and_then (λ own. home_with_ip r ip) o ≡ Some i → i < homes r
 reverse_below r ip i None is = absurd (cc is)
 reverse_below r ip i (Some own) is =
     found_below r ip i (server_with_ip r.servers ip) (client_with_ip r.coa_clients ip) refl refl is
 
-at_by : (r : RealmView) (secret ip : List ℕ) (i : ℕ) (o : Option ℕ) → reverse_home r ip ≡ o
+at_by : (r : RealmView) (secret : List ℕ) (ip : Address) (i : ℕ) (o : Option ℕ) → reverse_home r ip ≡ o
     → option_and_then (λ home. if bytes_eq (home_secret r home) secret then Some home else None) o ≡ Some i
     → i < homes r
 at_by r secret ip i None at is = absurd (cc is)
@@ -200,7 +201,7 @@ at_by r secret ip i (Some home) at is =
       | inr n ↦ absurd (let k : None ≡ Some i = rw n at is in cc)
     ]
 
-home_after : (old new : RealmView) (ip : List ℕ) (home i : ℕ) → home_then old new ip home ≡ Some i → home < homes old
+home_after : (old new : RealmView) (ip : Address) (home i : ℕ) → home_then old new ip home ≡ Some i → home < homes old
     → i < homes new
 home_after old new ip home i is below =
     elim (cases_Bool (closes_reverse old new)) as (λ _. i < homes new) [

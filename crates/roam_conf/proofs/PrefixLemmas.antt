@@ -1,6 +1,5 @@
 -- The index of peers finds the peer that the look-up says, since no two of them that are here have the same prefix.
-use Rattle.std.proofs.Common.{◌≡◌, ℕ, zero, suc, ◌+◌, ◌<◌, ◌≤◌, ◌&&◌, ◌||◌, Bool, true, false, not, cond, inl, inr, List, [], ◌∷◌, ◌++◌, filter, map, length, drop, drop-cons, get_or, append_assoc, append-nil, Option, Some, None, option_map, refl, sym, ap, ◌∙◌, arith}
-use Rattle.std.proofs.Math.ListN.{drop_of_length-le}
+use Rattle.std.proofs.Common.{◌≡◌, ℕ, zero, suc, ◌+◌, ◌<◌, ◌&&◌, ◌||◌, Bool, true, false, not, cond, inl, inr, List, [], ◌∷◌, filter, map, Option, Some, None, option_map, refl, sym, ap, ◌∙◌, arith}
 use Rattle.std.proofs.lemmas.Bool.{cases_Bool, false≢true, or_parts}
 use Rattle.std.proofs.lemmas.Option.{same_Some, none-some, slice_get-map}
 use Rattle.std.specs.List.{list_any, position_from, slice_get}
@@ -194,59 +193,3 @@ longest_peer peers ip found distinct longest =
     at ∙ ap (λ (l : List PrefixView). position_from (is_longest l ip) 0 prefixes) (prefixes_shown peers) in
     ap (option_and_then (slice_get (places_in 0 peers))) same
     ∙ placed (is_longest (prefixes_present views) ip) 0 peers
-
--- ---- one peer after the other
-
-from_here : (peers : List Peer) (i : ℕ) (peer : Peer) → i < length peers → peer ≡ get_or peers i peer →
-    drop i peers ≡ peer ∷ drop (i + 1) peers
-from_here peers i peer within is =
-    let next : suc i ≡ i + 1 = omega arith in
-    drop-cons peers i peer within ∙ ap (λ n. get_or peers i peer ∷ drop n peers) next
-    ∙ ap (λ p. p ∷ drop (i + 1) peers) (sym is)
-
-one_more : {X : Type 0} (front tail whole all : List X) (x : X) → whole ≡ x ∷ tail → front ++ whole ≡ all →
-    (front ++ x ∷ []) ++ tail ≡ all
-one_more front tail whole all x is so_far =
-    append_assoc front (x ∷ []) tail ∙ ap (λ l. front ++ l) (sym is) ∙ so_far
-
-pub prefix_more : (peers : List Peer) (i : ℕ) (peer : Peer) (front all : List Prefix) → i < length peers →
-    peer ≡ get_or peers i peer → peer.gone ≡ false → front ++ prefixes_in (drop i peers) ≡ all →
-    (front ++ peer_prefix peer ∷ []) ++ prefixes_in (drop (i + 1) peers) ≡ all
-prefix_more peers i peer front all within is here so_far =
-    let whole : prefixes_in (drop i peers) ≡ peer_prefix peer ∷ prefixes_in (drop (i + 1) peers) =
-    ap prefixes_in (from_here peers i peer within is) ∙ rw here refl in
-    one_more front (prefixes_in (drop (i + 1) peers)) (prefixes_in (drop i peers)) all (peer_prefix peer) whole so_far
-
-pub prefix_over : (peers : List Peer) (i : ℕ) (peer : Peer) (front all : List Prefix) → i < length peers →
-    peer ≡ get_or peers i peer → peer.gone ≡ true → front ++ prefixes_in (drop i peers) ≡ all →
-    front ++ prefixes_in (drop (i + 1) peers) ≡ all
-prefix_over peers i peer front all within is gone so_far =
-    let whole : prefixes_in (drop i peers) ≡ prefixes_in (drop (i + 1) peers) =
-    ap prefixes_in (from_here peers i peer within is) ∙ rw gone refl in
-    ap (λ l. front ++ l) (sym whole) ∙ so_far
-
-pub prefix_last : (peers : List Peer) (i : ℕ) (front all : List Prefix) → length peers ≤ i →
-    front ++ prefixes_in (drop i peers) ≡ all → front ≡ all
-prefix_last peers i front all past so_far =
-    sym (append-nil front) ∙ ap (λ ps. front ++ prefixes_in ps) (sym (drop_of_length-le peers past)) ∙ so_far
-
-pub place_more : (peers : List Peer) (i : ℕ) (peer : Peer) (front all : List ℕ) → i < length peers →
-    peer ≡ get_or peers i peer → peer.gone ≡ false → front ++ places_in i (drop i peers) ≡ all →
-    (front ++ i ∷ []) ++ places_in (i + 1) (drop (i + 1) peers) ≡ all
-place_more peers i peer front all within is here so_far =
-    let whole : places_in i (drop i peers) ≡ i ∷ places_in (i + 1) (drop (i + 1) peers) =
-    ap (places_in i) (from_here peers i peer within is) ∙ rw here refl in
-    one_more front (places_in (i + 1) (drop (i + 1) peers)) (places_in i (drop i peers)) all i whole so_far
-
-pub place_over : (peers : List Peer) (i : ℕ) (peer : Peer) (front all : List ℕ) → i < length peers →
-    peer ≡ get_or peers i peer → peer.gone ≡ true → front ++ places_in i (drop i peers) ≡ all →
-    front ++ places_in (i + 1) (drop (i + 1) peers) ≡ all
-place_over peers i peer front all within is gone so_far =
-    let whole : places_in i (drop i peers) ≡ places_in (i + 1) (drop (i + 1) peers) =
-    ap (places_in i) (from_here peers i peer within is) ∙ rw gone refl in
-    ap (λ l. front ++ l) (sym whole) ∙ so_far
-
-pub place_last : (peers : List Peer) (i : ℕ) (front all : List ℕ) → length peers ≤ i →
-    front ++ places_in i (drop i peers) ≡ all → front ≡ all
-place_last peers i front all past so_far =
-    sym (append-nil front) ∙ ap (λ ps. front ++ places_in i ps) (sym (drop_of_length-le peers past)) ∙ so_far

@@ -221,10 +221,7 @@ impl Config {
         ensures value { result ≡ peer_with_ip (shown self.now).peers ip }
         ensures bound { IfSome result (λ p. p < vec_len self.now.peers) }
     {
-        match self.found_by.ips.prefixes.longest(ip) {
-            Some(place) => self.found_by.ips.places.get(place).copied(),
-            None => None,
-        }
+        self.found_by.ips.longest(ip)
     }
 
     /// The link of a realm that the endpoint is; `None` also where the realm isn't configured.

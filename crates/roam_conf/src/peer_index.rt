@@ -1,12 +1,12 @@
 //! The peer of an address, by the longest prefix.
 
-ghost use Rattle.std.specs.Prelude.{◌≡◌, ◌≤◌, ◌^◌, IfOk, length, map, false};
+ghost use Rattle.std.specs.Prelude.{◌≡◌, ◌≤◌, ◌^◌, IfOk, length, map, false, slice_get};
 ghost use Rattle.roam_address.specs.Stands.{StandsFor};
 ghost use Rattle.roam_conf.specs.Duplicates.{has_duplicate_peer};
 ghost use Rattle.roam_conf.specs.Parts.{shown_peer};
 ghost use Rattle.roam_conf.specs.PeerIndex.{FindsPeers, prefixes_in, places_in};
 
-use crate::{Peer, Prefix};
+use crate::{Address, Peer, Prefix};
 use roam_address::PrefixIndex;
 use std::alloc::{AllocError, Global};
 
@@ -57,7 +57,21 @@ fn index_of(alloc: Global, peers: &[Peer]) -> Result<PrefixIndex<Global>, AllocE
     }
 }
 
+/// The index at a place, where there is one.
+fn index_at(indexes: &[u16], place: usize) -> Option<u16>
+    ensures { result ≡ slice_get indexes.now place }
+{
+    match indexes.get(place) {
+        Some(index) => Some(*index),
+        None => None,
+    }
+}
+
 impl PeerIndex {
+    ghost use Rattle.std.specs.Prelude.{List};
+    ghost use Rattle.roam_conf.specs.Lookup.{peer_with_ip};
+    ghost use Rattle.roam_conf.specs.declared.peer.Peer.{Peer};
+
     /// The index of these peers.
     pub(crate) fn new(alloc: Global, peers: &[Peer]) -> Result<PeerIndex, AllocError>
         requires few { length peers.now ≤ 2 ^ 16 }
@@ -67,5 +81,15 @@ impl PeerIndex {
         let prefixes = index_of(alloc, peers)?;
         let places = places_of(alloc, peers)?;
         Ok(PeerIndex { prefixes, places })
+    }
+    /// The index of the peer whose prefix is the longest of those that have the address.
+    pub(crate) fn longest(&self, ip: Address) -> Option<u16>
+        ensures { (peers : List Peer) → FindsPeers self.now peers → has_duplicate_peer (map shown_peer peers) ≡ false
+            → result ≡ peer_with_ip (map shown_peer peers) ip }
+    {
+        match self.prefixes.longest(ip) {
+            Some(place) => index_at(self.places.as_slice(), place),
+            None => None,
+        }
     }
 }

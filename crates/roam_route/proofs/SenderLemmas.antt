@@ -1,21 +1,42 @@
 -- Who sent a packet is configured, and so is the realm of its place, or the one that it names.
-use Rattle.std.proofs.Common.{◌≡◌, ◌<◌, ℕ, List, length, Option, Some, None, refl, ap}
+use Rattle.std.proofs.Common.{◌≡◌, ◌<◌, ℕ, ◌+◌, ◌⊎◌, Bool, true, false, cond, List, [], ◌∷◌, length, Option, Some, None, inl, inr, refl, ap, arith}
 use Rattle.std.specs.Prelude.{option_map, option_and_then, slice_get}
+use Rattle.std.specs.List.{position_from}
 use Rattle.std.proofs.lemmas.Option.{option_and_then_some, slice_get_within}
+use Rattle.roam_address.specs.declared.address.Address.{Address}
 use Rattle.roam_wire.specs.Packet.{Attribute}
 use Rattle.roam_wire.specs.Attributes.{first_value}
 use Rattle.roam_wire.specs.declared.attribute_type.TheConstants.{USER_NAME}
-use Rattle.roam_conf.specs.Config.{ConfigView, RealmView}
+use Rattle.roam_conf.specs.Config.{ConfigView, PeerView, RealmView}
 use Rattle.roam_conf.specs.Lookup.{realm_named, peer_with_ip, link_at, link_in, home_in, reverse_home}
 use Rattle.roam_conf.specs.declared.place.Link.{Link}
 use Rattle.roam_conf.specs.declared.place.Place.TheVariants as place
 use Rattle.roam_conf.proofs.LookupLaws.{realm_named_within}
 use Rattle.roam_conf.proofs.OneLinkLemmas.{link_in_bound, home_in_bound}
-use Rattle.roam_conf.proofs.PrefixLemmas.{peer_with_ip_within}
 use Rattle.roam_route.specs.UserName.{realm_of, realm_part}
 use Rattle.roam_route.specs.Admission.{Arrival, sender}
 use Rattle.roam_route.specs.Events.{IsConfigured}
 use Rattle.roam_route.specs.declared.job.Side.TheVariants as side
+
+either_some : (b : Bool) (i x : ℕ) (rest : Option ℕ) → cond b (Some i) rest ≡ Some x
+    → (i ≡ x) ⊎ (rest ≡ Some x)
+either_some true i x rest h = inl (cc)
+either_some false i x rest h = inr h
+
+-- a place that is found lies within the list
+position_within : {K : Type 0} → (test : K → Bool) (i : ℕ) (xs : List K) (x : ℕ)
+    → position_from test i xs ≡ Some x → x < i + length xs
+position_within test i [] x h = absurd (cc)
+position_within test i (y ∷ ys) x h =
+    elim (either_some (test y) i x (position_from test (i + 1) ys) h) [
+      | inl same ↦ omega arith
+      | inr later ↦ let within = position_within test (i + 1) ys x later in omega arith
+    ]
+
+peer_within : (peers : List PeerView) (ip : Address) (i : ℕ) → peer_with_ip peers ip ≡ Some i
+    → i < length peers
+unfolding peer_with_ip
+peer_within peers ip i h = let within = position_within _ 0 peers i h in omega arith
 
 -- the realm that a request names is configured
 pub realm_of_within : (config : ConfigView) (attributes : List Attribute) (x : ℕ)
@@ -51,7 +72,7 @@ pub peer_known : (config : ConfigView) (a : Arrival) (i : ℕ)
     → option_map (λ n. side.Peer n) (peer_with_ip config.peers a.from.ip) ≡ Some (side.Peer i)
     → i < length config.peers
 peer_known config a i from =
-    peer_with_ip_within config.peers a.from.ip i (peer_found (peer_with_ip config.peers a.from.ip) i from)
+    peer_within config.peers a.from.ip i (peer_found (peer_with_ip config.peers a.from.ip) i from)
 
 -- a link, and the realm of its place
 pub link_known : (config : ConfigView) (a : Arrival) (realm : ℕ) (l : Link)

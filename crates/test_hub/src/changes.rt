@@ -21,6 +21,7 @@ use std::sync::Wait;
 use test_fixtures::configuration::{SECOND_REALM, SERVER};
 
 /// What comes in, in hexadecimal digits, and the one packet that is sent for it.
+#[derive(Drop)]
 pub(crate) struct Exchange {
     at: Place,
     from: Endpoint,
