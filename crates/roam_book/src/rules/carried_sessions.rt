@@ -78,7 +78,8 @@ impl<A: Allocator + Copy> RealmNumbers<A> {
             close_gone(old, new, changed, &mut self.sessions);
             self.sessions.limit_to(new.max_sessions());
         } else {
-            self.sessions = Sessions::new(self.alloc, new.max_sessions(), new.hash_key());
+            self.sessions
+                .begin_anew(new.max_sessions(), new.hash_key());
         }
     }
 }
