@@ -76,6 +76,8 @@ pub(crate) fn carry_sessions<A: Allocator + Copy>(
         close_gone(old, new, changed, &mut numbers.sessions);
         numbers.sessions.limit_to(new.max_sessions());
     } else {
-        numbers.sessions = Sessions::new(numbers.alloc, new.max_sessions(), new.hash_key());
+        numbers
+            .sessions
+            .begin_anew(new.max_sessions(), new.hash_key());
     }
 }

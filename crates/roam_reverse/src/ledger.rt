@@ -24,7 +24,8 @@ use std::marker::Model;
 pub struct Sessions<A: Allocator> {
     alloc: A,
     limit: u32,
-    pub(crate) chain: Chain<A>,
+    /// It lies by itself, so that a ledger is small where it is moved.
+    pub(crate) chain: Box<Chain<A>, A>,
 }
 
 impl<A: Allocator> Drop for Sessions<A> {
@@ -48,32 +49,44 @@ impl<A: Allocator> Model for Sessions<A> {
 
     ghost view = { λ l. record {
       limit = l.limit;
-      sessions = sessions_of l.chain;
-      spare = l.chain.spare;
+      sessions = sessions_of l.chain.value;
+      spare = l.chain.value.spare;
     } };
 
-    ghost invariant = { λ l. IsSound l.chain × (session_count l.chain ≤ l.limit) };
+    ghost invariant = { λ l. IsSound l.chain.value × (session_count l.chain.value ≤ l.limit) };
 }
 
 impl<A: Allocator + Copy> Sessions<A> {
-    /// No sessions, and at most so many from now on. What it answers doesn't depend on the key of its hashes. Takes no
-    /// memory.
-    pub fn new(alloc: A, limit: u32, key: HashKey) -> Sessions<A>
-        ensures limit { result.limit ≡ limit }
-        ensures sessions { result.sessions ≡ [] }
+    /// No sessions, and at most so many from now on. What it answers doesn't depend on the key of its hashes.
+    /// `NoMemory` comes where a growth was refused.
+    pub fn new(alloc: A, limit: u32, key: HashKey) -> Result<Sessions<A>, NoMemory>
+        ensures limit { IfOk result (λ ledger. ledger.limit ≡ limit) }
+        ensures sessions { IfOk result (λ ledger. ledger.sessions ≡ []) }
     {
-        Sessions {
-            alloc,
-            limit,
-            chain: Chain::new(alloc, key),
+        match Box::new(alloc, Chain::new(alloc, key)) {
+            Ok(chain) => Ok(Sessions {
+                alloc,
+                limit,
+                chain,
+            }),
+            Err(_) => Err(NoMemory),
         }
+    }
+
+    /// All sessions go, and at most so many are kept from now on, whose hashes have this key. Takes no memory.
+    pub fn begin_anew(&mut self, limit: u32, key: HashKey)
+        ensures limit { self.new.limit ≡ limit }
+        ensures sessions { self.new.sessions ≡ [] }
+    {
+        *self.chain = Chain::new(self.alloc, key);
+        self.limit = limit;
     }
 
     /// How many sessions are open. Takes no memory.
     pub fn len(&self) -> usize
         ensures { result ≡ length self.now.sessions }
     {
-        self.chain.len()
+        (*self.chain).len()
     }
 
     /// Whether a session is open. Takes no memory.
@@ -81,7 +94,7 @@ impl<A: Allocator + Copy> Sessions<A> {
         ensures found { result ≡ has_session (shown_session session.entry) self.now.sessions }
         ensures ledger { IsLedger self.now.limit self.now.sessions }
     {
-        self.chain.find(session).is_some()
+        (*self.chain).find(session).is_some()
     }
 
     /// How many sessions agree with what is asked, which names an id. Takes no memory.
@@ -89,7 +102,7 @@ impl<A: Allocator + Copy> Sessions<A> {
         requires { is_some (shown_asked asked).id ≡ true }
         ensures { result ≡ length (filter (agrees (shown_asked asked.entry)) self.now.sessions) }
     {
-        self.chain.count(asked)
+        (*self.chain).count(asked)
     }
 
     /// Makes all growth that the change by an Accounting-Request of a peer wants, where names of access servers
@@ -143,7 +156,7 @@ impl<A: Allocator + Copy> Sessions<A> {
             });
         }
         let new = NewSession::copy_of(self.alloc, session)?;
-        self.chain.reserve()?;
+        (*self.chain).reserve()?;
         Ok(PreparedChange {
             change: Change::Opens(new),
         })
@@ -211,8 +224,8 @@ impl<A: Allocator + Copy> Sessions<A> {
         if self.has(new.session.lend()) || self.limit == 0 {
             return;
         }
-        self.chain.append(new);
-        self.chain.keep_within(self.limit as usize);
+        (*self.chain).append(new);
+        (*self.chain).keep_within(self.limit as usize);
     }
 
     /// Takes a session out.
@@ -221,8 +234,8 @@ impl<A: Allocator + Copy> Sessions<A> {
         ensures sessions { self.new.sessions
             ≡ without_session (shown_session session.entry) self.old.sessions }
     {
-        if let Some(ticket) = self.chain.find(session) {
-            self.chain.remove(ticket);
+        if let Some(ticket) = (*self.chain).find(session) {
+            (*self.chain).remove(ticket);
         }
     }
 
@@ -233,7 +246,7 @@ impl<A: Allocator + Copy> Sessions<A> {
         ensures sessions { self.new.sessions
             ≡ without_agreeing (shown_asked asked.entry) self.old.sessions }
     {
-        self.chain.remove_agreeing(asked);
+        (*self.chain).remove_agreeing(asked);
     }
 
     /// Takes all sessions of a peer out, as one that went. Takes no memory.
@@ -255,7 +268,7 @@ impl<A: Allocator + Copy> Sessions<A> {
         // So where the limit is no less, none goes.
         ensures few { length self.old.sessions ≤ self.old.limit }
     {
-        self.chain.keep_newest(limit as usize);
+        (*self.chain).keep_newest(limit as usize);
         self.limit = limit;
     }
 
@@ -263,7 +276,7 @@ impl<A: Allocator + Copy> Sessions<A> {
     pub fn count_of(&self, peer: u16) -> usize
         ensures { result ≡ count_of_peer peer self.now.sessions }
     {
-        self.chain.count_of_peer(AskedRef {
+        (*self.chain).count_of_peer(AskedRef {
             peer,
             nas: no_nas(),
             id: None,

@@ -136,12 +136,13 @@ impl<A: Allocator + Copy> RealmNumbers<A> {
     {
         let lanes = new_lanes(alloc, settings)?;
         let rests = new_rests(alloc, settings)?;
+        let sessions = Sessions::new(alloc, settings.max_sessions(), settings.hash_key())?;
         Ok(RealmNumbers {
             alloc,
             lanes,
             ticket: start.ticket,
             stream_position: start.place,
-            sessions: Sessions::new(alloc, settings.max_sessions(), settings.hash_key()),
+            sessions,
             rests,
         })
     }

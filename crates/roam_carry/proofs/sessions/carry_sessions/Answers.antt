@@ -12,5 +12,5 @@ returns-then-tells_alike-clause-sessions g c =
 
 pub returns-else-tells_alike-clause-sessions : goal.returns-else-tells_alike-clause-sessions
 returns-else-tells_alike-clause-sessions g c =
-    told_otherwise c.args.old.now c.args.new.now c.args.numbers.now.sessions.sessions c.new.result.sessions
-    (sym c.tells_alike.ensures ∙ c.if-tells_alike.false) c.new.ensures.sessions
+    told_otherwise c.args.old.now c.args.new.now c.args.numbers.now.sessions.sessions c.begin_anew.new.self.sessions
+    (sym c.tells_alike.ensures ∙ c.if-tells_alike.false) c.begin_anew.ensures.sessions

@@ -8,7 +8,7 @@ use Rattle.roam_reverse.proofs.ledger.Sessions.count_of.Goals as goal
 
 pub returns : goal.returns
 returns g c =
-    let sessions = sessions_of c.self.inside.chain in
+    let sessions = sessions_of c.self.inside.chain.value in
     c.count_of_peer.ensures c.self.invariant.0 refl
     ∙ ap (λ (n : Nas). length (filter (agrees (record { peer = c.args.peer; nas = n; id = None })) sessions))
     c.no_nas.ensures
