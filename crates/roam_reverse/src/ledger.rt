@@ -86,7 +86,7 @@ impl<A: Allocator + Copy> Sessions<A> {
     pub fn len(&self) -> usize
         ensures { result ≡ length self.now.sessions }
     {
-        (*self.chain).len()
+        self.chain.len()
     }
 
     /// Whether a session is open. Takes no memory.
@@ -94,7 +94,7 @@ impl<A: Allocator + Copy> Sessions<A> {
         ensures found { result ≡ has_session (shown_session session.entry) self.now.sessions }
         ensures ledger { IsLedger self.now.limit self.now.sessions }
     {
-        (*self.chain).find(session).is_some()
+        self.chain.find(session).is_some()
     }
 
     /// How many sessions agree with what is asked, which names an id. Takes no memory.
@@ -102,7 +102,7 @@ impl<A: Allocator + Copy> Sessions<A> {
         requires { is_some (shown_asked asked).id ≡ true }
         ensures { result ≡ length (filter (agrees (shown_asked asked.entry)) self.now.sessions) }
     {
-        (*self.chain).count(asked)
+        self.chain.count(asked)
     }
 
     /// Makes all growth that the change by an Accounting-Request of a peer wants, where names of access servers
@@ -156,7 +156,7 @@ impl<A: Allocator + Copy> Sessions<A> {
             });
         }
         let new = NewSession::copy_of(self.alloc, session)?;
-        (*self.chain).reserve()?;
+        self.chain.reserve()?;
         Ok(PreparedChange {
             change: Change::Opens(new),
         })
@@ -224,8 +224,8 @@ impl<A: Allocator + Copy> Sessions<A> {
         if self.has(new.session.lend()) || self.limit == 0 {
             return;
         }
-        (*self.chain).append(new);
-        (*self.chain).keep_within(self.limit as usize);
+        self.chain.append(new);
+        self.chain.keep_within(self.limit as usize);
     }
 
     /// Takes a session out.
@@ -234,8 +234,8 @@ impl<A: Allocator + Copy> Sessions<A> {
         ensures sessions { self.new.sessions
             ≡ without_session (shown_session session.entry) self.old.sessions }
     {
-        if let Some(ticket) = (*self.chain).find(session) {
-            (*self.chain).remove(ticket);
+        if let Some(ticket) = self.chain.find(session) {
+            self.chain.remove(ticket);
         }
     }
 
@@ -246,7 +246,7 @@ impl<A: Allocator + Copy> Sessions<A> {
         ensures sessions { self.new.sessions
             ≡ without_agreeing (shown_asked asked.entry) self.old.sessions }
     {
-        (*self.chain).remove_agreeing(asked);
+        self.chain.remove_agreeing(asked);
     }
 
     /// Takes all sessions of a peer out, as one that went. Takes no memory.
@@ -268,7 +268,7 @@ impl<A: Allocator + Copy> Sessions<A> {
         // So where the limit is no less, none goes.
         ensures few { length self.old.sessions ≤ self.old.limit }
     {
-        (*self.chain).keep_newest(limit as usize);
+        self.chain.keep_newest(limit as usize);
         self.limit = limit;
     }
 
@@ -276,7 +276,7 @@ impl<A: Allocator + Copy> Sessions<A> {
     pub fn count_of(&self, peer: u16) -> usize
         ensures { result ≡ count_of_peer peer self.now.sessions }
     {
-        (*self.chain).count_of_peer(AskedRef {
+        self.chain.count_of_peer(AskedRef {
             peer,
             nas: no_nas(),
             id: None,
