@@ -17,9 +17,6 @@ pub mod Silence
 pub mod BookView
 pub mod LostTicks
 pub mod RealmTurn
-pub mod Reload
-pub mod Losses
-pub mod Carrying
 pub mod Saving
 pub mod Written
 pub mod Rooms

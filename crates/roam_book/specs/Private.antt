@@ -2,10 +2,7 @@
 pub mod Fates
 pub mod Judged
 pub mod Looking
-pub mod Lost
 pub mod Memory
-pub mod MoreLanes
-pub mod Moving
 pub mod NewEntry
 pub mod ReplyPlans
 pub mod Sharing

@@ -35,10 +35,10 @@ use std::marker::Model;
 /// see the configuration that it was made with, the realm's index there, and the realm's state.
 #[derive(Drop)]
 pub struct Book<'c, A: Allocator> {
-    pub(crate) config: &'c Config,
-    pub(crate) realm: u16,
-    pub(crate) entries: Pending<A>,
-    pub(crate) numbers: RealmNumbers<A>,
+    pub config: &'c Config,
+    pub realm: u16,
+    pub entries: Pending<A>,
+    pub numbers: RealmNumbers<A>,
 }
 
 impl<'c, A: Allocator> Model for Book<'c, A> {

@@ -33,11 +33,6 @@
 //! - with its memory in hand a tick always answers | `tick_room`, `Book::tick_reserved`
 //! - a tick is the least due entry, taken until none is left, and then none is due (where `wait` is at least 1, as in
 //!   each configuration) | law `ticks_take_the_least_due_first`
-//! - a realm that goes on under another configuration does so in what is carried over of its state, or memory is
-//!   refused and nothing changed | `Book::carry_over`; `carry_over`: `state`, `sound`
-//! - nothing comes by a change, and nothing goes whose sender and link stay | law `carried_takes_no_more`
-//! - where a change doesn't touch it, it goes on as it stands, and where no peer is new it sends over both
-//!   configurations what it would have sent under the first | law `untouched_realms_go_on`
 //! - the ledger that is taken up from a file is the one that was saved, where the configuration is the same | law
 //!   `restored_is_saved`
 //! - what admission gives to a realm is what its rules take: a request that can be forwarded, from one with whom a
@@ -55,16 +50,13 @@ pub use laws::{events, restored_is_saved, silent_servers, ticks_take_the_least_d
 pub use packets::answer::{Answer, Twin, refused};
 pub use packets::forwarding::RequestRef;
 pub use packets::tick_memory::{Room, room_for};
-pub use rules::carried_lanes::FreshLanes;
 pub use rules::evict_done::only_done_due;
-pub use rules::losses::{Loss, all_of, losses_of};
-pub use rules::reload::{carried_takes_no_more, carry_over, changed_peers, untouched_realms_go_on};
 pub use rules::requests::LATEST;
 pub use rules::saving::save_realm;
 pub use state::gauges::{Gauges, SERVER_LINKS, waiting_at};
 pub use state::hash_key::{HASH_STREAM, hash_key};
 pub use state::realm_broker::RealmBroker;
-pub use state::realm_numbers::RealmNumbers;
+pub use state::realm_numbers::{RealmNumbers, new_lanes, new_rests, tag_of};
 pub use state::realm_settings::RealmSettings;
 pub use state::rest::Rest;
 pub use state::start::Start;

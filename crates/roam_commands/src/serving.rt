@@ -17,7 +17,7 @@ use roam_conf::Config;
 use roam_conf_reader::{Settings, read_config, read_settings};
 use roam_diagnosis::{Lines, diagnose};
 use roam_serve::{
-    Build, ControlSocket, Counters, Manner, Open, ServeFault, ServeOptions, SocketPath, Watch,
+    Build, ControlSocket, Manner, Open, ServeFault, ServeOptions, SocketPath, Watch,
     descriptors_wanted, reason_of, serve, with_drawn_seed,
 };
 use roam_words::{Fault, TextFile};
@@ -89,10 +89,8 @@ fn serve_watched<R: Files + AllocGlobal + Threads + Wait + Clock + Net + RandomS
         let options = options(None, manner, milliseconds);
         return serve(rt, rt.alloc(), config, options, &mut source);
     }
-    let counters = Counters::new(rt.alloc(), &config)?;
     let socket = control_socket(rt, &config, settings)?;
     let watch = Watch {
-        counters: &counters,
         metrics: settings.metrics,
         control: socket.as_ref(),
         build: Build::Roam,

@@ -67,13 +67,14 @@ pairs_present (p ∷ ps) once =
 
 is_here : (peers : List Peer) (k : ℕ) (p : Peer) → slice_get (present peers) k ≡ Some p → p.gone ≡ false
 is_here [] k p at = absurd (none-some p at)
-is_here (q ∷ qs) k p at = by_gone q.gone refl k at
+is_here (q ∷ qs) k p at = by_gone q.gone refl k at (λ j found. is_here qs j p found)
   where
     by_gone : (gone : Bool) → q.gone ≡ gone → (k : ℕ) →
-        slice_get (cond (not gone) (q ∷ present qs) (present qs)) k ≡ Some p → p.gone ≡ false
-    by_gone true is k at = is_here qs k p at
-    by_gone false is zero at = ap (λ (x : Peer). x.gone) (sym (same_Some q p at)) ∙ is
-    by_gone false is (suc k) at = is_here qs k p at
+        slice_get (cond (not gone) (q ∷ present qs) (present qs)) k ≡ Some p →
+        ((j : ℕ) → slice_get (present qs) j ≡ Some p → p.gone ≡ false) → p.gone ≡ false
+    by_gone true is k at behind = behind k at
+    by_gone false is zero at behind = ap (λ (x : Peer). x.gone) (sym (same_Some q p at)) ∙ is
+    by_gone false is (suc k) at behind = behind k at
 
 -- ---- no two have the same prefix
 

@@ -3,7 +3,7 @@
 use Rattle.std.specs.Prelude.{List, [], ◌∷◌, Option, Some, None, option_and_then}
 use Rattle.roam_conf.specs.declared.place.Link.{Link}
 use Rattle.roam_pending.specs.PlainEntry.{PlainRequest}
-use Rattle.roam_book.specs.Reload.{request_then, way_then}
+use Rattle.roam_carry.specs.Reload.{request_then, way_then}
 use Rattle.roam_core.specs.Lives.{Happening, Stage, begins_anew, event, goes_on, part_in, stage_after}
 
 -- ## Told as

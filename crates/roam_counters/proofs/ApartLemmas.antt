@@ -1,29 +1,20 @@
 -- That counts are told apart.
-use Rattle.std.proofs.Common.{arith, ◌≡◌, ◌∙◌, ℕ, ◌+◌, ◌*◌, ◌<◌, List, Some, slice_get, ap, refl, sym, inl, inr}
+use Rattle.std.proofs.Common.{arith, ◌≡◌, ◌≢◌, ◌∙◌, ℕ, ◌+◌, ◌*◌, ◌<◌, List, Some, slice_get, ap, refl, sym, inl, inr}
 use Rattle.std.proofs.lemmas.Bool.{cases_lt}
 use Rattle.std.proofs.lemmas.Option.{slice_get_within}
 use Rattle.roam_counters.proofs.Places.{all_events, all_processes, event-at_place, process-at_place}
-use Rattle.roam_counters.specs.Apart.{AreApart}
-use Rattle.roam_counters.specs.Cells.{IsOf, row_of}
+use Rattle.roam_counters.specs.Apart.{CellsAreApart}
+use Rattle.roam_counters.specs.Cells.{HasPlace, cell_of, cells, holder_of, process_cell}
 use Rattle.roam_counters.specs.Events.{event_place}
 use Rattle.roam_counters.specs.Process.{process_place}
-use Rattle.roam_counters.specs.declared.cell.Layout.{Layout}
+use Rattle.roam_counters.specs.declared.cell.Holder.{Holder}
+use Rattle.roam_counters.specs.declared.cell.Holder.TheVariants as holder
 use Rattle.roam_counters.specs.declared.cell.Subject.{Subject}
 use Rattle.roam_counters.specs.declared.cell.Subject.TheVariants as subject
 use Rattle.roam_counters.specs.declared.event.CountedEvent.{CountedEvent}
 use Rattle.roam_counters.specs.declared.process.Process.{Process}
 
--- rows of ten, and of ninety-eight
-pub ten-apart : (a b m n : ℕ) → m < 10 → n < 10 → 10 * a + m ≡ 10 * b + n → (a ≡ b) × (m ≡ n)
-ten-apart a b m n small_m small_n is =
-    elim (cases_lt a b) [
-      | inl less ↦ absurd (omega (arith, small_m, is, less))
-      | inr not_less ↦ elim (cases_lt b a) [
-        | inl more ↦ absurd (omega (arith, small_n, is, more))
-        | inr not_more ↦ (omega (arith, not_less, not_more), omega (arith, not_less, not_more, is))
-      ]
-    ]
-
+-- rows of ninety-eight
 pub ninety_eight-apart : (a b m n : ℕ) → m < 98 → n < 98 → 98 * a + m ≡ 98 * b + n → (a ≡ b) × (m ≡ n)
 ninety_eight-apart a b m n small_m small_n is =
     elim (cases_lt a b) [
@@ -54,46 +45,76 @@ event-below a = slice_get_within all_events (event_place a) a (event-at_place a)
 pub process-below : (p : Process) → process_place p < 19
 process-below p = slice_get_within all_processes (process_place p) p (process-at_place p)
 
--- subjects of a configuration have rows of their own
-pub rows-apart : (l : Layout) (s t : Subject) → IsOf l s → IsOf l t → row_of l s ≡ row_of l t → s ≡ t
-rows-apart l subject.All subject.All f g is = refl
-rows-apart l subject.All (subject.Realm r) f g is = absurd (omega (arith, is))
-rows-apart l subject.All (subject.Server r n) f g is = absurd (omega (arith, is))
-rows-apart l subject.All (subject.Peer p) f g is = absurd (omega (arith, is))
-rows-apart l (subject.Realm r) subject.All f g is = absurd (omega (arith, is))
-rows-apart l (subject.Realm r) (subject.Realm q) f g is = ap subject.Realm (omega (arith, is))
-rows-apart l (subject.Realm r) (subject.Server q n) f g is =
-    absurd (let e = (ten-apart r q 0 (n + 1) (omega arith) (omega (arith, g.1)) (omega (arith, is))).1 in
-    omega (arith, e))
-rows-apart l (subject.Realm r) (subject.Peer p) f g is = absurd (omega (arith, f, is))
-rows-apart l (subject.Server r m) subject.All f g is = absurd (omega (arith, is))
-rows-apart l (subject.Server r m) (subject.Realm q) f g is =
-    absurd (let e = (ten-apart r q (m + 1) 0 (omega (arith, f.1)) (omega arith) (omega (arith, is))).1 in
-    omega (arith, e))
-rows-apart l (subject.Server r m) (subject.Server q n) f g is =
-    let both = ten-apart r q m n (omega (arith, f.1)) (omega (arith, g.1)) (omega (arith, is)) in
-    ap (λ (k : ℕ). subject.Server k m) both.0 ∙ ap (λ (k : ℕ). subject.Server q k) both.1
-rows-apart l (subject.Server r m) (subject.Peer p) f g is = absurd (omega (arith, f.0, f.1, is))
-rows-apart l (subject.Peer p) subject.All f g is = absurd (omega (arith, is))
-rows-apart l (subject.Peer p) (subject.Realm q) f g is = absurd (omega (arith, g, is))
-rows-apart l (subject.Peer p) (subject.Server q n) f g is = absurd (omega (arith, g.0, g.1, is))
-rows-apart l (subject.Peer p) (subject.Peer q) f g is = ap subject.Peer (omega (arith, is))
+-- which list it is
+abbrev kind_of : Holder → ℕ
+kind_of holder.Server = 0
+kind_of (holder.Realm realm) = 1
+kind_of (holder.Peer peer) = 2
 
--- they are among all rows
-pub row-below : (l : Layout) (s : Subject) → IsOf l s → row_of l s < 1 + 10 * l.realms + l.peers
-row-below l subject.All f = omega arith
-row-below l (subject.Realm r) f = omega (arith, f)
-row-below l (subject.Server r n) f = omega (arith, f.0, f.1)
-row-below l (subject.Peer p) f = omega (arith, f)
+abbrev index_of : Holder → ℕ
+index_of holder.Server = 0
+index_of (holder.Realm realm) = realm
+index_of (holder.Peer peer) = peer
 
-pub are-apart : (l : Layout) → AreApart l
-are-apart l = record {
-  subjects = λ s t a b f g is.
-      let both = ninety_eight-apart (row_of l s) (row_of l t) (event_place a) (event_place b) (event-below a)
-      (event-below b)
-      (omega (arith, is)) in
-      (rows-apart l s t f g both.0, events-apart a b both.1);
+-- counts of subjects have places of their own
+pub subjects-apart : (s t : Subject) (a b : CountedEvent) → HasPlace s → HasPlace t →
+    holder_of s ≡ holder_of t → cell_of s a ≡ cell_of t b → (s ≡ t) × (a ≡ b)
+subjects-apart subject.All subject.All a b f g same is = (refl, events-apart a b (omega (arith, is)))
+subjects-apart subject.All (subject.Realm r) a b f g same is =
+    absurd (let k = ap kind_of same in omega (arith, k))
+subjects-apart subject.All (subject.Server r n) a b f g same is =
+    absurd (let k = ap kind_of same in omega (arith, k))
+subjects-apart subject.All (subject.Peer p) a b f g same is =
+    absurd (let k = ap kind_of same in omega (arith, k))
+subjects-apart (subject.Realm r) subject.All a b f g same is =
+    absurd (let k = ap kind_of same in omega (arith, k))
+subjects-apart (subject.Realm r) (subject.Realm q) a b f g same is =
+    (ap subject.Realm (ap index_of same), events-apart a b (omega (arith, is)))
+subjects-apart (subject.Realm r) (subject.Server q n) a b f g same is =
+    absurd (let small = event-below a in omega (arith, is, small))
+subjects-apart (subject.Realm r) (subject.Peer p) a b f g same is =
+    absurd (let k = ap kind_of same in omega (arith, k))
+subjects-apart (subject.Server r m) subject.All a b f g same is =
+    absurd (let k = ap kind_of same in omega (arith, k))
+subjects-apart (subject.Server r m) (subject.Realm q) a b f g same is =
+    absurd (let small = event-below b in omega (arith, is, small))
+subjects-apart (subject.Server r m) (subject.Server q n) a b f g same is =
+    let both = ninety_eight-apart (m + 1) (n + 1) (event_place a) (event_place b) (event-below a) (event-below b)
+    (omega (arith, is)) in
+    let server : m ≡ n = let one_more = both.0 in omega (arith, one_more) in (
+      ap (λ (k : ℕ). subject.Server k m) (ap index_of same) ∙ ap (λ (k : ℕ). subject.Server q k) server,
+      events-apart a b both.1,
+    )
+subjects-apart (subject.Server r m) (subject.Peer p) a b f g same is =
+    absurd (let k = ap kind_of same in omega (arith, k))
+subjects-apart (subject.Peer p) subject.All a b f g same is =
+    absurd (let k = ap kind_of same in omega (arith, k))
+subjects-apart (subject.Peer p) (subject.Realm q) a b f g same is =
+    absurd (let k = ap kind_of same in omega (arith, k))
+subjects-apart (subject.Peer p) (subject.Server q n) a b f g same is =
+    absurd (let k = ap kind_of same in omega (arith, k))
+subjects-apart (subject.Peer p) (subject.Peer q) a b f g same is =
+    (ap subject.Peer (ap index_of same), events-apart a b (omega (arith, is)))
+
+-- none stands where the server's own do
+pub none-of_server : (s : Subject) (a : CountedEvent) (p : Process) → holder_of s ≡ holder.Server →
+    cell_of s a ≢ process_cell p
+none-of_server subject.All a p same is = let small = process-below p in omega (arith, is, small)
+none-of_server (subject.Realm r) a p same is = let k = ap kind_of same in omega (arith, k)
+none-of_server (subject.Server r n) a p same is = let k = ap kind_of same in omega (arith, k)
+none-of_server (subject.Peer q) a p same is = let k = ap kind_of same in omega (arith, k)
+
+-- they are among those of the list
+pub cell-below : (s : Subject) (a : CountedEvent) → HasPlace s → cell_of s a < cells (holder_of s)
+cell-below subject.All a f = let small = event-below a in omega (arith, small)
+cell-below (subject.Realm r) a f = let small = event-below a in omega (arith, small)
+cell-below (subject.Server r n) a f = let small = event-below a in omega (arith, small, f)
+cell-below (subject.Peer p) a f = let small = event-below a in omega (arith, small)
+
+pub are-apart : CellsAreApart
+are-apart = record {
+  subjects = subjects-apart;
   processes = processes-apart;
-  both = λ s a p is. omega (arith, process-below p, is);
-  within = λ s a f. omega (arith, row-below l s f, event-below a);
+  both = none-of_server;
+  within = cell-below;
 }

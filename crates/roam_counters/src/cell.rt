@@ -1,16 +1,14 @@
 //! Where each count stands.
 
-ghost use Rattle.std.specs.Prelude.{◌≡◌, ◌≤◌, length};
-ghost use Rattle.roam_conf.specs.Shown.{shown};
+ghost use Rattle.std.specs.Prelude.{◌≡◌, ◌≤◌};
 ghost use Rattle.roam_counters.specs.Cells as spec;
 
 use crate::event::{CountedEvent, EVENTS};
-use crate::process::Process;
-use roam_conf::Config;
+use crate::process::{PROCESSES, Process};
 
-/// How many sources of packets are told apart in a realm: eight home servers, and all that send reverse requests with a
-/// higher number as one.
-const SERVERS: usize = 9;
+/// How many rows of counts a realm has: its own, one for each of eight home servers, and one for all that send reverse
+/// requests with a higher number.
+const ROWS: usize = 10;
 
 /// Of whom something is counted.
 #[derive(Clone, Copy, PartialEq, Eq)]
@@ -26,60 +24,64 @@ pub enum Subject {
     Peer(u16),
 }
 
-/// How many realms and peers there are, which says where each count stands: a row of counts for each of them, and ten
-/// for each realm with its home servers.
+/// Whose list of counts it is: a realm's and a peer's go on by themselves where another configuration is followed.
 #[derive(Clone, Copy, PartialEq, Eq)]
-pub struct Layout {
-    pub realms: u16,
-    pub peers: u16,
+pub enum Holder {
+    /// The server's own counts, and behind them those of all together.
+    Server,
+    /// Of the realm of this index, with its home servers.
+    Realm(u16),
+    /// Of the peer of this index.
+    Peer(u16),
 }
 
-impl Layout {
-    /// That of a configuration.
-    pub fn new(config: &Config) -> Layout
-        ensures realms { result.realms ≡ length (shown config.now).realms }
-        ensures peers { result.peers ≡ length (shown config.now).peers }
-    {
-        Layout {
-            realms: config.realms.len() as u16,
-            peers: config.peers.len() as u16,
-        }
-    }
-
-    /// How many counts there are.
+impl Holder {
+    /// How many counts the list has.
     pub fn cells(self) -> usize
         ensures { result ≡ spec.cells self }
     {
-        19 + EVENTS * (1 + (SERVERS + 1) * usize::from(self.realms) + usize::from(self.peers))
+        match self {
+            Holder::Server => PROCESSES + EVENTS,
+            Holder::Realm(_) => ROWS * EVENTS,
+            Holder::Peer(_) => EVENTS,
+        }
     }
+}
 
-    /// The row of counts of a subject.
-    fn row(self, subject: Subject) -> usize
-        ensures value { result ≡ spec.row_of self subject }
-        ensures small { result ≤ 1000000 }
+impl Subject {
+    /// In whose list its events are counted.
+    pub fn holder(self) -> Holder
+        ensures { result ≡ spec.holder_of self }
     {
-        match subject {
-            Subject::All => 0,
-            Subject::Realm(realm) => 1 + (SERVERS + 1) * usize::from(realm),
-            Subject::Server(realm, server) => {
-                2 + (SERVERS + 1) * usize::from(realm) + usize::from(server)
-            }
-            Subject::Peer(peer) => {
-                1 + (SERVERS + 1) * usize::from(self.realms) + usize::from(peer)
-            }
+        match self {
+            Subject::All => Holder::Server,
+            Subject::Realm(realm) | Subject::Server(realm, _) => Holder::Realm(realm),
+            Subject::Peer(peer) => Holder::Peer(peer),
         }
     }
 
-    /// Where an event of a subject is counted.
-    pub fn cell(self, subject: Subject, event: CountedEvent) -> usize
-        ensures { result ≡ spec.cell_of self subject event }
+    /// Where its events begin there.
+    pub fn first_cell(self) -> usize
+        ensures value { result ≡ spec.first_cell self }
+        ensures small { result ≤ 25186 }
     {
-        19 + EVENTS * self.row(subject) + event.place()
+        match self {
+            Subject::All => PROCESSES,
+            Subject::Realm(_) | Subject::Peer(_) => 0,
+            Subject::Server(_, server) => EVENTS * (usize::from(server) + 1),
+        }
+    }
+
+    /// Where an event is counted there.
+    pub fn cell(self, event: CountedEvent) -> usize
+        ensures { result ≡ spec.cell_of self event }
+    {
+        self.first_cell() + event.place()
     }
 }
 
 impl Process {
-    /// Where it is counted.
+    /// Where it is counted, in the server's list.
     pub fn cell(self) -> usize
         ensures { result ≡ spec.process_cell self }
     {

@@ -2,7 +2,7 @@
 
 ghost use Rattle.roam_counters.specs.Apart.{CellsAreApart};
 
-/// Two counts stand at one place only where they are one: of a configuration's realms, home servers and peers.
+/// Two counts stand at one place of one list only where they are one.
 pub fn cells_are_apart()
     ensures { CellsAreApart }
 {}

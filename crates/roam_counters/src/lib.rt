@@ -8,8 +8,8 @@
 //!   other end | `CountedTurn::arrival`, `outcome`, `sender`; `tick_event`, `end_at`, `Process::received`
 //! - each datagram that was received is one that was taken, answered, refused or dropped, or one that failed: so many
 //!   together as were received, also of several threads | `Datagrams`: `balanced`; `Datagrams::after`, `and`
-//! - two counts stand at one place only where they are one: of the same realm, home server or peer of a
-//!   configuration and of the same event | law `cells_are_apart`; `Layout::cell`, `cells`, `Process::cell`
+//! - two counts stand at one place of one list only where they are one: of the same realm, home server or peer and of
+//!   the same event | law `cells_are_apart`; `Subject::holder`, `cell`, `Holder::cells`, `Process::cell`
 #![tactic(auto)]
 
 mod cell;
@@ -22,7 +22,7 @@ pub mod laws;
 mod process;
 mod turn;
 
-pub use cell::{Layout, Subject};
+pub use cell::{Holder, Subject};
 pub use datagrams::{DatagramCounts, Datagrams, Handling};
 pub use delay::Delay;
 pub use end::{end_at, source_of, subject_of};

@@ -6,6 +6,9 @@ ghost use Rattle.roam_counters.specs.Process as spec;
 use crate::datagrams::Handling;
 use roam_conf::Place;
 
+/// How many counts of the whole server there are.
+pub const PROCESSES: usize = 19;
+
 /// What is counted of the whole server.
 #[derive(Clone, Copy, PartialEq, Eq)]
 pub enum Process {

@@ -5,12 +5,12 @@ use Rattle.roam_conf.specs.Config.{ConfigView}
 use Rattle.roam_route.specs.Admission.{PlainOut}
 use Rattle.roam_book.specs.RealmConfig.{realm_config}
 use Rattle.roam_book.specs.RealmState.{RealmState}
-use Rattle.roam_book.specs.Reload.{HasPlaces, carried}
 use Rattle.roam_book.specs.OneRealm.{RealmEvent, one_realm_run}
-use Rattle.roam_book.proofs.CarriedPlacesLemmas.{carried_has_places}
-use Rattle.roam_book.proofs.PlacesLemmas.{places_stay}
-use Rattle.roam_book.proofs.ReloadLemmas.{go_on}
-use Rattle.roam_book.proofs.TakesNothingLemmas.{as_if_nothing_changed}
+use Rattle.roam_carry.specs.Reload.{HasPlaces, carried}
+use Rattle.roam_carry.proofs.CarriedPlacesLemmas.{carried_has_places}
+use Rattle.roam_carry.proofs.PlacesLemmas.{places_stay}
+use Rattle.roam_carry.proofs.ReloadLemmas.{go_on}
+use Rattle.roam_carry.proofs.TakesNothingLemmas.{as_if_nothing_changed}
 use Rattle.roam_core.specs.Events.{is_in_shard}
 use Rattle.roam_core.specs.Isolation.{packets_for}
 use Rattle.roam_core.specs.ManyRealms.{answers_to, state_at}

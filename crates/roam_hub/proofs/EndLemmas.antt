@@ -5,8 +5,8 @@ use Rattle.roam_conf.specs.Config.{ConfigView}
 use Rattle.roam_book.specs.RealmConfig.{realm_config}
 use Rattle.roam_book.specs.RealmState.{RealmState}
 use Rattle.roam_book.specs.Written.{GainsOpen}
-use Rattle.roam_book.specs.declared.rules.losses.Loss.{Loss}
 use Rattle.roam_book.specs.declared.state.gauges.Gauges.{Gauges}
+use Rattle.roam_carry.specs.declared.losses.Loss.{Loss}
 use Rattle.roam_core.specs.ManyRealms.{state_at}
 use Rattle.roam_shard.specs.Looks.{IsLoss, StandsAs}
 use Rattle.roam_trace.specs.History.{IsHistory, end_of}

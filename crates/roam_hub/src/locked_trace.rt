@@ -4,7 +4,7 @@ ghost use Rattle.std.specs.Prelude.{◌≡◌, ◌≢◌, ◌+◌, ◌<◌, ◌-
 ghost use Rattle.std.specs.Prelude.{IfErr, IfOk, IfSome, IsErrOf, OnErr, OnOk};
 ghost use mathlib.Core.List.{IsPrefix};
 ghost use Rattle.roam_conf.specs.Shown.{shown};
-ghost use Rattle.roam_book.specs.Carrying.{AreChanged};
+ghost use Rattle.roam_carry.specs.Carrying.{AreChanged};
 ghost use Rattle.roam_route.specs.Events.{IsEvent};
 ghost use Rattle.roam_route.specs.Shown.{shown_job};
 ghost use Rattle.roam_route.specs.Events.{arrival_of};
@@ -25,7 +25,8 @@ use crate::call::Call;
 use crate::fault::HubFault;
 use crate::writing::{closed, recorded, without_steps};
 use roam_audit::Seat;
-use roam_book::{Gauges, Loss};
+use roam_book::Gauges;
+use roam_carry::Loss;
 use roam_conf::Config;
 use roam_history::{Front, Head, Opened};
 use roam_route::Job;

@@ -2,13 +2,14 @@
 
 ghost use Rattle.std.specs.Prelude.{IfSome};
 ghost use Rattle.roam_conf.specs.Shown.{shown};
-ghost use Rattle.roam_book.specs.Carrying.{AreChanged};
+ghost use Rattle.roam_carry.specs.Carrying.{AreChanged};
 ghost use Rattle.roam_hub.specs.Looks.{StandsThen, WouldLose};
 
 use crate::hub::Hub;
 use crate::locking::wait_for;
 use roam_audit::Seat;
-use roam_book::{Gauges, Loss};
+use roam_book::Gauges;
+use roam_carry::Loss;
 use roam_conf::Config;
 use roam_history::Opened;
 use std::alloc::Allocator;

@@ -11,7 +11,7 @@ pub(crate) struct OfServer {
 }
 
 /// The metrics of the whole server, in the order in which they are told.
-pub(crate) const OF_SERVER: [OfServer; 7] = [
+pub(crate) static OF_SERVER: [OfServer; 7] = [
     OfServer {
         name: "roam_received_datagrams_total",
         help: "Datagrams that were received.",

@@ -22,7 +22,7 @@ use roam_counters::Subject;
 use std::alloc::{AllocError, Global};
 
 /// What is told of realms, home servers and peers, in this order.
-const FAMILIES: [Family; 16] = [
+static FAMILIES: [Family; 16] = [
     CAME,
     FORWARDED,
     SENT_AGAIN,

@@ -24,7 +24,8 @@ use std::marker::Model;
 pub struct Sessions<A: Allocator> {
     alloc: A,
     limit: u32,
-    pub(crate) chain: Chain<A>,
+    /// It lies by itself, so that a ledger is small where it is moved.
+    pub(crate) chain: Box<Chain<A>, A>,
 }
 
 impl<A: Allocator> Drop for Sessions<A> {
@@ -48,25 +49,37 @@ impl<A: Allocator> Model for Sessions<A> {
 
     ghost view = { λ l. record {
       limit = l.limit;
-      sessions = sessions_of l.chain;
-      spare = l.chain.spare;
+      sessions = sessions_of l.chain.value;
+      spare = l.chain.value.spare;
     } };
 
-    ghost invariant = { λ l. IsSound l.chain × (session_count l.chain ≤ l.limit) };
+    ghost invariant = { λ l. IsSound l.chain.value × (session_count l.chain.value ≤ l.limit) };
 }
 
 impl<A: Allocator + Copy> Sessions<A> {
-    /// No sessions, and at most so many from now on. What it answers doesn't depend on the key of its hashes. Takes no
-    /// memory.
-    pub fn new(alloc: A, limit: u32, key: HashKey) -> Sessions<A>
-        ensures limit { result.limit ≡ limit }
-        ensures sessions { result.sessions ≡ [] }
+    /// No sessions, and at most so many from now on. What it answers doesn't depend on the key of its hashes.
+    /// `NoMemory` comes where a growth was refused.
+    pub fn new(alloc: A, limit: u32, key: HashKey) -> Result<Sessions<A>, NoMemory>
+        ensures limit { IfOk result (λ ledger. ledger.limit ≡ limit) }
+        ensures sessions { IfOk result (λ ledger. ledger.sessions ≡ []) }
     {
-        Sessions {
-            alloc,
-            limit,
-            chain: Chain::new(alloc, key),
+        match Box::new(alloc, Chain::new(alloc, key)) {
+            Ok(chain) => Ok(Sessions {
+                alloc,
+                limit,
+                chain,
+            }),
+            Err(_) => Err(NoMemory),
         }
+    }
+
+    /// All sessions go, and at most so many are kept from now on, whose hashes have this key. Takes no memory.
+    pub fn begin_anew(&mut self, limit: u32, key: HashKey)
+        ensures limit { self.new.limit ≡ limit }
+        ensures sessions { self.new.sessions ≡ [] }
+    {
+        *self.chain = Chain::new(self.alloc, key);
+        self.limit = limit;
     }
 
     /// How many sessions are open. Takes no memory.

@@ -27,7 +27,7 @@ pub use change::manner::{Manner, StateFile};
 pub use change::next::{Next, out_of_memory, widen_all};
 pub use change::source::{Following, NoSource, Source};
 pub use open_hub::serve_over;
-pub use parts::{HubEnd, Means, Served, ServerParts, Unserved, counters_of};
+pub use parts::{HubEnd, Means, Served, ServerParts, Unserved};
 pub use watch::Watch;
 
 // What stands above takes these from here, and lists this crate alone of those that it goes over.

@@ -14,7 +14,7 @@ use crate::change::configured::Configured;
 use crate::change::source::Source;
 use crate::given_back::given_back;
 use crate::opening::{HubRoom, OpenHub, ThreadRoom};
-use crate::parts::{HubEnd, Left, Means, Served, ServerParts, Unserved, counters_of};
+use crate::parts::{HubEnd, Left, Means, Served, ServerParts, Unserved};
 use crate::start::{ResultRoom, RunResult, run_threads};
 use log::Log;
 use roam_hub::{Blanks, Gate, Hub, Opened, Seat};
@@ -63,7 +63,7 @@ fn run<
         wakers: wakers.as_slice(),
         rest: &rest,
         losses: parts.losses,
-        counters: configured.counters(counters_of(parts.watch)),
+        counters: configured.counters.as_ref(),
         told_exchanges: configured.manner.told_exchanges,
         stations: configured.manner.stations,
         office: parts.office,

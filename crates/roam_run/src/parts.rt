@@ -14,7 +14,6 @@ use roam_hub::Opened;
 use roam_port::Outbox;
 use roam_shard::Paused;
 use roam_sockets::ServeFault;
-use roam_telling::Counters;
 use roam_threads::Kits;
 use roam_workers::{OldHistory, Rests, SharedLosses};
 use std::alloc::Global;
@@ -35,14 +34,6 @@ pub struct ServerParts<'s, R, G, S> {
     pub end: Option<u64>,
     /// Where the configuration comes from that follows.
     pub source: &'s mut S,
-}
-
-/// The counts of whoever watches a server.
-pub fn counters_of(watch: Option<Watch<'_>>) -> Option<&Counters> {
-    match watch {
-        Some(watch) => Some(watch.counters),
-        None => None,
-    }
 }
 
 /// What the threads of a configuration are made of, and what is handed on to them.

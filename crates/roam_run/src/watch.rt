@@ -3,12 +3,10 @@
 use roam_conf::Endpoint;
 use roam_control::Build;
 use roam_sockets::ControlSocket;
-use roam_telling::Counters;
 
 /// That a server counts what it does, and where that can be read.
 #[derive(Clone, Copy)]
 pub struct Watch<'w> {
-    pub counters: &'w Counters,
     /// Where it is answered over HTTP, if anywhere.
     pub metrics: Option<Endpoint>,
     /// Through which it is answered and the server is stopped, if through any.

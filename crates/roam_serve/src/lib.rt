@@ -20,5 +20,5 @@ pub use roam_sockets::{
     ControlSocket, Reason, ServeFault, SocketPath, descriptors_wanted, reason_of, with_drawn_seed,
 };
 pub use roam_stations::{StationForm, StationKey};
-pub use roam_succession::{Counters, Following, Manner, NoSource, Open, Source, StateFile, Watch};
+pub use roam_succession::{Following, Manner, NoSource, Open, Source, StateFile, Watch};
 pub use server::{ServeOptions, serve};

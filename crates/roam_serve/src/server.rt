@@ -11,7 +11,7 @@ use roam_control::{Build, Office, Stopping};
 use roam_port::socket_numbers;
 use roam_sockets::{BoundSocket, ServeFault, bind_all, descriptors_wanted, listen_at, reason_of};
 use roam_succession::{
-    Behind, CAUSES, Configured, Gate, Handover, Manner, Means, Notice, OldHistory, Rests,
+    Behind, CAUSES, Configured, Counters, Gate, Handover, Manner, Means, Notice, OldHistory, Rests,
     ServerParts, SharedLosses, Source, Watch, make_kits, make_outboxes, serve_all, start_behind,
     tell_or_drop, widen_all,
 };
@@ -157,6 +157,20 @@ fn serve_with<
     )
 }
 
+/// What is counted by the threads of the first configuration; nothing where nobody watches the server.
+fn first_counters(
+    alloc: Global,
+    config: &Config,
+    watch: Option<Watch<'_>>,
+) -> Result<Option<Counters>, ServeFault>
+    ensures err { IfErr result IsAfterBinding }
+{
+    match watch {
+        Some(_) => Ok(Some(Counters::new(alloc, config)?)),
+        None => Ok(None),
+    }
+}
+
 /// What the threads of the first configuration are made of.
 fn first_means<R: Net>(
     rt: &R,
@@ -178,6 +192,60 @@ fn first_means<R: Net>(
             is_awaited: false,
         },
     })
+}
+
+/// How a server serves whose sockets are bound, since when, and for how long.
+#[derive(Drop)]
+struct Serving<'s, G> {
+    watch: Option<Watch<'s>>,
+    gate: &'s G,
+    start: Instant,
+    end: Option<u64>,
+}
+
+/// Serves a configuration whose sockets are bound, and each one that follows.
+fn serve_bound<
+    R: Threads + Wait + Clock + Net + RandomSource + Log + Sync,
+    G: Gate + Sync,
+    S: Source,
+>(
+    rt: &R,
+    alloc: Global,
+    configured: Configured,
+    serving: Serving<'_, G>,
+    source: &mut S,
+) -> Result<(), ServeFault>
+    ensures served { IfOk result (λ u. HasServedAll (shown configured.config)) }
+    ensures err { IfErr result IsAfterBinding }
+{
+    let Serving {
+        watch,
+        gate,
+        start,
+        end,
+    } = serving;
+    let config = &configured.config;
+    let listener = listener(rt, config, watch);
+    let losses = SharedLosses::new();
+    let old_history = OldHistory::new(alloc, config.shards)?;
+    let office = Office::new(rt, alloc, start, config.shards, build_of(watch))?;
+    let stopping = Stopping::new();
+    let told = configured.manner.told_exchanges;
+    let means = first_means(rt, alloc, config, configured.sockets.as_slice(), told)?;
+    let mut parts = ServerParts {
+        rt,
+        alloc,
+        gate,
+        losses: &losses,
+        watch,
+        old_history: &old_history,
+        office: &office,
+        stopping: &stopping,
+        start,
+        end,
+        source,
+    };
+    serve_with(&mut parts, listener.as_ref(), configured, means)
 }
 
 /// Serves a configuration, and each one that follows by `source`. The log of `rt` isn't to wait for whoever reads it: a
@@ -212,31 +280,18 @@ pub fn serve<
     };
     let sockets = bind_all(rt, alloc, &config)?;
     widen_all(rt, &config, sockets.as_slice());
-    let listener = listener(rt, &config, watch);
-    let losses = SharedLosses::new();
-    let old_history = OldHistory::new(alloc, config.shards)?;
-    let office = Office::new(rt, alloc, start, config.shards, build_of(watch))?;
-    let stopping = Stopping::new();
-    let told = manner.told_exchanges;
-    let means = first_means(rt, alloc, &config, sockets.as_slice(), told)?;
+    let counters = first_counters(alloc, &config, watch)?;
     let configured = Configured {
         config,
         sockets,
         manner,
-        counters: None,
+        counters,
     };
-    let mut parts = ServerParts {
-        rt,
-        alloc,
-        gate,
-        losses: &losses,
+    let serving = Serving {
         watch,
-        old_history: &old_history,
-        office: &office,
-        stopping: &stopping,
+        gate,
         start,
         end: milliseconds,
-        source,
     };
-    serve_with(&mut parts, listener.as_ref(), configured, means)
+    serve_bound(rt, alloc, configured, serving, source)
 }

@@ -6,13 +6,13 @@ use Rattle.std.proofs.Common.{get_or}
 use Rattle.roam_conf.specs.Config.{ConfigView}
 use Rattle.roam_reload.specs.Reload.{IsCarried}
 use Rattle.roam_tables.specs.Stands.{RealmView, entries_in}
-use Rattle.roam_book.specs.Carrying.{shown_loss}
-use Rattle.roam_book.specs.Losses.{all_lost, losses}
 use Rattle.roam_book.specs.RealmConfig.{RealmConfig, realm_config}
 use Rattle.roam_book.specs.RealmState.{RealmState}
 use Rattle.roam_book.specs.Sound.{state_of}
-use Rattle.roam_book.specs.declared.rules.losses.Loss.{Loss}
 use Rattle.roam_book.specs.declared.state.realm_numbers.RealmNumbers.{RealmNumbers}
+use Rattle.roam_carry.specs.Carrying.{shown_loss}
+use Rattle.roam_carry.specs.Losses.{all_lost, losses}
+use Rattle.roam_carry.specs.declared.losses.Loss.{Loss}
 use Rattle.roam_core.specs.Events.{is_in_shard}
 use Rattle.roam_core.specs.ManyRealms.{state_at}
 use Rattle.roam_shard.specs.Looks.{IsLoss, IsOwn, NoneThere}

@@ -4,7 +4,7 @@ use Rattle.roam_conf.specs.Config.{ConfigView}
 use Rattle.roam_reload.specs.Reload.{IsCarried}
 use Rattle.roam_book.specs.RealmConfig.{realm_config}
 use Rattle.roam_book.specs.RealmState.{RealmState, opening}
-use Rattle.roam_book.specs.Reload.{carried}
+use Rattle.roam_carry.specs.Reload.{carried}
 use Rattle.roam_core.specs.Events.{is_in_shard}
 use Rattle.roam_core.specs.ManyRealms.{state_at}
 use Rattle.roam_core.specs.Openings.{next_start}

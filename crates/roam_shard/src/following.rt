@@ -5,9 +5,9 @@ ghost use Rattle.std.specs.Prelude.{vec_len};
 ghost use Rattle.roam_conf.specs.Shown.{shown};
 ghost use Rattle.roam_pending.specs.EntryList.{IsEntryList};
 ghost use Rattle.roam_tables.specs.Stands.{entries_in};
-ghost use Rattle.roam_book.specs.Carrying.{AreChanged, IsReadyToCarry};
 ghost use Rattle.roam_book.specs.RealmConfig.{realm_config};
 ghost use Rattle.roam_book.specs.Sound.{IsSound};
+ghost use Rattle.roam_carry.specs.Carrying.{AreChanged, IsReadyToCarry};
 ghost use Rattle.roam_shard.specs.Follow.{AllFollow};
 ghost use Rattle.roam_shard.specs.Pausing.{AllCanGoOver, AreLanesReady, AreOver, CanGoOver, GoesOn, HasGoneOver};
 ghost use Rattle.roam_shard.specs.Pausing.{IsOver, IsReady, IsReadyAt, KeepsOthers, StandsStill, StandsUnder};
@@ -15,7 +15,8 @@ ghost use Rattle.roam_shard.specs.Pausing.{states_under};
 
 use crate::paused::Paused;
 use crate::realm_numbers::{begin_at, opened_at};
-use roam_book::{FreshLanes, RealmNumbers, RealmSettings, carry_over, changed_peers};
+use roam_book::{RealmNumbers, RealmSettings};
+use roam_carry::{FreshLanes, carry_over, changed_peers, reserve_carry};
 use roam_conf::Config;
 use roam_reload::is_carried;
 use roam_tables::Tables;
@@ -201,7 +202,7 @@ impl<A: Allocator + Copy> Paused<A> {
         let Some(numbers) = &mut self.numbers[usize::from(realm)] else {
             unreachable!();
         };
-        numbers.reserve_carry(&before, &after)
+        reserve_carry(&before, &after, numbers)
     }
 
     /// Takes the memory with which a realm follows a configuration: of lanes where it goes on, else of numbers that

@@ -6,11 +6,12 @@ ghost use Rattle.roam_pending.specs.EntryList.{find_client, find_link, find_tick
 ghost use Rattle.roam_pending.specs.Shown.{seen};
 ghost use Rattle.roam_core.specs.ManyRealms.{state_at};
 ghost use Rattle.roam_conf.specs.Shown.{shown};
-ghost use Rattle.roam_book.specs.Carrying.{AreChanged};
+ghost use Rattle.roam_carry.specs.Carrying.{AreChanged};
 ghost use Rattle.roam_shard.specs.Looks.{IsLoss, IsOwn, NoneThere, StandsAs};
 
 use crate::shard::Shard;
-use roam_book::{Gauges, Loss, RealmNumbers, RealmSettings, all_of, losses_of, waiting_at};
+use roam_book::{Gauges, RealmNumbers, RealmSettings, waiting_at};
+use roam_carry::{Loss, all_of, losses_of};
 use roam_conf::{Config, Link};
 use roam_pending::{Due, Entries, Entry, Key};
 use roam_reload::is_carried;

@@ -11,16 +11,19 @@ ghost use Rattle.roam_succession.specs.Served.{GoOn};
 use roam_conf::Config;
 use roam_control::done;
 use roam_hub::{Blanks, follow};
-use roam_run::{
-    Configured, Counters, Handover, Kits, Next, Rests, ServerParts, counters_of, out_of_memory,
-};
+use roam_run::{Configured, Counters, Handover, Kits, Next, Rests, ServerParts, out_of_memory};
 use roam_shard::Paused;
 use std::alloc::Global;
 
 /// Goes on with what was counted, under the configuration that follows.
-pub fn go_on_counting(before: &Configured, after: &Configured, watched: Option<&Counters>) {
-    if let (Some(old), Some(new)) = (before.counters(watched), &after.counters) {
-        new.go_on_from(old, &before.config, &after.config);
+fn go_on_counting(
+    old: &mut Option<Counters>,
+    new: &mut Option<Counters>,
+    before: &Config,
+    after: &Config,
+) {
+    if let (Some(old), Some(new)) = (old, new) {
+        new.go_on_from(old, before, after);
     }
 }
 
@@ -71,7 +74,7 @@ pub fn change<R, G, S>(
     ensures blanks { count_of result.blanks ≡ configured.new.config.shards }
 {
     let Next {
-        configured: after,
+        configured: mut after,
         report,
         kits,
         rests,
@@ -82,7 +85,8 @@ pub fn change<R, G, S>(
     let mut rests = rests;
     match follow(parts.alloc, &configured.config, &after.config, shards) {
         Ok(()) => {
-            go_on_counting(configured, &after, counters_of(parts.watch));
+            let (old, new) = (&mut configured.counters, &mut after.counters);
+            go_on_counting(old, new, &configured.config, &after.config);
             go_on_telling(&mut rests, told, &configured.config, &after.config);
             let before = std::mem::replace(configured, after);
             Changed {

@@ -1,16 +1,16 @@
 //! What a server counts: each of its threads apart.
 
+use crate::sheet::{Sheet, zeros};
 use roam_conf::{Config, Realm};
-use roam_counters::{CountedEvent, EVENTS, Layout, Process, RequestKind, Subject};
+use roam_counters::{CountedEvent, EVENTS, Holder, Process, Subject};
 use roam_metrics::{Counts, Gauge};
-use roam_reload::server_then;
+use roam_reload::{realm_difference, server_then};
 use std::alloc::{AllocError, Global};
 use std::sync::atomic::{AtomicU64, Ordering};
 
 /// What a server counts: each of its threads apart, so that none waits for another. What is read is the sum.
 pub struct Counters {
-    layout: Layout,
-    threads: Vec<Vec<AtomicU64>>,
+    threads: Vec<Sheet>,
     /// How many octets the stored steps of each shard have.
     history: Vec<AtomicU64>,
 }
@@ -18,50 +18,44 @@ pub struct Counters {
 // By hand, so that a proof sees one call wherever it ends, and not each of its parts.
 impl Drop for Counters {
     fn drop(self) {
-        let Self {
-            layout: _,
-            threads,
-            history,
-        } = self;
+        let Self { threads, history } = self;
         drop(threads);
         drop(history);
     }
 }
 
-/// So many counts that stand at 0.
-fn zeros(alloc: Global, count: usize) -> Result<Vec<AtomicU64>, AllocError> {
-    let mut zeros = Vec::with_capacity(alloc, count)?;
-    for _ in 0..count {
-        zeros.push(AtomicU64::new(0))?;
-    }
-    Ok(zeros)
-}
-
-/// Where the counts of a subject begin.
-fn first_cell(layout: Layout, subject: Subject) -> usize {
-    layout.cell(subject, CountedEvent::Request(RequestKind::Access))
-}
-
 impl Counters {
     /// Nothing was counted yet, by the threads of a server of this configuration.
     pub fn new(alloc: Global, config: &Config) -> Result<Counters, AllocError> {
-        let layout = Layout::new(config);
+        Counters::made(alloc, None, config)
+    }
+
+    /// For the threads of a server of a configuration that follows another: what goes on from there has no memory here
+    /// until it is taken.
+    pub fn after(alloc: Global, before: &Config, config: &Config) -> Result<Counters, AllocError> {
+        Counters::made(alloc, Some(before), config)
+    }
+
+    fn made(
+        alloc: Global,
+        before: Option<&Config>,
+        config: &Config,
+    ) -> Result<Counters, AllocError> {
         let mut threads = Vec::new(alloc);
         for _ in 0..config.shards + 1 {
-            threads.push(zeros(alloc, layout.cells())?)?;
+            threads.push(Sheet::new(alloc, before, config)?)?;
         }
         Ok(Counters {
-            layout,
             threads,
             history: zeros(alloc, usize::from(config.shards))?,
         })
     }
 
     /// What the threads counted together at a place; it begins again at 0 after 2^64 - 1.
-    fn sum(&self, cell: usize) -> u64 {
+    fn sum(&self, holder: Holder, place: usize) -> u64 {
         let mut sum = 0u64;
         for thread in &self.threads {
-            if let Some(count) = thread.get(cell) {
+            if let Some(count) = thread.count(holder, place) {
                 sum = sum.wrapping_add(count.load(Ordering::SeqCst));
             }
         }
@@ -77,45 +71,38 @@ impl Counters {
         sum
     }
 
-    /// Adds to the counts of the first thread from this place on those that stand so many places from another one on in
-    /// others.
-    fn add_row(&self, to: usize, others: &Counters, from: usize, count: usize) {
-        let Some(cells) = self.threads.first() else {
+    /// Adds what others counted of one subject to what the first thread counted here of one.
+    fn add_subject(&self, to: Subject, others: &Counters, from: Subject) {
+        let Some(sheet) = self.threads.first() else {
             return;
         };
-        for place in 0..count {
-            if let Some(cell) = cells.get(to.saturating_add(place)) {
-                let more = others.sum(from.saturating_add(place));
+        for event in 0..EVENTS {
+            if let Some(count) = sheet.count(to.holder(), to.first_cell() + event) {
+                let more = others.sum(from.holder(), from.first_cell() + event);
                 if more > 0 {
-                    cell.fetch_add(more, Ordering::SeqCst);
+                    count.fetch_add(more, Ordering::SeqCst);
                 }
             }
         }
-    }
-
-    /// Adds what others counted of one subject to what is counted here of one.
-    fn add_subject(&self, to: Subject, others: &Counters, from: Subject) {
-        let to = first_cell(self.layout, to);
-        self.add_row(to, others, first_cell(others.layout, from), EVENTS);
     }
 
     /// Goes on with what others counted under the configuration of before: of the whole server, and of each realm, home
-    /// server and peer that is still here.
-    pub fn go_on_from(&self, others: &Counters, before: &Config, after: &Config) {
-        self.add_row(0, others, 0, first_cell(others.layout, Subject::All));
-        self.add_subject(Subject::All, others, Subject::All);
+    /// server and peer that is still here. Takes no memory.
+    pub fn go_on_from(&mut self, others: &mut Counters, before: &Config, after: &Config) {
+        for (sheet, other) in self.threads.iter_mut().zip(others.threads.iter_mut()) {
+            sheet.take_over(other, after);
+        }
         for (number, realm) in after.realms.iter().enumerate() {
             if let Some(old) = before.realms.get(number) {
-                if !realm.gone {
-                    self.add_realm(others, number as u16, old, realm);
-                }
+                self.add_if_changed(others, number as u16, old, realm);
             }
         }
-        for (number, peer) in after.peers.iter().enumerate() {
-            if number < before.peers.len() && !peer.gone {
-                let peer = Subject::Peer(number as u16);
-                self.add_subject(peer, others, peer);
-            }
+    }
+
+    /// Adds what was counted of a realm whose list was made anew, since its table is another one.
+    fn add_if_changed(&self, others: &Counters, number: u16, before: &Realm, after: &Realm) {
+        if !before.gone && !after.gone && realm_difference(before, after).is_some() {
+            self.add_realm(others, number, before, after);
         }
     }
 
@@ -133,11 +120,9 @@ impl Counters {
 
     /// The counts of one thread.
     pub fn of_thread(&self, number: usize) -> Option<ThreadCounts<'_>> {
-        let layout = self.layout;
         match self.threads.get(number) {
-            Some(cells) => Some(ThreadCounts {
-                layout,
-                cells: cells.as_slice(),
+            Some(sheet) => Some(ThreadCounts {
+                sheet,
                 history: self.history.as_slice(),
             }),
             None => None,
@@ -147,11 +132,11 @@ impl Counters {
 
 impl Counts for Counters {
     fn event(&self, subject: Subject, event: CountedEvent) -> u64 {
-        self.sum(self.layout.cell(subject, event))
+        self.sum(subject.holder(), subject.cell(event))
     }
 
     fn process(&self, process: Process) -> u64 {
-        self.sum(process.cell())
+        self.sum(Holder::Server, process.cell())
     }
 
     fn gauge(&self, _gauge: Gauge) -> Option<u64> {
@@ -162,27 +147,26 @@ impl Counts for Counters {
 /// The counts of one thread.
 #[derive(Clone, Copy)]
 pub struct ThreadCounts<'t> {
-    layout: Layout,
-    cells: &'t [AtomicU64],
+    sheet: &'t Sheet,
     history: &'t [AtomicU64],
 }
 
 impl ThreadCounts<'_> {
     /// Adds to a count.
-    fn add(&self, cell: usize, more: u64) {
-        if let Some(count) = self.cells.get(cell) {
+    fn add(&self, holder: Holder, place: usize, more: u64) {
+        if let Some(count) = self.sheet.count(holder, place) {
             count.fetch_add(more, Ordering::SeqCst);
         }
     }
 
     /// One more of this of a subject.
     pub fn event(&self, subject: Subject, event: CountedEvent) {
-        self.add(self.layout.cell(subject, event), 1);
+        self.add(subject.holder(), subject.cell(event), 1);
     }
 
     /// So many more of this of a subject.
     pub fn more(&self, subject: Subject, event: CountedEvent, more: u64) {
-        self.add(self.layout.cell(subject, event), more);
+        self.add(subject.holder(), subject.cell(event), more);
     }
 
     /// The stored steps of a shard have so many octets.
@@ -195,7 +179,7 @@ impl ThreadCounts<'_> {
     /// So many more of this of the whole server.
     pub fn process(&self, process: Process, more: u64) {
         if more > 0 {
-            self.add(process.cell(), more);
+            self.add(Holder::Server, process.cell(), more);
         }
     }
 }

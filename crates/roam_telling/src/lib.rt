@@ -23,6 +23,7 @@ mod notices;
 mod reload_lines;
 mod said;
 mod said_lately;
+mod sheet;
 mod state_lines;
 
 pub use counted::turn_of;

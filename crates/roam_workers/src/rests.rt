@@ -51,8 +51,9 @@ impl Rests {
     }
 
     /// Goes on with what was told of the realms that go on from another configuration, so that it is told
-    /// of each server that answers again. Takes no memory.
+    /// of each server that answers again, and looks at them when that was to be done. Takes no memory.
     pub fn go_on_from(&mut self, others: &Rests, before: &Config, after: &Config) {
+        self.next = others.next;
         for (number, (new, old)) in self.silent.iter_mut().zip(others.silent.iter()).enumerate() {
             if let Ok(realm) = u16::try_from(number) {
                 if !is_carried(before, after, realm) {

@@ -29,18 +29,18 @@ use std::alloc::Allocator;
 /// links rest.
 pub struct RealmNumbers<A: Allocator> {
     /// Whence the memory of entries and packets comes.
-    pub(crate) alloc: A,
+    pub alloc: A,
     /// A lane for each link, in the order of their places. Toward a peer it is made when a reverse
     /// request first needs it.
-    pub(crate) lanes: Vec<LazyLane<A>, A>,
+    pub lanes: Vec<LazyLane<A>, A>,
     /// The next ticket.
-    pub(crate) ticket: u64,
+    pub ticket: u64,
     /// The place of the next random word in the realm's stream.
-    pub(crate) stream_position: u128,
+    pub stream_position: u128,
     /// The sessions that are open.
-    pub(crate) sessions: Sessions<A>,
+    pub sessions: Sessions<A>,
     /// How the servers' links rest that keep silent, in the order of their places.
-    pub(crate) rests: Vec<Rest, A>,
+    pub rests: Vec<Rest, A>,
 }
 
 // By hand, so that a proof sees one call wherever a realm's numbers end.
@@ -62,7 +62,7 @@ impl<A: Allocator> Drop for RealmNumbers<A> {
 }
 
 /// The tag of a lane: its realm's index, and the place of its link.
-pub(crate) fn tag_of(settings: &RealmSettings<'_>, place: usize) -> u32
+pub fn tag_of(settings: &RealmSettings<'_>, place: usize) -> u32
     requires { place < 1040 }
     ensures { result ≡ settings.now.index * 65536 + place }
 {
@@ -91,7 +91,7 @@ fn new_lane<A: Allocator>(
 }
 
 /// A lane for each link, of which nothing is in use.
-pub(crate) fn new_lanes<A: Allocator + Copy>(
+pub fn new_lanes<A: Allocator + Copy>(
     alloc: A,
     settings: &RealmSettings<'_>,
 ) -> Result<Vec<LazyLane<A>, A>, NoMemory>
@@ -111,7 +111,7 @@ pub(crate) fn new_lanes<A: Allocator + Copy>(
 }
 
 /// All servers' links of a realm, awake.
-pub(crate) fn new_rests<A: Allocator + Copy>(
+pub fn new_rests<A: Allocator + Copy>(
     alloc: A,
     settings: &RealmSettings<'_>,
 ) -> Result<Vec<Rest, A>, NoMemory>
@@ -136,12 +136,13 @@ impl<A: Allocator + Copy> RealmNumbers<A> {
     {
         let lanes = new_lanes(alloc, settings)?;
         let rests = new_rests(alloc, settings)?;
+        let sessions = Sessions::new(alloc, settings.max_sessions(), settings.hash_key())?;
         Ok(RealmNumbers {
             alloc,
             lanes,
             ticket: start.ticket,
             stream_position: start.place,
-            sessions: Sessions::new(alloc, settings.max_sessions(), settings.hash_key()),
+            sessions,
             rests,
         })
     }
@@ -231,7 +232,7 @@ impl<A: Allocator + Copy> RealmNumbers<A> {
     }
 
     /// Gives the Identifier of a waiting entry back: it is free again.
-    pub(crate) fn give_back(&mut self, settings: &RealmSettings<'_>, link: Link, id: u8)
+    pub fn give_back(&mut self, settings: &RealmSettings<'_>, link: Link, id: u8)
         requires link { IsLink settings.now link }
         requires count { length self.old.lanes.items ≡ link_count settings.now }
         ensures cursors { cursors_of self.new.lanes.items ≡ cursors_of self.old.lanes.items }

@@ -56,7 +56,7 @@ impl<'c> RealmSettings<'c> {
     }
 
     /// The realm's entry of the configuration.
-    pub(crate) fn realm(&self) -> &Realm
+    pub fn realm(&self) -> &Realm
         ensures { shown_realm result.now ≡ self.now.realm }
     {
         &self.config.realms[usize::from(self.realm)]
@@ -105,26 +105,26 @@ impl<'c> RealmSettings<'c> {
     }
 
     /// What keys the hashes of its ledger.
-    pub(crate) fn hash_key(&self) -> HashKey {
+    pub fn hash_key(&self) -> HashKey {
         hash_key(self.config)
     }
 
     /// How many sessions the ledger holds at most.
-    pub(crate) fn max_sessions(&self) -> u32
+    pub fn max_sessions(&self) -> u32
         ensures { result ≡ self.now.realm.max_sessions }
     {
         self.realm().max_sessions
     }
 
     /// Whether its reverse requests name sessions of its own ledger, which then keeps the names of access servers.
-    pub(crate) fn own_sessions(&self) -> bool
+    pub fn own_sessions(&self) -> bool
         ensures { result ≡ self.now.realm.own_sessions }
     {
         self.realm().own_sessions
     }
 
     /// How many requests may be pending.
-    pub(crate) fn max_pending(&self) -> u16
+    pub fn max_pending(&self) -> u16
         ensures { result ≡ self.now.realm.max_pending }
     {
         self.realm().max_pending
@@ -159,7 +159,7 @@ impl<'c> RealmSettings<'c> {
     }
 
     /// How many home servers the realm has: at most 8.
-    pub(crate) fn server_count(&self) -> usize
+    pub fn server_count(&self) -> usize
         ensures count { result ≡ length self.now.realm.servers }
         ensures few { result ≤ 8 }
     {
@@ -167,7 +167,7 @@ impl<'c> RealmSettings<'c> {
     }
 
     /// How many peers are configured: at most 1,024.
-    pub(crate) fn peer_count(&self) -> usize
+    pub fn peer_count(&self) -> usize
         ensures count { result ≡ length self.now.peers }
         ensures few { result ≤ 1024 }
     {
@@ -175,7 +175,7 @@ impl<'c> RealmSettings<'c> {
     }
 
     /// All peers.
-    pub(crate) fn peers(&self) -> &[Peer]
+    pub fn peers(&self) -> &[Peer]
         ensures peers { map shown_peer result.now ≡ self.now.peers }
         ensures few { length result.now ≤ 1024 }
     {
@@ -266,7 +266,7 @@ impl<'c> RealmSettings<'c> {
     }
 
     /// How many places there are for links.
-    pub(crate) fn link_count(&self) -> usize
+    pub fn link_count(&self) -> usize
         ensures count { result ≡ link_count self.now }
         ensures few { result ≤ 1040 }
     {
@@ -274,7 +274,7 @@ impl<'c> RealmSettings<'c> {
     }
 
     /// Whether a link is the realm's.
-    pub(crate) fn has_link(&self, link: Link) -> bool
+    pub fn has_link(&self, link: Link) -> bool
         ensures { IsTrue result ↔ IsLink self.now link }
     {
         match link {
@@ -284,7 +284,7 @@ impl<'c> RealmSettings<'c> {
     }
 
     /// The place of a link among the realm's links.
-    pub(crate) fn place_of(&self, link: Link) -> usize
+    pub fn place_of(&self, link: Link) -> usize
         requires { IsLink self.now link }
         ensures place { result ≡ link_place self.now link }
         ensures below { result < link_count self.now }

@@ -25,7 +25,7 @@ fn one_more(count: u16) -> u16
 
 impl Rest {
     /// It doesn't rest, no request was given up, and it has given no sign of life.
-    pub(crate) fn awake() -> Rest
+    pub fn awake() -> Rest
         ensures { result ≡ awake }
     {
         Rest {

@@ -68,7 +68,7 @@ impl<'c> RealmSettings<'c> {
     }
 
     /// How a peer's requests are forwarded.
-    pub(crate) fn shaping_from(&self, peer: u16) -> Shaping<'_>
+    pub fn shaping_from(&self, peer: u16) -> Shaping<'_>
         requires { peer < length self.now.peers }
         ensures shaping { shown_shaping result ≡ shaping_from self.now peer }
         ensures name { HasShortName (shown_shaping result) }

@@ -2,12 +2,12 @@
 
 ghost use Rattle.std.specs.Prelude.{IfOk};
 ghost use Rattle.roam_conf.specs.Shown.{shown};
-ghost use Rattle.roam_book.specs.Carrying.{AreChanged};
+ghost use Rattle.roam_carry.specs.Carrying.{AreChanged};
 
 use crate::asked::attending::Attendant;
 use crate::change::next::out_of_memory;
 use log::Log;
-use roam_book::{Loss, changed_peers};
+use roam_carry::{Loss, changed_peers};
 use roam_conf::Config;
 use roam_control::{Course, Reply, plain_reply};
 use roam_hub::{Opened, Seat};

@@ -11,7 +11,7 @@ pub struct Configured {
     pub config: Config,
     pub sockets: Vec<BoundSocket>,
     pub manner: Manner,
-    /// What is counted; none where nothing is, or where the counts are those of whoever watches the server.
+    /// What is counted; none where nobody watches the server.
     pub counters: Option<Counters>,
 }
 
@@ -28,16 +28,6 @@ impl Drop for Configured {
         drop(sockets);
         drop(manner);
         drop(counters);
-    }
-}
-
-impl Configured {
-    /// What is counted: its own counts, or these, where it has none.
-    pub fn counters<'s>(&'s self, others: Option<&'s Counters>) -> Option<&'s Counters> {
-        match &self.counters {
-            Some(counters) => Some(counters),
-            None => others,
-        }
     }
 }
 

@@ -124,7 +124,7 @@ fn bind_next<R: Net + Log, G, N: Opened>(
     let sockets = bind_following(rt, shared.alloc, &config, sockets, wanted)?;
     widen_all(rt, &config, sockets.as_slice());
     let counters = match shared.counters {
-        Some(_) => Some(Counters::new(shared.alloc, &config)?),
+        Some(_) => Some(Counters::after(shared.alloc, shared.config, &config)?),
         None => None,
     };
     Ok(Configured {

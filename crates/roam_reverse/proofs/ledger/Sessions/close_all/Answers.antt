@@ -4,5 +4,6 @@ use Rattle.roam_reverse.proofs.ledger.Sessions.close_all.Goals as goal
 pub invariant_of-self : goal.invariant_of-self
 invariant_of-self g c = (
   c.remove_agreeing.ensures.sound,
-  omega (arith, c.remove_agreeing.ensures.count, c.self.invariant.1),
+  let count = rw c.deref_mut.ensures.value at c.remove_agreeing.ensures.count in
+      omega (arith, count, c.self.invariant.1),
 )

@@ -1,4 +1,4 @@
-use Rattle.std.proofs.Common.{ap, ◌∙◌, subst, arith}
+use Rattle.std.proofs.Common.{ap, sym, ◌∙◌, subst, arith}
 use Rattle.roam_reverse.specs.Kept.{shown_session}
 use Rattle.roam_reverse.specs.Sessions.{IsLedger, has_session}
 use Rattle.roam_reverse.specs.Shown.{Ledger}
@@ -11,13 +11,13 @@ returns-clause-found g c =
     let sound = c.self.invariant.0 in
     let s = shown_session c.args.session in
     c.is_some.ensures
-    ∙ there (session_at c.self.inside.chain) c.self.inside.chain.next sound.tickets s c.find.result
-    (c.find.ensures sound)
+    ∙ there (session_at c.self.inside.chain.value) c.self.inside.chain.value.next sound.tickets s c.find.result
+    (rw c.deref.ensures at (c.find.ensures (rw (sym c.deref.ensures) at sound)))
     ∙ ap (λ (l : Ledger). has_session s l.sessions) c.self.view_is
 
 pub returns-clause-ledger : goal.returns-clause-ledger
 returns-clause-ledger g c =
     let sound = c.self.invariant.0 in
     subst (λ (l : Ledger). IsLedger l.limit l.sessions) c.self.view_is
-    (is-ledger (session_at c.self.inside.chain) c.self.inside.chain.next sound.tickets c.self.inside.limit
+    (is-ledger (session_at c.self.inside.chain.value) c.self.inside.chain.value.next sound.tickets c.self.inside.limit
     (omega (arith, sound.count, c.self.invariant.1)))

@@ -7,7 +7,7 @@ invariant_of-self g c = (c.keep_newest.ensures.sound, c.keep_newest.ensures.coun
 
 pub returns-clause-sessions : goal.returns-clause-sessions
 returns-clause-sessions g c =
-    c.keep_newest.ensures.sessions
+    (rw c.deref_mut.ensures.value at c.keep_newest.ensures.sessions)
     ∙ ap (λ (l : Ledger). drop (length l.sessions - c.args.limit) l.sessions) c.self.view_is
 
 pub returns-clause-few : goal.returns-clause-few

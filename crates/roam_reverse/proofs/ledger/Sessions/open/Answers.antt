@@ -23,9 +23,11 @@ returns-then-has-clause-sessions g c =
 pub append-requires-clause-absent : goal.append-requires-clause-absent
 append-requires-clause-absent g c =
     let s = kept_session c.args.new.session in
-    no-ticket (session_at c.self.inside.chain) c.self.inside.chain.next c.self.invariant.0.tickets s
+    rw (sym c.deref_mut.ensures.value) at
+    (no-ticket (session_at c.self.inside.chain.value) c.self.inside.chain.value.next c.self.invariant.0.tickets s
     (ap (λ (l : Ledger). has_session s l.sessions) c.self.view_is
-    ∙ ap (λ (x : Session). has_session x c.args.self.now.sessions) (sym c.lend.ensures) ∙ sym c.if-has.ensures.found)
+    ∙ ap (λ (x : Session). has_session x c.args.self.now.sessions) (sym c.lend.ensures)
+    ∙ sym c.if-has.ensures.found))
 
 pub invariant_of-self : goal.invariant_of-self
 invariant_of-self g c = (c.keep_within.ensures.sound, c.keep_within.ensures.count)
@@ -33,11 +35,12 @@ invariant_of-self g c = (c.keep_within.ensures.sound, c.keep_within.ensures.coun
 pub returns-clause-sessions : goal.returns-clause-sessions
 returns-clause-sessions g c =
     let s = kept_session c.args.new.session in
-    let xs = sessions_of c.self.inside.chain in
+    let xs = sessions_of c.self.inside.chain.value in
     let limit = c.self.inside.limit in
     let absent : has_session s xs ≡ false =
     ap (λ (l : Ledger). has_session s l.sessions) c.self.view_is
     ∙ ap (λ (x : Session). has_session x c.args.self.now.sessions) (sym c.lend.ensures) ∙ sym c.if-has.ensures.found in
-    c.keep_within.ensures.sessions ∙ ap (λ (l : List Session). within limit l) c.append.ensures.sessions
+    c.keep_within.ensures.sessions ∙ ap (λ (l : List Session). within limit l)
+    (rw (sym c.deref_mut-2.ensures.value) at (rw c.deref_mut.ensures.value at c.append.ensures.sessions))
     ∙ opened limit s xs absent c.if-self-eq0.false
     ∙ ap (λ (l : Ledger). with_session l.limit s l.sessions) c.self.view_is

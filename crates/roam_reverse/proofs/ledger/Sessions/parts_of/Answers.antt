@@ -16,7 +16,7 @@ is-there F next t are (Some parts) is = sym (there F next are (shown_parts parts
 
 pub returns : goal.returns
 returns g c =
-    let chain = c.self.inside.chain in
+    let chain = c.self.inside.chain.value in
     subst (λ (l : Ledger). IfSome c.parts_of.result (λ parts. has_session (shown_parts parts) l.sessions ≡ true))
     c.self.view_is (is-there (session_at chain) chain.next c.args.ticket c.self.invariant.0.tickets c.parts_of.result
-    c.parts_of.ensures)
+    (rw c.deref.ensures at c.parts_of.ensures))

@@ -30,7 +30,7 @@ at g c =
     c.args.self.now.numbers.items c.requires.stands c.from.result (omega (arith, there, c.from.ensures)))
     c.index_mut.ensures.value c.in-Some.is
 
-same : (g : Over) (c : goal.After-self-2-1 g) → StandFor c.in-Some.numbers c.reserve_carry.new.self
+same : (g : Over) (c : goal.After-self-2-1 g) → StandFor c.in-Some.numbers c.reserve_carry.new.numbers
 same g c = record { state = c.reserve_carry.ensures.state; sound = c.reserve_carry.ensures.sound }
 
 pub returns-clause-still : goal.returns-clause-still
@@ -40,16 +40,16 @@ returns-clause-still g c =
     record {
       stands = reserved_shard (opening_under old p) p.entries p.numbers.items c.requires.stands c.from.result
           c.in-Some.numbers
-          c.reserve_carry.new.self (at g c) (same g c);
+          c.reserve_carry.new.numbers (at g c) (same g c);
       states = reserved_states (opening_under old p) p.entries p.numbers.items c.requires.stands c.from.result
           c.in-Some.numbers
-          c.reserve_carry.new.self (at g c) (same g c);
+          c.reserve_carry.new.numbers (at g c) (same g c);
       shard = refl;
     }
 
 pub returns-clause-others : goal.returns-clause-others
 returns-clause-others g c = record {
-  others = λ r ne. get-set_other c.args.self.now.numbers.items c.from.result r (Some c.reserve_carry.new.self)
+  others = λ r ne. get-set_other c.args.self.now.numbers.items c.from.result r (Some c.reserve_carry.new.numbers)
       (λ is. ne (is ∙ c.from.ensures));
   entries = refl;
 }
@@ -58,6 +58,6 @@ pub returns-clause-ready : goal.returns-clause-ready
 returns-clause-ready g c =
     IfOk-weaker c.reserve_carry.result _ _
     (λ lanes ready. ready_lanes (shown c.args.old.now) (shown c.args.new.now) c.args.realm c.from.result
-    c.args.self.now.numbers.items c.in-Some.numbers c.reserve_carry.new.self lanes c.new-before.result
+    c.args.self.now.numbers.items c.in-Some.numbers c.reserve_carry.new.numbers lanes c.new-before.result
     c.new-after.result c.from.ensures (at g c) c.new-before.ensures c.new-after.ensures ready)
     c.reserve_carry.ensures.ready

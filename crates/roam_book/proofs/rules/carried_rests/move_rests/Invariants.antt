@@ -1,5 +1,0 @@
-use Rattle.roam_book.proofs.MovedRestLemmas.{AreRestsTo}
-use Rattle.roam_book.proofs.rules.carried_rests.move_rests.Given as goal
-
-abbrev pub invariant-loop-place : goal.invariant-loop-place
-invariant-loop-place g l = AreRestsTo l.old l.new l.before l.after.items l.place

@@ -1,0 +1,4 @@
+-- Words of private functions and of invariants: no contract of a public call names one.
+pub mod Lost
+pub mod MoreLanes
+pub mod Moving

@@ -1,0 +1,68 @@
+//! How the servers' links of a realm rest that goes on under another part of a configuration.
+
+ghost use Rattle.std.specs.Prelude.{◌≡◌, ◌<◌, length, map, slice_index_or};
+ghost use Rattle.roam_book.specs.RealmConfig.{IsLink, link_place, server_link_count};
+ghost use Rattle.roam_book.specs.Rests.{awake};
+ghost use Rattle.roam_book.specs.Stays.{RestsBecome};
+ghost use Rattle.roam_carry.specs.Reload.{rest_then, rests_then, server_links_of};
+
+use crate::ends::link_before;
+use crate::lanes::link_at;
+use roam_book::{RealmNumbers, RealmSettings, Rest};
+use roam_conf::Link;
+use roam_reload::has_same_servers;
+use std::alloc::Allocator;
+
+/// The rest of a place; awake, where there is none.
+fn rest_at(rests: &[Rest], place: usize) -> Rest
+    ensures { result ≡ slice_index_or rests.now place awake }
+{
+    match rests.get(place) {
+        Some(rest) => *rest,
+        None => Rest::awake(),
+    }
+}
+
+/// How a server's link rests then: as it did, if it was there and the same.
+fn rest_then(old: &RealmSettings<'_>, new: &RealmSettings<'_>, before: &[Rest], link: Link) -> Rest
+    requires link { IsLink new.now link }
+    requires server { link_place new.now link < server_link_count new.now }
+    ensures { result ≡ rest_then old.now new.now before.now link }
+{
+    match link_before(old, new, link) {
+        Some(link) => rest_at(before, old.place_of(link)),
+        None => Rest::awake(),
+    }
+}
+
+/// How the servers' links rest goes to their places.
+fn move_rests<A: Allocator>(
+    old: &RealmSettings<'_>,
+    new: &RealmSettings<'_>,
+    before: &[Rest],
+    after: &mut Vec<Rest, A>,
+)
+    requires { length after.old.items ≡ server_link_count new.now }
+    ensures { after.new.items ≡ map (rest_then old.now new.now before.now) (server_links_of new.now) }
+{
+    for place in 0..after.len() {
+        after[place] = rest_then(old, new, before, link_at(new, place));
+    }
+}
+
+/// How the servers' links rest then: as they do, where all stand where they stood; else in a list that has a place
+/// for each. Takes no memory.
+pub(crate) fn take_rests<A: Allocator + Copy>(
+    old: &RealmSettings<'_>,
+    new: &RealmSettings<'_>,
+    numbers: &mut RealmNumbers<A>,
+    mut rests: Vec<Rest, A>,
+)
+    requires { length rests.items ≡ server_link_count new.now }
+    ensures { RestsBecome (rests_then old.now new.now numbers.old.rests.items) numbers.old numbers.new }
+{
+    if !has_same_servers(old.realm(), new.realm()) {
+        move_rests(old, new, numbers.rests.as_slice(), &mut rests);
+        numbers.rests = rests;
+    }
+}

@@ -1,0 +1,164 @@
+//! The counts of one thread.
+
+use roam_conf::{Config, Realm};
+use roam_counters::Holder;
+use roam_reload::realm_difference;
+use std::alloc::{AllocError, Global};
+use std::sync::atomic::AtomicU64;
+
+/// What one thread counts: the server's list, and that of each realm and of each peer, by index. A list that goes on
+/// from another sheet is empty until it is taken from there.
+pub struct Sheet {
+    server: Vec<AtomicU64>,
+    realms: Vec<Vec<AtomicU64>>,
+    peers: Vec<Vec<AtomicU64>>,
+}
+
+// By hand, so that a proof sees one call wherever it ends, and not each of its parts.
+impl Drop for Sheet {
+    fn drop(self) {
+        let Self {
+            server,
+            realms,
+            peers,
+        } = self;
+        drop(server);
+        drop(realms);
+        drop(peers);
+    }
+}
+
+/// So many counts that stand at 0.
+pub fn zeros(alloc: Global, count: usize) -> Result<Vec<AtomicU64>, AllocError> {
+    let mut zeros = Vec::with_capacity(alloc, count)?;
+    for _ in 0..count {
+        zeros.push(AtomicU64::new(0))?;
+    }
+    Ok(zeros)
+}
+
+/// Whether a realm's list goes on as it is: its table is no other one, so that whoever sends to it has the same number.
+fn goes_on(before: &Realm, after: &Realm) -> bool {
+    !before.gone && realm_difference(before, after).is_none()
+}
+
+/// How many counts are made for the realm of an index: none where its list goes on, or where it is gone.
+fn realm_cells(before: Option<&Config>, after: &Realm, number: usize) -> usize {
+    let old = match before {
+        Some(before) => before.realms.get(number),
+        None => None,
+    };
+    match old {
+        Some(old) if goes_on(old, after) => 0,
+        _ if after.gone => 0,
+        _ => Holder::Realm(0).cells(),
+    }
+}
+
+/// The same for the peer of an index.
+fn peer_cells(before: Option<&Config>, is_gone: bool, number: usize) -> usize {
+    let old = match before {
+        Some(before) => before.peers.get(number),
+        None => None,
+    };
+    match old {
+        Some(old) if !old.gone => 0,
+        _ if is_gone => 0,
+        _ => Holder::Peer(0).cells(),
+    }
+}
+
+fn realm_lists(
+    alloc: Global,
+    before: Option<&Config>,
+    after: &Config,
+) -> Result<Vec<Vec<AtomicU64>>, AllocError> {
+    let mut lists = Vec::with_capacity(alloc, after.realms.len())?;
+    for (number, realm) in after.realms.iter().enumerate() {
+        lists.push(zeros(alloc, realm_cells(before, realm, number))?)?;
+    }
+    Ok(lists)
+}
+
+fn peer_lists(
+    alloc: Global,
+    before: Option<&Config>,
+    after: &Config,
+) -> Result<Vec<Vec<AtomicU64>>, AllocError> {
+    let mut lists = Vec::with_capacity(alloc, after.peers.len())?;
+    for (number, peer) in after.peers.iter().enumerate() {
+        lists.push(zeros(alloc, peer_cells(before, peer.gone, number))?)?;
+    }
+    Ok(lists)
+}
+
+/// Takes a list that goes on, where none was made and its holder is here.
+fn take_list(list: &mut Vec<AtomicU64>, other: &mut Vec<AtomicU64>, is_gone: bool) {
+    if list.is_empty() && !is_gone {
+        std::mem::swap(list, other);
+    }
+}
+
+/// The place of a list, if there is one.
+fn list_at(lists: &[Vec<AtomicU64>], number: u16) -> Option<&[AtomicU64]> {
+    match lists.get(usize::from(number)) {
+        Some(list) => Some(list.as_slice()),
+        None => None,
+    }
+}
+
+impl Sheet {
+    /// The sheet of a configuration: with all lists, or where another one was served before with those that are new.
+    pub fn new(
+        alloc: Global,
+        before: Option<&Config>,
+        after: &Config,
+    ) -> Result<Sheet, AllocError> {
+        let server = match before {
+            Some(_) => 0,
+            None => Holder::Server.cells(),
+        };
+        Ok(Sheet {
+            server: zeros(alloc, server)?,
+            realms: realm_lists(alloc, before, after)?,
+            peers: peer_lists(alloc, before, after)?,
+        })
+    }
+
+    /// Takes the lists of each realm that go on. Takes no memory.
+    fn take_realms(&mut self, others: &mut Sheet, after: &Config) {
+        let lists = self.realms.iter_mut().zip(others.realms.iter_mut());
+        for ((list, other), realm) in lists.zip(after.realms.iter()) {
+            take_list(list, other, realm.gone);
+        }
+    }
+
+    /// Takes the lists of each peer that go on. Takes no memory.
+    fn take_peers(&mut self, others: &mut Sheet, after: &Config) {
+        let lists = self.peers.iter_mut().zip(others.peers.iter_mut());
+        for ((list, other), peer) in lists.zip(after.peers.iter()) {
+            take_list(list, other, peer.gone);
+        }
+    }
+
+    /// Takes all lists that go on under the configuration of this sheet. Takes no memory.
+    pub fn take_over(&mut self, others: &mut Sheet, after: &Config) {
+        take_list(&mut self.server, &mut others.server, false);
+        self.take_realms(others, after);
+        self.take_peers(others, after);
+    }
+
+    /// The list of a holder, if there is one.
+    fn list(&self, holder: Holder) -> Option<&[AtomicU64]> {
+        match holder {
+            Holder::Server => Some(self.server.as_slice()),
+            Holder::Realm(realm) => list_at(self.realms.as_slice(), realm),
+            Holder::Peer(peer) => list_at(self.peers.as_slice(), peer),
+        }
+    }
+
+    /// A count, if there is one.
+    pub fn count(&self, holder: Holder, place: usize) -> Option<&AtomicU64> {
+        self.list(holder)?.get(place)
+    }
+}
