@@ -179,7 +179,8 @@ longest_is_place prefixes a (Some place) once h =
     let views = map shown_prefix prefixes in
     let at_start : place ≡ 0 + place = omega arith in
     ap (λ k. Some k) at_start
-    ∙ sym (first_at (is_longest views a) 0 views place (shown_prefix h.prefix) (at_shown prefixes place h.prefix h.there)
+    ∙ sym (first_at (is_longest views a) 0 views place (shown_prefix h.prefix)
+    (at_shown prefixes place h.prefix h.there)
     (longest_passes prefixes a place h) (λ k v before at. (
     let found = shown_at prefixes k v at in
     elim (cases_Bool (is_longest views a v)) [

@@ -148,7 +148,11 @@ restored_is_saved c ss once ledger of_peers =
 -- ---- one that is taken up
 
 abbrev pub under : ℕ → SavedSession → Session
-under peer s = record { peer = peer; nas = record { address = s.address; identifier = s.identifier; ipv6 = s.ipv6 }; id = s.id }
+under peer s = record {
+  peer = peer;
+  nas = record { address = s.address; identifier = s.identifier; ipv6 = s.ipv6 };
+  id = s.id;
+}
 
 abbrev named_if : Bool → Option ℕ → SavedSession → Option Session
 named_if short place s = if short then option_map (λ peer. under peer s) place else None

@@ -20,8 +20,8 @@ pub record CoaClientView : Type 0 where
   pub secret : List ℕ
 
 -- an access server, or the proxy of a visited network, or all at the addresses of a prefix: how it is known and named,
--- what its Access-Requests need, what is added to its requests, and what is taken out of them and of what is sent to it;
--- or one that went from the file while it was served, which nothing means any more
+-- what its Access-Requests need, what is added to its requests, and what is taken out of them and of what is sent to
+-- it; or one that went from the file while it was served, which nothing means any more
 pub record PeerView : Type 0 where
   pub gone : Bool
   pub name : List ℕ

@@ -2,7 +2,6 @@
 use Rattle.std.specs.Prelude.{ℕ, List, map, option_map, string_bytes, String}
 use Rattle.std.specs.declared.alloc.Global.{Global}
 use Rattle.std.specs.declared.vec.Vec.{Vec}
-use Rattle.roam_address.specs.declared.prefix.Prefix.{Prefix}
 use Rattle.roam_address.specs.Prefixes.{shown_prefix}
 use Rattle.roam_conf.specs.declared.coa_client.CoaClient.{CoaClient}
 use Rattle.roam_conf.specs.declared.peer.Peer.{Peer}
