@@ -243,7 +243,7 @@ def try_faulty(server):
     with open(server.state, 'rb') as file:
         whole = file.read()
     faulty = [('cut', whole[:-1]), ('cut', whole[:len(whole) // 2]), ('cut', whole[:15]), ('no file of ledgers', b''),
-              ("another version's file of ledgers", whole.replace(b'ledgers 1\n', b'ledgers 2\n', 1)),
+              ("another version's file of ledgers", whole.replace(b'ledgers 2\n', b'ledgers 1\n', 1)),
               ('no file of ledgers', b'somebody else\'s\n'), ('octets behind the end', whole + b'\0')]
     for word, octets in faulty:
         with open(server.state, 'wb') as file:
