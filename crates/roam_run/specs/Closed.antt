@@ -9,8 +9,8 @@ use Rattle.roam_history.specs.HubOpening.{HubOpening}
 use Rattle.roam_hub.specs.Histories.{AreHistories}
 use Rattle.roam_hub.specs.Pausing.{ArePaused, StandAtEnd}
 use Rattle.roam_sockets.specs.Faults.{IsAfterBinding}
-use Rattle.roam_run.specs.declared.parts.HubEnd.{HubEnd}
-use Rattle.roam_run.specs.declared.parts.HubEnd.TheVariants as ends
+use Rattle.roam_attendant.specs.declared.hub_end.HubEnd.{HubEnd}
+use Rattle.roam_attendant.specs.declared.hub_end.HubEnd.TheVariants as ends
 use Rattle.roam_run.specs.declared.parts.Unserved.{Unserved}
 use Rattle.roam_run.specs.declared.parts.Unserved.TheVariants as unserved
 use Rattle.std.specs.declared.alloc.Global.{Global}

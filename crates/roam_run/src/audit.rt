@@ -5,7 +5,8 @@ ghost use Rattle.roam_audit.specs.Shown.{recorded};
 ghost use Rattle.roam_run.specs.Closed.{EndsOf, MayGoOn};
 ghost use Rattle.roam_sockets.specs.Faults.{IsAfterBinding};
 
-use crate::parts::{HubEnd, Left};
+use crate::parts::Left;
+use roam_attendant::HubEnd;
 use roam_hub::{Audited, Hub, Opened, PauseRoom, Paused, PausedHub, Seat};
 use roam_sockets::ServeFault;
 use roam_workers::Ended;

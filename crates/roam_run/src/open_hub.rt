@@ -8,15 +8,13 @@ ghost use Rattle.roam_hub.specs.Pausing.{ArePaused, opening_over};
 ghost use Rattle.roam_run.specs.Closed.{EndSomewhere, EndsOf, IsUnserved, MayGoOn};
 ghost use Rattle.roam_sockets.specs.Faults.{IsAfterBinding};
 
-use crate::asked::attending::Attendant;
 use crate::audit::close_ended;
-use crate::change::configured::Configured;
-use crate::change::source::Source;
 use crate::given_back::given_back;
 use crate::opening::{HubRoom, OpenHub, ThreadRoom};
-use crate::parts::{HubEnd, Left, Means, Served, ServerParts, Unserved};
+use crate::parts::{Left, Means, Served, ServerParts, Unserved};
 use crate::start::{ResultRoom, RunResult, run_threads};
 use log::Log;
+use roam_attendant::{Attendant, Configured, HubEnd, Source};
 use roam_hub::{Blanks, Gate, Hub, Opened, Seat};
 use roam_shard::Paused;
 use roam_sockets::ServeFault;

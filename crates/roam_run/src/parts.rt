@@ -5,9 +5,7 @@ ghost use Rattle.roam_audit.specs.Shown.{recorded};
 ghost use Rattle.roam_run.specs.Closed.{EndSomewhere, EndsOf};
 
 use crate::audit::AuditedHub;
-use crate::change::configured::Handover;
-use crate::change::next::Next;
-use crate::watch::Watch;
+use roam_attendant::{Handover, HubEnd, Watch};
 use roam_control::{Office, Stopping};
 use roam_counters::Datagrams;
 use roam_hub::Opened;
@@ -79,17 +77,6 @@ impl Means {
     }
 }
 
-/// How the time under a configuration ended.
-#[derive(Drop)]
-pub enum HubEnd {
-    /// The server ends.
-    Over,
-    /// This configuration is to follow.
-    Follows(Next),
-    /// What serves couldn't be started, for this fault: who asked for the configuration isn't answered yet.
-    Failed(ServeFault, Handover),
-}
-
 /// What is left of a hub that was closed and audited.
 #[derive(Drop)]
 pub struct Left<N: Opened> {
@@ -158,23 +145,5 @@ impl Served {
         let mut served = self;
         served.steps = served.steps.saturating_add(steps);
         served
-    }
-}
-
-impl HubEnd {
-    /// Whether the server ends.
-    pub fn is_over(&self) -> bool {
-        match self {
-            HubEnd::Over => true,
-            HubEnd::Failed(_, _) | HubEnd::Follows(_) => false,
-        }
-    }
-
-    /// Whether what serves couldn't be started.
-    pub fn has_failed(&self) -> bool {
-        match self {
-            HubEnd::Failed(_, _) => true,
-            HubEnd::Over | HubEnd::Follows(_) => false,
-        }
     }
 }

@@ -2,11 +2,8 @@
 
 ghost use Rattle.roam_run.specs.Closed.{MayGoOn};
 
-use crate::asked::attending::Attendant;
-use crate::change::configured::Handover;
-use crate::change::source::Source;
-use crate::parts::HubEnd;
 use log::Log;
+use roam_attendant::{Attendant, Handover, HubEnd, Source};
 use roam_control::Course;
 use roam_hub::{Gate, Opened, Seat};
 use roam_notices::ReloadEnd;

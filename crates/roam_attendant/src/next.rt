@@ -5,10 +5,10 @@ ghost use Rattle.roam_conf.specs.Shown.{shown};
 ghost use Rattle.roam_reload.specs.Reload.{MayFollow};
 ghost use Rattle.roam_history.specs.Books.{count_of};
 
-use crate::change::configured::Configured;
-use crate::change::fresh::FreshMeans;
-use crate::change::manner::Manner;
-use crate::change::source::{Following, Source};
+use crate::configured::Configured;
+use crate::fresh::FreshMeans;
+use crate::manner::Manner;
+use crate::source::{Following, Source};
 use log::Log;
 use roam_conf::Config;
 use roam_control::{Course, Reply, plain_reply};

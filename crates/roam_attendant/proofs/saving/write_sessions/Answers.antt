@@ -1,6 +1,6 @@
 -- Some sessions more.
-use Rattle.roam_run.proofs.GainLemmas.{gains_none, gains_saved, gains_then}
-use Rattle.roam_run.proofs.asked.saving.write_sessions.Goals as goal
+use Rattle.roam_attendant.proofs.GainLemmas.{gains_none, gains_saved, gains_then}
+use Rattle.roam_attendant.proofs.saving.write_sessions.Goals as goal
 
 pub loop-few-init : goal.loop-few-init
 loop-few-init g c = gains_none _

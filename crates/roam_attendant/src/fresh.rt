@@ -4,7 +4,7 @@ ghost use Rattle.std.specs.Prelude.{◌≡◌, IfErr, IfOk};
 ghost use Rattle.roam_history.specs.Books.{count_of};
 ghost use Rattle.roam_sockets.specs.Faults.{IsAfterBinding};
 
-use crate::change::configured::Configured;
+use crate::configured::Configured;
 use roam_hub::Blanks;
 use roam_sockets::ServeFault;
 use roam_threads::{Kits, make_kits};

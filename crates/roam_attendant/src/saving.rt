@@ -4,9 +4,9 @@ ghost use Rattle.std.specs.Prelude.{◌≡◌, ◌<◌, IfOk, List, OnOk, vec_le
 ghost use Rattle.roam_ledgers.specs.Ledgers.{SavedItem, ledgers_text};
 ghost use Rattle.roam_book.specs.Written.{GainsItems};
 
-use crate::asked::attending::Attendant;
-use crate::change::source::Source;
-use crate::parts::HubEnd;
+use crate::attending::Attendant;
+use crate::hub_end::HubEnd;
+use crate::source::Source;
 use log::Log;
 use roam_hub::{Opened, SESSIONS_AT_ONCE, Seat};
 use roam_ledgers::Writing;

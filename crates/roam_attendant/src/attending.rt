@@ -4,12 +4,12 @@ ghost use Rattle.std.specs.Prelude.{IfOk, IfSome};
 ghost use Rattle.roam_conf.specs.Shown.{shown};
 ghost use Rattle.roam_reload.specs.Reload.{MayFollow};
 
-use crate::asked::losing::{objection, tell_what_goes};
-use crate::asked::overview::Overview;
-use crate::change::configured::Configured;
-use crate::change::manner::StateFile;
-use crate::change::next::{Next, following_of, prepare_next};
-use crate::change::source::{Following, Source};
+use crate::configured::Configured;
+use crate::losing::{objection, tell_what_goes};
+use crate::manner::StateFile;
+use crate::next::{Next, following_of, prepare_next};
+use crate::overview::Overview;
+use crate::source::{Following, Source};
 use log::Log;
 use roam_control::{Course, Desk, Handed, Order, Reply, done, grace, plain_reply, script_of};
 use roam_counters::Process;

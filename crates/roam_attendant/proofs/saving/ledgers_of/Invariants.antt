@@ -1,6 +1,6 @@
 use Rattle.roam_ledgers.specs.Ledgers.{head}
 use Rattle.roam_book.specs.Written.{GainsItems}
-use Rattle.roam_run.proofs.asked.saving.ledgers_of.Given as goal
+use Rattle.roam_attendant.proofs.saving.ledgers_of.Given as goal
 
 -- what was written so far
 abbrev pub invariant-loop-index : goal.invariant-loop-index

@@ -2,8 +2,8 @@
 use Rattle.std.proofs.Common.{subst, sym}
 use Rattle.roam_ledgers.specs.Ledgers.{head}
 use Rattle.roam_book.specs.Written.{GainsItems}
-use Rattle.roam_run.proofs.GainLemmas.{gains_none, gains_then, whole_file}
-use Rattle.roam_run.proofs.asked.saving.ledgers_of.Goals as goal
+use Rattle.roam_attendant.proofs.GainLemmas.{gains_none, gains_then, whole_file}
+use Rattle.roam_attendant.proofs.saving.ledgers_of.Goals as goal
 
 pub loop-index-init : goal.loop-index-init
 loop-index-init g c = subst (GainsItems head) (sym c.in_ok-writing.ensures) (gains_none head)

@@ -4,8 +4,8 @@ ghost use Rattle.std.specs.Prelude.{IfOk};
 ghost use Rattle.roam_conf.specs.Shown.{shown};
 ghost use Rattle.roam_carry.specs.Carrying.{AreChanged};
 
-use crate::asked::attending::Attendant;
-use crate::change::next::out_of_memory;
+use crate::attending::Attendant;
+use crate::next::out_of_memory;
 use log::Log;
 use roam_carry::{Loss, changed_peers};
 use roam_conf::Config;

@@ -1,6 +1,6 @@
 //! A configuration that is served, with what belongs to it alone.
 
-use crate::change::manner::Manner;
+use crate::manner::Manner;
 use roam_conf::Config;
 use roam_control::Reply;
 use roam_sockets::BoundSocket;
@@ -56,7 +56,7 @@ impl Drop for Handover {
 
 impl Handover {
     /// The answer, the configuration of before, and whether who asked still waits.
-    pub(crate) fn into_parts(self) -> (Option<Reply>, Option<Configured>, bool) {
+    pub fn into_parts(self) -> (Option<Reply>, Option<Configured>, bool) {
         let Self {
             reply,
             before,

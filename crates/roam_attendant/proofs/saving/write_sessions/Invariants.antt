@@ -1,5 +1,5 @@
 use Rattle.roam_book.specs.Written.{GainsItems}
-use Rattle.roam_run.proofs.asked.saving.write_sessions.Given as goal
+use Rattle.roam_attendant.proofs.saving.write_sessions.Given as goal
 
 -- what was written so far
 abbrev pub invariant-loop-few : goal.invariant-loop-few

@@ -4,7 +4,7 @@ ghost use Rattle.std.specs.Prelude.{IfOk};
 ghost use Rattle.roam_conf.specs.Shown.{shown};
 ghost use Rattle.roam_reload.specs.Reload.{MayFollow};
 
-use crate::change::manner::Manner;
+use crate::manner::Manner;
 use roam_conf::Config;
 use roam_sockets::{Reason, ServeFault};
 use std::alloc::Global;

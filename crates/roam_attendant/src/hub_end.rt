@@ -1,0 +1,34 @@
+//! How the time under a configuration ended.
+
+use crate::configured::Handover;
+use crate::next::Next;
+use roam_sockets::ServeFault;
+
+/// How the time under a configuration ended.
+#[derive(Drop)]
+pub enum HubEnd {
+    /// The server ends.
+    Over,
+    /// This configuration is to follow.
+    Follows(Next),
+    /// What serves couldn't be started, for this fault: who asked for the configuration isn't answered yet.
+    Failed(ServeFault, Handover),
+}
+
+impl HubEnd {
+    /// Whether the server ends.
+    pub fn is_over(&self) -> bool {
+        match self {
+            HubEnd::Over => true,
+            HubEnd::Failed(_, _) | HubEnd::Follows(_) => false,
+        }
+    }
+
+    /// Whether what serves couldn't be started.
+    pub fn has_failed(&self) -> bool {
+        match self {
+            HubEnd::Failed(_, _) => true,
+            HubEnd::Over | HubEnd::Follows(_) => false,
+        }
+    }
+}

@@ -1,0 +1,26 @@
+//! What the server's own thread does while the others serve: it answers what it is asked for, keeps the ledgers of
+//! sessions, and makes all that is needed for the configuration that is to follow, before anything changes.
+//!
+//! It starts no thread and opens no hub: it has a seat of the one that is served.
+#![tactic(auto)]
+
+mod attending;
+mod configured;
+mod fresh;
+mod hub_end;
+mod losing;
+mod manner;
+mod next;
+mod overview;
+mod saving;
+mod source;
+mod watch;
+
+pub use attending::{Attendant, stopping};
+pub use configured::{Configured, Handover};
+pub use fresh::FreshMeans;
+pub use hub_end::HubEnd;
+pub use manner::{Manner, StateFile};
+pub use next::{Next, out_of_memory, widen_all};
+pub use source::{Following, NoSource, Source};
+pub use watch::Watch;
