@@ -8,7 +8,7 @@ use Rattle.roam_reload.specs.Moves.{is_moved}
 use Rattle.roam_reload.specs.Reload.{KeepsKinds, endpoints_of}
 use Rattle.roam_reload.specs.declared.kind.PlaceKind.{PlaceKind}
 use Rattle.roam_reload.specs.declared.kind.PlaceKind.TheVariants.{Auth, Acct, Out, Reverse}
-use Rattle.roam_reload.proofs.KindLemmas.{all_stay, found, moves}
+use Rattle.roam_reload.proofs.KindLemmas.{all_stay, alone, found, moves}
 use Rattle.roam_reload.proofs.hindrance.moved_endpoint.Goals as goal
 
 -- what is found among those of a kind has moved
@@ -42,3 +42,14 @@ pub returns-in_default-clause-some : goal.returns-in_default-clause-some
 returns-in_default-clause-some c =
     found_moved (shown c.args.old.now) (shown c.args.new.now) Out c.moved_out.result
     (rw (← c.as_slice.ensures.value) c.moved_out.ensures)
+
+-- the broker's own
+pub returns-then-is_moved-clause-some : goal.returns-then-is_moved-clause-some
+returns-then-is_moved-clause-some c =
+    let old = shown c.args.old.now in
+    moves old (shown c.args.new.now) Auth old.auth (alone old.auth) (sym c.is_moved.ensures ∙ c.if-is_moved.true)
+
+pub returns-then-is_moved-2-clause-some : goal.returns-then-is_moved-2-clause-some
+returns-then-is_moved-2-clause-some c =
+    let old = shown c.args.old.now in
+    moves old (shown c.args.new.now) Acct old.acct (alone old.acct) (sym c.is_moved-2.ensures ∙ c.if-is_moved-2.true)
