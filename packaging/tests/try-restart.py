@@ -10,7 +10,8 @@ ends and starts it again. It fails unless
 3. the file has mode 0600, and no other is left beside it;
 4. a file that was cut (wherever), one of another version and one that is somebody else's is said, stays beside under another
    name, and the server begins without; where the file can't be written that is said, and all else goes on;
-5. a session of a peer that went isn't taken up, nor one whose realm tells its sessions otherwise now.
+5. a session of a peer that went isn't taken up, nor one whose realm tells its sessions otherwise now;
+6. sessions are known by their NAS-IPv6-Address too.
 
 It prints how many sessions there were.
 """
@@ -127,11 +128,11 @@ class Server:
         self.start()
 
 
-def accounting(peer, realm, status, session, number):
+def accounting(peer, realm, status, session, number, more=b''):
     """Whether an Accounting-Request of a peer is answered."""
     name, ip, secret, _ = PEERS[peer]
     body = (attribute(1, b'user@' + realm.encode()) + attribute(40, struct.pack('!I', status)) + attribute(44, session)
-            + attribute(32, name.encode()))
+            + attribute(32, name.encode()) + more)
     one = bound(ip, 0)
     one.sendto(signed(4, number % 256, body, secret), (HERE, PORT + 1))
     try:
@@ -142,9 +143,9 @@ def accounting(peer, realm, status, session, number):
         one.close()
 
 
-def is_disconnected(realm, session, peer):
+def is_disconnected(realm, session, peer, more=b''):
     """Whether a Disconnect-Request of the realm's home server, which names a session and no user, is acknowledged."""
-    body = attribute(32, PEERS[peer][0].encode()) + attribute(44, session)
+    body = attribute(32, PEERS[peer][0].encode()) + attribute(44, session) + more
     one = bound(HERE, 0)
     one.sendto(signed(40, 7, body, SECRET), (HERE, PORT + 300 + REALMS.index(realm)))
     try:
@@ -298,6 +299,18 @@ def try_other(server):
     server.stop()
 
 
+def try_names(server):
+    """Two sessions of one id, of access servers that are told by their NAS-IPv6-Address (RFC 3162, section 2.1)."""
+    server.own = 'true'
+    server.start()
+    names = [attribute(95, socket.inet_pton(socket.AF_INET6, it)) for it in ('2001:db8::1', '2001:db8::2', '2001:db8::3')]
+    want(all(accounting(0, REALMS[0], 1, b'1', number, it) for number, it in enumerate(names[:2])), 'two sessions have one id')
+    server.restart()
+    want(not is_disconnected(REALMS[0], b'1', 0), 'after that a request which leaves open which one it means gets a NAK')
+    want([is_disconnected(REALMS[0], b'1', 0, it) for it in names] == [True, True, False], 'each is known by its NAS-IPv6-Address')
+    server.stop()
+
+
 def main():
     if len(sys.argv) != 2 or not os.access(sys.argv[1], os.X_OK):
         sys.exit('usage: try-restart.py PROGRAM')
@@ -310,7 +323,7 @@ def main():
         server = Server(os.path.realpath(sys.argv[1]), work)
         server.start()
         try:
-            for part in try_stop, try_signal, try_kill, try_faulty, try_unwritable, try_other:
+            for part in try_stop, try_signal, try_kill, try_faulty, try_unwritable, try_other, try_names:
                 part(server)
         finally:
             server.process.kill()
