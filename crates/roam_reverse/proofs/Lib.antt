@@ -1,5 +1,6 @@
 pub mod SameLemmas
 pub mod RowLemmas
+pub mod ShortPartLemmas
 pub mod NeighbourLemmas
 pub mod NewestLemmas
 pub mod ListedLemmas
