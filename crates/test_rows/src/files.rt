@@ -94,7 +94,11 @@ fn read_configuration(player: &mut Player<'_, '_>, name: &str) -> io::Result<Str
 }
 
 /// Reads the row that stands in a part of a file, whose first line names a configuration, and may say more.
-fn found<'r, 't>(player: &mut Player<'_, 'r>, line: usize, part: &'t str) -> Option<Found<'t, 'r>> {
+fn read_row<'r, 't>(
+    player: &mut Player<'_, 'r>,
+    line: usize,
+    part: &'t str,
+) -> Option<Found<'t, 'r>> {
     let (head, script) = part.split_once('\n').unwrap_or((part, ""));
     let (name, _) = head.split_once(' ').unwrap_or((head, ""));
     let Ok(configuration) = read_configuration(player, name) else {
@@ -134,7 +138,7 @@ pub(crate) fn plays_text(
     meets_refusals: bool,
 ) -> io::Result<()> {
     for (line, part) in parts_of(player.rt.alloc(), text)? {
-        if let Some(found) = found(player, line, part) {
+        if let Some(found) = read_row(player, line, part) {
             plays_row(player, &found, meets_refusals);
         }
     }
@@ -148,7 +152,7 @@ pub(crate) fn plays_text_through_hubs<R: Wait>(
     text: &str,
 ) -> io::Result<()> {
     for (line, part) in parts_of(player.rt.alloc(), text)? {
-        if let Some(found) = found(player, line, part) {
+        if let Some(found) = read_row(player, line, part) {
             plays_through_hubs(player, rt, found);
         }
     }
