@@ -1,9 +1,9 @@
 //! Lines that are none of a script.
 
-use crate::player::Player;
 use roam_sim::{ScriptFault, read_script};
 use std::alloc::Global;
 use std::io;
+use test_playing::Player;
 
 /// Whether the line of this number is the first faulty one of a script.
 fn is_faulty_at(alloc: Global, script: &str, number: u64) -> bool {
@@ -19,26 +19,24 @@ fn is_found(alloc: Global, line: &str) -> io::Result<bool> {
     Ok(is_faulty_at(alloc, line, 1) && is_faulty_at(alloc, text.as_str(), 4))
 }
 
-impl<'p, 'r> Player<'p, 'r> {
-    /// Looks for the fault of a line. A comment has none: it says in words what is wrong with the next line.
-    fn finds_fault(&mut self, number: usize, line: &str) -> io::Result<()> {
-        if line.is_empty() || line.starts_with("#") {
-            return Ok(());
-        }
-        self.tally.count_faulty_line();
-        if !is_found(self.rt.alloc(), line)? {
-            self.tell(number, "a faulty line", "its fault", "another answer");
-        }
-        Ok(())
+/// Looks for the fault of a line. A comment has none: it says in words what is wrong with the next line.
+fn finds_fault(player: &mut Player<'_, '_>, number: usize, line: &str) -> io::Result<()> {
+    if line.is_empty() || line.starts_with("#") {
+        return Ok(());
     }
+    player.tally.count_faulty_line();
+    if !is_found(player.rt.alloc(), line)? {
+        player.tell(number, "a faulty line", "its fault", "another answer");
+    }
+    Ok(())
+}
 
-    /// Looks for the fault of each line of a file.
-    pub(crate) fn finds_faults(&mut self, text: &str) -> io::Result<()> {
-        let mut number = 0usize;
-        for line in text.split('\n') {
-            number = number.saturating_add(1);
-            self.finds_fault(number, line)?;
-        }
-        Ok(())
+/// Looks for the fault of each line of a file.
+pub(crate) fn finds_faults(player: &mut Player<'_, '_>, text: &str) -> io::Result<()> {
+    let mut number = 0usize;
+    for line in text.split('\n') {
+        number = number.saturating_add(1);
+        finds_fault(player, number, line)?;
     }
+    Ok(())
 }

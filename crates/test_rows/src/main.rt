@@ -2,28 +2,23 @@
 //!
 //! It reads three folders where it runs: `rows/` has worked rows and some random ones, `random/` the other random
 //! ones, and `configurations/` those that the rows name; `faulty-lines` has lines that are none of a script. What a
-//! row is stands in `row`; it is played with memory in `playing`, with growths refused in `growths` and `losses`, and
-//! through a hub in `hubs`. `stored` looks at the steps that a broker over traces stored.
+//! row is, and how it is played with memory, has `test_playing`; it is played with growths refused in `growths` and
+//! `losses`, and through a hub in `hubs`.
 #![tactic(auto)]
 
-mod brokers;
 mod faulty;
 mod files;
 mod growths;
 mod hubs;
 mod losses;
-mod player;
-mod playing;
-mod row;
-mod stored;
-mod tally;
 
-use crate::brokers::Kept;
-use crate::player::Player;
+use crate::faulty::finds_faults;
+use crate::files::{plays_text, plays_text_through_hubs};
 use std::process::ExitCode;
 use std::sync::Wait;
 use std::{fs, io};
 use test_allocator::Refusing;
+use test_playing::{Kept, Player};
 
 /// The names of the files in a folder, in order.
 fn names(rt: &HostRuntime, folder: &str) -> io::Result<Vec<String>> {
@@ -45,7 +40,7 @@ fn read_file(player: &mut Player<'_, '_>, folder: &str, name: &str) -> io::Resul
 fn plays_folder(player: &mut Player<'_, '_>, folder: &str, meets_refusals: bool) -> io::Result<()> {
     for name in names(player.rt, folder)?.iter() {
         let text = read_file(player, folder, name.as_str())?;
-        player.plays_text(text.as_str(), meets_refusals)?;
+        plays_text(player, text.as_str(), meets_refusals)?;
     }
     Ok(())
 }
@@ -58,7 +53,7 @@ fn plays_through_hubs<R: Wait>(
 ) -> io::Result<()> {
     for name in names(player.rt, folder)?.iter() {
         let text = read_file(player, folder, name.as_str())?;
-        player.plays_text_through_hubs(rt, text.as_str())?;
+        plays_text_through_hubs(player, rt, text.as_str())?;
     }
     Ok(())
 }
@@ -79,7 +74,7 @@ fn plays_all<R: Wait>(rt: &HostRuntime, waiting: &R) -> io::Result<bool> {
     plays_through_hubs(waiting, &mut player, "rows")?;
     player.file = String::from_str(rt.alloc(), "faulty-lines")?;
     let faulty = fs::read_to_string(rt, "faulty-lines")?;
-    player.finds_faults(faulty.as_str())?;
+    finds_faults(&mut player, faulty.as_str())?;
     player.tally.print(rt)?;
     Ok(player.tally.is_clean())
 }

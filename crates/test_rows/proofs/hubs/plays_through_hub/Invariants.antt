@@ -1,7 +1,7 @@
 use Rattle.roam_conf.specs.Shown.{shown}
 use Rattle.roam_history.specs.Books.{books_of}
 use Rattle.roam_history.specs.HubOpening.{fresh_opening}
-use Rattle.test_rows.proofs.player.Player.plays_through_hub.Given as goal
+use Rattle.test_rows.proofs.hubs.plays_through_hub.Given as goal
 
 -- the hub that is opened here
 abbrev pub ghosts-plays_hub : goal.ghosts-plays_hub

@@ -68,7 +68,7 @@ fn without_padding<'r>(over: Over<'r>, event: &Event<Over<'r>>) -> Option<Event<
 }
 
 /// How many steps are stored.
-pub(crate) fn count_of<A: Allocator>(stored: &[Vec<Stored<A>, A>]) -> usize {
+pub fn count_of<A: Allocator>(stored: &[Vec<Stored<A>, A>]) -> usize {
     let mut count = 0usize;
     for steps in stored {
         count = count.saturating_add(steps.len());
@@ -77,7 +77,7 @@ pub(crate) fn count_of<A: Allocator>(stored: &[Vec<Stored<A>, A>]) -> usize {
 }
 
 /// Whether each receipt's step is stored at its number, where it wasn't let go of.
-pub(crate) fn are_stored<A: Allocator, N: Opened>(
+pub fn are_stored<A: Allocator, N: Opened>(
     report: &Report<A, N>,
     receipts: &[Receipt<A, N>],
 ) -> bool {
@@ -131,14 +131,14 @@ fn are_those_of<'r>(
 
 impl<'p, 'r> Player<'p, 'r> {
     /// Keeps what was answered last.
-    pub(crate) fn keeps_answer(&mut self, answers: &mut Vec<Option<Answer<Over<'r>>>>) {
+    pub fn keeps_answer(&mut self, answers: &mut Vec<Option<Answer<Over<'r>>>>) {
         if answers.push(self.given.take()).is_err() {
             self.tally.count_difference();
         }
     }
 
     /// Looks at the steps that a broker over traces stored, which was given all events of a row and answered them so.
-    pub(crate) fn looks_at_steps(
+    pub fn looks_at_steps(
         &mut self,
         row: &Row<Over<'r>>,
         broker: Playing<'_, 'r>,

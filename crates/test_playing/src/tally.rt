@@ -4,7 +4,7 @@ use std::io;
 
 /// How much was played, and how much of it differed.
 #[derive(Clone, Copy)]
-pub(crate) struct Tally {
+pub struct Tally {
     rows: u64,
     events: u64,
     /// The growths that were refused.
@@ -18,7 +18,7 @@ pub(crate) struct Tally {
 }
 
 impl Tally {
-    pub(crate) fn new() -> Tally {
+    pub fn new() -> Tally {
         Tally {
             rows: 0,
             events: 0,
@@ -30,39 +30,39 @@ impl Tally {
     }
 
     /// Counts a row and its events.
-    pub(crate) fn count_row(&mut self, events: usize) {
+    pub fn count_row(&mut self, events: usize) {
         self.rows = self.rows.saturating_add(1);
         self.events = self.events.saturating_add(events as u64);
     }
 
     /// Counts a refused growth.
-    pub(crate) fn count_growth(&mut self) {
+    pub fn count_growth(&mut self) {
         self.growths = self.growths.saturating_add(1);
     }
 
     /// Counts stored steps.
-    pub(crate) fn count_stored(&mut self, steps: usize) {
+    pub fn count_stored(&mut self, steps: usize) {
         self.stored = self.stored.saturating_add(steps as u64);
     }
 
     /// Counts a faulty line.
-    pub(crate) fn count_faulty_line(&mut self) {
+    pub fn count_faulty_line(&mut self) {
         self.faulty_lines = self.faulty_lines.saturating_add(1);
     }
 
     /// Counts a difference: how many there are with it.
-    pub(crate) fn count_difference(&mut self) -> u64 {
+    pub fn count_difference(&mut self) -> u64 {
         self.differences = self.differences.saturating_add(1);
         self.differences
     }
 
     /// Whether all is as the rows say.
-    pub(crate) fn is_clean(&self) -> bool {
+    pub fn is_clean(&self) -> bool {
         self.differences == 0
     }
 
     /// Prints the line of counts.
-    pub(crate) fn print(&self, rt: &impl Print) -> io::Result<()> {
+    pub fn print(&self, rt: &impl Print) -> io::Result<()> {
         let counts = [
             (self.rows, " rows, "),
             (self.events, " events, "),

@@ -43,7 +43,7 @@ impl<'p, 'r> Player<'p, 'r> {
     }
 
     /// Gives a row's events to a broker, one after the other. Whether each is answered as the row says.
-    pub(crate) fn plays_steps(&mut self, row: &Row<Over<'r>>, config: &Config) -> bool {
+    pub fn plays_steps(&mut self, row: &Row<Over<'r>>, config: &Config) -> bool {
         let Some(mut broker) = self.fresh(config) else {
             return false;
         };
@@ -62,12 +62,7 @@ impl<'p, 'r> Player<'p, 'r> {
     }
 
     /// Simulates a row: the lines that are written are those of its packets. A simulation is over tables alone.
-    pub(crate) fn plays_sim(
-        &mut self,
-        row: &Row<Over<'r>>,
-        configuration: &str,
-        script: &str,
-    ) -> bool {
+    pub fn plays_sim(&mut self, row: &Row<Over<'r>>, configuration: &str, script: &str) -> bool {
         if self.kept != Kept::InTables {
             return true;
         }
@@ -80,7 +75,7 @@ impl<'p, 'r> Player<'p, 'r> {
     }
 
     /// Runs a row's events: none is lost, and the packets are those of the row.
-    pub(crate) fn plays_run(
+    pub fn plays_run(
         &mut self,
         row: &Row<Over<'r>>,
         config: &Config,

@@ -11,29 +11,29 @@ use test_allocator::Refusing;
 use test_brokers::{first_difference, is_taken, print_answer, print_fault};
 
 /// The allocator over which brokers and events grow.
-pub(crate) type Over<'r> = &'r Refusing<Global>;
+pub type Over<'r> = &'r Refusing<Global>;
 
 /// How many differences are told. The others are counted alone.
 const MOST_TOLD: u64 = 20;
 
 /// Plays rows, and never gives up: what it can't keep or print is a difference too.
 #[derive(Drop)]
-pub(crate) struct Player<'p, 'r> {
-    pub(crate) rt: &'p HostRuntime,
-    pub(crate) over: Over<'r>,
+pub struct Player<'p, 'r> {
+    pub rt: &'p HostRuntime,
+    pub over: Over<'r>,
     /// Which broker plays.
-    pub(crate) kept: Kept,
-    pub(crate) tally: Tally,
+    pub kept: Kept,
+    pub tally: Tally,
     /// The file of the row that is played.
-    pub(crate) file: String,
+    pub file: String,
     /// What was answered last, if it was answered.
-    pub(crate) given: Option<Answer<Over<'r>>>,
+    pub given: Option<Answer<Over<'r>>>,
     /// The same as lines.
-    pub(crate) got: Vec<u8>,
+    pub got: Vec<u8>,
 }
 
 impl<'p, 'r> Player<'p, 'r> {
-    pub(crate) fn new(rt: &'p HostRuntime, over: Over<'r>) -> Player<'p, 'r> {
+    pub fn new(rt: &'p HostRuntime, over: Over<'r>) -> Player<'p, 'r> {
         Player {
             rt,
             over,
@@ -58,7 +58,7 @@ impl<'p, 'r> Player<'p, 'r> {
     }
 
     /// Counts a difference, and tells it.
-    pub(crate) fn tell(&mut self, line: usize, how: &str, wanted: &str, got: &str) {
+    pub fn tell(&mut self, line: usize, how: &str, wanted: &str, got: &str) {
         if self.tally.count_difference() <= MOST_TOLD {
             let told = self.print_difference(line, how, wanted, got);
             self.needs(told);
@@ -66,14 +66,14 @@ impl<'p, 'r> Player<'p, 'r> {
     }
 
     /// Counts what couldn't be kept or printed.
-    pub(crate) fn needs(&mut self, done: io::Result<()>) {
+    pub fn needs(&mut self, done: io::Result<()>) {
         if done.is_err() {
             self.tally.count_difference();
         }
     }
 
     /// Whether what was answered last is what is wanted. Tells where it isn't.
-    pub(crate) fn is_answer(&mut self, line: usize, how: &str, wanted: &[u8]) -> bool {
+    pub fn is_answer(&mut self, line: usize, how: &str, wanted: &[u8]) -> bool {
         if wanted == self.got.as_slice() {
             return true;
         }
@@ -82,7 +82,7 @@ impl<'p, 'r> Player<'p, 'r> {
     }
 
     /// Tells the first line in which what was answered last differs from what is wanted.
-    pub(crate) fn tell_answer(&mut self, line: usize, how: &str, wanted: &[u8]) {
+    pub fn tell_answer(&mut self, line: usize, how: &str, wanted: &[u8]) {
         let wanted = std::str::from_utf8(wanted).unwrap_or("no text");
         let text = std::mem::replace(&mut self.got, Vec::new(self.rt.alloc()));
         let got = std::str::from_utf8(text.as_slice()).unwrap_or("no text");
@@ -91,7 +91,7 @@ impl<'p, 'r> Player<'p, 'r> {
     }
 
     /// A fresh broker of a configuration, for which there is memory.
-    pub(crate) fn fresh<'c>(&mut self, config: &'c Config) -> Option<Playing<'c, 'r>> {
+    pub fn fresh<'c>(&mut self, config: &'c Config) -> Option<Playing<'c, 'r>> {
         self.over.refuse_nth(0);
         let broker = Playing::new(self.over, config, self.kept).ok();
         if broker.is_none() {
@@ -113,7 +113,7 @@ impl<'p, 'r> Player<'p, 'r> {
     }
 
     /// Gives an event to a broker.
-    pub(crate) fn give(&mut self, broker: &mut Playing<'_, 'r>, step: &Step<Over<'r>>) {
+    pub fn give(&mut self, broker: &mut Playing<'_, 'r>, step: &Step<Over<'r>>) {
         self.got.clear();
         let answered = broker.step(&step.event);
         let printed = match &answered {
@@ -126,7 +126,7 @@ impl<'p, 'r> Player<'p, 'r> {
     }
 
     /// Gives an event to a broker. Whether it is answered as the row says.
-    pub(crate) fn steps(
+    pub fn steps(
         &mut self,
         broker: &mut Playing<'_, 'r>,
         step: &Step<Over<'r>>,

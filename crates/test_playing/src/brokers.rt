@@ -12,7 +12,7 @@ use test_brokers::Traces;
 
 /// How the broker that plays keeps its entries.
 #[derive(Clone, Copy, PartialEq, Eq)]
-pub(crate) enum Kept {
+pub enum Kept {
     InLists,
     InTables,
     /// In tables, with each step stored.
@@ -21,7 +21,7 @@ pub(crate) enum Kept {
 
 /// A broker that plays.
 #[derive(Drop)]
-pub(crate) enum Playing<'c, 'r> {
+pub enum Playing<'c, 'r> {
     Lists(Broker<'c, Over<'r>>),
     Tables(Shards<'c, Over<'r>>),
     Traces(Traces<'c, Over<'r>>),
@@ -39,7 +39,7 @@ fn unstored<'r>(
 
 impl<'c, 'r> Playing<'c, 'r> {
     /// A fresh broker of a configuration.
-    pub(crate) fn new(
+    pub fn new(
         over: Over<'r>,
         config: &'c Config,
         kept: Kept,
@@ -52,7 +52,7 @@ impl<'c, 'r> Playing<'c, 'r> {
     }
 
     /// Gives an event to the broker.
-    pub(crate) fn step(&mut self, event: &Event<Over<'r>>) -> Result<Answer<Over<'r>>, HubFault> {
+    pub fn step(&mut self, event: &Event<Over<'r>>) -> Result<Answer<Over<'r>>, HubFault> {
         match self {
             Playing::Lists(broker) => unstored(broker.step(event)),
             Playing::Tables(broker) => unstored(broker.step(event)),
@@ -61,7 +61,7 @@ impl<'c, 'r> Playing<'c, 'r> {
     }
 
     /// Runs the broker over events.
-    pub(crate) fn run(
+    pub fn run(
         &mut self,
         over: Over<'r>,
         events: &[Event<Over<'r>>],

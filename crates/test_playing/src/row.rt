@@ -13,34 +13,34 @@ use std::alloc::{AllocError, AllocFailed, Allocator, Global};
 
 /// An event or a probe, and what it gives.
 #[derive(Drop)]
-pub(crate) struct Step<A: Allocator> {
+pub struct Step<A: Allocator> {
     /// The line in the row's file, from 1.
-    pub(crate) line: usize,
+    pub line: usize,
     /// How many events stand before it; for a probe, before the event that it belongs to.
-    pub(crate) place: usize,
-    pub(crate) event: Event<A>,
+    pub place: usize,
+    pub event: Event<A>,
     /// The lines of the answer.
-    pub(crate) answer: String,
+    pub answer: String,
     /// How many growths it asks for at most, where the row says so.
-    pub(crate) most_growths: Option<u64>,
+    pub most_growths: Option<u64>,
 }
 
 /// A row, with events that grow over `A`.
 #[derive(Drop)]
-pub(crate) struct Row<A: Allocator> {
+pub struct Row<A: Allocator> {
     /// The line of its head in its file, from 1.
-    pub(crate) line: usize,
-    pub(crate) steps: Vec<Step<A>>,
-    pub(crate) probes: Vec<Step<A>>,
+    pub line: usize,
+    pub steps: Vec<Step<A>>,
+    pub probes: Vec<Step<A>>,
     /// The lines of all packets that the events give.
-    pub(crate) packets: String,
+    pub packets: String,
     /// Whether the last line with an event was a probe.
     is_at_probe: bool,
 }
 
 /// Why a row isn't read.
 #[derive(Drop)]
-pub(crate) enum RowFault {
+pub enum RowFault {
     /// The line is none of a row.
     Line(usize),
     Memory,
@@ -203,12 +203,7 @@ impl<A: Allocator + Copy> Row<A> {
     }
 
     /// Reads a row, whose head stands in this line of its file.
-    pub(crate) fn read(
-        alloc: Global,
-        over: A,
-        head: usize,
-        script: &str,
-    ) -> Result<Row<A>, RowFault> {
+    pub fn read(alloc: Global, over: A, head: usize, script: &str) -> Result<Row<A>, RowFault> {
         let mut row = Row::empty(alloc, head);
         let mut line = head;
         for text in script.split('\n') {
