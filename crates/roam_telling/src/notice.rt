@@ -8,6 +8,7 @@ use roam_conf::{Address, Config, Endpoint, Link, Realm};
 use roam_notices::{RefusalCount, RefusedText, TurnedAway, TurnedAwayText};
 use roam_port::LossCause;
 use roam_sockets::Reason;
+use std::fmt::Display;
 
 /// What is told on standard error.
 #[derive(Clone, Copy, PartialEq, Eq)]
@@ -86,34 +87,70 @@ pub fn server_endpoint(realm: &Realm, link: Link) -> Option<Endpoint> {
     }
 }
 
+/// Warns of what a text says.
+fn warn_text<R: Log, D: Display + Drop>(rt: &R, text: D) {
+    warn!(rt; "{}", text);
+}
+
+/// Warns that there are so many of something.
+fn warn_count<R: Log>(rt: &R, count: u64, what: &str) {
+    warn!(rt; "{} {}", count, what);
+}
+
+/// Tells why so many packets are lost.
+fn tell_lost<R: Log>(rt: &R, cause: LossCause, count: u64) {
+    warn!(rt; "{} packets lost {}", count, words_of(cause));
+}
+
+/// Tells that a socket has less room than it is to have.
+fn tell_narrow<R: Log>(rt: &R, at: Endpoint, octets: u32) {
+    warn!(rt; "{} has room for {} octets alone", at, octets);
+}
+
+/// Tells that the counts can't be asked for, and why.
+fn tell_no_metrics<R: Log>(rt: &R, at: Endpoint, reason: Reason) {
+    let Reason(number) = reason;
+    warn!(rt; "no metrics at {} (errno {})", at, number);
+}
+
+/// Tells that a home server keeps silent.
+fn tell_silent<R: Log>(rt: &R, server: LinkText<'_>) {
+    let LinkText { at, realm } = server;
+    warn!(rt; "home server {} of {} keeps silent: it rests", at, realm);
+}
+
+/// Tells that a home server answers again.
+fn tell_answers<R: Log>(rt: &R, server: LinkText<'_>) {
+    let LinkText { at, realm } = server;
+    info!(rt; "home server {} of {} answers again", at, realm);
+}
+
+/// Tells what is served.
+fn tell_serving<R: Log>(rt: &R, realms: usize, peers: usize, shards: u16) {
+    info!(rt; "serving realms {} peers {} shards {}", realms, peers, shards);
+}
+
+/// Tells how much was audited at the end.
+fn tell_ended<R: Log>(rt: &R, steps: u64, times: u64) {
+    info!(rt; "ended after {} steps, let go of {} times: audited", steps, times);
+}
+
 /// Tells a notice. Waits where standard error has no room.
 pub fn tell<R: Log>(rt: &R, config: &Config, notice: Notice) {
     match notice {
-        Notice::Refused(tally) => warn!(rt; "{}", RefusedText::new(config, tally)),
-        Notice::Dropped(count) => warn!(rt; "{} notices dropped", count),
-        Notice::Lost(cause, count) => warn!(rt; "{} packets lost {}", count, words_of(cause)),
-        Notice::Narrow(at, octets) => { warn!(rt; "{} has room for {} octets alone", at, octets) }
-        Notice::NoMetrics(at, Reason(number)) => {
-            warn!(rt; "no metrics at {} (errno {})", at, number)
-        }
-        Notice::LinesDropped(count) => warn!(rt; "{} lines of exchanges dropped", count),
-        Notice::Silent(realm, link) => {
-            let LinkText { at, realm } = link_text(config, realm, link);
-            warn!(rt; "home server {} of {} keeps silent: it rests", at, realm)
-        }
-        Notice::Answers(realm, link) => {
-            let LinkText { at, realm } = link_text(config, realm, link);
-            info!(rt; "home server {} of {} answers again", at, realm)
-        }
-        Notice::TurnedAway(replies) => warn!(rt; "{}", TurnedAwayText::new(config, replies)),
+        Notice::Refused(tally) => warn_text(rt, RefusedText::new(config, tally)),
+        Notice::Dropped(count) => warn_count(rt, count, "notices dropped"),
+        Notice::Lost(cause, count) => tell_lost(rt, cause, count),
+        Notice::Narrow(at, octets) => tell_narrow(rt, at, octets),
+        Notice::NoMetrics(at, reason) => tell_no_metrics(rt, at, reason),
+        Notice::LinesDropped(count) => warn_count(rt, count, "lines of exchanges dropped"),
+        Notice::Silent(realm, link) => tell_silent(rt, link_text(config, realm, link)),
+        Notice::Answers(realm, link) => tell_answers(rt, link_text(config, realm, link)),
+        Notice::TurnedAway(replies) => warn_text(rt, TurnedAwayText::new(config, replies)),
         Notice::Stopping => info!(rt; "asked to stop: no request is taken any more"),
         Notice::TriesAgain => warn!(rt; "what serves can't be started: tried again"),
-        Notice::Serving(realms, peers, shards) => {
-            info!(rt; "serving realms {} peers {} shards {}", realms, peers, shards)
-        }
-        Notice::Ended(steps, times) => {
-            info!(rt; "ended after {} steps, let go of {} times: audited", steps, times)
-        }
+        Notice::Serving(realms, peers, shards) => tell_serving(rt, realms, peers, shards),
+        Notice::Ended(steps, times) => tell_ended(rt, steps, times),
     }
 }
 
