@@ -2,7 +2,7 @@
 """Tries the mistakes that `rt ci` doesn't: of each crate it tries three or four, of a long one none.
 
     mistakes/try.py [CRATE ..]      all that are kept of these crates, or of all
-    mistakes/try.py --gate [JOBS]   those that .ci/run tries, each by its function alone
+    mistakes/try.py --gate [JOBS]   those that .ci/run tries, each by its function alone, those of a crate at one time
 
 Each file of `mistakes/CRATE` is an edit in the form of `crates/*/must-fail`. They are laid there, beside those of `rt ci`,
 `rt must-fail CRATE` tries them all (the crate and those below it are proved first, where that isn't done), and they are
@@ -10,7 +10,8 @@ taken away again. The status is 0 where the prover refuses them all.
 
 `rt must-fail` proves the whole crate once more, from nothing. So an edit of a long crate may have a line `only: FUNCTION`: with
 --gate the prover checks this function, and those that it calls, of a copy of the crate that has the edit, over the libraries that
-were proved before. It is refused where the prover has read all of it and proved all but this function, or what calls it.
+were proved before. It is refused where the prover has read all of it and has no proof of this function, for more than a name that
+the edit took away. A copy has one edit of each function that a crate's edits name: most of what such a check costs is reading.
 """
 import concurrent.futures
 import os
@@ -55,40 +56,84 @@ def function_of(edit: pathlib.Path) -> str | None:
 NAMES = re.compile(r"has no field|is not in scope|has no `|was not admitted|not checked")
 
 
-def judged(text: str, function: str) -> str:
-    """What the prover's output says of an edit: nothing where it was refused, else what is wrong."""
-    counts = re.search(r"^only=(\d+) proved=(\d+)", text, re.M)
+def file_of(edit: pathlib.Path) -> str:
+    """The file that an edit changes, below its crate."""
+    return re.search(r"^file: (.*)$", edit.read_text(encoding="utf-8"), re.M)[1]
+
+
+def lines_of(code: str, name: str) -> set[int]:
+    """The lines of the functions of this name, from 1."""
+    found, until, end = set(), 0, ""
+    for number, line in enumerate(code.splitlines(), 1):
+        begin = re.match(rf"( *)(?:pub(?:\(\w+\))? )?(?:const )?fn {name}\b", line)
+        if begin:
+            until, end = number, begin[1] + "}"
+        if until:
+            found.add(number)
+            until = 0 if line == end else until
+    return found
+
+
+def judged(text: str, edit: pathlib.Path, code: str) -> str:
+    """What the prover's output says of an edit, whose file is this code then: nothing where it was refused, else what is wrong."""
+    function = function_of(edit)
+    name = function.rpartition("::")[2]
     unread = re.search(r"^(rattle: error|(\./)?(src|specs)/\S+ error).*", text, re.M)
-    if unread or not counts:
+    if unread or not re.search(r"^only=\d+ proved=\d+", text, re.M):
         return "wasn't read: " + (unread[0] if unread else text[-300:])
-    if counts[1] == counts[2]:
-        return "is proved"
     if not re.search(rf"^fn \S*{re.escape(function)}: (no proof|not proved)", text, re.M):
         return f"leaves {function} proved, or not looked at"
-    told = re.findall(r"^(?:\./)?proofs/\S+ error: .*|^note: \S+ it is not proved that.*", text, re.M)
+    lines = lines_of(code, name)
+    told = re.findall(rf"^(?:\./)?proofs/\S*/{name}/\S+ error: .*", text, re.M) + [
+        of[0] for of in re.finditer(rf"^note: {re.escape(file_of(edit))}:(\d+):\d+: it is not proved that.*", text, re.M)
+        if int(of[1]) in lines]
     return "" if any(not NAMES.search(it) for it in told) else "is refused for names that it took away alone"
 
 
-def refused_alone(crates: dict, edit: pathlib.Path) -> bool:
-    """Whether the prover refuses the function that an edit names."""
+def batches(edits: list[pathlib.Path]) -> list[list[pathlib.Path]]:
+    """The edits of one crate, such that those of one function are apart."""
+    made: list[list[pathlib.Path]] = []
+    for it in edits:
+        free = [of for of in made if function_of(it) not in map(function_of, of)]
+        if free:
+            free[0].append(it)
+        else:
+            made.append([it])
+    return made
+
+
+def edit_copy(room: str, edit: pathlib.Path) -> bool:
+    """Lays an edit over a copy of its crate; whether all that it changes was there."""
+    text = edit.read_text(encoding="utf-8")
+    file = pathlib.Path(room) / file_of(edit)
+    after = file.read_text(encoding="utf-8")
+    for olds, news in re.findall(r"((?:^old:.*\n)+)((?:^new:.*\n)+)", text + "\n", re.M):
+        old, new = (re.sub(rf"^{word}: ?", "", lines, flags=re.M).rstrip("\n") for word, lines in (("old", olds), ("new", news)))
+        if old not in after:
+            return False
+        after = after.replace(old, new)
+    file.write_text(after, encoding="utf-8")
+    return True
+
+
+def refused_alone(crates: dict, edits: list[pathlib.Path]) -> bool:
+    """Whether the prover refuses each function that edits of one crate name."""
     import rtlib  # pylint: disable=import-outside-toplevel,import-error
-    crate, function = crates[edit.parent.name], function_of(edit)
-    old_new = re.findall(r"^old: (.*)\nnew: ?(.*)$", edit.read_text(encoding="utf-8"), re.M)
+    crate = crates[edits[0].parent.name]
     with tempfile.TemporaryDirectory(prefix="roam-edit-") as room:
         for part in rtlib.PARTS:
             if (pathlib.Path(crate.folder) / part).is_dir():
                 shutil.copytree(f"{crate.folder}/{part}", f"{room}/{part}")
-        file = pathlib.Path(room) / re.search(r"^file: (.*)$", edit.read_text(encoding="utf-8"), re.M)[1]
-        text = file.read_text(encoding="utf-8")
-        for old, new in old_new:
-            text = text.replace(old, new)
-        file.write_text(text, encoding="utf-8")
-        words = crate.words(["--jobs", "1", "--only", function], keeps=False)
+        laid = {it: edit_copy(room, it) for it in edits}
+        only = [word for it in edits for word in ("--only", function_of(it))]
+        words = crate.words(["--jobs", "1", *only], keeps=False)
         ran = subprocess.run([rtlib.RATTLE, "check", *words], cwd=room, stdin=subprocess.DEVNULL, stdout=subprocess.PIPE,
                              stderr=subprocess.STDOUT, errors="replace", check=False)
-    fault = judged(ran.stdout, function)
-    print(f"{edit.relative_to(ROOT)}: {fault or 'refused, as it must be'}", flush=True)
-    return not fault
+        code = {it: pathlib.Path(room, file_of(it)).read_text(encoding="utf-8") for it in edits}
+    faults = {it: judged(ran.stdout, it, code[it]) if laid[it] else "changes what isn't there" for it in edits}
+    for it, fault in faults.items():
+        print(f"{it.relative_to(ROOT)}: {fault or 'refused, as it must be'}", flush=True)
+    return not any(faults.values())
 
 
 def gate(jobs: int) -> int:
@@ -97,11 +142,13 @@ def gate(jobs: int) -> int:
     sys.path.insert(0, str(pathlib.Path(os.path.realpath(subprocess.check_output(["which", "rt"], text=True).strip())).parent))
     import rtlib  # pylint: disable=import-outside-toplevel,import-error
     edits = sorted(it for it in HERE.glob("*/*.edit") if function_of(it))
+    of_crates = [[it for it in edits if it.parent.name == name] for name in sorted({it.parent.name for it in edits})]
     os.chdir(ROOT)
     known: dict = {}
-    crates = {name: rtlib.Crate(str(ROOT / "crates" / name), str(ROOT), known) for name in {it.parent.name for it in edits}}
+    crates = {of[0].parent.name: rtlib.Crate(str(ROOT / "crates" / of[0].parent.name), str(ROOT), known) for of in of_crates}
+    parts = [batch for of in of_crates for batch in batches(of)]
     with concurrent.futures.ThreadPoolExecutor(jobs) as pool:
-        return int(not all(list(pool.map(lambda it: refused_alone(crates, it), edits))))
+        return int(not all(list(pool.map(lambda of: refused_alone(crates, of), parts))))
 
 
 def main() -> int:
