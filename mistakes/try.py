@@ -62,15 +62,17 @@ def file_of(edit: pathlib.Path) -> str:
 
 
 def lines_of(code: str, name: str) -> set[int]:
-    """The lines of the functions of this name, from 1."""
-    found, until, end = set(), 0, ""
+    """The lines of the functions of this name, with their attributes, from 1."""
+    found, above, end = set(), [], ""
     for number, line in enumerate(code.splitlines(), 1):
         begin = re.match(rf"( *)(?:pub(?:\(\w+\))? )?(?:const )?fn {name}\b", line)
         if begin:
-            until, end = number, begin[1] + "}"
-        if until:
+            found.update(above)
+            end = begin[1] + "}"
+        if end:
             found.add(number)
-            until = 0 if line == end else until
+            end = "" if line == end else end
+        above = above + [number] if line.lstrip().startswith("#[") else []
     return found
 
 
