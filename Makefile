@@ -63,6 +63,7 @@ trials: scripts
 	packaging/tests/try-configurations.py $(ROAM)
 	packaging/tests/try-serve.py $(ROAM)
 	packaging/tests/try-prefixes.py $(ROAM)
+	packaging/tests/try-places.py $(ROAM)
 	packaging/tests/try-control.py $(ROAM)
 	packaging/tests/try-reload.py $(ROAM)
 	packaging/tests/try-restart.py $(ROAM)

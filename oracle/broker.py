@@ -52,6 +52,13 @@ def is_ipv6(ip):
     return ":" in ip
 
 
+def listed(value):
+    """The texts of a key that has one or a list of them; none where it isn't written."""
+    if value is None:
+        return []
+    return value if isinstance(value, list) else [value]
+
+
 # What a realm's keys have where they aren't written.
 UNSAID = {"tries": 3, "wait": 2000, "hold": 10000, "max_pending": 4096, "rest": 30000, "rest_after": 3}
 
@@ -73,7 +80,7 @@ class Config:
         self.reject = [name.lower().encode() for name in document.get("reject", [])]
         self.well_formed = document.get("well_formed", False)
         self.answer_unnamed = document.get("answer_unnamed", False)
-        self.auth, self.acct = document["auth"], document["acct"]
+        self.auth, self.acct = listed(document["auth"]), listed(document["acct"])
         self.peers = document["peer"]
         for client in (client for realm in document["realm"] for client in realm.get("coa_client", [])):
             client["ip"] = one_text(client["ip"])
@@ -81,6 +88,7 @@ class Config:
             peer["prefix"] = ipaddress.ip_network(peer["ip"])
         self.realms = [with_unsaid(realm) for realm in document["realm"]]
         for realm in self.realms:
+            realm["outs"] = [endpoint(text) for text in listed(realm["out"])]
             for server in realm["server"]:
                 server["links"] = {k: endpoint(server[k]) for k in ("auth", "acct") if k in server}
 
@@ -119,23 +127,28 @@ class Config:
             ipaddress.ip_address(ip) in self.peers[peer]["prefix"] for ip in addresses)
         return self.is_peer_of(realm, peer) and not is_loop
 
-    def link_of(self, realm, source):
-        """(kind, index) of a link of the realm."""
+    def link_of(self, realm, out, source):
+        """(kind, index, out) of a link of the realm by that one of its own sockets, which is of the same kind."""
+        outs = self.realms[realm]["outs"]
+        if out >= len(outs) or is_ipv6(outs[out][0]) != is_ipv6(source[0]):
+            return None
         for index, server in enumerate(self.realms[realm]["server"]):
             for kind in ("auth", "acct"):
                 if server["links"].get(kind) == source:
-                    return (kind, index)
+                    return (kind, index, out)
         for index, peer in enumerate(self.peers):
             if "coa" in peer and endpoint(peer["coa"]) == source:
-                return ("coa", index)
+                return ("coa", index, out)
         return None
 
+    def outs_to(self, realm, where):
+        """The numbers of the realm's own sockets that send to an endpoint."""
+        return [k for k, (ip, _) in enumerate(self.realms[realm]["outs"]) if is_ipv6(ip) == is_ipv6(where[0])]
+
     def home_of(self, realm, ip):
-        """The table with the secret of who may send a Disconnect or CoA from that address, where the realm takes any: its first
-        home server there, or else its coa_client."""
+        """The table with the secret of who may send a Disconnect or CoA from that address: its first home server there, or
+        else its coa_client."""
         table = self.realms[realm]
-        if "reverse" not in table:
-            return None
         for server in table["server"]:
             if ip in [address for address, _ in server["links"].values()]:
                 return server
@@ -159,8 +172,8 @@ class Config:
 
     def is_reached(self, realm, index):
         """Whether an access server takes Disconnects and CoAs at an address of the kind of the realm's own socket."""
-        coa, out = self.peers[index].get("coa"), self.realms[realm]["out"]
-        return coa is not None and is_ipv6(endpoint(coa)[0]) == is_ipv6(endpoint(out)[0])
+        coa = self.peers[index].get("coa")
+        return coa is not None and self.outs_to(realm, endpoint(coa)) != []
 
     def named_by_nas(self, ip, name, ipv6=None):
         """The access servers that a NAS-IP-Address, a NAS-Identifier and a NAS-IPv6-Address name, each where it is there."""
@@ -225,18 +238,23 @@ class Realm:
     # Links
 
     def server_links(self, code, first):
-        """The targets of a code among the home servers, from that one on."""
+        """The targets of a code among the home servers, from that one on: each by each own socket that sends there."""
         kind = "auth" if code == ACCESS_REQUEST else "acct"
-        return [(kind, server) for server in range(first, len(self.table["server"]))]
+        return [(kind, server, out) for server in range(first, len(self.table["server"]))
+                for out in self.config.outs_to(self.index, self.table["server"][server]["links"][kind])]
+
+    def coa_links(self, peer):
+        """The targets at an access server."""
+        return [("coa", peer, out) for out in self.config.outs_to(self.index, endpoint(self.config.peers[peer]["coa"]))]
 
     def endpoint_of(self, link):
-        kind, index = link
+        kind, index, _ = link
         if kind == "coa":
             return endpoint(self.config.peers[index]["coa"])
         return self.table["server"][index]["links"][kind]
 
     def secret_of(self, link):
-        kind, index = link
+        kind, index, _ = link
         table = self.config.peers if kind == "coa" else self.table["server"]
         return table[index]["secret"].encode()
 
@@ -249,7 +267,7 @@ class Realm:
         return None
 
     def stands_back(self, link, now):
-        return link in self.rests and self.rests[link] > now
+        return link[:2] in self.rests and self.rests[link[:2]] > now
 
     def target(self, now, links, entries):
         """Of the links with a free Identifier the first that doesn't stand back, or the first of all."""
@@ -261,10 +279,10 @@ class Realm:
     def target_in_login(self, now, request, links, entries):
         """The target of a request in the middle of a login: where its State came from, or else where no link's rest is to be tried."""
         source = self.source_of_state(request)
-        if source is not None and self.free_identifier(source, entries) is not None:
-            return source, self.free_identifier(source, entries)
-        never_silent = [(link, self.free_identifier(link, entries)) for link in links if link not in self.rests]
-        return next((target for target in never_silent if target[1] is not None), None)
+        there = [] if source is None else [source] + [link for link in links if link[:2] == source[:2] and link != source]
+        never_silent = [link for link in links if link[:2] not in self.rests]
+        free = [(link, self.free_identifier(link, entries)) for link in there + never_silent]
+        return next((target for target in free if target[1] is not None), None)
 
     def source_of_state(self, request):
         """The link from which the last Challenge with a request's State came that is held for its access server."""
@@ -276,7 +294,7 @@ class Realm:
 
     def give_up(self, now, entry):
         """Counts an entry that its link left without an answer, where that gave no sign of life meanwhile."""
-        link = entry.link
+        link = entry.link[:2]
         if link[0] == "coa" or self.rest == 0 or self.signs.get(link, 0) != entry.signs:
             return
         self.given_up[link] = min(self.given_up.get(link, 0) + 1, MOST_GIVEN_UP)
@@ -284,7 +302,8 @@ class Realm:
             self.rests[link] = now + self.rest
 
     def gives_sign(self, link):
-        """A home server gives a sign of life."""
+        """A home server gives a sign of life, by whichever own socket."""
+        link = link[:2]
         if link[0] != "coa":
             self.rests.pop(link, None)
             self.given_up.pop(link, None)
@@ -293,7 +312,9 @@ class Realm:
     # What is sent
 
     def out(self, entry):
-        return (self.index, f"out:{self.index}", self.endpoint_of(entry.link), entry.octets)
+        out = entry.link[2]
+        place = f"out:{self.index}" + f":{out}" * (out > 0)
+        return (self.index, place, self.endpoint_of(entry.link), entry.octets)
 
     def answer(self, request, octets):
         return (self.index, request.place, request.source, octets)
@@ -307,10 +328,10 @@ class Realm:
     def send(self, now, entry, target, is_chosen=True):
         """Sends what is built for a target; of a link that was chosen and has rested the rest begins anew."""
         entry.link, entry.id = target
-        entry.signs = self.signs.get(entry.link, 0)
+        entry.signs = self.signs.get(entry.link[:2], 0)
         self.cursors[entry.link] = (entry.id + 1) % 256
-        if is_chosen and entry.link in self.rests:
-            self.rests[entry.link] = now + self.rest
+        if is_chosen and entry.link[:2] in self.rests:
+            self.rests[entry.link[:2]] = now + self.rest
         request, secret = entry.request, self.secret_of(entry.link)
         words = self.words(request.packet.code)
         entry.octets = forwarded(request.packet, self.list_for(request, entry.link), request.secret, entry.id,
@@ -321,7 +342,7 @@ class Realm:
 
     def list_for(self, request, link):
         """What of a request goes on to a link."""
-        kind, index = link
+        kind, index, _ = link
         if kind == "coa":
             return list_for_access_server(request.packet, self.table, self.config.peers[index])
         return list_to_forward(request.packet, self.table, self.config.peers[request.peer])
@@ -347,7 +368,7 @@ class Realm:
         cause = self.cause_against(request.packet, peer)
         if cause is not None:
             return [self.answer(request, nak(request.packet, request.secret, cause))]
-        return self.take(now, request, known, [("coa", peer)])
+        return self.take(now, request, known, self.coa_links(peer))
 
     def cause_against(self, request, peer):
         """The Error-Cause of a Disconnect or CoA that isn't forwarded."""
@@ -446,7 +467,7 @@ class Realm:
         return without(attributes, texts_of("reply_without", self.config.peers[request.peer], self.table))
 
     def must_seal(self, link):
-        kind, index = link
+        kind, index, _ = link
         return kind == "auth" and self.table["server"][index].get("require_seal", False)
 
     def expect_answer(self, reply, sent, secret):
@@ -482,7 +503,7 @@ class Realm:
         if not entry.waits():
             self.entries = others
             return []
-        request, (kind, index) = entry.request, entry.link
+        request, (kind, index, _) = entry.request, entry.link
         if kind == "coa":
             return self.hold(now, entry, nak(request.packet, request.secret, NO_ANSWER), None)
         self.give_up(now, entry)
@@ -510,15 +531,20 @@ class Broker:
 
     def arrive(self, now, place, source, datagram, seconds=None):
         packet = Packet(datagram)
-        kind, _, number = place.partition(":")
+        kind, *numbers = place.split(":")
+        number = numbers.pop(0) if kind in ("out", "reverse") else ""
+        which = int(numbers[0]) if numbers else 0
         if number and int(number) >= len(self.realms):
             raise Refused(4)
         if kind == "out":
-            return self.reply(now, int(number), source, packet)
+            return self.reply(now, int(number), which, source, packet)
+        own = listed(self.config.realms[int(number)].get("reverse")) if number else getattr(self.config, kind)
+        if which >= len(own):
+            raise Refused(4)
         peer, secret = self.requester(kind, number, source[0])
         if packet.code == STATUS_SERVER and self.config.status_server and kind in STATUS_AT:
             self.expect_few_attributes(packet)
-            return self.status(place, source, packet, secret)
+            return self.status(kind, place, source, packet, secret)
         if packet.code not in REQUESTS_AT[kind]:
             raise Refused(5)
         self.expect_few_attributes(packet)
@@ -599,13 +625,13 @@ class Broker:
     def has_too_many_hops(self, packet):
         return self.config.max_hops is not None and len(packet.values(PROXY_STATE)) > self.config.max_hops
 
-    def status(self, place, source, packet, secret):
+    def status(self, kind, place, source, packet, secret):
         """A Status-Server, which is sealed whatever the access server's other requests are."""
         if not packet.is_well_sealed([packet.authenticator], secret):
             raise Refused(7)
         if not packet.values(SEAL):
             raise Refused(8)
-        return self.answer(STATUS_AT[place], place, source, packet, secret)
+        return self.answer(STATUS_AT[kind], place, source, packet, secret)
 
     def answer(self, code, place, source, packet, secret):
         """An answer that no realm gives."""
@@ -614,8 +640,8 @@ class Broker:
             raise Refused(10)
         return [("-", place, source, octets)]
 
-    def reply(self, now, realm, source, packet):
-        link = self.config.link_of(realm, source)
+    def reply(self, now, realm, out, source, packet):
+        link = self.config.link_of(realm, out, source)
         if link is None:
             raise Refused(4)
         if packet.code not in REPLIES_FROM[link[0]]:

@@ -8,7 +8,7 @@ Nothing here is taken from the project's code.
 """
 import pathlib
 import sys
-from broker import Broker, Config, LATEST, events_of, spelled
+from broker import Broker, Config, LATEST, events_of, listed, spelled
 from packets import *
 from policy import *
 
@@ -38,7 +38,11 @@ class Change:
 
     def __init__(self, old, new, peers):
         self.old, self.new, self.peers = old, new, peers
-        self.is_same_out = old.table["out"] == new.table["out"]
+
+    def is_same_out(self, out):
+        """Whether the realm's own socket of a number is where it was."""
+        old, new = self.old.table["outs"], self.new.table["outs"]
+        return out < len(old) and out < len(new) and old[out] == new[out]
 
     def server_then(self, server):
         def identity(table):
@@ -47,7 +51,7 @@ class Change:
         return next((at for at, table in enumerate(self.new.table["server"]) if identity(table) == wanted), None)
 
     def link_then(self, link):
-        """A link under the new configuration, whatever `out` is."""
+        """The two words of a link under the new configuration, whatever its own socket is."""
         kind, index = link
         if kind == "coa":
             return ("coa", self.peers.then(index)) if self.peers.keeps(index, "coa", "secret") else None
@@ -55,10 +59,13 @@ class Change:
         return None if server is None else (kind, server)
 
     def way_then(self, link):
-        return self.link_then(link) if self.is_same_out else None
+        then = self.link_then(link[:2])
+        return (*then, link[2]) if then is not None and self.is_same_out(link[2]) else None
 
     def keeps_sender(self, request):
         if request.peer is None:
+            if not listed(self.new.table.get("reverse")):
+                return False
             source = self.new.config.home_of(self.new.index, request.source[0])
             return source is not None and source["secret"].encode() == request.secret
         return self.peers.keeps(request.peer, "ip", "secret")
@@ -80,7 +87,7 @@ class Change:
             return False
         entry.link = link
         if request.peer is None:
-            request.place = f"reverse:{self.new.index}"
+            request.place = ":".join(["reverse", str(self.new.index), *request.place.split(":")[2:]])
             request.key = (request.place, request.source, request.packet.id)
         else:
             request.peer = self.peers.then(request.peer)

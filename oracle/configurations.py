@@ -383,6 +383,43 @@ def at_ipv6(table):
     return lambda index: re.sub(r'"127\.0\.0\.1:(\d+)"', r'"[2001:db8::10]:\1"', table(index))
 
 
+def with_places(table, **keys):
+    """A realm as a function of its index, with these endpoints as `out` or `reverse`."""
+    def changed(index):
+        text = table(index)
+        for key, endpoints in keys.items():
+            text = re.sub(rf'^{key} = .*$', f"{key} = {json.dumps(endpoints)}", text, flags=re.M)
+        return text
+    return changed
+
+
+def with_own(text, **keys):
+    """A configuration with these endpoints as `auth` or `acct`."""
+    for key, endpoints in keys.items():
+        text = re.sub(rf'^{key} = .*$', f"{key} = {json.dumps(endpoints)}", text, count=1, flags=re.M)
+    return text
+
+
+TWO_OUTS = ["127.0.0.1:2000", "127.0.0.1:2001"]
+BOTH_OUTS = ["[::1]:2000", "127.0.0.1:2000", "127.0.0.3:2000"]
+MIXED = server("198.51.100.2", "h2", "[2001:db8:2::1]:1812")
+N2_AT_IPV6 = N2 + '''coa = "[2001:db8::2]:3799"
+nas_id = "n2"
+'''
+
+PLACES = {
+    "two-outs": configuration(with_places(realm("a.example", servers(1)), out=TWO_OUTS)),
+    "two-auths": with_own(one(), auth=["127.0.0.1:1812", "127.0.0.2:1812"]),
+    "two-reverses": configuration(
+        with_places(realm("a.example", servers(1)), reverse=["127.0.0.1:3000", "[::1]:3000"]),
+        lambda index: re.sub("^reverse = .*\n", "", realm("b.example", servers(1))(index), flags=re.M)),
+    "outs-of-both-kinds": configuration(
+        with_places(realm("a.example", [*servers(1), MIXED]), out=BOTH_OUTS), realm("b.example", servers(1)),
+        peers=(NAS1, N2_AT_IPV6)),
+    "two-outs-and-a-second-server": configuration(
+        with_places(realm("a.example", servers(2), tries=1, rest=10000, rest_after=3, max_pending=1000), out=TWO_OUTS)),
+}
+
 ADDRESSES = {
     "ipv6": in_ipv6(one()),
     "both-kinds": configuration(
@@ -404,6 +441,15 @@ RANDOM = {
         peers=(NAS1 + stated(nas_ids=["wlc-*", "wlc-7*"]),
                N2_COA + stated(operator_name="Inst.example", nas_ids=["wlc-7", "ap*", "*"], reply_without=["25"]), NAS4),
         seed="a7" * 32, fresh=10),
+    "own-by-several": with_own(configuration(
+        with_places(realm("a", [*servers(1), MIXED, client("198.51.100.9", "pc")], wait=10, hold=20, tries=1, rest=30, rest_after=2,
+                          max_pending=6, max_sessions=4, also=["*.a.b"], own_sessions=True),
+                    out=["127.0.0.1:2000", "[::1]:2000", "[::1]:2001", "127.0.0.1:2002"],
+                    reverse=["127.0.0.1:3000", "[::1]:3000", "127.0.0.3:3000"]),
+        with_places(realm("b", [MIXED, *servers(1)], wait=8, hold=10, max_pending=5, max_sessions=3, also=["*.b"]),
+                    out=["[::1]:2005", "127.0.0.1:2005"]),
+        peers=(NAS1 + stated(nas_ids=["wlc-*"]), N2_AT_IPV6 + stated(nas_ids=["wlc-7", "ap*"]), HOME1),
+        seed="3b" * 32, fresh=10, shards=2), auth=["127.0.0.1:1812", "127.0.0.1:1645"], acct=["[::1]:1813", "127.0.0.1:1813"]),
     "own-in-two-shards": configuration(
         realm("a", servers(2), wait=10, hold=0, tries=1, max_pending=5, max_sessions=5, own_sessions=True, peers_of="nas1 n2 nas3"),
         realm("b", [*servers(1), client("198.51.100.7", "pb")], wait=5, hold=20, tries=1, max_pending=4, max_sessions=4,
@@ -425,6 +471,14 @@ RANDOM = {
         peers=(NAS1 + stated(nas_ids=["wlc-*"]), NAS6.replace('nas_id = "nas6"\n', "") + stated(nas_ids=["ap*"]), NAS7, HOME1,
                in_ipv6(HOME1).replace("home1", "home6")),
         seed="b6" * 32, fresh=10),
+    "logins-by-several": with_own(configuration(
+        with_places(realm("a", [server("198.51.100.1", "h1"), MIXED, *servers(3)[2:]], wait=10, hold=100, tries=1, max_pending=9,
+                          rest=40, rest_after=1, conversations=True, own_names=True, peer_share=5, also=["*.a", "*"]),
+                    out=["127.0.0.1:2000", "[::1]:2000", "127.0.0.1:2001", "[::1]:2001"]),
+        with_places(realm("b", [MIXED, *servers(1)], wait=8, hold=60, tries=2, max_pending=6, rest=25, rest_after=2,
+                          conversations=True, share=2), out=["[::1]:2005", "127.0.0.1:2005"]),
+        peers=(NAS1, N2, HOME1), seed="7f" * 32, max_attributes=8, status_server=True),
+        auth=["127.0.0.1:1812", "[::1]:1812", "127.0.0.1:1645"]),
     "logins-in-two-shards": configuration(
         realm("a", servers(2), wait=10, hold=100, tries=2, max_pending=8, rest=40, rest_after=2, conversations=True, own_names=True,
               share=3, also=["*.x"]),
@@ -434,7 +488,7 @@ RANDOM = {
         peers=(NAS2, NAS1, NAS3), seed="1c" * 32, shards=2, max_attributes=12),
 }
 
-CONFIGURATIONS = POLICIES | REVERSES | LOGINS | ADDRESSES | RANDOM | {
+CONFIGURATIONS = POLICIES | REVERSES | LOGINS | ADDRESSES | PLACES | RANDOM | {
     "one-server": one(),
     "seal-required": configuration(realm("a.example", servers(1)), peers=(NAS1 + "require_seal = true\n",)),
     "no-session": one(max_sessions=0),

@@ -247,7 +247,7 @@ class AccessScript(Script):
             ("an EAP-Message without a seal", source, reply([(EAP_MESSAGE, b"e")])),
             ("an octet short", source, good[:-1]),
         ))
-        self.from_server(what, realm.index, source, octets)
+        self.from_server(what, realm.index, source, octets, entry.link[2])
 
     def long_reply(self):
         """A reply whose returned packet may pass 4096 octets, or just not."""
@@ -260,7 +260,7 @@ class AccessScript(Script):
             code = REPLIES_OF[request.code][0]
             sent, secret = broker.Packet(entry.octets), realm.secret_of(entry.link)
             octets = signed(code, sent.id, sent.authenticator, classes(room), secret)
-            self.from_server("a long reply", realm.index, realm.endpoint_of(entry.link), octets)
+            self.from_server("a long reply", realm.index, realm.endpoint_of(entry.link), octets, entry.link[2])
             return
 
     KINDS = (access, accounting, repeat, local_reject, bad_access, Script.reply, Script.late_reply,

@@ -79,7 +79,7 @@ class FederationScript(ReverseScript):
         before, sent = len(self.sent), []
         self.random.choice((type(self).access, type(self).accounting))(self)
         while len(self.sent) == before + 1:
-            realm, source, octets = self.sent[-1]
+            realm, source, octets, _ = self.sent[-1]
             place = {ACCESS_REQUEST: "auth", ACCOUNTING_REQUEST: "acct"}[octets[0]]
             if self.config.peer_of(source[0]) is None:
                 return
@@ -138,7 +138,7 @@ class FederationScript(ReverseScript):
         if heard:
             realm, entry = self.random.choice(heard)
             octets = self.reply_to(entry.octets, realm.secret_of(entry.link))
-            self.from_server("a reply", realm.index, realm.endpoint_of(entry.link), octets)
+            self.from_server("a reply", realm.index, realm.endpoint_of(entry.link), octets, entry.link[2])
 
     def silence(self):
         """Requests, and a tick for each time that they are sent."""

@@ -4,6 +4,7 @@ from random_federation import FederationScript, SilenceScript
 from random_logins import LoginScript
 from random_mutated import MutatedScript
 from random_own import OwnScript
+from random_places import LoginPlaceScript, OwnPlaceScript
 from random_policy import PolicyScript
 from random_reverse import ReverseScript
 from random_scripts import Script
@@ -28,6 +29,8 @@ FILES = {
     "own": (OwnScript, "own", 21001, 90),
     "own-in-two-shards": (OwnScript, "own-in-two-shards", 22001, 90),
     "own-of-both-kinds": (OwnScript, "own-of-both-kinds", 25001, 90),
+    "own-by-several": (OwnPlaceScript, "own-by-several", 26001, 90),
+    "logins-by-several": (LoginPlaceScript, "logins-by-several", 27001, 90),
     "logins-and-shares": (LoginScript, "logins-and-shares", 23001, 80),
     "logins-in-two-shards": (LoginScript, "logins-in-two-shards", 24001, 80),
     "mutated": (MutatedScript, "all", 12001, 50),

@@ -56,7 +56,7 @@ class LoginScript(PolicyScript):
         for realm, entry in self.waiting():
             if id(entry) not in before and entry.request.packet.code == ACCESS_REQUEST:
                 octets = self.reply_to(entry.octets, realm.secret_of(entry.link), ACCESS_CHALLENGE)
-                self.from_server("a Challenge", realm.index, realm.endpoint_of(entry.link), octets)
+                self.from_server("a Challenge", realm.index, realm.endpoint_of(entry.link), octets, entry.link[2])
         self.round()
 
     def many_attributes(self):
@@ -115,7 +115,7 @@ class LoginScript(PolicyScript):
         octets = signed_as_it_is(code, sent.id, sent.authenticator, wrong, secret)
         if self.chance(0.1):
             octets = octets[:5] + bytes([octets[5] ^ 1]) + octets[6:]
-        self.from_server("perhaps a sign of life", realm.index, source, octets)
+        self.from_server("perhaps a sign of life", realm.index, source, octets, entry.link[2])
 
     KINDS = (AccessScript.access, login, round, PolicyScript.accounting, AccessScript.repeat, many_attributes, share,
              PolicyScript.reply, Script.late_reply, refused_sign, AccessScript.bad_access_reply, Script.tick, Script.late_tick,

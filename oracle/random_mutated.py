@@ -238,15 +238,15 @@ class MutatedScript(FederationScript):
         if int(number) >= len(self.config.realms):
             return None
         if kind == "reverse":
-            server = self.config.home_of(int(number), ip)
+            server = self.config.home_of(int(number), ip) if "reverse" in self.config.realms[int(number)] else None
             return None if server is None else server["secret"].encode()
-        link = self.config.link_of(int(number), endpoint(source))
+        link = self.config.link_of(int(number), 0, endpoint(source))
         return None if link is None else self.broker.realms[int(number)].secret_of(link)
 
     def asked_with(self, place, source, id):
         """The Authenticator of the last request that was sent to a source with an Identifier."""
-        for realm, end, octets in reversed(self.sent):
-            if (f"out:{realm}", end, id) == (place, endpoint(source), octets[1]):
+        for realm, end, octets, out in reversed(self.sent):
+            if (self.place_of_out(realm, out), end, id) == (place, endpoint(source), octets[1]):
                 return broker.Packet(octets).authenticator
         return ZEROS
 

@@ -105,7 +105,7 @@ class OwnScript(PolicyScript):
         for realm, entry in self.waiting():
             if id(entry) not in before:
                 octets = self.reply_to(entry.octets, realm.secret_of(entry.link))
-                self.from_server("its reply", realm.index, realm.endpoint_of(entry.link), octets)
+                self.from_server("its reply", realm.index, realm.endpoint_of(entry.link), octets, entry.link[2])
 
     # Disconnect and CoA
 

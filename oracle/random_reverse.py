@@ -46,7 +46,7 @@ class ReverseScript(AccessScript):
         for realm, entry in self.waiting():
             if id(entry) not in before:
                 octets = self.reply_to(entry.octets, realm.secret_of(entry.link))
-                self.from_server("its reply", realm.index, realm.endpoint_of(entry.link), octets)
+                self.from_server("its reply", realm.index, realm.endpoint_of(entry.link), octets, entry.link[2])
 
     # Disconnect and CoA
 
@@ -162,7 +162,7 @@ class ReverseScript(AccessScript):
             ("perhaps another access server", ("192.0.2.3", 3799), good),
             ("a home server", list(self.random.choice(realm.table["server"])["links"].values())[-1], good),
         ))
-        self.from_server(what, realm.index, source, octets)
+        self.from_server(what, realm.index, source, octets, entry.link[2])
 
     KINDS = (AccessScript.access, accounting, answered, AccessScript.repeat, AccessScript.local_reject,
              AccessScript.bad_access, reverse, bad_reverse, Script.reply, Script.late_reply,

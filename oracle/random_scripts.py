@@ -49,7 +49,7 @@ class Script:
         for realm in self.broker.realms:
             for e in realm.entries:
                 if before.get(id(e)) != e.octets:
-                    self.sent.append((realm.index, realm.endpoint_of(e.link), e.octets))
+                    self.sent.append((realm.index, realm.endpoint_of(e.link), e.octets, e.link[2]))
 
     def arrive(self, what, place, source, octets, now=None):
         now = self.moment() if now is None else now
@@ -141,20 +141,23 @@ class Script:
         if self.waiting():
             realm, entry = self.random.choice(self.waiting())
             octets = self.reply_to(entry.octets, realm.secret_of(entry.link))
-            self.from_server("a reply", realm.index, realm.endpoint_of(entry.link), octets)
+            self.from_server("a reply", realm.index, realm.endpoint_of(entry.link), octets, entry.link[2])
 
-    def from_server(self, what, realm, source, octets):
-        self.arrive(what, f"out:{realm}", broker.at(*source), octets)
+    def from_server(self, what, realm, source, octets, out=0):
+        self.arrive(what, self.place_of_out(realm, out), broker.at(*source), octets)
 
-    def secret_at(self, realm, source):
+    def place_of_out(self, realm, out):
+        return f"out:{realm}" + f":{out}" * (out > 0)
+
+    def secret_at(self, realm, source, out):
         table = self.broker.realms[realm]
-        return table.secret_of(self.config.link_of(realm, source))
+        return table.secret_of(self.config.link_of(realm, out, source))
 
     def late_reply(self):
         if self.sent:
-            realm, source, octets = self.random.choice(self.sent)
-            octets = self.reply_to(octets, self.secret_at(realm, source))
-            self.from_server("a reply to what was sent before", realm, source, octets)
+            realm, source, octets, out = self.random.choice(self.sent)
+            octets = self.reply_to(octets, self.secret_at(realm, source, out))
+            self.from_server("a reply to what was sent before", realm, source, octets, out)
 
     def bad_reply(self):
         if not self.waiting():
@@ -180,7 +183,7 @@ class Script:
             ("a wrong seal", index, source, badly_sealed),
             ("a request", index, source, signed(4, entry.id, ZEROS, [], secret)),
         ))
-        self.from_server(what, realm, source, octets)
+        self.from_server(what, realm, source, octets, entry.link[2])
 
     # Ticks, and moments
 
@@ -201,7 +204,8 @@ class Script:
             realm, entry = self.random.choice(self.waiting())
             source = realm.endpoint_of(entry.link)
             octets = self.reply_to(entry.octets, realm.secret_of(entry.link))
-            self.arrive("too late a reply", f"out:{realm.index}", broker.at(*source), octets, 2 ** 62 + 1)
+            place = self.place_of_out(realm.index, entry.link[2])
+            self.arrive("too late a reply", place, broker.at(*source), octets, 2 ** 62 + 1)
 
     KINDS = (request, repeat, bad_request, reply, late_reply, bad_reply, tick, late_tick, no_shard, too_late)
     WEIGHTS = (26, 12, 8, 18, 6, 9, 14, 4, 1, 2)

@@ -4,12 +4,11 @@ use Rattle.std.specs.Prelude.{unwrap_or}
 use Rattle.std.specs.List.{AllByRecursion}
 use Rattle.std.proofs.lemmas.Bool.{cases_Bool}
 use Rattle.roam_conf.specs.declared.place.Link.{Link}
-use Rattle.roam_conf.specs.declared.place.Link.TheVariants as link
 use Rattle.roam_ids.specs.LaneState.{LaneState}
 use Rattle.roam_pending.specs.declared.key.Key.{Key}
 use Rattle.roam_pending.specs.PlainEntry.{PlainEntry, PlainRequest, PlainStanding, waiting, done, has_ticket, is_done, same_key, same_link, stands_at, stands_done, waits_at}
 use Rattle.roam_pending.specs.EntryList.{IsEntryList, besides, find_client, find_ticket, put, without}
-use Rattle.roam_pending.proofs.TestLemmas.{same}
+use Rattle.roam_pending.proofs.TestLemmas.{link_is_same, same}
 use Rattle.roam_pending.proofs.OrderLemmas.{list-without}
 use Rattle.roam_pending.proofs.ChangeLemmas.{found-ticket, length-without}
 use Rattle.roam_pending.proofs.ClientLemmas.{done-found}
@@ -30,9 +29,7 @@ use Rattle.roam_book.proofs.LaneLemmas.{next-tells, tells-gone}
 
 -- a link is itself
 same_link-self : (l : Link) → same_link l l ≡ true
-same_link-self (link.Auth a) = same a a refl
-same_link-self (link.Acct a) = same a a refl
-same_link-self (link.Coa a) = same a a refl
+same_link-self = link_is_same
 
 -- the link and the Identifier of a place
 link_at : (a b : Link × ℕ) → Some a ≡ Some b → a.0 ≡ b.0

@@ -1,5 +1,5 @@
 -- To which link a new request goes: what the code finds by the lanes is what the definition finds by the entries.
-use Rattle.std.proofs.Common.{◌≡◌, ℕ, ◌<◌, ◌&&◌, Bool, true, false, not, List, [], Option, Some, None, is_some, option_map, refl, ap, sym, ◌∙◌}
+use Rattle.std.proofs.Common.{◌≡◌, ℕ, ◌<◌, ◌&&◌, Bool, true, false, not, List, [], ◌∷◌, ◌++◌, Option, Some, None, is_some, option_map, refl, ap, sym, ◌∙◌}
 use Rattle.std.specs.Prelude.{if◌then◌else◌}
 use Rattle.std.specs.List.{AllByRecursion, filter, find}
 use Rattle.std.specs.Option.{option_and_then, option_or}
@@ -8,13 +8,14 @@ use Rattle.roam_pending.specs.PlainEntry.{PlainEntry, PlainRequest, has_ticket, 
 use Rattle.roam_pending.specs.EntryList.{IsEntryList, besides, find_ticket, without}
 use Rattle.roam_pending.proofs.OrderLemmas.{list-without}
 use Rattle.roam_pending.proofs.TestLemmas.{all-find, all-weaker}
-use Rattle.roam_book.specs.Conversing.{asked_state, bound_link, bound_links, bound_target, new_target, untried}
+use Rattle.roam_book.specs.Conversing.{asked_state, bound_link, bound_links, bound_target, new_target, same_end, untried}
 use Rattle.roam_book.specs.Private.NewEntry.{bound_way, freed_link, way_link}
 use Rattle.roam_book.specs.RealmConfig.{RealmConfig, IsLink}
-use Rattle.roam_book.specs.RealmState.{RealmState, Target, chosen_target, first_target, next_toward}
+use Rattle.roam_book.specs.RealmState.{RealmState, Target, chosen_target, first_target, next_toward, this_or}
 use Rattle.roam_book.specs.Rests.{has_moment}
 use Rattle.roam_book.specs.Sound.{CountsAsGone, IsEntry, IsSound, cursors_of, gone_ticket, is_open, is_wanted, standing_place, state_of}
 use Rattle.roam_book.specs.declared.rules.replaced.Replaced.{Replaced}
+use Rattle.roam_book.specs.declared.state.link_rests.Wanted.TheVariants as wanted
 use Rattle.roam_book.specs.declared.state.realm_numbers.RealmNumbers.{RealmNumbers}
 use Rattle.roam_book.specs.declared.state.rest.Rest.{Rest}
 use Rattle.roam_book.proofs.LaneLemmas.{chosen-by, either, first-next, link-or, next-tells, open-freed, or-same, placed-octet, placeless-done, target-among, target-next, tells-gone}
@@ -46,20 +47,41 @@ opens c es n (Some g) sound list gone k link =
 
 -- ---- the link of the target
 
+-- the first target among two lists is that among the first one, or among the second
+this-append : (l : Link) (o : Option ℕ) (a b : Option Target)
+    → this_or l o (option_or a b) ≡ option_or (this_or l o a) b
+this-append l None a b = refl
+this-append l (Some id) a b = refl
+
+first-append : (c : RealmConfig) (cursors : List ℕ) (es : List PlainEntry) (ls ks : List Link)
+    → first_target c cursors es (ls ++ ks)
+    ≡ option_or (first_target c cursors es ls) (first_target c cursors es ks)
+first-append c cursors es [] ks = refl
+first-append c cursors es (l ∷ ls) ks =
+    ap (this_or l (next_toward c cursors es l)) (first-append c cursors es ls ks)
+    ∙ this-append l (next_toward c cursors es l) (first_target c cursors es ls) (first_target c cursors es ks)
+
 bound-by : (c : RealmConfig) (rests : List Rest) (cursors : List ℕ) (es : List PlainEntry) (is_free : Link → Bool)
     (bound : Option Link) (links : List Link)
     → AllByRecursion (λ l. is_some (next_toward c cursors es l) ≡ is_free l) links
     → option_map (λ t. t.link) (first_target c cursors es (bound_links bound links))
-    ≡ option_and_then (λ k. find (λ l. is_wanted c rests (Some k) l && is_free l) links) bound
+    ≡ option_and_then (λ k. option_or (find (λ l. is_wanted c rests (wanted.This k) l && is_free l) links)
+    (find (λ l. is_wanted c rests (wanted.SameEnd k) l && is_free l) links)) bound
 bound-by c rests cursors es is_free None links h = refl
-bound-by c rests cursors es is_free (Some k) links h = target-among c cursors es is_free (same_link k) links h
+bound-by c rests cursors es is_free (Some k) links h =
+    let this = filter (same_link k) links in
+    let others = filter (same_end k) links in
+    ap (option_map (λ (t : Target). t.link)) (first-append c cursors es this others)
+    ∙ link-or (first_target c cursors es this) (first_target c cursors es others)
+    ∙ or-same _ _ _ _ (target-among c cursors es is_free (same_link k) links h)
+    (target-among c cursors es is_free (same_end k) links h)
 
 untried-by : (c : RealmConfig) (rests : List Rest) (cursors : List ℕ) (es : List PlainEntry) (is_free : Link → Bool)
     (asked : Bool) (links : List Link)
     → AllByRecursion (λ l. is_some (next_toward c cursors es l) ≡ is_free l) links
     → option_map (λ t. t.link) (first_target c cursors es
     (if asked then filter (λ l. not (has_moment c rests l)) links else []))
-    ≡ (if asked then find (λ l. is_wanted c rests None l && is_free l) links else None)
+    ≡ (if asked then find (λ l. is_wanted c rests wanted.Untried l && is_free l) links else None)
 untried-by c rests cursors es is_free true links h =
     target-among c cursors es is_free (λ l. not (has_moment c rests l)) links h
 untried-by c rests cursors es is_free false links h = refl

@@ -34,7 +34,8 @@ use Rattle.roam_book.specs.Sound.{AreOwnLanes, IsEntry, IsWaiting, StandsWell, I
 use Rattle.roam_book.specs.Private.Fates.{GivesUp, HoldsNoLink, IsHeld, IsFate, KeepsNoLink, fate_entries, once_held}
 use Rattle.roam_book.proofs.SendingLemmas.{position-below}
 use Rattle.roam_book.proofs.SoundLemmas.{kept-put, kept-without, kept-ticket}
-use Rattle.roam_book.proofs.LaneLemmas.{tells-done, tells-gone, tells-again, chosen-open, target-tells, target-next, links-are}
+use Rattle.roam_book.proofs.LaneLemmas.{tells-done, tells-gone, tells-again, chosen-open, target-tells, target-next}
+use Rattle.roam_book.proofs.WaysToLemmas.{links-are}
 
 -- A realm whose entries change
 
@@ -99,8 +100,7 @@ stands-again :
 stands-again c q (waiting l id forwarded sends_left deadline signs) d h = h
 stands-again c q (done reply deadline from) d h = h
 
-entry-again : (c : RealmConfig) (n : ℕ) (e : PlainEntry) (d : ℕ) → IsEntry c n e
-    → IsEntry c n (sent_again d e)
+entry-again : (c : RealmConfig) (n : ℕ) (e : PlainEntry) (d : ℕ) → IsEntry c n e → IsEntry c n (sent_again d e)
 entry-again c n e d h = record {
   ticket = h.ticket;
   request = h.request;
@@ -176,9 +176,9 @@ was-freed c now l id signs es e n m k held waits back counted = record {
 }
 
 pub later-links : (c : RealmConfig) (l : Link) → AllByRecursion (IsLink c) (later_targets c l)
-later-links c (link.Auth server) = links-are c service.Authentication (server + 1)
-later-links c (link.Acct server) = links-are c service.Accounting (server + 1)
-later-links c (link.Coa peer) = tt
+later-links c (link.Auth server out) = links-are c service.Authentication (server + 1)
+later-links c (link.Acct server out) = links-are c service.Accounting (server + 1)
+later-links c (link.Coa peer out) = tt
 
 -- the target that is chosen then
 abbrev next_target :

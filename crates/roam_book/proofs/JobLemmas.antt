@@ -37,16 +37,16 @@ realm-at (r ∷ rs) (suc realm) there = realm-at rs realm (omega (arith, there))
 
 -- a peer sends no reverse request, a home server nothing else
 peer-code : (at : Place) (i code : ℕ) → is_taken at (side.Peer i) code ≡ true → is_reverse_request code ≡ false
-peer-code place.Auth i code taken = grind (arith, nat_tests, taken)
-peer-code place.Acct i code taken = grind (arith, nat_tests, taken)
-peer-code (place.Out realm) i code taken = absurd (false≢true taken)
-peer-code (place.Reverse realm) i code taken = absurd (false≢true taken)
+peer-code (place.Auth nth) i code taken = grind (arith, nat_tests, taken)
+peer-code (place.Acct nth) i code taken = grind (arith, nat_tests, taken)
+peer-code (place.Out realm nth) i code taken = absurd (false≢true taken)
+peer-code (place.Reverse realm nth) i code taken = absurd (false≢true taken)
 
 home-code : (at : Place) (i code : ℕ) → is_taken at (side.Home i) code ≡ true → is_reverse_request code ≡ true
-home-code place.Auth i code taken = absurd (false≢true taken)
-home-code place.Acct i code taken = absurd (false≢true taken)
-home-code (place.Out realm) i code taken = absurd (false≢true taken)
-home-code (place.Reverse realm) i code taken = taken
+home-code (place.Auth nth) i code taken = absurd (false≢true taken)
+home-code (place.Acct nth) i code taken = absurd (false≢true taken)
+home-code (place.Out realm nth) i code taken = absurd (false≢true taken)
+home-code (place.Reverse realm nth) i code taken = taken
 
 -- what is admitted, its realm takes
 sound_taken : (config : ConfigView) (job : PlainJob) (s : Side) → job.realm < length config.realms

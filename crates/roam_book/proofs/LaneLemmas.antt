@@ -1,5 +1,5 @@
 -- What the lanes tell of the entries, and so where a packet can go.
-use Rattle.std.proofs.Common.{◌≡◌, ℕ, ◌+◌, ◌<◌, ◌≤◌, Bool, true, false, cond, List, [], ◌∷◌, Option, Some, None, is_some, refl, ap, sym, ◌∙◌, subst, arith, inl, inr, get_or, drop, ◌&&◌, ◌==◌, ◌-◌, length, length-drop}
+use Rattle.std.proofs.Common.{◌≡◌, ℕ, ◌<◌, Bool, true, false, cond, List, [], ◌∷◌, Option, Some, None, is_some, refl, ap, sym, ◌∙◌, subst, inl, inr, get_or, ◌&&◌, ◌==◌}
 use Rattle.std.specs.Prelude.{not, option_map}
 use Rattle.std.specs.List.{AllByRecursion, filter, find}
 use Rattle.std.specs.Option.{option_map_or, option_or}
@@ -16,10 +16,7 @@ use Rattle.roam_pending.proofs.TestLemmas.{same, all-weaker}
 use Rattle.roam_pending.proofs.OrderLemmas.{list-without, without-absent}
 use Rattle.roam_pending.proofs.ChangeLemmas.{find-passes, found-ticket, find-without, put-without}
 use Rattle.roam_pending.proofs.ClientLemmas.{identifier-used}
-use Rattle.roam_conf.specs.Config.{ServerView}
-use Rattle.roam_book.specs.declared.state.service.Service.{Service}
-use Rattle.roam_book.specs.declared.state.service.Service.TheVariants as service
-use Rattle.roam_book.specs.RealmConfig.{RealmConfig, IsLink, link_place, links_from, server_link, server_links}
+use Rattle.roam_book.specs.RealmConfig.{RealmConfig, IsLink, link_place}
 use Rattle.roam_book.specs.RealmState.{Target, next_toward, chosen_target, first_target, ready_links, this_or, is_used_on}
 use Rattle.roam_book.specs.Rests.{stands_back}
 use Rattle.roam_book.specs.declared.state.rest.Rest.{Rest}
@@ -290,25 +287,3 @@ chosen-open c now rests lanes freed links l at =
     (λ found. and_right (not (stands_back c now rests l)) (is_open c lanes freed l)
     (find-passes ready links l found))
     (λ found. find-passes open_here links l found) at
-
--- The links of the realm
-
-server-link :
-    (c : RealmConfig) (s : Service) (place : ℕ) → place < length c.realm.servers
-    → IsLink c (server_link s place)
-server-link c service.Authentication place lt = lt
-server-link c service.Accounting place lt = lt
-
-servers-links :
-    (c : RealmConfig) (s : Service) (place : ℕ) (servers : List ServerView)
-    → length servers ≤ length c.realm.servers - place
-    → AllByRecursion (IsLink c) (server_links s place servers)
-servers-links c s place [] few = tt
-servers-links c s place (x ∷ xs) few =
-    (server-link c s place (omega arith), servers-links c s (place + 1) xs (omega arith))
-
-pub links-are :
-    (c : RealmConfig) (s : Service) (from : ℕ) → AllByRecursion (IsLink c) (links_from c s from)
-links-are c s from =
-    let few = length-drop from c.realm.servers in
-    servers-links c s from (drop from c.realm.servers) (omega (arith, few))

@@ -24,6 +24,7 @@ pub mod ShapingLemmas
 pub mod SharingLemmas
 pub mod SilenceLemmas
 pub mod SoundLemmas
+pub mod SumLemmas
 pub mod TakenLaneLemmas
 pub mod TargetLemmas
 pub mod TickLemmas
@@ -31,5 +32,6 @@ pub mod TurnLemmas
 pub mod UsedLemmas
 pub mod WaitingLemmas
 pub mod WayLemmas
+pub mod WaysToLemmas
 pub mod SavingLemmas
 pub mod WrittenLemmas

@@ -1,10 +1,9 @@
 -- The links of the servers that are open, and the lane of a link.
-use Rattle.std.proofs.Common.{◌≡◌, ◌≢◌, inl, inr, ℕ, ◌+◌, ◌*◌, ◌%◌, ◌<◌, ◌↔◌, ◌||◌, Bool, true, false, not, cond, List, [], ◌∷◌, Option, Some, None, is_some, IsTrue, refl, ap, sym, subst, ◌∙◌, arith, get_or, get_or-set_same, get_or-set_other, set, length, drop, drop-cons, add-one}
-use Rattle.std.specs.List.{find}
+use Rattle.std.proofs.Common.{◌≡◌, ◌≢◌, inl, inr, ℕ, ◌+◌, ◌*◌, ◌%◌, ◌<◌, ◌↔◌, ◌||◌, Bool, true, false, not, List, Option, Some, None, is_some, IsTrue, refl, ap, sym, subst, ◌∙◌, arith, get_or, get_or-set_same, get_or-set_other, set, length}
 use Rattle.std.proofs.Math.ListN as lists
+use Rattle.std.proofs.lemmas.Nat.{mul-le, same_from_place}
 use Rattle.std.proofs.lemmas.List.{get_or_default, length-map, map-set, set-get_or}
 use Rattle.std.proofs.Math.Seq.{map-set_same}
-use Rattle.roam_conf.specs.Config.{ServerView}
 use Rattle.roam_conf.specs.declared.place.Link.{Link}
 use Rattle.roam_ids.specs.declared.id_state.IdState.{IdState}
 use Rattle.roam_ids.specs.declared.id_state.IdState.TheVariants.{Free, Out, Parked}
@@ -14,13 +13,14 @@ use Rattle.roam_ids.specs.NextIdentifier.{AllUsed, IsNextIdentifier, next_identi
 use Rattle.roam_ids.proofs.NextIdentifierLemmas.{next_identifier-is_next, below_256}
 use Rattle.roam_book.specs.declared.state.service.Service.{Service}
 use Rattle.roam_book.specs.declared.state.service.Service.TheVariants as service
-use Rattle.roam_book.specs.RealmConfig.{RealmConfig, IsLink, link_place, server_link, server_links}
+use Rattle.roam_book.specs.RealmConfig.{RealmConfig, IsLink, end_place, link_place, server_link}
+use Rattle.roam_book.specs.Conversing.{same_end}
 use Rattle.roam_book.specs.Sound.{has_free, cursors_of, lane_of, no_lane, Mark, mark_of, marks_of, AreOwnLanes}
 use Rattle.std.proofs.lemmas.Bool.{cases_Bool, cases_eq}
 use Rattle.roam_conf.specs.declared.place.Link.TheVariants as link
 use Rattle.roam_pending.specs.PlainEntry.{PlainEntry, same_link}
 use Rattle.roam_pending.specs.EntryList.{IsEntryList}
-use Rattle.roam_pending.proofs.TestLemmas.{same}
+use Rattle.roam_pending.proofs.TestLemmas.{link_is_same, same}
 use Rattle.roam_book.specs.RealmState.{next_toward}
 use Rattle.roam_book.specs.Sound.{LanesTell}
 use Rattle.roam_book.proofs.SoundLemmas.{same_link-equal}
@@ -44,37 +44,6 @@ free-not_full lane full tells =
     not_full (is_used lane) lane.cursor full (next_identifier (is_used lane) lane.cursor) tells
     (next_identifier-is_next (is_used lane) lane.cursor)
 
--- The links of the servers from a place on
-
-first_of : (servers : List ServerView) (place : ℕ) → place < length servers → ServerView
-first_of [] place lt = absurd (omega arith)
-first_of (s ∷ ss) place lt = s
-
-links_here :
-    (p : Link → Bool) (s : Service) (servers : List ServerView) (place : ℕ) (b : Bool)
-    → place < length servers → p (server_link s place) ≡ b
-    → find p (server_links s place (drop place servers))
-    ≡ cond b (Some (server_link s place)) (find p (server_links s (place + 1) (drop (place + 1) servers)))
-links_here p s servers place b lt is =
-    let first = first_of servers place lt in
-    rw (drop-cons servers place first, is, add-one) refl
-
--- the link at a place passes, and none before it did; it doesn't pass
-pub link-hit :
-    (p : Link → Bool) (s : Service) (servers : List ServerView) (place : ℕ) (l : Link) (answer : Option Link)
-    → place < length servers → l ≡ server_link s place → p l ≡ true
-    → find p (server_links s place (drop place servers)) ≡ answer → Some l ≡ answer
-link-hit p s servers place l answer lt at is inv =
-    ap Some at ∙ sym (links_here p s servers place true lt (ap p (sym at) ∙ is)) ∙ inv
-
-pub link-skip :
-    (p : Link → Bool) (s : Service) (servers : List ServerView) (place : ℕ) (l : Link) (answer : Option Link)
-    → place < length servers → l ≡ server_link s place → p l ≡ false
-    → find p (server_links s place (drop place servers)) ≡ answer
-    → find p (server_links s (place + 1) (drop (place + 1) servers)) ≡ answer
-link-skip p s servers place l answer lt at is inv =
-    sym (links_here p s servers place false lt (ap p (sym at) ∙ is)) ∙ inv
-
 -- a link is open where it is freed, or by its lane, and otherwise not
 or_true : (b : Bool) → (b || true) ≡ true
 or_true true = refl
@@ -85,21 +54,58 @@ or_true false = refl
 -- different links have different places
 pub link_place-one :
     (c : RealmConfig) (a b : Link) → IsLink c a → IsLink c b → link_place c a ≡ link_place c b → a ≡ b
-link_place-one c (link.Auth a) (link.Auth b) x y at = ap link.Auth at
-link_place-one c (link.Auth a) (link.Acct b) x y at = absurd (omega arith)
-link_place-one c (link.Auth a) (link.Coa b) x y at = absurd (omega arith)
-link_place-one c (link.Acct a) (link.Auth b) x y at = absurd (omega arith)
-link_place-one c (link.Acct a) (link.Acct b) x y at = let is : a ≡ b = omega arith in ap link.Acct is
-link_place-one c (link.Acct a) (link.Coa b) x y at = absurd (omega arith)
-link_place-one c (link.Coa a) (link.Auth b) x y at = absurd (omega arith)
-link_place-one c (link.Coa a) (link.Acct b) x y at = absurd (omega arith)
-link_place-one c (link.Coa a) (link.Coa b) x y at = let is : a ≡ b = omega arith in ap link.Coa is
+link_place-one c (link.Auth a out) (link.Auth b out') x y at =
+    let both = same_from_place a out b out' (length c.realm.out) x.1 y.1 at in
+    let number : a ≡ b = both.0 in let way : out ≡ out' = both.1 in λ i. link.Auth (number i) (way i)
+link_place-one c (link.Auth a out) (link.Acct b out') x y at =
+    let both = same_from_place a out (length c.realm.servers + b) out' (length c.realm.out) x.1 y.1 at in
+    absurd (omega (arith, both.0, x.0, y.0))
+link_place-one c (link.Auth a out) (link.Coa b out') x y at =
+    let both = same_from_place a out (length c.realm.servers + length c.realm.servers + b) out'
+    (length c.realm.out) x.1 y.1 at in
+    absurd (omega (arith, both.0, x.0, y.0))
+link_place-one c (link.Acct a out) (link.Auth b out') x y at =
+    let both = same_from_place (length c.realm.servers + a) out b out' (length c.realm.out) x.1 y.1 at in
+    absurd (omega (arith, both.0, x.0, y.0))
+link_place-one c (link.Acct a out) (link.Acct b out') x y at =
+    let both = same_from_place (length c.realm.servers + a) out (length c.realm.servers + b) out'
+    (length c.realm.out) x.1 y.1 at in
+    let number : a ≡ b = omega (arith, both.0) in let way : out ≡ out' = both.1 in
+    λ i. link.Acct (number i) (way i)
+link_place-one c (link.Acct a out) (link.Coa b out') x y at =
+    let both = same_from_place (length c.realm.servers + a) out
+    (length c.realm.servers + length c.realm.servers + b) out' (length c.realm.out) x.1 y.1 at in
+    absurd (omega (arith, both.0, x.0, y.0))
+link_place-one c (link.Coa a out) (link.Auth b out') x y at =
+    let both = same_from_place (length c.realm.servers + length c.realm.servers + a) out b out'
+    (length c.realm.out) x.1 y.1 at in
+    absurd (omega (arith, both.0, x.0, y.0))
+link_place-one c (link.Coa a out) (link.Acct b out') x y at =
+    let both = same_from_place (length c.realm.servers + length c.realm.servers + a) out
+    (length c.realm.servers + b) out' (length c.realm.out) x.1 y.1 at in
+    absurd (omega (arith, both.0, x.0, y.0))
+link_place-one c (link.Coa a out) (link.Coa b out') x y at =
+    let both = same_from_place (length c.realm.servers + length c.realm.servers + a) out
+    (length c.realm.servers + length c.realm.servers + b) out' (length c.realm.out) x.1 y.1 at in
+    let number : a ≡ b = omega (arith, both.0) in let way : out ≡ out' = both.1 in
+    λ i. link.Coa (number i) (way i)
+
+-- ends have places of their own
+pub ends-apart : (c : RealmConfig) (l other : Link) → IsLink c l → IsLink c other
+    → end_place c other ≡ end_place c l → same_end l other ≡ true
+ends-apart c (link.Auth a out) (link.Auth b out') x y is = same a b (omega (arith, is))
+ends-apart c (link.Auth a out) (link.Acct b out') x y is = absurd (omega (arith, is, x.0, y.0))
+ends-apart c (link.Auth a out) (link.Coa b out') x y is = absurd (omega (arith, is, x.0, y.0))
+ends-apart c (link.Acct a out) (link.Auth b out') x y is = absurd (omega (arith, is, x.0, y.0))
+ends-apart c (link.Acct a out) (link.Acct b out') x y is = same a b (omega (arith, is))
+ends-apart c (link.Acct a out) (link.Coa b out') x y is = absurd (omega (arith, is, x.0, y.0))
+ends-apart c (link.Coa a out) (link.Auth b out') x y is = absurd (omega (arith, is, x.0, y.0))
+ends-apart c (link.Coa a out) (link.Acct b out') x y is = absurd (omega (arith, is, x.0, y.0))
+ends-apart c (link.Coa a out) (link.Coa b out') x y is = same a b (omega (arith, is))
 
 -- a link is the same as itself
 pub same_link-same : (l : Link) → same_link l l ≡ true
-same_link-same (link.Auth a) = same a a refl
-same_link-same (link.Acct a) = same a a refl
-same_link-same (link.Coa a) = same a a refl
+same_link-same = link_is_same
 
 -- links of different places aren't the same
 pub apart :
@@ -213,18 +219,22 @@ lanes-made c lanes place lane new within is new_is own =
 -- the memory of a server's lane is there
 place-made :
     (c : RealmConfig) (lanes : List LaneState) (place : ℕ) → AreOwnLanes c (marks_of lanes)
-    → place < 2 * length c.realm.servers → (get_or lanes place no_lane).made ≡ true
+    → place < 2 * length c.realm.servers * length c.realm.out → (get_or lanes place no_lane).made ≡ true
 place-made c lanes place own within =
     ap (λ (m : Mark). m.made) (sym (lists.get_or-map mark_of lanes place no_lane)) ∙ own.servers place within
 
 pub server-made :
-    (c : RealmConfig) (lanes : List LaneState) (s : Service) (k : ℕ) (l : Link)
-    → AreOwnLanes c (marks_of lanes) → k < length c.realm.servers → l ≡ server_link s k
-    → (lane_of c lanes l).made ≡ true
-server-made c lanes service.Authentication k l own within at =
-    rw at (place-made c lanes k own (omega arith))
-server-made c lanes service.Accounting k l own within at =
-    rw at (place-made c lanes (length c.realm.servers + k) own (omega arith))
+    (c : RealmConfig) (lanes : List LaneState) (s : Service) (k out : ℕ) (l : Link)
+    → AreOwnLanes c (marks_of lanes) → k < length c.realm.servers → out < length c.realm.out
+    → l ≡ server_link s k out → (lane_of c lanes l).made ≡ true
+server-made c lanes service.Authentication k out l own within way at =
+    let fits = mul-le (k + 1) (length c.realm.out) (2 * length c.realm.servers) (length c.realm.out)
+    (omega (arith, within)) (omega arith) in
+    rw at (place-made c lanes (k * length c.realm.out + out) own (omega (arith, fits, way)))
+server-made c lanes service.Accounting k out l own within way at =
+    let fits = mul-le (length c.realm.servers + k + 1) (length c.realm.out) (2 * length c.realm.servers)
+    (length c.realm.out) (omega (arith, within)) (omega arith) in
+    rw at (place-made c lanes ((length c.realm.servers + k) * length c.realm.out + out) own (omega (arith, fits, way)))
 
 -- a lane's memory is there where it was, if the marks are the same
 made_of-marks :

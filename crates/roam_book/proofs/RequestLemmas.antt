@@ -1,5 +1,5 @@
 -- Which case of a request's definition comes to pass.
-use Rattle.std.proofs.Common.{◌≡◌, ◌≢◌, ℕ, ◌^◌, Bool, true, false, List, [], ◌<◌, length, inl, inr, Option, Some, None, refl, ap, ap₂, sym, ◌∙◌, subst, cond, eqb, is_some}
+use Rattle.std.proofs.Common.{◌≡◌, ◌≢◌, ℕ, ◌^◌, Bool, true, false, List, ◌<◌, length, inl, inr, Option, Some, None, refl, ap, ap₂, sym, ◌∙◌, subst, cond, eqb, is_some}
 use Rattle.std.specs.Prelude.{IfSome, nat_eq, option_map, unwrap_or}
 use Rattle.std.proofs.lemmas.Bool.{cases_Bool}
 use Rattle.std.specs.Cmp.Lexicographic.{pointwise}
@@ -25,7 +25,7 @@ use Rattle.roam_book.specs.declared.rules.replaced.Replaced.{Replaced}
 use Rattle.roam_book.specs.declared.state.realm_numbers.RealmNumbers.{RealmNumbers}
 use Rattle.roam_book.proofs.ConversingLemmas.{bound-is, new-next, way-is}
 use Rattle.roam_book.proofs.TargetLemmas.{target-within}
-use Rattle.roam_book.proofs.LaneLemmas.{links-are}
+use Rattle.roam_book.proofs.WaysToLemmas.{links-are, peer-ways-are}
 
 -- the target is the link that was chosen, with its next free Identifier
 target_of : Link → ℕ → Target
@@ -61,9 +61,9 @@ no-target (Some target) h = absurd (let k : Some target.link ≡ None = h in cc)
 
 -- each target is a link of the realm
 coa-links : (c : RealmConfig) (o : Option ℕ) → IfSome o (λ peer. peer < length c.peers)
-    → AllByRecursion (IsLink c) (coa_links o)
+    → AllByRecursion (IsLink c) (coa_links c o)
 coa-links c None h = tt
-coa-links c (Some peer) h = (h, tt)
+coa-links c (Some peer) h = peer-ways-are c peer h
 
 targets-links : (c : RealmConfig) (q : PlainRequest) → AllByRecursion (IsLink c) (targets c q)
 targets-links c q =

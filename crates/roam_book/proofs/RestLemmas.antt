@@ -15,7 +15,7 @@ use Rattle.roam_pending.specs.declared.due.Due.{Due}
 use Rattle.roam_pending.specs.DueOrder.{due_list}
 use Rattle.roam_pending.specs.PlainEntry.{PlainRequest, PlainStanding, PlainEntry, waiting, done}
 use Rattle.roam_pending.specs.EntryList.{find_client, find_link, find_ticket, first_done, without_client}
-use Rattle.roam_book.specs.RealmConfig.{RealmConfig, link_place, link_secret, seal_required, server_link_count}
+use Rattle.roam_book.specs.RealmConfig.{RealmConfig, end_place, link_secret, seal_required, server_link_count}
 use Rattle.roam_book.specs.RealmState.{RealmState, Target, opening, first_target, with_rests}
 use Rattle.roam_book.specs.Rests.{after_choice, after_sign, after_silence, awake, is_resting, is_silence, once_chosen, once_heard, signs_of, stands_back}
 use Rattle.roam_book.specs.RestLaws.{AccessServersNeverStandBack, IsUp, UpTheFirstIsChosen, WithoutRestAllStayUp}
@@ -192,8 +192,8 @@ up-begin (suc n) = (record { until = refl; given_up = refl }, up-begin n)
 up-chosen : (c : RealmConfig) (now : ℕ) (rests : List Rest) (l : Link) → AllByRecursion IsUp rests
     → AllByRecursion IsUp (after_choice c now rests l)
 up-chosen c now rests l h =
-    let old = up-at rests (link_place c l) h in
-    up-set rests (link_place c l) (once_chosen c now (get_or rests (link_place c l) awake)) h (record {
+    let old = up-at rests (end_place c l) h in
+    up-set rests (end_place c l) (once_chosen c now (get_or rests (end_place c l) awake)) h (record {
       until = ap (λ (o : Option ℕ). option_map (λ (until : ℕ). now + c.realm.rest) o) old.until;
       given_up = old.given_up;
     })
@@ -208,7 +208,7 @@ up-silent c now rests l signs none h =
 up-heard : (c : RealmConfig) (rests : List Rest) (l : Link) → AllByRecursion IsUp rests
     → AllByRecursion IsUp (after_sign c rests l)
 up-heard c rests l h =
-    up-set rests (link_place c l) (once_heard (get_or rests (link_place c l) awake)) h
+    up-set rests (end_place c l) (once_heard (get_or rests (end_place c l) awake)) h
     (record { until = refl; given_up = refl })
 
 pub without-rest : WithoutRestAllStayUp
@@ -229,7 +229,7 @@ pub up-first : UpTheFirstIsChosen
 up-first c now rests cursors entries links up =
     let none : (l : Link) → not (stands_back c now rests l) ≡ true =
     λ l. ap (λ (o : Option ℕ). not (option_map_or (λ (until : ℕ). ltb now until) o false))
-    (up-at rests (link_place c l) up).until in
+    (up-at rests (end_place c l) up).until in
     let all = all-ready (λ l. not (stands_back c now rests l)) links none in
     ap (λ (ks : List Link). option_or (first_target c cursors entries ks)
     (first_target c cursors entries links)) all
@@ -245,14 +245,14 @@ pub rests-stay : (c : RealmConfig) (n : ℕ) (s : RealmState) (events : List Rea
     → length (one_realm_run c s events).state.rests ≡ n
 rests-stay c n =
     events-keep c (λ (r : List Rest). length r ≡ n)
-    (λ m r l is. set-count r (link_place c l) n _ is)
+    (λ m r l is. set-count r (end_place c l) n _ is)
     (λ m r l signs is. either (λ (x : List Rest). length x ≡ n) (is_silence c r l signs) _ _
-    (set-count r (link_place c l) n _ is) is)
-    (λ r l is. set-count r (link_place c l) n _ is)
+    (set-count r (end_place c l) n _ is) is)
+    (λ r l is. set-count r (end_place c l) n _ is)
 
 pub access-servers : AccessServersNeverStandBack
-access-servers c start events now peer =
+access-servers c start events now peer out =
     let n = server_link_count c in
     let rests = (one_realm_run c (opening c start) events).state.rests in
     let count : length rests ≡ n = rests-stay c n (opening c start) events (length-replicate n awake) in
-    ap (is_resting now) (get_or_past rests (link_place c (link.Coa peer)) awake (omega arith))
+    ap (is_resting now) (get_or_past rests (end_place c (link.Coa peer out)) awake (omega arith))

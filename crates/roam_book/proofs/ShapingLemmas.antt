@@ -126,9 +126,9 @@ home-without removed p packet h =
 
 home-shaped : (c : RealmConfig) (p : Packet) (l : Link) → IsPacket p → IsOfHome p →
     CanBeShaped (shaping_to c p.code l) p
-home-shaped c p (link.Auth server) packet h = home-without [] p packet h
-home-shaped c p (link.Acct server) packet h = home-without [] p packet h
-home-shaped c p (link.Coa peer) packet h =
+home-shaped c p (link.Auth server out) packet h = home-without [] p packet h
+home-shaped c p (link.Acct server out) packet h = home-without [] p packet h
+home-shaped c p (link.Coa peer out) packet h =
     elim (cases_Bool (p.code == COA_REQUEST)) [
       | inl coa ↦ rw coa (home-without _ p packet h)
       | inr other ↦ rw other (home-without [] p packet h)

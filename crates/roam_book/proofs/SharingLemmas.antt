@@ -1,6 +1,6 @@
 -- How many requests of one share wait for a service, by the Identifiers in use toward its servers and by the entries.
-use Rattle.std.proofs.Common.{◌≡◌, ◌≢◌, ℕ, zero, suc, ◌+◌, ◌<◌, ◌≤◌, ◌==◌, ◌&&◌, Bool, true, false, List, [], ◌∷◌, Option, Some, None, length, refl, ap, sym, ◌∙◌, subst, arith, inl, inr, eqb, eqb-true}
-use Rattle.std.specs.Prelude.{◌||◌, not, unwrap_or, if◌then◌else◌}
+use Rattle.std.proofs.Common.{◌≡◌, ◌≢◌, ℕ, ◌+◌, ◌<◌, ◌&&◌, Bool, true, false, List, [], ◌∷◌, Option, Some, None, length, refl, ap, sym, ◌∙◌, subst, arith, inl, inr, eqb, eqb-true}
+use Rattle.std.specs.Prelude.{◌||◌, not, unwrap_or}
 use Rattle.std.specs.Option.{option_map_or}
 use Rattle.std.specs.List.{AllByRecursion, count_by, filter}
 use Rattle.std.proofs.lemmas.Bool.{cases_Bool, true≢false, false≢true}
@@ -18,120 +18,30 @@ use Rattle.roam_book.specs.Private.Sharing.{held_as, held_below, is_kept_as, sum
 use Rattle.roam_book.specs.RealmConfig.{RealmConfig, IsLink, server_link}
 use Rattle.roam_book.specs.Shares.{waits_for}
 use Rattle.roam_book.specs.Sound.{IsEntry, IsSound, StandsWell, lane_of}
+use Rattle.roam_book.proofs.SumLemmas.{all-both, all-none, all-same, in_all, one-in_all, one_if}
 use Rattle.roam_book.proofs.WaitingLemmas.{parks, waits_as}
-
--- one where it holds
-abbrev pub one_if : Bool → ℕ
-one_if b = if b then 1 else 0
-
--- ---- sums
-
-pub sum-none : (f : ℕ → ℕ) → sum_below 0 f ≡ 0
-unfolding sum_below
-sum-none f = refl
-
-sum-suc : (n : ℕ) (f : ℕ → ℕ) → sum_below (suc n) f ≡ sum_below n f + f n
-unfolding sum_below
-sum-suc n f = refl
-
-pub sum-more : (n : ℕ) (f : ℕ → ℕ) → sum_below (n + 1) f ≡ sum_below n f + f n
-sum-more n f =
-    let e : n + 1 ≡ suc n = omega arith in
-    ap (λ (k : ℕ). sum_below k f) e ∙ sum-suc n f
-
-sum-same : (n : ℕ) (f h : ℕ → ℕ) → ((i : ℕ) → i < n → f i ≡ h i) → sum_below n f ≡ sum_below n h
-sum-same zero f h is = sum-none f ∙ sym (sum-none h)
-sum-same (suc n) f h is =
-    omega (
-      arith,
-      sum-suc n f,
-      sum-suc n h,
-      is n (omega arith),
-      sum-same n f h (λ i lt. is i (omega (arith, lt))),
-    )
-
-sum-zeros : (n : ℕ) (f : ℕ → ℕ) → ((i : ℕ) → f i ≡ 0) → sum_below n f ≡ 0
-sum-zeros zero f is = sum-none f
-sum-zeros (suc n) f is = omega (arith, sum-suc n f, is n, sum-zeros n f is)
-
-sum-both : (n : ℕ) (f h : ℕ → ℕ) → sum_below n (λ i. f i + h i) ≡ sum_below n f + sum_below n h
-sum-both zero f h = omega (arith, sum-none (λ i. f i + h i), sum-none f, sum-none h)
-sum-both (suc n) f h =
-    omega (arith, sum-suc n (λ i. f i + h i), sum-suc n f, sum-suc n h, sum-both n f h)
-
--- one place alone
-none-past : (m b : ℕ) (q : Bool) → m ≤ b → sum_below m (λ j. one_if (b == j && q)) ≡ 0
-none-past zero b q past = sum-none (λ j. one_if (b == j && q))
-none-past (suc m) b q past =
-    let other : (b == m) ≡ false = differs b m (λ is. absurd (omega (arith, is, past))) in
-    let here : one_if (b == m && q) ≡ 0 = rw other refl in
-    omega (
-      arith,
-      sum-suc m (λ j. one_if (b == j && q)),
-      here,
-      none-past m b q (omega (arith, past)),
-    )
-
-one-alone : (m b : ℕ) (q : Bool) → b < m → sum_below m (λ j. one_if (b == j && q)) ≡ one_if q
-one-alone zero b q within = absurd (omega (arith, within))
-one-alone (suc m) b q within =
-    elim (cases_Bool (b == m)) [
-      | inl is ↦
-          let here : one_if (b == m && q) ≡ one_if q = rw is refl in
-          let at : b ≡ m = eqb-true b m is in
-          omega (
-            arith,
-            sum-suc m (λ j. one_if (b == j && q)),
-            here,
-            none-past m b q (omega (arith, at)),
-          )
-      | inr other ↦
-          let here : one_if (b == m && q) ≡ 0 = rw other refl in
-          let below : b < m = let ne : b ≢ m = (λ is. absurd (true≢false (sym (same b m is) ∙ other))) in
-          omega (arith, within, ne) in
-          omega (arith, sum-suc m (λ j. one_if (b == j && q)), here, one-alone m b q below)
-    ]
-
-and-swap : (a b q : Bool) → ((a && b) && q) ≡ (b && (a && q))
-and-swap true true q = refl
-and-swap true false q = refl
-and-swap false true q = refl
-and-swap false false q = refl
-
--- one place in a table
-one-in_table : (n m a b : ℕ) (q : Bool) → a < n → b < m →
-    sum_below n (λ i. sum_below m (λ j. one_if ((a == i && b == j) && q))) ≡ one_if q
-one-in_table n m a b q row column =
-    sum-same n (λ i. sum_below m (λ j. one_if ((a == i && b == j) && q))) (λ i. one_if (a == i && q))
-    (λ i lt.
-    sum-same m (λ j. one_if ((a == i && b == j) && q)) (λ j. one_if (b == j && (a == i && q)))
-    (λ j below. ap one_if (and-swap (a == i) (b == j) q))
-    ∙ one-alone m b (a == i && q) column)
-    ∙ one-alone n a q row
-
-none-in_table : (n m : ℕ) (f : ℕ → ℕ → ℕ) → ((i j : ℕ) → f i j ≡ 0) → sum_below n (λ i. sum_below m (f i)) ≡ 0
-none-in_table n m f is = sum-zeros n (λ i. sum_below m (f i)) (λ i. sum-zeros m (f i) (is i))
+use Rattle.roam_book.proofs.WaysToLemmas.{server-is}
 
 -- ---- one entry: it waits for the service at one place, or nowhere
 
 at-server : (c : RealmConfig) (asked : Service) (q : Bool) (r : PlainRequest) (s : PlainStanding) → StandsWell c r s →
-    sum_below (length c.realm.servers)
-    (λ server. sum_below 256 (λ id. one_if (stands_at (server_link asked server) id s && q)))
+    in_all (length c.realm.servers) (length c.realm.out)
+    (λ server out id. one_if (stands_at (server_link asked server out) id s && q))
     ≡ one_if (waits_for asked s && q)
 at-server c asked q r (done reply deadline from) well =
-    none-in_table (length c.realm.servers) 256 (λ server id. 0) (λ server id. refl)
-at-server c service.Authentication q r (waiting (link.Auth a) id forwarded sends_left deadline signs) well =
-    one-in_table (length c.realm.servers) 256 a id q well.link well.id
-at-server c service.Authentication q r (waiting (link.Acct a) id forwarded sends_left deadline signs) well =
-    none-in_table (length c.realm.servers) 256 (λ server id. 0) (λ server id. refl)
-at-server c service.Authentication q r (waiting (link.Coa a) id forwarded sends_left deadline signs) well =
-    none-in_table (length c.realm.servers) 256 (λ server id. 0) (λ server id. refl)
-at-server c service.Accounting q r (waiting (link.Acct a) id forwarded sends_left deadline signs) well =
-    one-in_table (length c.realm.servers) 256 a id q well.link well.id
-at-server c service.Accounting q r (waiting (link.Auth a) id forwarded sends_left deadline signs) well =
-    none-in_table (length c.realm.servers) 256 (λ server id. 0) (λ server id. refl)
-at-server c service.Accounting q r (waiting (link.Coa a) id forwarded sends_left deadline signs) well =
-    none-in_table (length c.realm.servers) 256 (λ server id. 0) (λ server id. refl)
+    all-none (length c.realm.servers) (length c.realm.out) (λ server out id. 0) (λ server out id. refl)
+at-server c service.Authentication q r (waiting (link.Auth a out) id forwarded sends_left deadline signs) well =
+    one-in_all (length c.realm.servers) (length c.realm.out) a out id q well.link.0 well.link.1 well.id
+at-server c service.Authentication q r (waiting (link.Acct a out) id forwarded sends_left deadline signs) well =
+    all-none (length c.realm.servers) (length c.realm.out) (λ server by id. 0) (λ server by id. refl)
+at-server c service.Authentication q r (waiting (link.Coa a out) id forwarded sends_left deadline signs) well =
+    all-none (length c.realm.servers) (length c.realm.out) (λ server by id. 0) (λ server by id. refl)
+at-server c service.Accounting q r (waiting (link.Auth a out) id forwarded sends_left deadline signs) well =
+    all-none (length c.realm.servers) (length c.realm.out) (λ server by id. 0) (λ server by id. refl)
+at-server c service.Accounting q r (waiting (link.Acct a out) id forwarded sends_left deadline signs) well =
+    one-in_all (length c.realm.servers) (length c.realm.out) a out id q well.link.0 well.link.1 well.id
+at-server c service.Accounting q r (waiting (link.Coa a out) id forwarded sends_left deadline signs) well =
+    all-none (length c.realm.servers) (length c.realm.out) (λ server by id. 0) (λ server by id. refl)
 
 -- ---- all entries
 
@@ -145,27 +55,24 @@ count_at p l id es = count_by (λ e. waits_at l id e && p e) es
 -- those of a service are counted where they wait
 by-service : (c : RealmConfig) (n : ℕ) (asked : Service) (p : PlainEntry → Bool) (es : List PlainEntry) →
     AllByRecursion (IsEntry c n) es →
-    sum_below (length c.realm.servers) (λ server. sum_below 256 (λ id. count_at p (server_link asked server) id es))
+    in_all (length c.realm.servers) (length c.realm.out)
+    (λ server out id. count_at p (server_link asked server out) id es)
     ≡ count_by (λ e. waits_for asked e.standing && p e) es
 by-service c n asked p [] each =
-    none-in_table (length c.realm.servers) 256 (λ server id. 0) (λ server id. refl)
+    all-none (length c.realm.servers) (length c.realm.out) (λ server out id. 0) (λ server out id. refl)
 by-service c n asked p (e ∷ es) each =
     let servers : ℕ = length c.realm.servers in
-    let here : ℕ → ℕ → ℕ = λ server id. one_if (waits_at (server_link asked server) id e && p e) in
-    let rest : ℕ → ℕ → ℕ = λ server id. count_at p (server_link asked server) id es in
-    let split : sum_below servers
-    (λ server. sum_below 256 (λ id. count_at p (server_link asked server) id (e ∷ es)))
-    ≡ sum_below servers (λ server. sum_below 256 (here server) + sum_below 256 (rest server)) =
-    sum-same servers (λ server. sum_below 256 (λ id. count_at p (server_link asked server) id (e ∷ es)))
-    (λ server. sum_below 256 (here server) + sum_below 256 (rest server))
-    (λ server lt.
-    sum-same 256 (λ id. count_at p (server_link asked server) id (e ∷ es)) (λ id. here server id + rest server id)
-    (λ id below. count-cons (λ x. waits_at (server_link asked server) id x && p x) e es)
-    ∙ sum-both 256 (here server) (rest server)) in
+    let outs : ℕ = length c.realm.out in
+    let all : ℕ → ℕ → ℕ → ℕ = λ server out id. count_at p (server_link asked server out) id (e ∷ es) in
+    let here : ℕ → ℕ → ℕ → ℕ = λ server out id. one_if (waits_at (server_link asked server out) id e && p e) in
+    let rest : ℕ → ℕ → ℕ → ℕ = λ server out id. count_at p (server_link asked server out) id es in
+    let split : in_all servers outs all ≡ in_all servers outs (λ s o i. here s o i + rest s o i) =
+    all-same servers outs all (λ s o i. here s o i + rest s o i)
+    (λ s o i server way octet. count-cons (λ x. waits_at (server_link asked s o) i x && p x) e es) in
     omega (
       arith,
       split,
-      sum-both servers (λ server. sum_below 256 (here server)) (λ server. sum_below 256 (rest server)),
+      all-both servers outs here rest,
       at-server c asked (p e) e.request e.standing each.0.standing,
       by-service c n asked p es each.1,
       count-cons (λ x. waits_for asked x.standing && p x) e es,
@@ -263,11 +170,6 @@ there c es n p l id sound list is octet =
 
 -- ---- the count of a service
 
-server-is : (c : RealmConfig) (asked : Service) (server : ℕ) → server < length c.realm.servers →
-    IsLink c (server_link asked server)
-server-is c service.Authentication server within = within
-server-is c service.Accounting server within = within
-
 -- those that count as gone aren't counted
 and-none : (a : Bool) → (a && false) ≡ false
 and-none true = refl
@@ -313,17 +215,16 @@ count-besides asked test (Some t) es =
 -- what is counted by the Identifiers is what is counted by the entries
 pub counted-is : {A : Type 0} (c : RealmConfig) (es : List PlainEntry) (n : RealmNumbers A) (asked : Service)
     (test : PlainEntry → Bool) (gone : Option ℕ) → IsSound c es n → IsEntryList es →
-    sum_below (length c.realm.servers) (λ server. held_below 256 test gone (server_link asked server) es)
+    sum_below (length c.realm.servers) (λ server. sum_below (length c.realm.out)
+    (λ out. held_below 256 test gone (server_link asked server out) es))
     ≡ count_by (λ e. waits_for asked e.standing && test e) (besides gone es)
 counted-is c es n asked test gone sound list =
     let p : PlainEntry → Bool = is_kept_as test gone in
-    sum-same (length c.realm.servers) (λ server. held_below 256 test gone (server_link asked server) es)
-    (λ server. sum_below 256 (λ id. count_at p (server_link asked server) id es))
-    (λ server within.
-    sum-same 256 (λ id. one_if (held_as test gone (server_link asked server) id es))
-    (λ id. count_at p (server_link asked server) id es)
-    (λ id octet.
-    sym (there c es n p (server_link asked server) id sound list (server-is c asked server within) octet)))
+    all-same (length c.realm.servers) (length c.realm.out)
+    (λ server out id. one_if (held_as test gone (server_link asked server out) id es))
+    (λ server out id. count_at p (server_link asked server out) id es)
+    (λ server out id within way octet.
+    sym (there c es n p (server_link asked server out) id sound list (server-is c asked server out within way) octet))
     ∙ by-service c n.ticket asked p es sound.each
     ∙ count-besides asked test gone es
 
@@ -333,9 +234,9 @@ counted-is c es n asked test gone sound list =
 waits-apart : (s : PlainStanding) →
     (waits_for service.Authentication s && waits_for service.Accounting s) ≡ false
 waits-apart (done reply deadline from) = refl
-waits-apart (waiting (link.Auth a) id forwarded sends_left deadline signs) = refl
-waits-apart (waiting (link.Acct a) id forwarded sends_left deadline signs) = refl
-waits-apart (waiting (link.Coa a) id forwarded sends_left deadline signs) = refl
+waits-apart (waiting (link.Auth a out) id forwarded sends_left deadline signs) = refl
+waits-apart (waiting (link.Acct a out) id forwarded sends_left deadline signs) = refl
+waits-apart (waiting (link.Coa a out) id forwarded sends_left deadline signs) = refl
 
 one-of_both : (a b q : Bool) → (a && b) ≡ false → one_if ((a || b) && q) ≡ one_if (a && q) + one_if (b && q)
 one-of_both true true q apart = absurd (true≢false apart)

@@ -11,12 +11,11 @@ use Rattle.roam_wire.specs.declared.refusal.Refusal.{Refusal}
 use Rattle.roam_wire.specs.declared.refusal.Refusal.TheVariants as refusal
 use Rattle.roam_back.specs.Returned.{returned_length}
 use Rattle.roam_conf.specs.declared.place.Link.{Link}
-use Rattle.roam_conf.specs.declared.place.Link.TheVariants as link
 use Rattle.roam_pending.specs.declared.due.Due.{Due}
 use Rattle.roam_pending.specs.DueOrder.{due_list}
 use Rattle.roam_pending.specs.PlainEntry.{PlainStanding, PlainEntry, waiting, done, same_link, stands_at, waits_at}
 use Rattle.roam_pending.specs.EntryList.{find_link, find_ticket}
-use Rattle.roam_book.specs.RealmConfig.{RealmConfig, link_place, link_secret, seal_required}
+use Rattle.roam_book.specs.RealmConfig.{RealmConfig, end_place, link_secret, seal_required}
 use Rattle.roam_book.specs.RealmState.{RealmState, Target, first_target, next_toward, ready_links, this_or}
 use Rattle.roam_book.specs.Rests.{after_choice, after_sign, after_silence, awake, once_chosen, once_heard, once_silent, one_more, rest_of, signs_of, stands_back, with_rest}
 use Rattle.roam_book.specs.Turn.{Turn, latest_moment, hears, refuses, state_after}
@@ -24,14 +23,15 @@ use Rattle.roam_book.specs.OnReply.{judge, once_heard_from, shows_life, on_reply
 use Rattle.roam_book.specs.OnTick.{Progress, as_turn, due_each, due_entry, due_one, due_standing, given_up_at}
 use Rattle.roam_book.specs.OneRealm.{RealmEvent, one_realm_run, reply_came, request_came, tick_came}
 use Rattle.roam_book.specs.RestLaws.{IsUp}
-use Rattle.roam_book.specs.Silence.{ChoiceIsNeverWorse, LinksHaveOwnPlaces, RestsOnlyWhenSilent, ends_at, ends_there, given_up_by, given_up_in, given_up_over, is_link, is_sign, once_came, signs_in, signs_over}
+use Rattle.roam_book.specs.Silence.{ChoiceIsNeverWorse, EndsHaveOwnPlaces, RestsOnlyWhenSilent, ends_at, ends_there, given_up_by, given_up_in, given_up_over, shares_end, is_sign, once_came, signs_in, signs_over}
 use Rattle.roam_book.specs.declared.state.rest.Rest.{Rest}
-use Rattle.roam_book.proofs.LinkLaneLemmas.{link_place-one}
+use Rattle.roam_book.proofs.LinkLaneLemmas.{ends-apart}
+use Rattle.roam_book.proofs.SoundLemmas.{same_link-equal}
 use Rattle.roam_book.proofs.RestLemmas.{either, fail_over-keeps, reply-keeps, request-keeps}
 
-pub links-have_own_places : LinksHaveOwnPlaces
-links-have_own_places c l other x y is =
-    link_place-one c other l y x ((Decides-eqb (link_place c other) (link_place c l)).0 is)
+pub ends-have_own_places : EndsHaveOwnPlaces
+ends-have_own_places c l other x y is =
+    ends-apart c l other x y ((Decides-eqb (end_place c other) (end_place c l)).0 is)
 
 -- ---- what a link's rest tells of its silence
 
@@ -133,13 +133,13 @@ module _ (c : RealmConfig) (l : Link) where
   chosen-at : (n now : ℕ) (rests : List Rest) (k : Link) → At c l n rests
       → At c l n (after_choice c now rests k)
   chosen-at n now rests k h =
-      read_set (Tells c n) rests (link_place c k) (link_place c l) (once_chosen c now (rest_of c rests k)) h
+      read_set (Tells c n) rests (end_place c k) (end_place c l) (once_chosen c now (rest_of c rests k)) h
       (λ is. chosen-tells c n now (rest_of c rests k)
-      (same-read c n rests (link_place c k) (link_place c l) is h))
+      (same-read c n rests (end_place c k) (end_place c l) is h))
 
   answered-at : (n : ℕ) (rests : List Rest) (k : Link) → At c l n rests → At c l n (after_sign c rests k)
   answered-at n rests k h =
-      read_set (Tells c n) rests (link_place c k) (link_place c l) (once_heard (rest_of c rests k)) h
+      read_set (Tells c n) rests (end_place c k) (end_place c l) (once_heard (rest_of c rests k)) h
       (λ is. heard-tells c n (rest_of c rests k))
 
   -- by whether it is the link
@@ -147,16 +147,16 @@ module _ (c : RealmConfig) (l : Link) where
   one_if b = if b then 1 else 0
 
   written-at : (n now : ℕ) (rests : List Rest) (k : Link) → At c l n rests
-      → At c l (n + one_if (is_link c l k)) (with_rest c rests k (once_silent c now (rest_of c rests k)))
+      → At c l (n + one_if (shares_end c l k)) (with_rest c rests k (once_silent c now (rest_of c rests k)))
   written-at n now rests k h =
-      let least : n ≤ n + one_if (is_link c l k) = omega arith in
-      read_set (Tells c (n + one_if (is_link c l k))) rests (link_place c k) (link_place c l)
-      (once_silent c now (rest_of c rests k)) (more c n (n + one_if (is_link c l k)) (rest_of c rests l) least h)
+      let least : n ≤ n + one_if (shares_end c l k) = omega arith in
+      read_set (Tells c (n + one_if (shares_end c l k))) rests (end_place c k) (end_place c l)
+      (once_silent c now (rest_of c rests k)) (more c n (n + one_if (shares_end c l k)) (rest_of c rests l) least h)
       (λ is.
-      let here : is_link c l k ≡ true = (Decides-eqb (link_place c k) (link_place c l)).1 is in
+      let here : shares_end c l k ≡ true = (Decides-eqb (end_place c k) (end_place c l)).1 is in
       subst (λ (b : Bool). Tells c (n + one_if b) (once_silent c now (rest_of c rests k))) (sym here)
       (silent-tells c n now (rest_of c rests k)
-      (same-read c n rests (link_place c k) (link_place c l) is h)))
+      (same-read c n rests (end_place c k) (end_place c l) is h)))
 
   -- by whether it is the link, whether links rest at all, and whether no sign of life came since
   silent-by : (n : ℕ) (rests : List Rest) (here positive none : Bool) (written : List Rest) → At c l n rests
@@ -170,9 +170,9 @@ module _ (c : RealmConfig) (l : Link) where
       more c n (n + one_if (here && none)) (rest_of c rests l) (omega arith) old
 
   silent-at : (n now : ℕ) (rests : List Rest) (k : Link) (signs : ℕ) → At c l n rests
-      → At c l (n + one_if (is_link c l k && signs_of c rests k == signs)) (after_silence c now rests k signs)
+      → At c l (n + one_if (shares_end c l k && signs_of c rests k == signs)) (after_silence c now rests k signs)
   silent-at n now rests k signs h =
-      silent-by n rests (is_link c l k) (nat_lt 0 c.realm.rest) (signs_of c rests k == signs)
+      silent-by n rests (shares_end c l k) (nat_lt 0 c.realm.rest) (signs_of c rests k == signs)
       (with_rest c rests k (once_silent c now (rest_of c rests k))) h (written-at n now rests k h)
 
   -- ---- a tick
@@ -199,8 +199,8 @@ module _ (c : RealmConfig) (l : Link) where
   standing-at n now s e (done reply deadline from) h = more c n (n + 0) (rest_of c s.rests l) (omega arith) h
   standing-at n now s e (waiting k id forwarded sends_left deadline signs) h =
       let none : Bool = signs_of c s.rests k == signs in
-      let m = n + one_if (is_link c l k && none) in
-      waits-by (nat_lt 0 sends_left) (is_link c l k) none n _ _ h
+      let m = n + one_if (shares_end c l k && none) in
+      waits-by (nat_lt 0 sends_left) (shares_end c l k) none n _ _ h
       (fail_over-keeps c (At c l m) (chosen-at m) now (given_up_at c now k signs s e) e _
       (silent-at n now s.rests k signs h))
 
@@ -253,31 +253,21 @@ module _ (c : RealmConfig) (l : Link) where
   both_true true b is = refl
   both_true false b is = absurd (cc is)
 
-  same_place : (a b : Link) → same_link a b ≡ true → link_place c a ≡ link_place c b
-  same_place (link.Auth a) (link.Auth b) is = (Decides-eqb a b).0 is
-  same_place (link.Acct a) (link.Acct b) is =
-      ap (λ (n : ℕ). link_place c (link.Acct n)) ((Decides-eqb a b).0 is)
-  same_place (link.Coa a) (link.Coa b) is =
-      ap (λ (n : ℕ). link_place c (link.Coa n)) ((Decides-eqb a b).0 is)
-  same_place (link.Auth a) (link.Acct b) is = absurd (cc is)
-  same_place (link.Auth a) (link.Coa b) is = absurd (cc is)
-  same_place (link.Acct a) (link.Auth b) is = absurd (cc is)
-  same_place (link.Acct a) (link.Coa b) is = absurd (cc is)
-  same_place (link.Coa a) (link.Auth b) is = absurd (cc is)
-  same_place (link.Coa a) (link.Acct b) is = absurd (cc is)
+  same_place : (a b : Link) → same_link a b ≡ true → end_place c a ≡ end_place c b
+  same_place a b is = ap (end_place c) (same_link-equal a b is)
 
   refuses-wakes : (s : RealmState) (why : Refusal) → Wakes s (refuses why)
   refuses-wakes s why = λ is. absurd (cc is)
 
-  woken-at : (rests : List Rest) (k : Link) → link_place c k ≡ link_place c l
+  woken-at : (rests : List Rest) (k : Link) → end_place c k ≡ end_place c l
       → At c l 0 (after_sign c rests k)
   woken-at rests k is =
       let heard : Rest = once_heard (rest_of c rests k) in
-      subst (λ (i : ℕ). Tells c 0 (get_or (set rests (link_place c k) heard) i awake)) is
-      (heard_there c rests (link_place c k) heard (heard-tells c 0 (rest_of c rests k)))
+      subst (λ (i : ℕ). Tells c 0 (get_or (set rests (end_place c k) heard) i awake)) is
+      (heard_there c rests (end_place c k) heard (heard-tells c 0 (rest_of c rests k)))
 
   judge-wakes : (now : ℕ) (s : RealmState) (e : PlainEntry) (k : Link) (forwarded reply : Packet)
-      (why : Option Refusal) → link_place c k ≡ link_place c l
+      (why : Option Refusal) → end_place c k ≡ end_place c l
       → Wakes s (judge c now s e k forwarded reply why)
   judge-wakes now s e k forwarded reply (Some why) is =
       either (Wakes s) (shows_life why) (hears why (once_heard_from c s k)) (refuses why)
@@ -289,7 +279,7 @@ module _ (c : RealmConfig) (l : Link) where
       _ _ (λ sign. woken-at s.rests k is) (λ sign. woken-at s.rests k is)
 
   standing-wakes : (now : ℕ) (s : RealmState) (e : PlainEntry) (from : Link) (id : ℕ) (reply : Packet)
-      (p : PlainStanding) → stands_at from id p ≡ true → link_place c from ≡ link_place c l
+      (p : PlainStanding) → stands_at from id p ≡ true → end_place c from ≡ end_place c l
       → Wakes s (to_standing c now s e reply p)
   standing-wakes now s e from id reply (waiting k i forwarded sends_left deadline signs) at is =
       let same = same_place k from (both_true (same_link k from) (i == id) at) in
@@ -298,14 +288,14 @@ module _ (c : RealmConfig) (l : Link) where
   standing-wakes now s e from id reply (done old deadline kept) at is = refuses-wakes s refusal.NoEntry
 
   entry-wakes : (now : ℕ) (s : RealmState) (from : Link) (id : ℕ) (reply : Packet)
-      (o : Option PlainEntry) → find_link from id s.entries ≡ o → link_place c from ≡ link_place c l
+      (o : Option PlainEntry) → find_link from id s.entries ≡ o → end_place c from ≡ end_place c l
       → Wakes s (to_entry c now s reply o)
   entry-wakes now s from id reply None found is = refuses-wakes s refusal.NoEntry
   entry-wakes now s from id reply (Some e) found is =
       standing-wakes now s e from id reply e.standing (found_is (waits_at from id) s.entries e found) is
 
   reply-wakes : (now : ℕ) (s : RealmState) (from : Link) (octets : List ℕ)
-      → link_place c from ≡ link_place c l → Wakes s (on_reply c now s from octets)
+      → end_place c from ≡ end_place c l → Wakes s (on_reply c now s from octets)
   reply-wakes now s from octets is =
       let id = (packet_of octets).id in
       either (Wakes s) (ltb (2 ^ 62) now) (refuses refusal.Moment)
@@ -344,13 +334,13 @@ module _ (c : RealmConfig) (l : Link) where
       let turn : Turn = on_reply c now s from octets in
       let kept = reply-keeps c (At c l (n + 0)) (answered-at (n + 0)) now s from octets
       (more c n (n + 0) (rest_of c s.rests l) (omega arith) h) in
-      elim (cases_Bool (is_link c l from)) [
+      elim (cases_Bool (shares_end c l from)) [
         | inl here ↦ elim (cases_Bool (is_sign turn)) [
           | inl sign ↦
-              let place = (Decides-eqb (link_place c from) (link_place c l)).0 here in
+              let place = (Decides-eqb (end_place c from) (end_place c l)).0 here in
               inl (reply-wakes now s from octets place sign)
           | inr none ↦ inr (
-            ap (sign_if (is_link c l from)) none ∙ no_sign_given (is_link c l from),
+            ap (sign_if (shares_end c l from)) none ∙ no_sign_given (shares_end c l from),
             kept,
           )
         ]

@@ -2,12 +2,11 @@
 use Rattle.std.proofs.Common.{◌≡◌, ℕ, ◌<◌, ◌≤◌, ◌^◌, true, false, List, [], ◌∷◌, Some, None, length, refl, ap, sym, subst, ◌∙◌, arith}
 use Rattle.std.specs.Prelude.{not}
 use Rattle.std.specs.List.{AllByRecursion}
-use Rattle.std.proofs.lemmas.Bool.Decides.{nat_tests}
 use Rattle.roam_conf.specs.declared.place.Link.{Link}
 use Rattle.roam_conf.specs.declared.place.Link.TheVariants as link
 use Rattle.roam_pending.specs.PlainEntry.{PlainEntry, has_ticket, same_link, waits_at}
 use Rattle.roam_pending.specs.EntryList.{find_link, find_ticket, put, without}
-use Rattle.roam_pending.proofs.TestLemmas.{differs, all-filter, all-find, all-weaker}
+use Rattle.roam_pending.proofs.TestLemmas.{differs, pair_decides, all-filter, all-find, all-weaker}
 use Rattle.roam_pending.proofs.OrderLemmas.{all-put}
 use Rattle.roam_book.specs.RealmConfig.{RealmConfig}
 use Rattle.roam_ids.specs.LaneState.{LaneState}
@@ -76,12 +75,18 @@ unheld-ticket c n (e ∷ es) h =
 
 -- links that are the same are equal
 pub same_link-equal : (a b : Link) → same_link a b ≡ true → a ≡ b
-same_link-equal (link.Auth a) (link.Auth b) h = let is : a ≡ b = grind (arith, nat_tests, h) in ap link.Auth is
-same_link-equal (link.Auth a) (link.Acct b) h = absurd (let k : false ≡ true = h in cc)
-same_link-equal (link.Auth a) (link.Coa b) h = absurd (let k : false ≡ true = h in cc)
-same_link-equal (link.Acct a) (link.Auth b) h = absurd (let k : false ≡ true = h in cc)
-same_link-equal (link.Acct a) (link.Acct b) h = let is : a ≡ b = grind (arith, nat_tests, h) in ap link.Acct is
-same_link-equal (link.Acct a) (link.Coa b) h = absurd (let k : false ≡ true = h in cc)
-same_link-equal (link.Coa a) (link.Auth b) h = absurd (let k : false ≡ true = h in cc)
-same_link-equal (link.Coa a) (link.Acct b) h = absurd (let k : false ≡ true = h in cc)
-same_link-equal (link.Coa a) (link.Coa b) h = let is : a ≡ b = grind (arith, nat_tests, h) in ap link.Coa is
+same_link-equal (link.Auth a out) (link.Auth b out') h =
+    let both = (pair_decides a b out out').0 h in let number = both.0 in let at = both.1 in
+    λ i. link.Auth (number i) (at i)
+same_link-equal (link.Auth a out) (link.Acct b out') h = absurd (let k : false ≡ true = h in cc)
+same_link-equal (link.Auth a out) (link.Coa b out') h = absurd (let k : false ≡ true = h in cc)
+same_link-equal (link.Acct a out) (link.Auth b out') h = absurd (let k : false ≡ true = h in cc)
+same_link-equal (link.Acct a out) (link.Acct b out') h =
+    let both = (pair_decides a b out out').0 h in let number = both.0 in let at = both.1 in
+    λ i. link.Acct (number i) (at i)
+same_link-equal (link.Acct a out) (link.Coa b out') h = absurd (let k : false ≡ true = h in cc)
+same_link-equal (link.Coa a out) (link.Auth b out') h = absurd (let k : false ≡ true = h in cc)
+same_link-equal (link.Coa a out) (link.Acct b out') h = absurd (let k : false ≡ true = h in cc)
+same_link-equal (link.Coa a out) (link.Coa b out') h =
+    let both = (pair_decides a b out out').0 h in let number = both.0 in let at = both.1 in
+    λ i. link.Coa (number i) (at i)

@@ -1,5 +1,5 @@
 -- To which server a request goes that goes on with a conversation (ours).
-use Rattle.std.specs.Prelude.{ℕ, ◌==◌, not, Bool, List, [], Option, Some, None, option_and_then, is_some, if◌then◌else◌}
+use Rattle.std.specs.Prelude.{ℕ, ◌==◌, not, Bool, false, List, [], ◌++◌, Option, Some, None, option_and_then, is_some, if◌then◌else◌}
 use Rattle.std.specs.List.{filter}
 use Rattle.std.specs.Option.{option_or}
 use Rattle.roam_wire.specs.Attributes.{first_value}
@@ -8,6 +8,7 @@ use Rattle.roam_wire.specs.Reading.{packet_of}
 use Rattle.roam_wire.specs.declared.attribute_type.TheConstants.{STATE}
 use Rattle.roam_wire.specs.declared.code.TheConstants.{ACCESS_REQUEST}
 use Rattle.roam_conf.specs.declared.place.Link.{Link}
+use Rattle.roam_conf.specs.declared.place.Link.TheVariants as link
 use Rattle.roam_pending.specs.declared.key.Requester.{Requester}
 use Rattle.roam_pending.specs.declared.key.Requester.TheVariants as requester
 use Rattle.roam_pending.specs.Conversations.{kept_link, last_round}
@@ -39,16 +40,20 @@ round_link (requester.Home server) state entries = None
 abbrev pub bound_link : RealmConfig → PlainRequest → List PlainEntry → Option Link
 bound_link c q entries = option_and_then (λ state. round_link q.requester state entries) (asked_state c q)
 
--- it, where it is among some links
+-- two links lead to one end, each by its `out`
+abbrev pub same_end : Link → Link → Bool
+same_end (link.Auth a k) (link.Auth b j) = a == b
+same_end (link.Acct a k) (link.Acct b j) = a == b
+same_end (link.Coa a k) (link.Coa b j) = a == b
+same_end _ _ = false
+
+-- it, where it is among some links, and behind it those of them that lead to the same end
 abbrev pub bound_links : Option Link → List Link → List Link
 bound_links None links = []
-bound_links (Some bound) links = filter (same_link bound) links
+bound_links (Some bound) links = filter (same_link bound) links ++ filter (same_end bound) links
 
--- it as a target, where it is one of a request's links, and has a free Identifier beside these entries, whether it
--- stands
--- back or not. (All entries of the state count here for a round, that of the request's key and those past their
--- deadline
--- too.)
+-- the first of them with a free Identifier beside these entries, as a target, whether it stands back or not. (All
+-- entries of the state count here for a round, that of the request's key and those past their deadline too.)
 abbrev pub bound_target : RealmConfig → RealmState → List PlainEntry → PlainRequest → List Link → Option Target
 bound_target c s entries q links = first_target c s.cursors entries (bound_links (bound_link c q s.entries) links)
 
@@ -59,9 +64,9 @@ untried c rests q links =
 
 -- ## Conversations that stay
 -- In a realm with `conversations` an Access-Request with a State goes to that of its links which sent the Challenge
--- with that State
--- which is held for the same peer, the last one, where this has a free Identifier, whether it stands back or not; that
--- leaves its rest as it is. Where there is no such link it goes to the first that has no time until which it rests, in
+-- with that State which is held for the same peer, the last one, where this has a free Identifier, whether it stands
+-- back or not; else to the first to the same server's `auth`, by another `out`, that has one; that leaves its rest as
+-- it is. Where there is no such link it goes to the first that has no time until which it rests, in
 -- the past or not, and has a free Identifier; where each has such a time, the choice is as for other requests. So a
 -- request in the middle of a login doesn't try whether a server is back.
 -- Source: RFC 2865 section 5.24; ours

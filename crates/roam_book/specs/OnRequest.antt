@@ -9,8 +9,8 @@ use Rattle.roam_wire.specs.Reading.{packet_of}
 use Rattle.roam_wire.specs.declared.code.TheConstants.{ACCESS_REQUEST}
 use Rattle.roam_wire.specs.declared.refusal.Refusal.TheVariants as refusal
 use Rattle.roam_auth.specs.Authenticators.{zero_octets}
+use Rattle.roam_conf.specs.Lookup.{out_of}
 use Rattle.roam_conf.specs.declared.place.Link.{Link}
-use Rattle.roam_conf.specs.declared.place.Link.TheVariants as link
 use Rattle.roam_conf.specs.declared.place.Place.TheVariants as place
 use Rattle.roam_fwd.specs.Forwarded.{Forwarding, forwarded}
 use Rattle.roam_fwd.specs.Shaped.{shaped}
@@ -22,7 +22,7 @@ use Rattle.roam_random.specs.RandomWords.{next_position, request_authenticator_a
 use Rattle.roam_pending.specs.declared.key.Key.{Key}
 use Rattle.roam_pending.specs.PlainEntry.{PlainRequest, PlainStanding, PlainEntry, waiting, done}
 use Rattle.roam_pending.specs.EntryList.{find_client, first_done, without, without_client, put}
-use Rattle.roam_book.specs.RealmConfig.{RealmConfig, link_secret, requester_secret, link_endpoint, link_place, links_from, service_of}
+use Rattle.roam_book.specs.RealmConfig.{RealmConfig, link_secret, requester_secret, link_endpoint, link_place, links_from, peer_ways, service_of}
 use Rattle.roam_book.specs.RealmState.{RealmState, Target, with_entries, with_next_ticket, with_rests}
 use Rattle.roam_book.specs.Rests.{signs_of}
 use Rattle.roam_book.specs.Shapings.{shaping}
@@ -33,7 +33,7 @@ use Rattle.roam_book.specs.Turn.{Turn, refuses, sends, in_time}
 -- a packet of the realm toward a link, and one back to the sender of a request
 abbrev pub packet_to_link : RealmConfig → Link → List ℕ → PlainOut
 packet_to_link c l octets =
-    record { realm = Some c.index; from = place.Out c.index; to = link_endpoint c l; bytes = octets }
+    record { realm = Some c.index; from = place.Out c.index (out_of l); to = link_endpoint c l; bytes = octets }
 
 abbrev pub packet_to_requester : RealmConfig → Key → List ℕ → PlainOut
 packet_to_requester c key octets = record { realm = Some c.index; from = key.place; to = key.from; bytes = octets }
@@ -125,17 +125,19 @@ at_target c now s entries q (Some target) =
 abbrev pub is_reverse : PlainRequest → Bool
 is_reverse q = is_reverse_request (packet_of q.octets).code
 
--- the access server that a reverse request is for, as the one target
-abbrev pub coa_links : Option ℕ → List Link
-coa_links None = []
-coa_links (Some peer) = link.Coa peer ∷ []
+-- the links to the access server that a reverse request is for
+abbrev pub coa_links : RealmConfig → Option ℕ → List Link
+coa_links c None = []
+coa_links c (Some peer) = peer_ways c peer
 
 -- ## Targets of a request
--- The links that it may go to, in order: the `auth` of the home servers for an Access-Request, their `acct` for
--- an Accounting-Request; for a reverse request the `coa` of its one target. It goes to the chosen one of them,
--- and fails over to one that is chosen of the later ones: a reverse request to none.
+-- The links that it may go to, in order: those to the `auth` of the home servers for an Access-Request, to their
+-- `acct` for an Accounting-Request; for a reverse request to the `coa` of its one target. To each endpoint there is one
+-- for each of the realm's `out` of the same kind, IPv4 or IPv6, in their order. It goes to the chosen one of them, and
+-- fails over to one that is chosen of those to later servers: a reverse request to none.
 -- Source: RFC 2865 section 2.3, RFC 5176; the order ours
--- Rules out: a Disconnect for another access server than the one that it names
+-- Rules out: a Disconnect for another access server than the one that it names; a failover to the same server by
+-- another `out`; an Identifier of one `out` used for another
 -- Stands in: `roam_book` `OnRequest.antt`: `targets`, `RealmConfig.antt`: `later_targets`; `Book::request`,
 -- `Book::tick`
 --
@@ -144,7 +146,7 @@ coa_links (Some peer) = link.Coa peer ∷ []
 abbrev pub targets : RealmConfig → PlainRequest → List Link
 targets c q =
     if is_reverse q
-    then coa_links (reverse.target c.peers (packet_of q.octets).attributes)
+    then coa_links c (reverse.target c.peers (packet_of q.octets).attributes)
     else links_from c (service_of (packet_of q.octets).code) 0
 
 -- a new request beside these entries: there is a ticket, neither its name's share nor its peer's is taken, a target is

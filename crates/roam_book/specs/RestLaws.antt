@@ -32,5 +32,5 @@ UpTheFirstIsChosen =
 -- a peer's `coa` never stands back, whatever comes
 abbrev pub AccessServersNeverStandBack : Type 0
 AccessServersNeverStandBack =
-    (c : RealmConfig) (start : Start) (events : List RealmEvent) (now peer : ℕ)
-    → stands_back c now (one_realm_run c (opening c start) events).state.rests (link.Coa peer) ≡ false
+    (c : RealmConfig) (start : Start) (events : List RealmEvent) (now peer out : ℕ)
+    → stands_back c now (one_realm_run c (opening c start) events).state.rests (link.Coa peer out) ≡ false

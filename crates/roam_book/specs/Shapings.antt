@@ -27,12 +27,12 @@ shaping_from c peer = shaping_between (slice_get c.peers peer) (Some c.realm)
 -- how a home server's CoA-Request is forwarded to a peer: without what the home server may not set by an Access-Accept
 -- for it, but for what names the session (RFC 5176, section 3). A Disconnect-Request is forwarded whole
 abbrev pub shaping_to : RealmConfig → ℕ → Link → Shaping
-shaping_to c code (link.Coa peer) =
+shaping_to c code (link.Coa peer out) =
     if code == COA_REQUEST
     then record no_shaping { removed = without_sessions (reply_removed c peer) }
     else no_shaping
-shaping_to c code (link.Auth server) = no_shaping
-shaping_to c code (link.Acct server) = no_shaping
+shaping_to c code (link.Auth server out) = no_shaping
+shaping_to c code (link.Acct server out) = no_shaping
 
 -- ## Shaping of a request
 -- A peer's request is forwarded without what its list and the realm's for requests name, with its Operator-Name and

@@ -30,8 +30,8 @@ same_part _ _ = false
 
 -- a link is one of a service
 abbrev pub is_link_of : Service → Link → Bool
-is_link_of service.Authentication (link.Auth server) = true
-is_link_of service.Accounting (link.Acct server) = true
+is_link_of service.Authentication (link.Auth server out) = true
+is_link_of service.Accounting (link.Acct server out) = true
 is_link_of _ _ = false
 
 -- an entry waits for a service of a home server

@@ -7,7 +7,8 @@ use Rattle.roam_pending.specs.declared.due.Due.{Due}
 use Rattle.roam_pending.specs.DueOrder.{due_list}
 use Rattle.roam_pending.specs.PlainEntry.{PlainStanding, PlainEntry, waiting, done}
 use Rattle.roam_pending.specs.EntryList.{find_ticket}
-use Rattle.roam_book.specs.RealmConfig.{RealmConfig, IsLink, link_place}
+use Rattle.roam_book.specs.RealmConfig.{RealmConfig, IsLink, end_place}
+use Rattle.roam_book.specs.Conversing.{same_end}
 use Rattle.roam_book.specs.RealmState.{RealmState, chosen_target, first_target}
 use Rattle.roam_book.specs.RestLaws.{IsUp}
 use Rattle.roam_book.specs.Rests.{rest_of, signs_of, stands_back}
@@ -16,19 +17,20 @@ use Rattle.roam_book.specs.OneRealm.{RealmEvent, reply_came, tick_came, on_event
 use Rattle.roam_book.specs.Turn.{Turn, latest_moment, refuses, hears, sends, state_after}
 use Rattle.roam_book.specs.declared.state.rest.Rest.{Rest}
 
--- a link is this one: it has the same place among the realm's links, of which each has a place of its own
-abbrev pub is_link : RealmConfig → Link → Link → Bool
-is_link c l other = link_place c other == link_place c l
+-- a link leads to the end of this one, by whichever `out`: its end has the same place among the realm's ends, of which
+-- each has a place of its own
+abbrev pub shares_end : RealmConfig → Link → Link → Bool
+shares_end c l other = end_place c other == end_place c l
 
-abbrev pub LinksHaveOwnPlaces : Type 0
-LinksHaveOwnPlaces = (c : RealmConfig) (l other : Link) → IsLink c l → IsLink c other →
-    is_link c l other ≡ true → other ≡ l
+abbrev pub EndsHaveOwnPlaces : Type 0
+EndsHaveOwnPlaces = (c : RealmConfig) (l other : Link) → IsLink c l → IsLink c other →
+    shares_end c l other ≡ true → same_end l other ≡ true
 
--- an entry is given up at a link where it is due: it waits there, has no sends left, and the link gave no sign of life
--- since its packet was built: it has given as many as then, modulo 2^64
+-- an entry is given up at a link's end where it is due: it waits there, by whichever `out`, has no sends left, and the
+-- end gave no sign of life since its packet was built: it has given as many as then, modulo 2^64
 abbrev pub ends_at : RealmConfig → List Rest → Link → PlainStanding → Bool
 ends_at c rests l (waiting at id forwarded sends_left deadline signs) =
-    is_link c l at && not (nat_lt 0 sends_left) && signs_of c rests at == signs
+    shares_end c l at && not (nat_lt 0 sends_left) && signs_of c rests at == signs
 ends_at c rests l (done reply deadline from) = false
 
 abbrev pub ends_there : RealmConfig → List Rest → Link → Option PlainEntry → ℕ
@@ -55,7 +57,7 @@ is_sign (sends packets state) = true
 -- how many signs of life a link gives in an event
 abbrev pub signs_in : RealmConfig → RealmState → Link → RealmEvent → ℕ
 signs_in c s l (reply_came now from octets) =
-    if is_link c l from && is_sign (on_event c s (reply_came now from octets)) then 1 else 0
+    if shares_end c l from && is_sign (on_event c s (reply_came now from octets)) then 1 else 0
 signs_in c s l _ = 0
 
 -- the state that an event leaves

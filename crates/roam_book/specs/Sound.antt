@@ -18,11 +18,14 @@ use Rattle.roam_pending.specs.PlainEntry.{PlainRequest, PlainStanding, PlainEntr
 use Rattle.roam_pending.specs.EntryList.{find_ticket}
 use Rattle.roam_book.specs.RealmConfig.{RealmConfig, IsLink, IsRequester, link_place, link_count}
 use Rattle.roam_book.specs.RealmState.{RealmState}
+use Rattle.roam_book.specs.Conversing.{same_end}
 use Rattle.roam_book.specs.Rests.{has_moment, stands_back}
 use Rattle.roam_book.specs.Shapings.{shaping_from}
 use Rattle.roam_book.specs.declared.rules.replaced.Replaced.{Replaced}
 use Rattle.roam_book.specs.declared.packets.forwarding.RequestRef.{RequestRef}
 use Rattle.roam_book.specs.declared.state.realm_numbers.RealmNumbers.{RealmNumbers}
+use Rattle.roam_book.specs.declared.state.link_rests.Wanted.{Wanted}
+use Rattle.roam_book.specs.declared.state.link_rests.Wanted.TheVariants as wanted
 use Rattle.roam_book.specs.declared.state.rest.Rest.{Rest}
 
 -- a peer's request isn't a reverse one, and can be forwarded as it is shaped
@@ -112,7 +115,7 @@ own_tags index (suc place) = own_tags index place ++ (index * 65536 + place) ∷
 -- a realm's lanes have their own tags, and the memory of each toward a server is there
 pub record AreOwnLanes (c : RealmConfig) (marks : List Mark) : Type 0 where
   pub tags : map (λ m. m.tag) marks ≡ own_tags c.index (link_count c)
-  pub servers : (place : ℕ) → place < 2 * length c.realm.servers
+  pub servers : (place : ℕ) → place < 2 * length c.realm.servers * length c.realm.out
       → (slice_index_or marks place (mark_of no_lane)).made ≡ true
 
 abbrev pub state_of : {A : Type 0} → List PlainEntry → RealmNumbers A → RealmState
@@ -161,14 +164,15 @@ abbrev pub stands_back_at : RealmConfig → Option ℕ → List Rest → Link �
 stands_back_at c None rests l = false
 stands_back_at c (Some now) rests l = stands_back c now rests l
 
--- it is the one that alone is wanted; where none is, it has no moment until which it rests
-abbrev pub is_wanted : RealmConfig → List Rest → Option Link → Link → Bool
-is_wanted c rests None l = not (has_moment c rests l)
-is_wanted c rests (Some only) l = same_link only l
+-- it is one that is wanted: this one; one to the same end as this; one that has no moment until which it rests
+abbrev pub is_wanted : RealmConfig → List Rest → Wanted → Link → Bool
+is_wanted c rests (wanted.This only) l = same_link only l
+is_wanted c rests (wanted.SameEnd other) l = same_end other l
+is_wanted c rests wanted.Untried l = not (has_moment c rests l)
 
 -- and it is open
-abbrev pub is_sought : RealmConfig → List Rest → List LaneState → Option Link → Option Link → Link → Bool
-is_sought c rests lanes only freed l = is_wanted c rests only l && is_open c lanes freed l
+abbrev pub is_sought : RealmConfig → List Rest → List LaneState → Wanted → Option Link → Link → Bool
+is_sought c rests lanes asked freed l = is_wanted c rests asked l && is_open c lanes freed l
 
 -- it is open, and doesn't stand back
 abbrev pub is_ready :

@@ -7,7 +7,7 @@ ghost use Rattle.roam_book.specs.LeastFirst.{LeastDueFirst, NoneIsDueAfter};
 ghost use Rattle.roam_book.specs.LostTicks.{NothingIsLost, OnlyDoneGo};
 ghost use Rattle.roam_book.specs.RestLaws.{AccessServersNeverStandBack, UpTheFirstIsChosen, WithoutRestAllStayUp};
 ghost use Rattle.roam_book.specs.Saving.{RestoredIsSaved};
-ghost use Rattle.roam_book.specs.Silence.{ChoiceIsNeverWorse, LinksHaveOwnPlaces, RestsOnlyWhenSilent};
+ghost use Rattle.roam_book.specs.Silence.{ChoiceIsNeverWorse, EndsHaveOwnPlaces, RestsOnlyWhenSilent};
 
 /// A tick takes the least due entry, until none is due. Each due entry is taken once, since what waits
 /// again isn't due at that moment: the time from one sending to the next is at least a millisecond.
@@ -30,11 +30,11 @@ pub fn silent_servers()
     ensures access_servers { AccessServersNeverStandBack }
 {}
 
-/// A link stands back only where it kept silent: of its requests at least `rest_after` were given up, and it gave
-/// no sign of life since their packets were built, nor since. That links stand back leaves no request without a
-/// target: one is chosen just where some link has a free Identifier.
+/// A link stands back only where its end, by whichever `out`, kept silent: of the requests there at least `rest_after`
+/// were given up, and it gave no sign of life since their packets were built, nor since. That links stand back leaves
+/// no request without a target: one is chosen just where some link has a free Identifier.
 pub fn rests()
-    ensures places { LinksHaveOwnPlaces }
+    ensures places { EndsHaveOwnPlaces }
     ensures silent { RestsOnlyWhenSilent }
     ensures choice { ChoiceIsNeverWorse }
 {}

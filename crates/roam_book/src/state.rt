@@ -4,6 +4,7 @@ pub mod gauges;
 pub mod hash_key;
 pub mod link_choice;
 pub mod link_rests;
+pub mod links;
 pub mod nowhere;
 pub mod realm_broker;
 pub mod realm_numbers;

@@ -1,23 +1,24 @@
 -- The entries of a realm that goes on: those that stay, and of these few enough.
-use Rattle.std.proofs.Common.{◌≡◌, ◌⊎◌, ◌==◌, inl, inr, ℕ, ◌-◌, ◌<◌, ◌≤◌, true, false, List, Option, Some, None, length, option_map, refl, sym, ap, subst, ◌∙◌, arith, nat_lt}
+use Rattle.std.proofs.Common.{◌≡◌, ◌⊎◌, ◌==◌, inl, inr, ℕ, ◌+◌, ◌-◌, ◌<◌, ◌≤◌, true, false, List, Option, Some, None, length, option_map, refl, sym, ap, subst, ◌∙◌, arith, nat_lt}
 use Rattle.std.specs.List.{filter_map}
 use Rattle.std.specs.Option.{IfNone, IfSome, option_and_then}
 use Rattle.std.proofs.lemmas.Bool.Decides.{nat_tests}
+use Rattle.std.proofs.lemmas.Nat.{mul-le}
 use Rattle.roam_conf.specs.declared.place.Link.{Link}
-use Rattle.roam_conf.specs.declared.place.Link.TheVariants as link
 use Rattle.roam_ids.specs.LaneState.{LaneState}
 use Rattle.roam_pending.specs.EntryList.{find_ticket, first_done, without}
-use Rattle.roam_pending.specs.PlainEntry.{PlainEntry, same_link, waiting, waits_at}
+use Rattle.roam_pending.specs.PlainEntry.{PlainEntry, waiting, waits_at}
 use Rattle.roam_pending.specs.Realms.{RealmBecomes, with_ends}
 use Rattle.roam_pending.proofs.ChangeLemmas.{found-ticket}
-use Rattle.roam_book.specs.RealmConfig.{IsLink, RealmConfig, link_count}
+use Rattle.roam_pending.proofs.TestLemmas.{link_is_same}
+use Rattle.roam_book.specs.RealmConfig.{IsLink, RealmConfig, link_count, server_link_count}
 use Rattle.roam_book.specs.Sound.{IsEntry, LanesTell, StandsWell}
 use Rattle.roam_book.specs.declared.state.rest.Rest.{Rest}
 use Rattle.roam_carry.specs.Carrying.{StandAsBefore}
 use Rattle.roam_carry.specs.Private.Moving.{then_at}
 use Rattle.roam_carry.specs.Reload.{entries_then, entry_then, few_enough, rests_then, without_done}
 use Rattle.roam_carry.proofs.FewLemmas.{none_goes}
-use Rattle.roam_carry.proofs.RenewLemmas.{as_many}
+use Rattle.roam_carry.proofs.RenewLemmas.{as_many, as_many_outs}
 
 pub few_after : (old new : RealmConfig) (first mid last : ℕ → List PlainEntry)
     → RealmBecomes old.index (filter_map (entry_then old new) (first old.index)) first mid
@@ -53,9 +54,9 @@ on_link c n e l id forwarded sends_left deadline signs well is =
 
 pub no_fewer : (old new : RealmConfig) → StandAsBefore old new → link_count old ≤ link_count new
 no_fewer old new stand =
-    let many = as_many old new stand in
     let peers = stand.peers in
-    omega (arith, many, peers)
+    mul-le (server_link_count old + length old.peers) (length old.realm.out) (server_link_count new + length new.peers)
+    (length new.realm.out) (omega (arith, as_many old new stand, peers)) (omega (arith, as_many_outs old new stand))
 
 pub rests_stay : (old new : RealmConfig) (rests : List Rest) → StandAsBefore old new
     → rests ≡ rests_then old new rests
@@ -78,15 +79,10 @@ none_left most n es at h =
 number_itself : (n : ℕ) → (n == n) ≡ true
 number_itself n = grind (arith, nat_tests)
 
-link_itself : (l : Link) → same_link l l ≡ true
-link_itself (link.Auth a) = number_itself a
-link_itself (link.Acct a) = number_itself a
-link_itself (link.Coa a) = number_itself a
-
 pub waits_here : (e : PlainEntry) (l : Link) (id : ℕ) (forwarded : List ℕ) (sends_left deadline signs : ℕ)
     → e.standing ≡ waiting l id forwarded sends_left deadline signs → waits_at l id e ≡ true
 waits_here e l id forwarded sends_left deadline signs is =
-    rw is (rw (link_itself l, number_itself id) refl)
+    rw is (rw (link_is_same l, number_itself id) refl)
 
 pub goes_told : (c : RealmConfig) (lanes after : List LaneState) (t : ℕ) (e : PlainEntry) (cur : List PlainEntry)
     → find_ticket t cur ≡ Some e

@@ -9,10 +9,9 @@ use Rattle.std.proofs.lemmas.Option.{same_Some, slice_get_within}
 use Rattle.roam_wire.specs.Reading.{packet_of}
 use Rattle.roam_wire.specs.declared.packet_size.TheConstants.{MAX_PACKET_LENGTH}
 use Rattle.roam_conf.specs.Config.{CoaClientView, PeerView, RealmView, ServerView}
-use Rattle.roam_conf.specs.Lookup.{client_with_ip, home_with_ip, homes, reverse_home, server_with_ip}
+use Rattle.roam_conf.specs.Lookup.{client_with_ip, home_with_ip, homes, server_with_ip}
 use Rattle.roam_conf.specs.Secrets.{home_secret}
 use Rattle.roam_address.specs.declared.address.Address.{Address}
-use Rattle.roam_address.specs.declared.endpoint.Endpoint.{Endpoint}
 use Rattle.roam_conf.specs.declared.place.Link.{Link}
 use Rattle.roam_fwd.specs.Forwarded.{forwarded_length}
 use Rattle.roam_fwd.specs.Shaped.{CanBeShaped, shaped}
@@ -181,13 +180,7 @@ found_below r ip i None (Some k) at behind is =
     omega (arith, client_below r.coa_clients ip k behind, same_Some (length r.servers + k) i is)
 found_below r ip i None None at behind is = absurd (cc is)
 
-reverse_below : (r : RealmView) (ip : Address) (i : ℕ) (o : Option Endpoint)
-    → option_and_then (λ own. home_with_ip r ip) o ≡ Some i → i < homes r
-reverse_below r ip i None is = absurd (cc is)
-reverse_below r ip i (Some own) is =
-    found_below r ip i (server_with_ip r.servers ip) (client_with_ip r.coa_clients ip) refl refl is
-
-at_by : (r : RealmView) (secret : List ℕ) (ip : Address) (i : ℕ) (o : Option ℕ) → reverse_home r ip ≡ o
+at_by : (r : RealmView) (secret : List ℕ) (ip : Address) (i : ℕ) (o : Option ℕ) → home_with_ip r ip ≡ o
     → option_and_then (λ home. if bytes_eq (home_secret r home) secret then Some home else None) o ≡ Some i
     → i < homes r
 at_by r secret ip i None at is = absurd (cc is)
@@ -196,7 +189,8 @@ at_by r secret ip i (Some home) at is =
       | inl y ↦ (
           let k : Some home ≡ Some i = rw y at is in
           let same : home ≡ i = same_Some home i k in
-          let below = reverse_below r ip home r.reverse at in
+          let server = server_with_ip r.servers ip in
+          let below = found_below r ip home server (client_with_ip r.coa_clients ip) refl refl at in
           omega (arith, same, below))
       | inr n ↦ absurd (let k : None ≡ Some i = rw n at is in cc)
     ]
@@ -215,7 +209,7 @@ home_after old new ip home i is below =
                 let there = both_there was.0 (source old home) (source new home) was.1 same in
                 let within = home_below new home there.0 there.1 in
                 omega (arith, one, within))
-            | inr other ↦ at_by new (home_secret old home) ip i (reverse_home new ip) refl (rw (n, other) at is)
+            | inr other ↦ at_by new (home_secret old home) ip i (home_with_ip new ip) refl (rw (n, other) at is)
           ]
     ]
 

@@ -1,3 +1,4 @@
+pub mod BareLemmas
 pub mod ReloadLemmas
 pub mod SameBrokerLemmas
 pub mod UntouchedLemmas
@@ -5,11 +6,13 @@ pub mod CursorLemmas
 pub mod TakesNothingLemmas
 pub mod CarriedPlacesLemmas
 pub mod CarriedEntriesLemmas
+pub mod PeerLanesLemmas
 pub mod PlacesLemmas
 pub mod ByTicketLemmas
 pub mod WalkLemmas
 pub mod LinkThenLemmas
 pub mod EntryThenLemmas
+pub mod LinkListLemmas
 pub mod LinkPlaceLemmas
 pub mod MovedLaneLemmas
 pub mod MovingLemmas

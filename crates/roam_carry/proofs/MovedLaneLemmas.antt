@@ -3,11 +3,9 @@ use Rattle.std.proofs.Common.{◌≡◌, ◌⊎◌, inl, inr, ◌==◌, ◌&&◌
 use Rattle.std.specs.List.{AllByRecursion, cons_option, filter_map}
 use Rattle.std.specs.Option.{option_and_then, option_map_or}
 use Rattle.std.proofs.lemmas.Bool.{cases_Bool}
-use Rattle.std.proofs.lemmas.Bool.Decides.{nat_tests}
 use Rattle.std.proofs.lemmas.List.{get_or_past, length-map}
 use Rattle.std.proofs.lemmas.Option.{same_Some}
 use Rattle.roam_conf.specs.declared.place.Link.{Link}
-use Rattle.roam_conf.specs.declared.place.Link.TheVariants as link
 use Rattle.roam_ids.specs.LaneState.{LaneState, is_used, place_at, ticket_at}
 use Rattle.roam_ids.specs.Standing.{is_in_use, ticket_of}
 use Rattle.roam_ids.specs.declared.id_state.IdState.{IdState}
@@ -18,10 +16,12 @@ use Rattle.roam_book.specs.Sound.{AreOwnLanes, IsEntry, LanesTell, StandsWell, T
 use Rattle.roam_carry.specs.Carrying.{HaveDistinctServers}
 use Rattle.roam_carry.specs.Private.Moving.{AreMoved, if_stays, staying}
 use Rattle.roam_carry.specs.Reload.{cursor_then, cursors_then, entry_then, links_of, standing_then, way_before, way_then}
+use Rattle.roam_pending.proofs.TestLemmas.{link_is_same}
 use Rattle.roam_book.proofs.SoundLemmas.{kept-ticket, same_link-equal}
 use Rattle.roam_carry.proofs.ByTicketLemmas.{found_kept}
 use Rattle.roam_carry.proofs.EntryThenLemmas.{entry_parts}
-use Rattle.roam_carry.proofs.LinkPlaceLemmas.{by_links, cursor_at, link_of_place, links_number, links_stand, made_at, tags_by}
+use Rattle.roam_carry.proofs.LinkListLemmas.{by_links, links_number, links_stand}
+use Rattle.roam_carry.proofs.LinkPlaceLemmas.{cursor_at, link_of_place, made_at, tags_by}
 use Rattle.roam_carry.proofs.LinkThenLemmas.{was_there, way_back, way_forth}
 use Rattle.roam_carry.proofs.ReloadLemmas.{none_waits}
 
@@ -36,7 +36,8 @@ cursor_by old before (Some l) = sym (cursor_at before (link_place old l))
 pub cursors_moved : (old new : RealmConfig) (before after : List LaneState) → AreMoved old new before after
     → cursors_of after ≡ cursors_then old new (cursors_of before)
 cursors_moved old new before after moved =
-    by_links new (cursor_then old new (cursors_of before)) 0 (cursors_of after) (links_of new) (links_stand new)
+    by_links (IsLink new) (link_place new) (cursor_then old new (cursors_of before)) 0 (cursors_of after) (links_of new)
+    (links_stand new)
     (length-map after (λ (l : LaneState). l.cursor) ∙ moved.count ∙ sym (links_number new))
     (λ l is below. cursor_at after (link_place new l) ∙ (moved.each l is).cursor
     ∙ cursor_by old before (way_before old new l))
@@ -52,7 +53,8 @@ own_moved old new before after moved = record {
       let within : place < link_count new = omega (arith, below) in
       let at = link_of_place new place within in
       made_at after place
-      ∙ subst (λ (n : ℕ). n < 2 * length new.realm.servers → (get_or after n no_lane).made ≡ true) at.place
+      ∙ subst (λ (n : ℕ). n < 2 * length new.realm.servers * length new.realm.out
+      → (get_or after n no_lane).made ≡ true) at.place
       (moved.each at.link at.is).made below;
 }
 
@@ -70,16 +72,8 @@ same_by a b c d forth back =
       ]
     ]
 
-number_itself : (n : ℕ) → (n == n) ≡ true
-number_itself n = grind (arith, nat_tests)
-
-link_itself : (l : Link) → same_link l l ≡ true
-link_itself (link.Auth a) = number_itself a
-link_itself (link.Acct a) = number_itself a
-link_itself (link.Coa a) = number_itself a
-
 same_from : (a b : Link) → a ≡ b → same_link a b ≡ true
-same_from a b is = subst (λ (x : Link). same_link a x ≡ true) is (link_itself a)
+same_from a b is = subst (λ (x : Link). same_link a x ≡ true) is (link_is_same a)
 
 module _ (old new : RealmConfig) (once : HaveDistinctServers old new) where
   link_by : (l m n : Link) (o : Option Link) → IsLink old l → way_then old new l ≡ Some m → IsLink new n

@@ -12,7 +12,7 @@ use Rattle.roam_carry.specs.Carrying.{HaveDistinctServers}
 use Rattle.roam_carry.specs.Private.Moving.{AreFresh, AreMoved, IsLeft, IsMoving, IsPlaceBefore, StandsFor, lane_before}
 use Rattle.roam_carry.specs.Reload.{way_before}
 use Rattle.roam_carry.proofs.LinkPlaceLemmas.{cursor_at, made_at, one_place, place_below, tag_of_lane}
-use Rattle.roam_carry.proofs.LinkThenLemmas.{link_of_way, one_way, server_place, was_there}
+use Rattle.roam_carry.proofs.LinkThenLemmas.{link_of_way, one_way, server_place, was_there, way_was}
 
 -- lanes of which nothing is in use
 pub fresh_by : (c : RealmConfig) (lanes : List LaneState) → length lanes ≡ link_count c
@@ -101,9 +101,10 @@ module _ (old new : RealmConfig) (first before after : List LaneState) (once : H
         let there : link_place new m ≡ link_place new n = ap (link_place new) same in
         omega (arith, at, there))
 
-    was_made : link_place new m < 2 * length new.realm.servers → (lane_of old first place.before).made ≡ true
+    was_made : link_place new m < 2 * length new.realm.servers * length new.realm.out
+        → (lane_of old first place.before).made ≡ true
     was_made below =
-        let stood = server_place old new m place.before once is below
+        let stood = server_place old new m place.before once is (way_was old new m place.before is place.was) below
         (link_of_way old new m place.before place.was) in
         sym (made_at first (link_place old place.before)) ∙ own.servers (link_place old place.before) stood
 

@@ -2,6 +2,7 @@
 use Rattle.std.proofs.Common.{◌≡◌, inl, inr, ◌⊎◌, ℕ, zero, suc, ◌+◌, ◌-◌, ◌*◌, ◌<◌, ◌≤◌, ◌==◌, ◌&&◌, Bool, true, false, List, [], ◌∷◌, ◌++◌, Option, Some, None, option_map, unwrap_or, slice_get, refl, ap, sym, subst, ◌∙◌, arith, get_or, length, map, replicate, add-one, append_assoc}
 use Rattle.std.specs.List.{AllByRecursion}
 use Rattle.std.proofs.lemmas.Bool.{cases_Bool, cases_lt}
+use Rattle.std.proofs.lemmas.Nat.{mul-le}
 use Rattle.std.proofs.lemmas.List.{length-map, length-append, length_push, get_or-take, get_or-map, get_or_append_left, get_or_past, get_or_push, map_push, replicate_more, take-append-le}
 use Rattle.roam_conf.specs.Config.{ConfigView, PeerView, RealmView}
 use Rattle.roam_conf.specs.Lookup.{homes}
@@ -17,17 +18,22 @@ use Rattle.roam_pending.specs.declared.key.Requester.{Requester}
 use Rattle.roam_pending.specs.declared.key.Requester.TheVariants as requester
 use Rattle.roam_pending.specs.PlainEntry.{PlainEntry, PlainRequest, PlainStanding, waiting, done, has_ticket, same_link, stands_at}
 use Rattle.roam_reload.specs.Reload.{IsUntouched, peer_part, realm_part}
-use Rattle.roam_book.specs.RealmConfig.{RealmConfig, IsLink, IsRequester, link_count, link_place, no_realm, realm_config}
+use Rattle.roam_book.specs.RealmConfig.{RealmConfig, IsLink, IsRequester, link_count, link_place, no_realm, realm_config, server_link_count}
 use Rattle.roam_book.specs.Shapings.{shaping_from}
 use Rattle.roam_book.specs.Sound.{AreOwnLanes, CanGo, IsEntry, IsSound, LanesTell, Mark, StandsWell, TellsAt, cursors_of, lane_of, mark_of, marks_of, no_lane, own_tags, waits_there}
 use Rattle.roam_book.specs.declared.state.realm_numbers.RealmNumbers.{RealmNumbers}
 use Rattle.roam_carry.specs.Private.MoreLanes.{AreMoreLanes}
 use Rattle.roam_carry.specs.Reload.{Carries}
 use Rattle.roam_book.proofs.SoundLemmas.{same_link-equal}
+use Rattle.roam_carry.proofs.LinkPlaceLemmas.{place_below}
 
 -- the servers are the same, and the peers aren't fewer
 pub servers : (b c : RealmConfig) → Carries b c → length c.realm.servers ≡ length b.realm.servers
 servers b c k = ap (λ (x : RealmView). length x.servers) k.table
+
+-- and so are the `out`
+pub ways : (b c : RealmConfig) → Carries b c → length c.realm.out ≡ length b.realm.out
+ways b c k = ap (λ (x : RealmView). length x.out) k.table
 
 pub peers : (b c : RealmConfig) → Carries b c → length b.peers ≤ length c.peers
 peers b c k =
@@ -41,36 +47,40 @@ sources b c k = ap (λ (x : RealmView). homes x) k.table
 
 -- so links and senders of requests stay what they are
 link_stays : (b c : RealmConfig) → Carries b c → (l : Link) → IsLink b l → IsLink c l
-link_stays b c k (link.Auth s) is = omega (arith, servers b c k, is)
-link_stays b c k (link.Acct s) is = omega (arith, servers b c k, is)
-link_stays b c k (link.Coa p) is = omega (arith, peers b c k, is)
+link_stays b c k (link.Auth s out) is = (omega (arith, servers b c k, is.0), omega (arith, ways b c k, is.1))
+link_stays b c k (link.Acct s out) is = (omega (arith, servers b c k, is.0), omega (arith, ways b c k, is.1))
+link_stays b c k (link.Coa p out) is = (omega (arith, peers b c k, is.0), omega (arith, ways b c k, is.1))
 
 requester_stays : (b c : RealmConfig) → Carries b c → (r : Requester) → IsRequester b r → IsRequester c r
 requester_stays b c k (requester.Peer p) is = omega (arith, peers b c k, is)
 requester_stays b c k (requester.Home s) is = omega (arith, sources b c k, is)
 
-place_stays : (b c : RealmConfig) → Carries b c → (l : Link) → link_place c l ≡ link_place b l
-place_stays b c k (link.Auth s) = refl
-place_stays b c k (link.Acct s) = omega (arith, servers b c k)
-place_stays b c k (link.Coa p) = omega (arith, servers b c k)
+pub place_stays : (b c : RealmConfig) → Carries b c → (l : Link) → link_place c l ≡ link_place b l
+place_stays b c k (link.Auth s out) = λ i. s * ways b c k i + out
+place_stays b c k (link.Acct s out) = λ i. (servers b c k i + s) * ways b c k i + out
+place_stays b c k (link.Coa p out) = λ i. (servers b c k i + servers b c k i + p) * ways b c k i + out
 
-place_below : (c : RealmConfig) (l : Link) → IsLink c l → link_place c l < link_count c
-place_below c (link.Auth s) is = omega (arith, is)
-place_below c (link.Acct s) is = omega (arith, is)
-place_below c (link.Coa p) is = omega (arith, is)
+-- and there are no fewer places
+pub grows : (b c : RealmConfig) → Carries b c → link_count b ≤ link_count c
+grows b c k =
+    mul-le (server_link_count b + length b.peers) (length b.realm.out) (server_link_count c + length c.peers)
+    (length c.realm.out) (omega (arith, servers b c k, peers b c k)) (omega (arith, ways b c k))
 
 -- a link was there, or is a further peer's, whose place is behind those that were
 new_or_not : (b c : RealmConfig) → Carries b c → (l : Link) → IsLink c l → IsLink b l
     ⊎ ((IsLink b l → ⊥) × (link_count b ≤ link_place c l))
-new_or_not b c k (link.Auth s) is = inl (omega (arith, servers b c k, is))
-new_or_not b c k (link.Acct s) is = inl (omega (arith, servers b c k, is))
-new_or_not b c k (link.Coa p) is =
+new_or_not b c k (link.Auth s out) is = inl (omega (arith, servers b c k, is.0), omega (arith, ways b c k, is.1))
+new_or_not b c k (link.Acct s out) is = inl (omega (arith, servers b c k, is.0), omega (arith, ways b c k, is.1))
+new_or_not b c k (link.Coa p out) is =
     elim (cases_lt p (length b.peers)) [
-      | inl was ↦ inl was
-      | inr past ↦ inr (
-        (λ was. let never : ⊥ = omega (arith, was, past) in never),
-        omega (arith, servers b c k, past),
-      )
+      | inl was ↦ inl (was, omega (arith, ways b c k, is.1))
+      | inr past ↦ (
+          let behind = mul-le (server_link_count b + length b.peers) (length b.realm.out) (server_link_count b + p)
+          (length b.realm.out) (omega (arith, past)) (omega arith) in
+          inr (
+            (λ was. let never : ⊥ = omega (arith, was.0, past) in never),
+            omega (arith, place_stays b c k (link.Coa p out), behind),
+          ))
     ]
 
 -- entries stay well
@@ -198,10 +208,10 @@ own_lanes b c k old new more count own = record {
   tags = more.tags (own.tags ∙ ap (λ (i : ℕ). own_tags i (link_count b)) (sym k.index)
       ∙ ap (own_tags c.index) (sym count));
   servers = λ place below.
-      let same = servers b c k in
-      let few = peers b c k in
+      let same : 2 * length c.realm.servers * length c.realm.out ≡ 2 * length b.realm.servers * length b.realm.out =
+      λ i. 2 * servers b c k i * ways b c k i in
       let here : place < length old = omega (arith, below, same, count) in
-      let longer : length old ≤ length new = omega (arith, same, few, count, more.number) in
+      let longer : length old ≤ length new = omega (arith, grows b c k, count, more.number) in
       ap (λ (m : Mark). m.made) (mark_kept c (link_count c) old new more place here longer)
       ∙ own.servers place (omega (arith, below, same));
 }

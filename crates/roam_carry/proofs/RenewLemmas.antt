@@ -1,18 +1,19 @@
 -- Lanes that stay where they are, of which some begin anew.
-use Rattle.std.proofs.Common.{◌≡◌, ◌⊎◌, inl, inr, ℕ, zero, suc, ◌+◌, ◌*◌, ◌<◌, ◌≤◌, ◌&&◌, Bool, true, false, List, [], ◌∷◌, ◌++◌, length, map, get_or, set, take, Option, Some, refl, sym, ap, subst, ◌∙◌, arith, slice_get, add-one}
+use Rattle.std.proofs.Common.{◌≡◌, ◌⊎◌, inl, inr, ℕ, zero, suc, ◌+◌, ◌<◌, ◌≤◌, ◌&&◌, Bool, true, false, List, [], ◌∷◌, ◌++◌, length, map, get_or, take, Option, Some, refl, sym, ap, subst, ◌∙◌, arith, slice_get, add-one}
 use Rattle.std.specs.Cmp.Lexicographic.{as_long, pointwise}
 use Rattle.std.specs.Option.{option_map_or}
-use Rattle.std.proofs.lemmas.Bool.{cases_eq, cases_lt}
-use Rattle.std.proofs.lemmas.List.{get_or-set_other, get_or-set_same, length-set}
+use Rattle.std.proofs.lemmas.Bool.{cases_lt}
 use Rattle.roam_conf.specs.Config.{PeerView, ServerView}
+use Rattle.roam_address.specs.declared.endpoint.Endpoint.{Endpoint}
+use Rattle.roam_conf.specs.Duplicates.{same_endpoint}
+use Rattle.roam_conf.specs.Lookup.{out_of}
 use Rattle.roam_conf.specs.declared.place.Link.{Link}
-use Rattle.roam_ids.specs.LaneState.{LaneState, place_at}
-use Rattle.roam_ids.specs.declared.id_state.IdState.TheVariants.{Free}
+use Rattle.roam_ids.specs.LaneState.{LaneState}
 use Rattle.roam_pending.specs.ListLaws.{IsIn}
 use Rattle.roam_reload.specs.Kept.{both_or_none, keeps_coa, of_peer, same_server, server_then}
 use Rattle.roam_reload.specs.Reload.{peer_part}
 use Rattle.roam_reload.proofs.KeptLemmas.{coa_stays}
-use Rattle.roam_book.specs.RealmConfig.{RealmConfig, link_count}
+use Rattle.roam_book.specs.RealmConfig.{RealmConfig}
 use Rattle.roam_book.specs.Sound.{no_lane}
 use Rattle.roam_carry.specs.Carrying.{AreChanged, StandAsBefore}
 use Rattle.roam_carry.specs.Private.Moving.{AreRenewed, StandsFor, coa_place}
@@ -40,8 +41,20 @@ pub server_before : (old new : RealmConfig) (s : ℕ) → StandAsBefore old new
     → server_then new.realm.servers old.realm.servers s ≡ Some s
 server_before old new s stand = rw (same_at old.realm.servers new.realm.servers s stand.servers) refl
 
+-- as many `out`, each the same
+pub as_many_outs : (old new : RealmConfig) → StandAsBefore old new → length old.realm.out ≡ length new.realm.out
+as_many_outs old new stand = as_long same_endpoint old.realm.out new.realm.out stand.out
+
+out_at : (os ns : List Endpoint) (k : ℕ) → pointwise same_endpoint os ns ≡ true
+    → both_or_none same_endpoint (slice_get os k) (slice_get ns k) ≡ true
+out_at [] [] k h = refl
+out_at [] (n ∷ ns) k h = absurd (cc h)
+out_at (o ∷ os) [] k h = absurd (cc h)
+out_at (o ∷ os) (n ∷ ns) zero h = (both (same_endpoint o n) (pointwise same_endpoint os ns) h).0
+out_at (o ∷ os) (n ∷ ns) (suc k) h = out_at os ns k (both (same_endpoint o n) (pointwise same_endpoint os ns) h).1
+
 pub way_of : (old new : RealmConfig) (m : Link) → StandAsBefore old new → way_before old new m ≡ link_before old new m
-way_of old new m stand = rw stand.out refl
+way_of old new m stand = rw (out_at old.realm.out new.realm.out (out_of m) stand.out) refl
 
 -- ---- a peer whose table is the same keeps all
 
@@ -83,78 +96,6 @@ is_told test itself parts old new changed told p no' =
       | inr past ↦ absurd (let k : true ≡ false = sym (kept_past test old new p past) ∙ no' in cc)
     ]
 
--- ---- one lane begins anew, or none
-
-one_coa : (c : RealmConfig) (p q : ℕ) → coa_place c p ≡ coa_place c q → p ≡ q
-one_coa c p q is = omega (arith, is)
-
-pub none_renewed : (old new : RealmConfig) (peer : ℕ) (lanes : List LaneState)
-    → (peer < length old.peers → of_peer keeps_coa old.peers new.peers peer ≡ true)
-    → AreRenewed old new (peer ∷ []) lanes lanes
-none_renewed old new peer lanes keeps = record {
-  count = refl;
-  servers = λ k below. refl;
-  kept = λ p keep. refl;
-  each = λ k. inl refl;
-  renewed = λ p held below no'. elim held
-      as (λ _. StandsFor new (coa_place old p) no_lane (get_or lanes (coa_place old p) no_lane)) [
-        | inl is ↦ absurd (
-            let here : peer < length old.peers = omega (arith, is, below) in
-            let k : true ≡ false = sym (keeps here) ∙ ap (of_peer keeps_coa old.peers new.peers) is ∙ no' in
-            cc)
-        | inr later ↦ absurd later
-      ];
-}
-
-pub one_renewed : (old new : RealmConfig) (peer : ℕ) (lanes : List LaneState) (lane : LaneState)
-    → length old.realm.servers ≡ length new.realm.servers → length lanes ≡ link_count old → peer < length old.peers
-    → of_peer keeps_coa old.peers new.peers peer ≡ false → lane.tag ≡ new.index * 65536 + coa_place old peer
-    → lane.cursor ≡ 0 → ((id : ℕ) → place_at lane id ≡ Free)
-    → AreRenewed old new (peer ∷ []) lanes (set lanes (coa_place old peer) lane)
-one_renewed old new peer lanes lane many count below no' tag cursor free =
-    let place = coa_place old peer in
-    let within : place < length lanes = omega (arith, count, below) in
-    let stands : StandsFor new place no_lane lane = record {
-      cursor = cursor;
-      places = free;
-      tag = tag;
-      made = λ server. absurd (omega (arith, many, server));
-    } in
-    let here : StandsFor new place no_lane (get_or (set lanes place lane) place no_lane) =
-    subst (StandsFor new place no_lane) (sym (get_or-set_same lanes place lane no_lane within)) stands in
-    record {
-      count = length-set lanes place lane;
-      servers = λ k server. get_or-set_other lanes place k lane no_lane (λ is. omega (arith, is, server));
-      kept = λ p keep. get_or-set_other lanes place (coa_place old p) lane no_lane (λ is. (
-          let same : p ≡ peer = one_coa old p peer is in
-          let k : true ≡ false = sym keep ∙ ap (of_peer keeps_coa old.peers new.peers) same ∙ no' in
-          let never : ⊥ = cc in never));
-      each = λ k. elim (cases_eq k place)
-          as (λ _. (get_or (set lanes place lane) k no_lane ≡ get_or lanes k no_lane)
-          ⊎ StandsFor new k no_lane (get_or (set lanes place lane) k no_lane)) [
-            | inl is ↦ inr (subst (λ (n : ℕ). StandsFor new n no_lane (get_or (set lanes place lane) n no_lane))
-                (sym is) here)
-            | inr ne ↦ inl (get_or-set_other lanes place k lane no_lane ne)
-          ];
-      renewed = λ p held below' no''. elim held
-          as (λ _. StandsFor new (coa_place old p) no_lane (get_or (set lanes place lane)
-          (coa_place old p) no_lane)) [
-            | inl is ↦ subst (λ (n : ℕ). StandsFor new (coa_place old n) no_lane
-                (get_or (set lanes place lane) (coa_place old n) no_lane)) is here
-            | inr later ↦ absurd later
-          ];
-    }
-
-pub one_renewed_at : (old new : RealmConfig) (peer k tag : ℕ) (lanes : List LaneState) (lane : LaneState)
-    → StandAsBefore old new → length lanes ≡ link_count old
-    → (peer < length old.peers) × (of_peer keeps_coa old.peers new.peers peer ≡ false) → k ≡ coa_place old peer
-    → tag ≡ new.index * 65536 + k → lane.tag ≡ tag → lane.cursor ≡ 0 → ((id : ℕ) → place_at lane id ≡ Free)
-    → AreRenewed old new (peer ∷ []) lanes (set lanes k lane)
-one_renewed_at old new peer k tag lanes lane stand count one at tag_is own cursor free =
-    subst (λ (n : ℕ). AreRenewed old new (peer ∷ []) lanes (set lanes n lane)) (sym at)
-    (one_renewed old new peer lanes lane (as_many old new stand) count one.0 one.1
-    (own ∙ tag_is ∙ ap (λ (n : ℕ). new.index * 65536 + n) at) cursor free)
-
 -- ---- one after the other
 
 in_more : (x : ℕ) (xs : List ℕ) (e : ℕ) → IsIn x (xs ++ e ∷ []) → IsIn x xs ⊎ IsIn x (e ∷ [])
@@ -168,7 +109,7 @@ in_more x (y ∷ ys) e h =
       ]
     ]
 
-either_still : (new : RealmConfig) (k : ℕ) (a b c : LaneState) → (c ≡ b) ⊎ StandsFor new k no_lane c
+pub either_still : (new : RealmConfig) (k : ℕ) (a b c : LaneState) → (c ≡ b) ⊎ StandsFor new k no_lane c
     → (b ≡ a) ⊎ StandsFor new k no_lane b → (c ≡ a) ⊎ StandsFor new k no_lane c
 either_still new k a b c h g =
     elim h as (λ _. (c ≡ a) ⊎ StandsFor new k no_lane c) [
@@ -192,13 +133,14 @@ more_renewed : (old new : RealmConfig) (xs : List ℕ) (x : ℕ) (a b c : List L
 more_renewed old new xs x a b c h g = record {
   count = g.count ∙ h.count;
   servers = λ k below. g.servers k below ∙ h.servers k below;
-  kept = λ p keep. g.kept p keep ∙ h.kept p keep;
+  kept = λ p out way keep. g.kept p out way keep ∙ h.kept p out way keep;
   each = λ k. either_still new k (get_or a k no_lane) (get_or b k no_lane) (get_or c k no_lane) (g.each k) (h.each k);
-  renewed = λ p held below no'. elim (in_more p xs x held)
-      as (λ _. StandsFor new (coa_place old p) no_lane (get_or c (coa_place old p) no_lane)) [
-        | inl there ↦ still_fresh new (coa_place old p) (get_or b (coa_place old p) no_lane)
-            (get_or c (coa_place old p) no_lane) (g.each (coa_place old p)) (h.renewed p there below no')
-        | inr one ↦ g.renewed p one below no'
+  renewed = λ p out held below way no'. elim (in_more p xs x held)
+      as (λ _. StandsFor new (coa_place old p out) no_lane (get_or c (coa_place old p out) no_lane)) [
+        | inl there ↦ still_fresh new (coa_place old p out) (get_or b (coa_place old p out) no_lane)
+            (get_or c (coa_place old p out) no_lane) (g.each (coa_place old p out))
+            (h.renewed p out there below way no')
+        | inr one ↦ g.renewed p out one below way no'
       ];
 }
 
@@ -218,9 +160,9 @@ pub none_yet : (old new : RealmConfig) (changed : List ℕ) (lanes : List LaneSt
 none_yet old new changed lanes = record {
   count = refl;
   servers = λ k below. refl;
-  kept = λ p keep. refl;
+  kept = λ p out way keep. refl;
   each = λ k. inl refl;
-  renewed = λ p held below no'. absurd held;
+  renewed = λ p out held below way no'. absurd held;
 }
 
 pub next_renewed : (old new : RealmConfig) (changed : List ℕ) (i x : ℕ) (a b c : List LaneState) → i < length changed

@@ -1,10 +1,10 @@
 -- What names a realm, and whether a peer's Access-Requests need a Message-Authenticator, a realm's written broker
 -- doesn't look at.
-use Rattle.std.proofs.Common.{◌≡◌, ℕ, zero, suc, ◌+◌, ◌-◌, ◌%◌, ◌^◌, ◌==◌, nat_lt, nat_eq, Bool, not, List, [], ◌∷◌, ◌++◌, length, map, Option, Some, None, unwrap_or, slice_get, slice_index, slice_index_or, slice_set, if◌then◌else◌, refl, ap, sym, ◌∙◌, arith, append-nil, append_assoc, is_some, ◌&&◌}
+use Rattle.std.proofs.Common.{◌≡◌, ℕ, ◌+◌, ◌-◌, ◌%◌, ◌^◌, ◌==◌, nat_lt, nat_eq, Bool, not, List, [], ◌∷◌, ◌++◌, length, map, Option, Some, None, unwrap_or, slice_index, slice_index_or, slice_set, if◌then◌else◌, refl, ap, sym, ◌∙◌, arith, append-nil, append_assoc, is_some, ◌&&◌}
 use Rattle.std.proofs.lemmas.List.{length-append, length-map, nil_from_length}
 use Rattle.std.specs.Cmp.Lexicographic.{pointwise}
 use Rattle.std.specs.List.{filter}
-use Rattle.std.specs.Option.{option_map_or, option_or, option_and_then}
+use Rattle.std.specs.Option.{option_or, option_and_then}
 use Rattle.roam_wire.specs.Packet.{Packet, packet_text}
 use Rattle.roam_wire.specs.Reading.{packet_of}
 use Rattle.roam_wire.specs.declared.code.TheConstants.{COA_REQUEST}
@@ -14,8 +14,9 @@ use Rattle.roam_wire.specs.declared.refusal.Refusal.TheVariants as refusal
 use Rattle.roam_back.specs.Nak.{nak}
 use Rattle.roam_back.specs.ReplyCheck.{reply_fault}
 use Rattle.roam_back.specs.Returned.{passing_reply, returned, returned_length}
-use Rattle.roam_conf.specs.Config.{PeerView, RealmView}
-use Rattle.roam_conf.specs.Secrets as secrets
+use Rattle.roam_conf.specs.Config.{PeerView}
+use Rattle.roam_conf.specs.Lookup.{out_of}
+use Rattle.roam_conf.specs.Ways.{by_way}
 use Rattle.roam_conf.specs.declared.place.Link.{Link}
 use Rattle.roam_conf.specs.declared.place.Link.TheVariants as link
 use Rattle.roam_conf.specs.declared.place.Place.TheVariants as place
@@ -30,18 +31,18 @@ use Rattle.roam_pending.specs.DueOrder.{due_list}
 use Rattle.roam_pending.specs.EntryList.{find_client, find_link, find_ticket, first_done, put, without, without_client}
 use Rattle.roam_pending.specs.PlainEntry.{PlainEntry, PlainRequest, PlainStanding, waiting, done}
 use Rattle.roam_pending.specs.Realms.{sent_again, with_standing}
-use Rattle.roam_reload.specs.Reload.{peer_part, realm_part}
+use Rattle.roam_reload.specs.Reload.{peer_part}
 use Rattle.roam_reverse.specs.Sessions.{Session}
+use Rattle.roam_reverse.specs.Target.{target}
 use Rattle.roam_reverse.specs.declared.error_cause.TheConstants.{OTHER_PROXY_PROCESSING_ERROR}
 use Rattle.roam_route.specs.Admission.{PlainOut}
-use Rattle.roam_route.specs.Shapings.{shaping_between}
 use Rattle.roam_book.specs.Shapings.{removed_for, shaping_of, shaping_to}
 use Rattle.roam_book.specs.Shares.{share_taken}
 use Rattle.roam_book.specs.OneRealm.{RealmEvent, request_came, reply_came, tick_came, on_event, one_realm_run}
 use Rattle.roam_book.specs.OnReply.{counted, counted_peer, judge, on_reply, once_returned, return_reply, returned_octets, returning, to_entry, to_standing, once_heard_from, shows_life}
 use Rattle.roam_book.specs.OnRequest.{admit, at_target, coa_links, first_seen, forwarded_entry, forwarded_octets, is_reverse, make_way, nak_octets, nak_or_new, new_request, of_key, on_request, once_forwarded, packet_to_link, position_after, drawn_at, packet_to_requester, held_reply, reverse_cause, targets}
 use Rattle.roam_book.specs.OnTick.{Progress, as_turn, due_each, due_entry, due_one, due_standing, fail_over, given_up, given_up_at, on_tick, once_refused, silent, without_entry}
-use Rattle.roam_book.specs.RealmConfig.{RealmConfig, later_targets, link_endpoint, link_place, link_secret, links_from, nowhere, requester_secret, seal_required, service_of}
+use Rattle.roam_book.specs.RealmConfig.{RealmConfig, end_place, later_targets, link_endpoint, link_place, link_secret, links_from, nowhere, requester_secret, seal_required, service_of, ways_to}
 use Rattle.roam_book.specs.RealmState.{RealmState, Target, chosen_target, first_target, is_used_on, next_toward, ready_links, this_or, with_entries, with_next_ticket, with_rests}
 use Rattle.roam_book.specs.Rests.{after_choice, after_silence, awake, is_resting, once_chosen, once_silent, rest_of, stands_back, after_sign, has_moment, once_heard, signs_of}
 use Rattle.roam_book.specs.Turn.{Turn, in_time, packets_of, refuses, sends, state_after, hears}
@@ -49,70 +50,44 @@ use Rattle.roam_book.specs.declared.state.rest.Rest.{Rest}
 use Rattle.roam_book.specs.Conversing.{asked_state, bound_link, bound_links, bound_target, new_target, rests_by, rests_chosen, rests_for, untried}
 use Rattle.roam_carry.specs.Reload.{Carries}
 use Rattle.roam_book.proofs.TargetLemmas.{cause_same, target_same}
-
--- a part of a configuration without what isn't looked at
-abbrev pub bare : RealmConfig → RealmConfig
-bare c = record { seed = c.seed; index = c.index; realm = realm_part c.realm; peers = map peer_part c.peers }
-
--- peers by their index
-peer_secret_same : (peers : List PeerView) (p : ℕ) →
-    secrets.peer_secret (map peer_part peers) p ≡ secrets.peer_secret peers p
-peer_secret_same [] p = refl
-peer_secret_same (x ∷ xs) zero = refl
-peer_secret_same (x ∷ xs) (suc p) = peer_secret_same xs p
-
-coa_same : (peers : List PeerView) (p : ℕ) →
-    option_and_then (λ (x : PeerView). x.coa) (slice_get (map peer_part peers) p)
-    ≡ option_and_then (λ (x : PeerView). x.coa) (slice_get peers p)
-coa_same [] p = refl
-coa_same (x ∷ xs) zero = refl
-coa_same (x ∷ xs) (suc p) = coa_same xs p
-
--- how a peer's requests are forwarded, and replies returned to it
-between_same : (realm : RealmView) (peers : List PeerView) (p : ℕ) →
-    shaping_between (slice_get (map peer_part peers) p) (Some (realm_part realm))
-    ≡ shaping_between (slice_get peers p) (Some realm)
-between_same realm [] p = refl
-between_same realm (x ∷ xs) zero = refl
-between_same realm (x ∷ xs) (suc p) = between_same realm xs p
-
-list_same : (peers : List PeerView) (p : ℕ) →
-    option_map_or (λ (x : PeerView). x.reply_without) (slice_get (map peer_part peers) p) []
-    ≡ option_map_or (λ (x : PeerView). x.reply_without) (slice_get peers p) []
-list_same [] p = refl
-list_same (x ∷ xs) zero = refl
-list_same (x ∷ xs) (suc p) = list_same xs p
+use Rattle.roam_carry.proofs.BareLemmas.{bare, between_same, coa_same, list_same, peer_secret_same}
 
 module _ (c : RealmConfig) where
   -- links
   secret_of : (l : Link) → link_secret (bare c) l ≡ link_secret c l
-  secret_of (link.Auth s) = refl
-  secret_of (link.Acct s) = refl
-  secret_of (link.Coa p) = peer_secret_same c.peers p
+  secret_of (link.Auth s out) = refl
+  secret_of (link.Acct s out) = refl
+  secret_of (link.Coa p out) = peer_secret_same c.peers p
 
   secret_with : (r : Requester) → requester_secret (bare c) r ≡ requester_secret c r
   secret_with (requester.Peer p) = peer_secret_same c.peers p
   secret_with (requester.Home s) = refl
 
   endpoint_same : (l : Link) → link_endpoint (bare c) l ≡ link_endpoint c l
-  endpoint_same (link.Auth s) = refl
-  endpoint_same (link.Acct s) = refl
-  endpoint_same (link.Coa p) = λ i. unwrap_or (coa_same c.peers p i) nowhere
+  endpoint_same (link.Auth s out) = refl
+  endpoint_same (link.Acct s out) = refl
+  endpoint_same (link.Coa p out) = λ i.
+      unwrap_or (option_and_then (by_way c.realm.out out) (coa_same c.peers p i)) nowhere
+
+  end_same : (l : Link) → end_place (bare c) l ≡ end_place c l
+  end_same (link.Auth s out) = refl
+  end_same (link.Acct s out) = refl
+  end_same (link.Coa p out) = refl
 
   at : (l : Link) → link_place (bare c) l ≡ link_place c l
-  at (link.Auth s) = refl
-  at (link.Acct s) = refl
-  at (link.Coa p) = refl
+  at (link.Auth s out) = refl
+  at (link.Acct s out) = refl
+  at (link.Coa p out) = refl
 
   seal_same : (l : Link) → seal_required (bare c) l ≡ seal_required c l
-  seal_same (link.Auth s) = refl
-  seal_same (link.Acct s) = refl
-  seal_same (link.Coa p) = refl
+  seal_same (link.Auth s out) = refl
+  seal_same (link.Acct s out) = refl
+  seal_same (link.Coa p out) = refl
 
   later_same : (l : Link) → later_targets (bare c) l ≡ later_targets c l
-  later_same (link.Auth s) = refl
-  later_same (link.Acct s) = refl
-  later_same (link.Coa p) = refl
+  later_same (link.Auth s out) = refl
+  later_same (link.Acct s out) = refl
+  later_same (link.Coa p out) = refl
 
   -- shapings
   removed_same : (r : Requester) → removed_for (bare c) r ≡ removed_for c r
@@ -120,9 +95,9 @@ module _ (c : RealmConfig) where
   removed_same (requester.Home s) = refl
 
   shaping_to_same : (code : ℕ) (l : Link) → shaping_to (bare c) code l ≡ shaping_to c code l
-  shaping_to_same code (link.Auth s) = refl
-  shaping_to_same code (link.Acct s) = refl
-  shaping_to_same code (link.Coa p) = λ i.
+  shaping_to_same code (link.Auth s out) = refl
+  shaping_to_same code (link.Acct s out) = refl
+  shaping_to_same code (link.Coa p out) = λ i.
       if code == COA_REQUEST
       then record no_shaping { removed = without_sessions (list_same c.peers p i ++ c.realm.reply_without) }
       else no_shaping
@@ -133,14 +108,14 @@ module _ (c : RealmConfig) where
 
   -- rests
   rest_same : (rests : List Rest) (l : Link) → rest_of (bare c) rests l ≡ rest_of c rests l
-  rest_same rests l = λ i. slice_index_or rests (at l i) awake
+  rest_same rests l = λ i. slice_index_or rests (end_same l i) awake
 
   back_same : (now : ℕ) (rests : List Rest) (l : Link) → stands_back (bare c) now rests l ≡ stands_back c now rests l
   back_same now rests l = λ i. is_resting now (rest_same rests l i)
 
   choice_same : (now : ℕ) (rests : List Rest) (l : Link) →
       after_choice (bare c) now rests l ≡ after_choice c now rests l
-  choice_same now rests l = λ i. slice_set rests (at l i) (once_chosen c now (rest_same rests l i))
+  choice_same now rests l = λ i. slice_set rests (end_same l i) (once_chosen c now (rest_same rests l i))
 
   signs_same : (rests : List Rest) (l : Link) → signs_of (bare c) rests l ≡ signs_of c rests l
   signs_same rests l = λ i. (rest_same rests l i).signs
@@ -152,10 +127,10 @@ module _ (c : RealmConfig) where
       after_silence (bare c) now rests l signs ≡ after_silence c now rests l signs
   silence_same now rests l signs = λ i.
       if nat_lt 0 c.realm.rest && signs_same rests l i == signs
-      then slice_set rests (at l i) (once_silent c now (rest_same rests l i)) else rests
+      then slice_set rests (end_same l i) (once_silent c now (rest_same rests l i)) else rests
 
   sign_same : (rests : List Rest) (l : Link) → after_sign (bare c) rests l ≡ after_sign c rests l
-  sign_same rests l = λ i. slice_set rests (at l i) (once_heard (rest_same rests l i))
+  sign_same rests l = λ i. slice_set rests (end_same l i) (once_heard (rest_same rests l i))
 
   -- targets
   next_same : (cursors : List ℕ) (entries : List PlainEntry) (l : Link) →
@@ -184,7 +159,7 @@ module _ (c : RealmConfig) where
   to_same : (l : Link) (octets : List ℕ) → packet_to_link (bare c) l octets ≡ packet_to_link c l octets
   to_same l octets = λ i. record {
     realm = Some c.index;
-    from = place.Out c.index;
+    from = place.Out c.index (out_of l);
     to = endpoint_same l i;
     bytes =
         octets;
@@ -244,10 +219,19 @@ module _ (c : RealmConfig) where
       then admit_same now s entries q t i
       else way_same now s entries q t (first_done entries) i
 
+  coa_links_same : (o : Option ℕ) → coa_links (bare c) o ≡ coa_links c o
+  coa_links_same None = refl
+  coa_links_same (Some p) = λ i. ways_to c.realm.out (λ out. link.Coa p out) (coa_same c.peers p i)
+
   targets_same : (q : PlainRequest) → targets (bare c) q ≡ targets c q
-  targets_same q = λ i.
+  targets_same q =
+      let attributes = (packet_of q.octets).attributes in
+      let reverse : coa_links (bare c) (target (map peer_part c.peers) attributes)
+      ≡ coa_links c (target c.peers attributes) =
+      ap (coa_links (bare c)) (target_same c.peers attributes) ∙ coa_links_same (target c.peers attributes) in
+      λ i.
       if is_reverse q
-      then coa_links (target_same c.peers (packet_of q.octets).attributes i)
+      then reverse i
       else links_from c (service_of (packet_of q.octets).code) 0
 
   -- conversations

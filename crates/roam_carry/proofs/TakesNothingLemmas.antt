@@ -1,11 +1,11 @@
 -- The laws of a realm that a change doesn't touch.
-use Rattle.std.proofs.Common.{◌≡◌, ℕ, ◌-◌, List, ◌++◌, length, replicate, ap, sym, ◌∙◌, arith, append-nil}
+use Rattle.std.proofs.Common.{◌≡◌, ℕ, ◌+◌, ◌-◌, ◌*◌, List, ◌++◌, length, replicate, ap, sym, ◌∙◌, arith, append-nil}
 use Rattle.roam_book.specs.OneRealm.{one_realm_run}
 use Rattle.roam_book.specs.RealmConfig.{RealmConfig, link_count}
 use Rattle.roam_book.specs.RealmState.{RealmState}
 use Rattle.roam_carry.specs.Reload.{AsIfNothingChanged, Carries, HasPlaces, PlacesStay, TakesNothing, carried}
 use Rattle.roam_carry.proofs.CursorLemmas.{cursors_are}
-use Rattle.roam_carry.proofs.ReloadLemmas.{servers}
+use Rattle.roam_carry.proofs.ReloadLemmas.{servers, ways}
 use Rattle.roam_carry.proofs.SameBrokerLemmas.{as_if_nothing}
 use Rattle.roam_carry.proofs.UntouchedLemmas.{entries_are, rests_are, sessions_are}
 
@@ -27,7 +27,9 @@ takes_nothing old new k s places = nothing_goes old new k s places.cursors
 stands : (old new : RealmConfig) → Carries old new → length new.peers ≡ length old.peers → (s : RealmState)
     → HasPlaces old s → carried old new s ≡ s
 stands old new k count s places =
-    let none : link_count new - link_count old ≡ 0 = omega (arith, servers old new k, count) in
+    let same_number : link_count new ≡ link_count old =
+    λ i. (servers old new k i + servers old new k i + count i) * ways old new k i in
+    let none : link_count new - link_count old ≡ 0 = omega (arith, same_number) in
     let same : s.cursors ++ replicate (link_count new - link_count old) 0 ≡ s.cursors =
     ap (λ (n : ℕ). s.cursors ++ replicate n 0) none ∙ append-nil s.cursors in
     takes_nothing old new k s places ∙ ap (λ (c : List ℕ). record s { cursors = c }) same

@@ -1,5 +1,5 @@
 -- A change that doesn't touch a realm takes nothing of it.
-use Rattle.std.proofs.Common.{◌≡◌, inl, inr, ℕ, ◌-◌, ◌&&◌, nat_lt, Bool, true, false, not, List, [], ◌∷◌, length, Some, None, is_some, option_map, refl, ap, ◌∙◌, arith, slice_get, if◌then◌else◌, drop}
+use Rattle.std.proofs.Common.{◌≡◌, inl, inr, ℕ, ◌-◌, ◌&&◌, nat_lt, Bool, true, false, not, List, [], ◌∷◌, length, Option, Some, None, is_some, option_map, refl, ap, ◌∙◌, arith, slice_get, if◌then◌else◌, drop}
 use Rattle.std.specs.List.{filter, filter_map}
 use Rattle.std.specs.Prelude.{nat_le}
 use Rattle.std.proofs.lemmas.Bool.{cases_lt, le-ltb}
@@ -7,7 +7,9 @@ use Rattle.std.proofs.lemmas.Option.{slice_get_past}
 use Rattle.roam_wire.specs.Reading.{packet_of}
 use Rattle.roam_wire.specs.declared.packet_size.TheConstants.{MAX_PACKET_LENGTH}
 use Rattle.roam_conf.specs.Config.{RealmView, ServerView}
+use Rattle.roam_address.specs.declared.endpoint.Endpoint.{Endpoint}
 use Rattle.roam_conf.specs.Duplicates.{same_endpoint}
+use Rattle.roam_conf.specs.Lookup.{out_of}
 use Rattle.roam_conf.specs.declared.place.Link.{Link}
 use Rattle.roam_conf.specs.declared.place.Link.TheVariants as link
 use Rattle.roam_conf.proofs.OneServerLemmas.{same_itself}
@@ -17,7 +19,7 @@ use Rattle.roam_pending.specs.declared.key.Key.{Key}
 use Rattle.roam_pending.specs.declared.key.Requester.{Requester}
 use Rattle.roam_pending.specs.declared.key.Requester.TheVariants as requester
 use Rattle.roam_pending.specs.PlainEntry.{PlainEntry, PlainRequest, PlainStanding, waiting, done}
-use Rattle.roam_reload.specs.Kept.{home_then, keeps_sessions, of_peer, same_out, same_servers, same_sessions, same_values, server_then}
+use Rattle.roam_reload.specs.Kept.{both_or_none, home_then, keeps_sessions, of_peer, same_out, same_servers, same_sessions, same_values, server_then}
 use Rattle.roam_reload.proofs.KeptLemmas.{coa_stays, home_stays, requests_stay, server_stays, servers_itself, sessions_stay, values_itself}
 use Rattle.roam_reverse.specs.Sessions.{Session}
 use Rattle.roam_book.specs.RealmConfig.{RealmConfig}
@@ -30,9 +32,14 @@ servers_are old new k = ap (λ (r : RealmView). r.servers) k.table
 
 -- ---- links
 
-pub out_stays : (old new : RealmConfig) → Carries old new → same_out old.realm new.realm ≡ true
-out_stays old new k =
-    ap (λ (r : RealmView). same_endpoint old.realm.out r.out) k.table ∙ same_itself old.realm.out
+one_itself : (o : Option Endpoint) → both_or_none same_endpoint o o ≡ true
+one_itself None = refl
+one_itself (Some e) = same_itself e
+
+pub out_stays : (old new : RealmConfig) → Carries old new → (out : ℕ) → same_out old.realm new.realm out ≡ true
+out_stays old new k out =
+    ap (λ (r : RealmView). both_or_none same_endpoint (slice_get old.realm.out out) (slice_get r.out out)) k.table
+    ∙ one_itself (slice_get old.realm.out out)
 
 server_is : (old new : RealmConfig) → Carries old new → (s : ℕ)
     → server_then old.realm.servers new.realm.servers s ≡ Some s
@@ -41,12 +48,12 @@ server_is old new k s =
     ∙ server_stays old.realm.servers s
 
 link_is : (old new : RealmConfig) → Carries old new → (l : Link) → link_then old new l ≡ Some l
-link_is old new k (link.Auth s) = ap (option_map (λ t. link.Auth t)) (server_is old new k s)
-link_is old new k (link.Acct s) = ap (option_map (λ t. link.Acct t)) (server_is old new k s)
-link_is old new k (link.Coa p) = rw (coa_stays old.peers new.peers k.peers p) refl
+link_is old new k (link.Auth s out) = ap (option_map (λ t. link.Auth t out)) (server_is old new k s)
+link_is old new k (link.Acct s out) = ap (option_map (λ t. link.Acct t out)) (server_is old new k s)
+link_is old new k (link.Coa p out) = rw (coa_stays old.peers new.peers k.peers p) refl
 
 pub way_is : (old new : RealmConfig) → Carries old new → (l : Link) → way_then old new l ≡ Some l
-way_is old new k l = rw (out_stays old new k) (link_is old new k l)
+way_is old new k l = rw (out_stays old new k (out_of l)) (link_is old new k l)
 
 -- ---- requests
 

@@ -4,7 +4,7 @@ use Rattle.std.specs.List.{AllByRecursion}
 use Rattle.roam_conf.specs.Config.{PeerView}
 use Rattle.roam_conf.specs.Duplicates.{has_pair_of_servers}
 use Rattle.roam_pending.specs.ListLaws.{IsIn}
-use Rattle.roam_reload.specs.Kept.{same_out, same_servers}
+use Rattle.roam_reload.specs.Kept.{same_outs, same_servers}
 use Rattle.roam_reload.specs.Reload.{KeepsPeers, peer_part, realm_part}
 use Rattle.roam_book.specs.RealmConfig.{RealmConfig, link_count}
 use Rattle.roam_book.specs.Rests.{all_awake}
@@ -45,9 +45,9 @@ pub record StandsAsItIs (old new : RealmConfig) : Type 0 where
 abbrev pub HaveDistinctServers : RealmConfig → RealmConfig → Type 0
 HaveDistinctServers old new = (has_pair_of_servers old.realm ≡ false) × (has_pair_of_servers new.realm ≡ false)
 
--- each server stands where it stood, what is forwarded leaves from the same `out`, and no peer's place is gone
+-- each server and each `out` stands where it stood, and no peer's place is gone
 pub record StandAsBefore (old new : RealmConfig) : Type 0 where
-  pub out : same_out old.realm new.realm ≡ true
+  pub out : same_outs old.realm new.realm ≡ true
   pub servers : same_servers old.realm.servers new.realm.servers ≡ true
   pub peers : length old.peers ≤ length new.peers
 

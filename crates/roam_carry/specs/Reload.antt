@@ -5,7 +5,9 @@ use Rattle.std.specs.List.{filter_map}
 use Rattle.std.specs.Option.{option_map_or}
 use Rattle.roam_wire.specs.Reading.{packet_of}
 use Rattle.roam_wire.specs.declared.packet_size.TheConstants.{MAX_PACKET_LENGTH}
-use Rattle.roam_conf.specs.Config.{ConfigView, PeerView}
+use Rattle.roam_conf.specs.Config.{ConfigView, PeerView, ServerView}
+use Rattle.roam_address.specs.declared.endpoint.Endpoint.{Endpoint}
+use Rattle.roam_conf.specs.Lookup.{out_of}
 use Rattle.roam_conf.specs.declared.place.Link.{Link}
 use Rattle.roam_conf.specs.declared.place.Link.TheVariants as link
 use Rattle.roam_fwd.specs.Forwarded.{forwarded_length}
@@ -17,37 +19,40 @@ use Rattle.roam_pending.specs.PlainEntry.{PlainEntry, PlainRequest, PlainStandin
 use Rattle.roam_reload.specs.Kept.{home_then, keeps_coa, keeps_requests, keeps_sessions, of_peer, same_out, same_servers, same_sessions, server_then}
 use Rattle.roam_reload.specs.Reload.{IsUntouched, KeepsPeers, realm_part}
 use Rattle.roam_reverse.specs.Sessions.{Session}
-use Rattle.roam_book.specs.RealmConfig.{RealmConfig, link_count, link_place, links_from, realm_config, server_link_count}
+use Rattle.roam_book.specs.RealmConfig.{RealmConfig, link_count, link_place, realm_config, server_link, server_link_count}
 use Rattle.roam_book.specs.RealmState.{RealmState}
 use Rattle.roam_book.specs.Rests.{awake, rest_of}
 use Rattle.roam_book.specs.Shapings.{shaping_from}
 use Rattle.roam_book.specs.OneRealm.{RealmEvent, one_realm_run}
 use Rattle.roam_book.specs.declared.state.rest.Rest.{Rest}
+use Rattle.roam_book.specs.declared.state.service.Service.{Service}
 use Rattle.roam_book.specs.declared.state.service.Service.TheVariants as service
 
 -- the link that a link is under another part, if it is there and the same: a server's, wherever the server stands; a
 -- peer's, where its `coa` and its secret are what they were
 abbrev pub link_then : RealmConfig → RealmConfig → Link → Option Link
-link_then old new (link.Auth server) =
-    option_map (λ s. link.Auth s) (server_then old.realm.servers new.realm.servers server)
-link_then old new (link.Acct server) =
-    option_map (λ s. link.Acct s) (server_then old.realm.servers new.realm.servers server)
-link_then old new (link.Coa peer) = if of_peer keeps_coa old.peers new.peers peer then Some (link.Coa peer) else None
+link_then old new (link.Auth server out) =
+    option_map (λ s. link.Auth s out) (server_then old.realm.servers new.realm.servers server)
+link_then old new (link.Acct server out) =
+    option_map (λ s. link.Acct s out) (server_then old.realm.servers new.realm.servers server)
+link_then old new (link.Coa peer out) =
+    if of_peer keeps_coa old.peers new.peers peer then Some (link.Coa peer out) else None
 
 -- the same where what is forwarded leaves from the same `out`: a reply comes back there
 abbrev pub way_then : RealmConfig → RealmConfig → Link → Option Link
-way_then old new l = if same_out old.realm new.realm then link_then old new l else None
+way_then old new l = if same_out old.realm new.realm (out_of l) then link_then old new l else None
 
 -- the link that a link was under the part before
 abbrev pub link_before : RealmConfig → RealmConfig → Link → Option Link
-link_before old new (link.Auth server) =
-    option_map (λ s. link.Auth s) (server_then new.realm.servers old.realm.servers server)
-link_before old new (link.Acct server) =
-    option_map (λ s. link.Acct s) (server_then new.realm.servers old.realm.servers server)
-link_before old new (link.Coa peer) = if of_peer keeps_coa old.peers new.peers peer then Some (link.Coa peer) else None
+link_before old new (link.Auth server out) =
+    option_map (λ s. link.Auth s out) (server_then new.realm.servers old.realm.servers server)
+link_before old new (link.Acct server out) =
+    option_map (λ s. link.Acct s out) (server_then new.realm.servers old.realm.servers server)
+link_before old new (link.Coa peer out) =
+    if of_peer keeps_coa old.peers new.peers peer then Some (link.Coa peer out) else None
 
 abbrev pub way_before : RealmConfig → RealmConfig → Link → Option Link
-way_before old new l = if same_out old.realm new.realm then link_before old new l else None
+way_before old new l = if same_out old.realm new.realm (out_of l) then link_before old new l else None
 
 -- the sender of a request, if what goes back to it still does so
 abbrev pub requester_then : RealmConfig → RealmConfig → Key → Requester → Option Requester
@@ -107,16 +112,34 @@ few_enough old new es =
 abbrev pub entries_then : RealmConfig → RealmConfig → List PlainEntry → List PlainEntry
 entries_then old new es = few_enough old new (filter_map (entry_then old new) es)
 
--- all links of a part, in the order of their places
-unfoldable pub peer_links : ℕ → List PeerView → List Link
-peer_links place [] = []
-peer_links place (p ∷ ps) = link.Coa place ∷ peer_links (place + 1) ps
+-- a link for each of some `out`, numbered from this place on
+abbrev pub by_each : (ℕ → Link) → ℕ → List Endpoint → List Link
+by_each link_by place [] = []
+by_each link_by place (out ∷ outs) = link_by place ∷ by_each link_by (place + 1) outs
 
-abbrev pub server_links_of : RealmConfig → List Link
-server_links_of c = links_from c service.Authentication 0 ++ links_from c service.Accounting 0
+-- all links of a part, in the order of their places, also those whose `out` is of another kind than their end
+unfoldable pub peer_links : List Endpoint → ℕ → List PeerView → List Link
+peer_links outs place [] = []
+peer_links outs place (p ∷ ps) = by_each (λ out. link.Coa place out) 0 outs ++ peer_links outs (place + 1) ps
+
+abbrev pub all_server_links : List Endpoint → Service → ℕ → List ServerView → List Link
+all_server_links outs asked place [] = []
+all_server_links outs asked place (s ∷ ss) =
+    by_each (server_link asked place) 0 outs ++ all_server_links outs asked (place + 1) ss
 
 abbrev pub links_of : RealmConfig → List Link
-links_of c = server_links_of c ++ peer_links 0 c.peers
+links_of c =
+    all_server_links c.realm.out service.Authentication 0 c.realm.servers
+    ++ all_server_links c.realm.out service.Accounting 0 c.realm.servers ++ peer_links c.realm.out 0 c.peers
+
+-- the servers' ends, in the order of their places, each by the first link to it
+abbrev pub server_ends : Service → ℕ → List ServerView → List Link
+server_ends asked place [] = []
+server_ends asked place (s ∷ ss) = server_link asked place 0 ∷ server_ends asked (place + 1) ss
+
+abbrev pub server_links_of : RealmConfig → List Link
+server_links_of c =
+    server_ends service.Authentication 0 c.realm.servers ++ server_ends service.Accounting 0 c.realm.servers
 
 -- the cursor of a link is the one that it had; of a further one, or behind another `out`, 0
 abbrev pub cursor_then : RealmConfig → RealmConfig → List ℕ → Link → ℕ
@@ -161,8 +184,7 @@ sessions_then old new ss =
 -- change nothing here.
 -- Source: ours
 -- Rules out: one peer's new secret that takes all entries and sessions; a reply signed with another secret than the
--- request; an entry at a server that stands where its own stood; a session of a peer that came back under another
--- number
+-- request; an entry at a server that stands where its own stood; a session of a peer back under another number
 -- Stands in: `roam_carry` `Reload.antt`: `carried`, `entries_then`, `sessions_then`, `link_then`, `requester_then`;
 -- `carry_book_over`, `carry_over`, the laws `untouched_realms_go_on`, `carried_takes_no_more`
 --
@@ -183,7 +205,7 @@ pub record HasPlaces (c : RealmConfig) (s : RealmState) : Type 0 where
 
 -- ## Realm that a change doesn't touch
 -- Where a realm's table is equal, `name` and `also` aside, and each peer's that was there, it is carried over as it
--- stands, with a cursor 0 for each further peer. Where no peer is new its written broker is the same one, so its
+-- stands, with a cursor 0 for each link to a further peer. Where no peer is new its broker is the same one, so its
 -- packets before the change and after it are those that it would have sent had nothing changed.
 -- Source: ours
 -- Rules out: entries, tickets, random words or sessions lost where a realm's part stays as it is
@@ -203,7 +225,7 @@ UntouchedRealmsGoOn =
     (old new : ConfigView) (realm : ℕ) → new.seed ≡ old.seed → IsUntouched old new realm
     → Carries (realm_config old realm) (realm_config new realm)
 
--- its state is as it was, with a cursor 0 for each further peer
+-- its state is as it was, with a cursor 0 for each link to a further peer
 abbrev pub TakesNothing : Type 0
 TakesNothing =
     (old new : RealmConfig) → Carries old new → (s : RealmState) → HasPlaces old s

@@ -27,32 +27,32 @@ pub(crate) struct Ends {
     pub(crate) link: Option<Link>,
 }
 
-/// The `auth` of a server, if there is one.
-fn auth_of(server: Option<u8>) -> Option<Link>
-    ensures { result ≡ option_map (λ s. Link.Auth s) server }
+/// The link to the `auth` of a server by an `out`, if there is one.
+fn auth_of(server: Option<u8>, out: u8) -> Option<Link>
+    ensures { result ≡ option_map (λ s. Link.Auth s out) server }
 {
     match server {
-        Some(server) => Some(Link::Auth(server)),
+        Some(server) => Some(Link::Auth(server, out)),
         None => None,
     }
 }
 
-/// The `acct` of a server, if there is one.
-fn acct_of(server: Option<u8>) -> Option<Link>
-    ensures { result ≡ option_map (λ s. Link.Acct s) server }
+/// The link to the `acct` of a server by an `out`, if there is one.
+fn acct_of(server: Option<u8>, out: u8) -> Option<Link>
+    ensures { result ≡ option_map (λ s. Link.Acct s out) server }
 {
     match server {
-        Some(server) => Some(Link::Acct(server)),
+        Some(server) => Some(Link::Acct(server, out)),
         None => None,
     }
 }
 
-/// The `coa` of a peer, where it is the same in both.
-fn coa_of(old: &RealmSettings<'_>, new: &RealmSettings<'_>, peer: u16) -> Option<Link>
-    ensures { result ≡ (if of_peer keeps_coa old.now.peers new.now.peers peer then Some (Link.Coa peer) else None) }
+/// The link to the `coa` of a peer by an `out`, where that `coa` is the same in both.
+fn coa_of(old: &RealmSettings<'_>, new: &RealmSettings<'_>, peer: u16, out: u8) -> Option<Link>
+    ensures { result ≡ (if of_peer keeps_coa old.now.peers new.now.peers peer then Some (Link.Coa peer out) else None) }
 {
     if peer_keeps_coa(old.peers(), new.peers(), peer) {
-        Some(Link::Coa(peer))
+        Some(Link::Coa(peer, out))
     } else {
         None
     }
@@ -67,9 +67,9 @@ pub(crate) fn link_then(
     ensures { result ≡ link_then old.now new.now link }
 {
     match link {
-        Link::Auth(server) => auth_of(server_then(old.realm(), new.realm(), server)),
-        Link::Acct(server) => acct_of(server_then(old.realm(), new.realm(), server)),
-        Link::Coa(peer) => coa_of(old, new, peer),
+        Link::Auth(server, out) => auth_of(server_then(old.realm(), new.realm(), server), out),
+        Link::Acct(server, out) => acct_of(server_then(old.realm(), new.realm(), server), out),
+        Link::Coa(peer, out) => coa_of(old, new, peer, out),
     }
 }
 
@@ -82,9 +82,9 @@ pub(crate) fn link_before(
     ensures { result ≡ link_before old.now new.now link }
 {
     match link {
-        Link::Auth(server) => auth_of(server_then(new.realm(), old.realm(), server)),
-        Link::Acct(server) => acct_of(server_then(new.realm(), old.realm(), server)),
-        Link::Coa(peer) => coa_of(old, new, peer),
+        Link::Auth(server, out) => auth_of(server_then(new.realm(), old.realm(), server), out),
+        Link::Acct(server, out) => acct_of(server_then(new.realm(), old.realm(), server), out),
+        Link::Coa(peer, out) => coa_of(old, new, peer, out),
     }
 }
 
@@ -92,7 +92,7 @@ pub(crate) fn link_before(
 fn way_then(old: &RealmSettings<'_>, new: &RealmSettings<'_>, link: Link) -> Option<Link>
     ensures { result ≡ way_then old.now new.now link }
 {
-    if is_same_out(old.realm(), new.realm()) {
+    if is_same_out(old.realm(), new.realm(), new.out_of(link)) {
         link_then(old, new, link)
     } else {
         None
@@ -107,7 +107,7 @@ pub(crate) fn way_before(
 ) -> Option<Link>
     ensures { result ≡ way_before old.now new.now link }
 {
-    if is_same_out(old.realm(), new.realm()) {
+    if is_same_out(old.realm(), new.realm(), new.out_of(link)) {
         link_before(old, new, link)
     } else {
         None

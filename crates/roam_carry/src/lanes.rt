@@ -3,7 +3,8 @@
 ghost use Rattle.std.specs.Prelude.{◌≡◌, ◌↔◌, ◌<◌, ◌≤◌, ◌+◌, ◌∷◌, [], IfNone, IfOk, IfSome, IsTrue, List, false, length, true, vec_capacity};
 ghost use Rattle.roam_ids.specs.LaneState.{LaneState, with_tag};
 ghost use Rattle.roam_reload.specs.Kept.{keeps_coa, of_peer};
-ghost use Rattle.roam_book.specs.RealmConfig.{IsLink, link_count, link_place, server_link_count};
+ghost use Rattle.roam_conf.specs.Lookup.{out_of};
+ghost use Rattle.roam_book.specs.RealmConfig.{IsLink, end_place, link_count, link_place, server_link_count};
 ghost use Rattle.roam_book.specs.Rests.{all_awake};
 ghost use Rattle.roam_book.specs.Sound.{AreOwnLanes, marks_of};
 ghost use Rattle.roam_carry.specs.Carrying.{AreChanged, HaveDistinctServers, IsReadyToCarry, StandAsBefore};
@@ -16,25 +17,25 @@ use crate::rests::take_rests;
 use roam_book::{RealmNumbers, RealmSettings, Rest, new_lanes, new_rests, tag_of};
 use roam_conf::Link;
 use roam_ids::LazyLane;
-use roam_reload::{has_same_servers, is_same_out, peer_keeps_coa};
+use roam_reload::{has_same_outs, has_same_servers, peer_keeps_coa};
 use roam_wire::NoMemory;
 use std::alloc::Allocator;
 use std::mem;
 
-/// Lanes and rests of which nothing is in use, for a realm whose servers stand at other places, or whose packets leave
-/// from another `out`.
+/// Lanes and rests of which nothing is in use, for a realm whose servers stand at other places, or one of whose `out`
+/// is another.
 #[derive(Drop)]
 pub struct FreshLanes<A: Allocator> {
     pub(crate) lanes: Vec<LazyLane<A>, A>,
     pub(crate) rests: Vec<Rest, A>,
 }
 
-/// Whether each server stands where it stood, packets leave from the same `out`, and no peer's place is gone: then
-/// each lane stays where it is.
+/// Whether each server and each `out` stands where it stood, and no peer's place is gone: then each lane stays where it
+/// is.
 pub(crate) fn stand_as_before(old: &RealmSettings<'_>, new: &RealmSettings<'_>) -> bool
     ensures { IsTrue result ↔ StandAsBefore old.now new.now }
 {
-    is_same_out(old.realm(), new.realm())
+    has_same_outs(old.realm(), new.realm())
         && has_same_servers(old.realm(), new.realm())
         && old.peer_count() <= new.peer_count()
 }
@@ -52,21 +53,34 @@ pub(crate) fn fresh_lanes<A: Allocator + Copy>(
     Ok(FreshLanes { lanes, rests })
 }
 
-/// The link of a place.
-pub(crate) fn link_at(settings: &RealmSettings<'_>, place: usize) -> Link
-    requires { place < link_count settings.now }
-    ensures place { link_place settings.now result ≡ place }
+/// The link to the end of a place, by the `out` of a place.
+pub(crate) fn link_to_end(settings: &RealmSettings<'_>, end: usize, out: u8) -> Link
+    requires end { end < server_link_count settings.now + length settings.now.peers }
+    requires out { out < length settings.now.realm.out }
+    ensures place { end_place settings.now result ≡ end }
+    ensures out { out_of result ≡ out }
     ensures link { IsLink settings.now result }
 {
     let servers = settings.server_count();
     let _peers = settings.peer_count();
-    if place < servers {
-        Link::Auth(place as u8)
-    } else if place < 2 * servers {
-        Link::Acct((place - servers) as u8)
+    if end < servers {
+        Link::Auth(end as u8, out)
+    } else if end < 2 * servers {
+        Link::Acct((end - servers) as u8, out)
     } else {
-        Link::Coa((place - 2 * servers) as u16)
+        Link::Coa((end - 2 * servers) as u16, out)
     }
+}
+
+/// The link of a place.
+fn link_at(settings: &RealmSettings<'_>, place: usize) -> Link
+    requires { place < link_count settings.now }
+    ensures place { link_place settings.now result ≡ place }
+    ensures link { IsLink settings.now result }
+{
+    let outs = settings.out_count();
+    let _ends = settings.end_count();
+    link_to_end(settings, place / outs, (place % outs) as u8)
 }
 
 /// The place of the lane that a link had, if it was there and the same.
@@ -151,7 +165,29 @@ fn is_renewed(old: &RealmSettings<'_>, new: &RealmSettings<'_>, peer: u16) -> bo
     }
 }
 
-/// The lane of a peer whose `coa` isn't what it was begins anew: nothing waits there any more.
+/// The lanes of a peer begin anew, one for each `out`.
+fn renew_lanes_of<A: Allocator + Copy>(
+    alloc: A,
+    old: &RealmSettings<'_>,
+    new: &RealmSettings<'_>,
+    peer: u16,
+    lanes: &mut Vec<LazyLane<A>, A>,
+)
+    requires count { length lanes.old.items ≡ link_count old.now }
+    requires stand { StandAsBefore old.now new.now }
+    requires peer { peer < length old.now.peers }
+    requires other { of_peer keeps_coa old.now.peers new.now.peers peer ≡ false }
+    ensures renewed { AreRenewed old.now new.now (peer ∷ []) lanes.old.items lanes.new.items }
+    ensures capacity { vec_capacity lanes.new ≡ vec_capacity lanes.old }
+{
+    let _few = old.link_count();
+    for out in 0..old.out_count() {
+        let place = old.place_of(Link::Coa(peer, out as u8));
+        lanes[place] = LazyLane::new(alloc, tag_of(new, place));
+    }
+}
+
+/// The lanes of a peer whose `coa` isn't what it was begin anew: nothing waits there any more.
 fn renew_lane<A: Allocator + Copy>(
     alloc: A,
     old: &RealmSettings<'_>,
@@ -164,10 +200,8 @@ fn renew_lane<A: Allocator + Copy>(
     ensures renewed { AreRenewed old.now new.now (peer ∷ []) lanes.old.items lanes.new.items }
     ensures capacity { vec_capacity lanes.new ≡ vec_capacity lanes.old }
 {
-    let _few = old.link_count();
     if is_renewed(old, new, peer) {
-        let place = old.place_of(Link::Coa(peer));
-        lanes[place] = LazyLane::new(alloc, tag_of(new, place));
+        renew_lanes_of(alloc, old, new, peer, lanes);
     }
 }
 

@@ -1,13 +1,14 @@
 //! How the servers' links of a realm rest that goes on under another part of a configuration.
 
 ghost use Rattle.std.specs.Prelude.{◌≡◌, ◌<◌, length, map, slice_index_or};
-ghost use Rattle.roam_book.specs.RealmConfig.{IsLink, link_place, server_link_count};
+ghost use Rattle.roam_conf.specs.Lookup.{out_of};
+ghost use Rattle.roam_book.specs.RealmConfig.{IsLink, end_place, server_link_count};
 ghost use Rattle.roam_book.specs.Rests.{awake};
 ghost use Rattle.roam_book.specs.Stays.{RestsBecome};
 ghost use Rattle.roam_carry.specs.Reload.{rest_then, rests_then, server_links_of};
 
 use crate::ends::link_before;
-use crate::lanes::link_at;
+use crate::lanes::link_to_end;
 use roam_book::{RealmNumbers, RealmSettings, Rest};
 use roam_conf::Link;
 use roam_reload::has_same_servers;
@@ -23,14 +24,16 @@ fn rest_at(rests: &[Rest], place: usize) -> Rest
     }
 }
 
-/// How a server's link rests then: as it did, if it was there and the same.
+/// How a server's end rests then, by the first link to it: as it did, if it was there and the same.
 fn rest_then(old: &RealmSettings<'_>, new: &RealmSettings<'_>, before: &[Rest], link: Link) -> Rest
     requires link { IsLink new.now link }
-    requires server { link_place new.now link < server_link_count new.now }
+    requires server { end_place new.now link < server_link_count new.now }
+    requires first { out_of link ≡ 0 }
     ensures { result ≡ rest_then old.now new.now before.now link }
 {
+    let _outs = old.out_count();
     match link_before(old, new, link) {
-        Some(link) => rest_at(before, old.place_of(link)),
+        Some(link) => rest_at(before, old.end_place(link)),
         None => Rest::awake(),
     }
 }
@@ -45,8 +48,9 @@ fn move_rests<A: Allocator>(
     requires { length after.old.items ≡ server_link_count new.now }
     ensures { after.new.items ≡ map (rest_then old.now new.now before.now) (server_links_of new.now) }
 {
+    let _outs = new.out_count();
     for place in 0..after.len() {
-        after[place] = rest_then(old, new, before, link_at(new, place));
+        after[place] = rest_then(old, new, before, link_to_end(new, place, 0));
     }
 }
 

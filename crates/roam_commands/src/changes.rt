@@ -1,11 +1,11 @@
 //! The lines that say what a configuration takes which follows another, by names: of the broker's own endpoints, of
 //! each peer that changes, and of each realm.
 
-ghost use Rattle.std.specs.Prelude.{OnOk};
+ghost use Rattle.std.specs.Prelude.{◌≤◌, length, OnOk};
 ghost use Rattle.roam_commands.specs.CommandFaults.{IsPrinted};
 
 use crate::realm_changes::print_realm;
-use roam_conf::{Config, Endpoint, Peer};
+use roam_conf::{Config, Endpoint, NthText, Peer};
 use roam_reload::{Hindrance, PeerKey, peer_difference};
 use std::io;
 use std::io::Write;
@@ -35,22 +35,47 @@ pub fn print_no_number<W: Write>(writer: &mut W) -> io::Result<()>
     writer.write_all(b"may not follow: too many realms or peers came since the start\n")
 }
 
-/// Prints that what waits is lost which came at one of the broker's own endpoints, where that is another one.
+/// Prints that what waits is lost which came at one of the broker's own endpoints, where another one, or none, has its
+/// place then.
 fn print_endpoint<W: Write>(
     writer: &mut W,
     name: &str,
+    nth: u16,
     old: Endpoint,
-    new: Endpoint,
+    new: Option<&Endpoint>,
 ) -> io::Result<()>
     ensures { OnOk result (IsPrinted (W.contents writer.old) (W.contents writer.new)) }
 {
-    if old == new {
-        return Ok(());
+    let place = NthText(nth);
+    match new {
+        Some(new) if old == *new => Ok(()),
+        Some(new) => {
+            writeln!(
+                writer,
+                "{name}{place}: {old} to {new}: loses what waits from there"
+            )
+        }
+        None => writeln!(
+            writer,
+            "{name}{place}: {old} goes: loses what waits from there"
+        ),
     }
-    writeln!(
-        writer,
-        "{name}: {old} to {new}: loses what waits from there"
-    )
+}
+
+/// Prints that of all endpoints of a kind.
+fn print_endpoints<W: Write>(
+    writer: &mut W,
+    name: &str,
+    old: &[Endpoint],
+    new: &[Endpoint],
+) -> io::Result<()>
+    requires { length old.now ≤ 8 }
+    ensures { OnOk result (IsPrinted (W.contents writer.old) (W.contents writer.new)) }
+{
+    for nth in 0..old.len() {
+        print_endpoint(writer, name, nth as u16, old[nth], new.get(nth))?;
+    }
+    Ok(())
 }
 
 /// What a change of this key takes of a peer.
@@ -121,8 +146,8 @@ fn print_realms<W: Write>(writer: &mut W, old: &Config, new: &Config) -> io::Res
 pub fn print_changes<W: Write>(writer: &mut W, old: &Config, new: &Config) -> io::Result<()>
     ensures { OnOk result (IsPrinted (W.contents writer.old) (W.contents writer.new)) }
 {
-    print_endpoint(writer, "auth", old.auth, new.auth)?;
-    print_endpoint(writer, "acct", old.acct, new.acct)?;
+    print_endpoints(writer, "auth", old.auth.as_slice(), new.auth.as_slice())?;
+    print_endpoints(writer, "acct", old.acct.as_slice(), new.acct.as_slice())?;
     print_peers(writer, old.peers.as_slice(), new.peers.as_slice())?;
     print_realms(writer, old, new)
 }

@@ -22,6 +22,7 @@ mod check;
 mod compare;
 mod control;
 mod looking;
+mod lost_places;
 mod program;
 mod realm_changes;
 mod reload;

@@ -3,10 +3,9 @@
 ghost use Rattle.std.specs.Prelude.{OnOk};
 ghost use Rattle.roam_commands.specs.CommandFaults.{IsPrinted};
 
+use crate::lost_places::{keeps_an_out, loses_reverse, print_lost_outs};
 use roam_conf::{Config, Endpoint, Peer, Realm, Server};
-use roam_reload::{
-    Fate, REALM_KEYS, RealmKey, fate_of, is_other_in, is_same_out, peer_difference, server_then,
-};
+use roam_reload::{Fate, REALM_KEYS, RealmKey, fate_of, is_other_in, peer_difference, server_then};
 use std::io;
 use std::io::Write;
 
@@ -210,7 +209,8 @@ fn print_lost_replies<W: Write>(writer: &mut W, before: &Realm, after: &Realm) -
 fn print_lost_waiting<W: Write>(writer: &mut W, before: &Realm, after: &Realm) -> io::Result<()>
     ensures { OnOk result (IsPrinted (W.contents writer.old) (W.contents writer.new)) }
 {
-    if is_same_out(before, after) {
+    if keeps_an_out(before, after) {
+        print_lost_outs(writer, before, after)?;
         return print_lost_servers(writer, before, after);
     }
     let name = after.name.as_str();
@@ -221,11 +221,11 @@ fn print_lost_waiting<W: Write>(writer: &mut W, before: &Realm, after: &Realm) -
 fn print_lost_reverse<W: Write>(writer: &mut W, before: &Realm, after: &Realm) -> io::Result<()>
     ensures { OnOk result (IsPrinted (W.contents writer.old) (W.contents writer.new)) }
 {
-    if before.reverse == after.reverse {
+    if !loses_reverse(before, after) {
         return Ok(());
     }
     let name = after.name.as_str();
-    if before.reverse.is_some() && after.reverse.is_none() {
+    if after.reverse.is_empty() {
         return writeln!(writer, "realm {name}: loses its reverse requests: reverse");
     }
     writeln!(writer, "realm {name}: loses what waits from reverse")

@@ -23,6 +23,24 @@ fn state_endpoint(
     }
 }
 
+/// States the endpoints of the broker's own sockets of a kind: one as a text, several as an array.
+fn state_endpoints(text: &mut String, key: &str, endpoints: &[Endpoint]) -> Result<(), AllocError> {
+    match endpoints {
+        [] => Ok(()),
+        [one] => writeln!(text, "{key} = \"{one}\""),
+        several => {
+            write!(text, "{key} = [")?;
+            for (place, endpoint) in several.iter().enumerate() {
+                if place > 0 {
+                    text.push_str(", ")?;
+                }
+                write!(text, "\"{endpoint}\"")?;
+            }
+            text.push_str("]\n")
+        }
+    }
+}
+
 /// States a text where there is one.
 fn state_text(text: &mut String, key: &str, value: &Option<String>) -> Result<(), AllocError> {
     match value {
@@ -115,11 +133,8 @@ fn state_seed(text: &mut String, seed: &[u8; 32]) -> Result<(), AllocError> {
 fn state_top(text: &mut String, config: &Config) -> Result<(), AllocError> {
     writeln!(text, "shards = {}", config.shards)?;
     state_seed(text, &config.seed)?;
-    writeln!(
-        text,
-        "auth = \"{}\"\nacct = \"{}\"",
-        config.auth, config.acct
-    )?;
+    state_endpoints(text, "auth", config.auth.as_slice())?;
+    state_endpoints(text, "acct", config.acct.as_slice())?;
     writeln!(text, "trace_limit = {}", config.trace_limit)?;
     writeln!(text, "trace_octets = {}", config.trace_octets)?;
     if let Some(hops) = config.max_hops {
@@ -234,8 +249,8 @@ fn state_realm(text: &mut String, realm: &Realm) -> Result<(), AllocError> {
     writeln!(text, "\n[[realm]]\nname = \"{}\"", realm.name.as_str())?;
     state_patterns(text, "also", realm.also.as_slice())?;
     state_policy(text, realm)?;
-    writeln!(text, "out = \"{}\"", realm.out)?;
-    state_endpoint(text, "reverse", &realm.reverse)?;
+    state_endpoints(text, "out", realm.out.as_slice())?;
+    state_endpoints(text, "reverse", realm.reverse.as_slice())?;
     state_limits(text, realm)?;
     for server in &realm.servers {
         state_server(text, server)?;

@@ -33,8 +33,8 @@ realm_eq a b =
     (beq a.conversations b.conversations &&
     (beq a.own_sessions b.own_sessions &&
     (pointwise client_eq a.coa_clients.items b.coa_clients.items &&
-    (endpoint_eq a.out b.out &&
-    (option_eq endpoint_eq a.reverse b.reverse &&
+    (pointwise endpoint_eq a.out.items b.out.items &&
+    (pointwise endpoint_eq a.reverse.items b.reverse.items &&
     (eqb a.tries b.tries &&
     (eqb a.wait b.wait &&
     (eqb a.hold b.hold &&
@@ -48,8 +48,8 @@ abbrev pub config_eq : Config → Config → Bool
 config_eq a b =
     eqb a.shards b.shards &&
     (pointwise eqb a.seed b.seed &&
-    (endpoint_eq a.auth b.auth &&
-    (endpoint_eq a.acct b.acct &&
+    (pointwise endpoint_eq a.auth.items b.auth.items &&
+    (pointwise endpoint_eq a.acct.items b.acct.items &&
     (eqb a.trace_limit b.trace_limit &&
     (eqb a.trace_octets b.trace_octets &&
     (option_eq eqb a.max_hops b.max_hops &&
@@ -186,8 +186,8 @@ realm_decides a b =
     (Decides-and _ _ (booleans_Decides a.conversations b.conversations)
     (Decides-and _ _ (booleans_Decides a.own_sessions b.own_sessions)
     (Decides-and _ _ (list_decides client_eq shown_client client_decides a.coa_clients.items b.coa_clients.items)
-    (Decides-and _ _ (endpoint_decides a.out b.out)
-    (Decides-and _ _ (whole_option_decides endpoint_eq endpoint_decides a.reverse b.reverse)
+    (Decides-and _ _ (whole_list_decides endpoint_eq endpoint_decides a.out.items b.out.items)
+    (Decides-and _ _ (whole_list_decides endpoint_eq endpoint_decides a.reverse.items b.reverse.items)
     (Decides-and _ _ (Decides-eqb a.tries b.tries)
     (Decides-and _ _ (Decides-eqb a.wait b.wait)
     (Decides-and _ _ (Decides-eqb a.hold b.hold)
@@ -278,8 +278,8 @@ config_decides a b =
     ))
     (Decides-and _ _ (Decides-eqb a.shards b.shards)
     (Decides-and _ _ (bytes_eq-Decides a.seed b.seed)
-    (Decides-and _ _ (endpoint_decides a.auth b.auth)
-    (Decides-and _ _ (endpoint_decides a.acct b.acct)
+    (Decides-and _ _ (whole_list_decides endpoint_eq endpoint_decides a.auth.items b.auth.items)
+    (Decides-and _ _ (whole_list_decides endpoint_eq endpoint_decides a.acct.items b.acct.items)
     (Decides-and _ _ (Decides-eqb a.trace_limit b.trace_limit)
     (Decides-and _ _ (Decides-eqb a.trace_octets b.trace_octets)
     (Decides-and _ _ (whole_option_decides eqb Decides-eqb a.max_hops b.max_hops)

@@ -48,7 +48,7 @@ pub data PatternView : Type 0 where
 -- a realm with the names of the peers that may ask it (where not all may), what becomes of its accounting, what is
 -- taken out of its requests and replies, its shares of names and of peers, which names its replies may have, whether
 -- conversations stay at their server, whether reverse requests name one of its own sessions, from where these come
--- beside its servers, its own sockets (that for reverse requests where it takes them), its limits, and its servers in
+-- beside its servers, its own sockets (those for reverse requests where it takes them), its limits, and its servers in
 -- the order of their use; or one that went from the file while it was served: it has no sockets, and nothing is for it
 pub record RealmView : Type 0 where
   pub gone : Bool
@@ -65,8 +65,8 @@ pub record RealmView : Type 0 where
   pub conversations : Bool
   pub own_sessions : Bool
   pub coa_clients : List CoaClientView
-  pub out : Endpoint
-  pub reverse : Option Endpoint
+  pub out : List Endpoint
+  pub reverse : List Endpoint
   pub tries : ℕ
   pub wait : ℕ
   pub hold : ℕ
@@ -93,8 +93,8 @@ pub record RealmView : Type 0 where
 pub record ConfigView : Type 0 where
   pub shards : ℕ
   pub seed : List ℕ
-  pub auth : Endpoint
-  pub acct : Endpoint
+  pub auth : List Endpoint
+  pub acct : List Endpoint
   pub trace_limit : ℕ
   pub trace_octets : ℕ
   pub max_hops : Option ℕ

@@ -50,14 +50,14 @@ nas_texts peers = flat_map nas_texts_of peers
 abbrev pub same_client : CoaClientView → CoaClientView → Bool
 same_client a b = same_address a.ip b.ip
 
--- where the broker's own sockets of a realm are: its `out`, and its `reverse` where it has one; one that is gone has
--- none
+-- where the broker's own sockets of a realm are: its `out`, and its `reverse`, each one or more where it has any; one
+-- that is gone has none
 abbrev pub realm_endpoints : RealmView → List Endpoint
-realm_endpoints realm = if realm.gone then [] else realm.out ∷ option_to_list realm.reverse
+realm_endpoints realm = if realm.gone then [] else realm.out ++ realm.reverse
 
 -- where all of them are: `auth` and `acct`, and those of each realm
-abbrev pub own_endpoints : Endpoint → Endpoint → List RealmView → List Endpoint
-own_endpoints auth acct realms = auth ∷ acct ∷ flat_map realm_endpoints realms
+abbrev pub own_endpoints : List Endpoint → List Endpoint → List RealmView → List Endpoint
+own_endpoints auth acct realms = auth ++ acct ++ flat_map realm_endpoints realms
 
 -- the endpoints of one realm's servers: `auth`, and `acct` where there is one
 abbrev pub server_endpoints : List ServerView → List Endpoint
@@ -82,7 +82,7 @@ unfoldable pub has_duplicate_peer : List PeerView → Bool
 has_duplicate_peer peers = has_pair same_peer peers || has_pair bytes_eq (nas_texts peers)
 
 -- two of the broker's own sockets are at one endpoint
-unfoldable pub has_duplicate_endpoint : Endpoint → Endpoint → List RealmView → Bool
+unfoldable pub has_duplicate_endpoint : List Endpoint → List Endpoint → List RealmView → Bool
 has_duplicate_endpoint auth acct realms = has_pair same_endpoint (own_endpoints auth acct realms)
 
 -- two endpoints of one realm's servers are equal, or two addresses of its `coa_client`s; two realms may have the same

@@ -8,6 +8,7 @@ pub mod Lookup
 pub mod Parts
 pub mod Patterns
 pub mod PeerIndex
+pub mod PlaceTexts
 pub mod Secrets
 pub mod Shown
 pub mod TargetIndex

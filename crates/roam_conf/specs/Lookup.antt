@@ -11,6 +11,7 @@ use Rattle.roam_conf.specs.declared.place.Link.TheVariants.{Auth, Acct, Coa}
 use Rattle.roam_conf.specs.Config.{ServerView, CoaClientView, PeerView, PatternView, whole, suffix, any, RealmView, ConfigView}
 use Rattle.roam_conf.specs.Duplicates.{same_endpoint}
 use Rattle.roam_conf.specs.Patterns.{same_pattern, patterns_of}
+use Rattle.roam_conf.specs.Ways.{is_way, by_way}
 use Rattle.roam_conf.specs.WellFormed.{is_well_formed}
 
 -- the first place, from 0, at which the list has an element that passes the test
@@ -102,6 +103,11 @@ unfoldable pub peer_with_ip : List PeerView → Address → Option ℕ
 peer_with_ip peers ip =
     first_place (λ peer. is_present peer && is_longest (prefixes_present peers) ip peer.ip) peers
 
+-- the same at one of the broker's own sockets for requests of peers, by its place in the list of these; nobody where
+-- there is no such socket
+abbrev pub asker_at : List Endpoint → List PeerView → ℕ → Address → Option ℕ
+asker_at own peers place ip = option_and_then (λ here. peer_with_ip peers ip) (slice_get own place)
+
 -- the first server, in the order of use, that has the address in its `auth` or its `acct` endpoint
 unfoldable pub server_with_ip : List ServerView → Address → Option ℕ
 server_with_ip servers ip =
@@ -118,15 +124,25 @@ home_with_ip realm ip =
     option_or (server_with_ip realm.servers ip)
     (option_map (λ k. length realm.servers + k) (client_with_ip realm.coa_clients ip))
 
--- whose reverse requests come to a realm from the address; nobody's where the realm takes none
-abbrev pub reverse_home : RealmView → Address → Option ℕ
-reverse_home realm ip = option_and_then (λ own. home_with_ip realm ip) realm.reverse
+-- whose reverse requests come to a realm's `reverse` of this place from the address; nobody's where it has no such
+abbrev pub reverse_home : RealmView → ℕ → Address → Option ℕ
+reverse_home realm place ip = option_and_then (λ own. home_with_ip realm ip) (slice_get realm.reverse place)
 
--- the endpoint of a link of a realm, where there is such a link
+-- where what goes to a server or a peer arrives, where that is configured and takes any
+abbrev pub end_of : List PeerView → RealmView → Link → Option Endpoint
+end_of peers realm (Auth server out) = option_map (λ s. s.auth) (slice_get realm.servers server)
+end_of peers realm (Acct server out) = option_and_then (λ s. s.acct) (slice_get realm.servers server)
+end_of peers realm (Coa peer out) = option_and_then (λ p. p.coa) (slice_get peers peer)
+
+-- the place, in the realm's `out`, of the socket that the packets of a link leave from
+abbrev pub out_of : Link → ℕ
+out_of (Auth server out) = out
+out_of (Acct server out) = out
+out_of (Coa peer out) = out
+
+-- the endpoint of a link of a realm, where there is such a link: its socket is there, and sends to its end
 abbrev pub endpoint_of : List PeerView → RealmView → Link → Option Endpoint
-endpoint_of peers realm (Auth server) = option_map (λ s. s.auth) (slice_get realm.servers server)
-endpoint_of peers realm (Acct server) = option_and_then (λ s. s.acct) (slice_get realm.servers server)
-endpoint_of peers realm (Coa peer) = option_and_then (λ p. p.coa) (slice_get peers peer)
+endpoint_of peers realm link = option_and_then (by_way realm.out (out_of link)) (end_of peers realm link)
 
 -- the endpoint is there, and is this one
 abbrev pub is_there : Endpoint → Option Endpoint → Bool
@@ -137,27 +153,32 @@ is_there endpoint (Some other) = same_endpoint other endpoint
 abbrev pub is_coa : Endpoint → PeerView → Bool
 is_coa endpoint peer = is_there endpoint peer.coa
 
--- the link of a realm that an endpoint is: a server's `auth`, else a server's `acct`, else a peer's `coa`
-abbrev pub coa_at : List PeerView → Endpoint → Option Link
-coa_at peers endpoint = option_map (λ i. Coa i) (first_place (is_coa endpoint) peers)
+-- the link of a realm that an endpoint is, by the `out` of this place: a server's `auth`, else a server's `acct`, else
+-- a peer's `coa`
+abbrev pub coa_at : List PeerView → ℕ → Endpoint → Option Link
+coa_at peers out endpoint = option_map (λ i. Coa i out) (first_place (is_coa endpoint) peers)
 
-abbrev pub acct_or_coa_at : List PeerView → RealmView → Endpoint → Option Link
-acct_or_coa_at peers realm endpoint =
-    option_or (option_map (λ i. Acct i) (first_place (λ server. is_there endpoint server.acct) realm.servers))
-    (coa_at peers endpoint)
+abbrev pub acct_or_coa_at : List PeerView → RealmView → ℕ → Endpoint → Option Link
+acct_or_coa_at peers realm out endpoint =
+    option_or (option_map (λ i. Acct i out) (first_place (λ server. is_there endpoint server.acct) realm.servers))
+    (coa_at peers out endpoint)
 
-unfoldable pub link_at : List PeerView → RealmView → Endpoint → Option Link
-link_at peers realm endpoint =
-    option_or (option_map (λ i. Auth i) (first_place (λ server. same_endpoint server.auth endpoint) realm.servers))
-    (acct_or_coa_at peers realm endpoint)
+abbrev pub end_at : List PeerView → RealmView → ℕ → Endpoint → Option Link
+end_at peers realm out endpoint =
+    option_or (option_map (λ i. Auth i out) (first_place (λ server. same_endpoint server.auth endpoint) realm.servers))
+    (acct_or_coa_at peers realm out endpoint)
+
+-- it, where the realm has that `out`, and this sends there
+unfoldable pub link_at : List PeerView → RealmView → ℕ → Endpoint → Option Link
+link_at peers realm out endpoint = if is_way realm.out out endpoint then end_at peers realm out endpoint else None
 
 -- the same of a realm by its index, where that realm is configured
-abbrev pub link_in : ConfigView → ℕ → Endpoint → Option Link
-link_in config realm endpoint =
-    option_and_then (λ r. link_at config.peers r endpoint) (slice_get config.realms realm)
+abbrev pub link_in : ConfigView → ℕ → ℕ → Endpoint → Option Link
+link_in config realm out endpoint =
+    option_and_then (λ r. link_at config.peers r out endpoint) (slice_get config.realms realm)
 
-abbrev pub home_in : ConfigView → ℕ → Address → Option ℕ
-home_in config realm ip = option_and_then (λ r. reverse_home r ip) (slice_get config.realms realm)
+abbrev pub home_in : ConfigView → ℕ → ℕ → Address → Option ℕ
+home_in config realm place ip = option_and_then (λ r. reverse_home r place ip) (slice_get config.realms realm)
 
 abbrev pub endpoint_in_realm : ConfigView → ℕ → Link → Option Endpoint
 endpoint_in_realm config realm link =
@@ -172,6 +193,14 @@ servers_of (Some realm) = realm.servers
 abbrev pub servers_in : ConfigView → ℕ → List ServerView
 servers_in config realm = servers_of (slice_get config.realms realm)
 
+-- the outgoing sockets of a realm, where there is one; of a realm by its index
+abbrev pub outs_of : Option RealmView → List Endpoint
+outs_of None = []
+outs_of (Some realm) = realm.out
+
+abbrev pub outs_in : ConfigView → ℕ → List Endpoint
+outs_in config realm = outs_of (slice_get config.realms realm)
+
 -- how many sources of reverse requests a realm has: its servers and its `coa_client`s; and a realm by its index
 abbrev pub homes : RealmView → ℕ
 homes realm = length realm.servers + length realm.coa_clients
@@ -181,16 +210,20 @@ homes_in config realm = option_map_or homes (slice_get config.realms realm) 0
 
 -- ## Look-ups
 -- The realm that a name means; the peer whose prefix is the longest of those that have an address; the link of a realm
--- that an endpoint is; the first home server of an address, or else the `coa_client`; the shard of a realm, its index
--- modulo their number. What is found is configured, and each link of a realm is the one that its endpoint finds.
+-- that an endpoint is, by one of the realm's `out`; the first home server of an address, or else the `coa_client`; the
+-- shard of a realm, its index modulo their number. What is found is configured, and each link of a realm is the one
+-- that its endpoint finds at its `out`.
 -- Source: ours
 -- Rules out: a shorter prefix that beats a longer; the last server taken for the first; a `coa_client` that takes a
--- server's place; a link past the last server; a link that no packet reaches
+-- server's place; a link past the last server, or past the last `out`; a link that no packet reaches; one that an `out`
+-- of the other kind would reach
 -- Stands in: `roam_conf` `Lookup.antt`: `IsLinkIn` and others; `realm_index`, `peer_by_ip`, `link_of`,
 -- `home_of`, `shard_of`, the laws `link_of_finds_its_endpoint`, `link_of_finds_each_link`
 --
--- the server or the peer that a link names is configured
+-- the server or the peer that a link names is configured, and so is its `out`
 abbrev pub IsLinkIn : ConfigView → ℕ → Link → Type 0
-IsLinkIn config realm (Auth server) = server < length (servers_in config realm)
-IsLinkIn config realm (Acct server) = server < length (servers_in config realm)
-IsLinkIn config realm (Coa peer) = peer < length config.peers
+IsLinkIn config realm (Auth server out) =
+    (server < length (servers_in config realm)) × (out < length (outs_in config realm))
+IsLinkIn config realm (Acct server out) =
+    (server < length (servers_in config realm)) × (out < length (outs_in config realm))
+IsLinkIn config realm (Coa peer out) = (peer < length config.peers) × (out < length (outs_in config realm))

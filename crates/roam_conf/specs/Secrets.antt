@@ -6,9 +6,9 @@ use Rattle.roam_conf.specs.declared.place.Link.TheVariants.{Auth, Acct, Coa}
 use Rattle.roam_conf.specs.Config.{ServerView, CoaClientView, PeerView, RealmView, ConfigView}
 
 -- ## Shared secret
--- That of a peer, of a realm's server or `coa_client`, and of a link: of a server's `auth` and `acct` the server's, of
--- a peer's `coa` the peer's. Where there is none it is the empty list; each configured one has 1 to 64 octets, and each
--- that a call is handed.
+-- That of a peer, of a realm's server or `coa_client`, and of a link, by whichever `out`: of a server's `auth` and
+-- `acct` the server's, of a peer's `coa` the peer's. Where there is none it is the empty list; each configured one has
+-- 1 to 64 octets, and each that a call is handed.
 -- Source: RFC 2865 section 3; the limit is what HMAC-MD5 takes without hashing it first (RFC 2104 section 2),
 -- that it may not have more is ours
 -- Rules out: one realm's secret used for another's server; an empty secret
@@ -38,6 +38,6 @@ home_secret_in config realm home = option_map_or (λ r. home_secret r home) (sli
 
 -- the secret shared with a link of a realm of these servers
 abbrev pub link_secret : List PeerView → List ServerView → Link → List ℕ
-link_secret peers servers (Auth server) = server_secret servers server
-link_secret peers servers (Acct server) = server_secret servers server
-link_secret peers servers (Coa peer) = peer_secret peers peer
+link_secret peers servers (Auth server out) = server_secret servers server
+link_secret peers servers (Acct server out) = server_secret servers server
+link_secret peers servers (Coa peer out) = peer_secret peers peer

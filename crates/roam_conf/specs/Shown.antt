@@ -10,8 +10,8 @@ abbrev pub shown : Config → ConfigView
 shown config = record {
   shards = config.shards;
   seed = config.seed;
-  auth = config.auth;
-  acct = config.acct;
+  auth = config.auth.items;
+  acct = config.acct.items;
   trace_limit = config.trace_limit;
   trace_octets = config.trace_octets;
   max_hops = config.max_hops;
@@ -31,8 +31,8 @@ abbrev pub shown_parts : ConfigParts → ConfigView
 shown_parts parts = record {
   shards = parts.shards;
   seed = parts.seed;
-  auth = parts.auth;
-  acct = parts.acct;
+  auth = parts.auth.items;
+  acct = parts.acct.items;
   trace_limit = parts.trace_limit;
   trace_octets = parts.trace_octets;
   max_hops = parts.max_hops;

@@ -12,7 +12,7 @@ ghost use Rattle.roam_conf.specs.Parts.{shown_peer, shown_realm};
 ghost use Rattle.roam_conf.specs.Patterns.{is_reject, shown_pattern};
 ghost use Rattle.roam_conf.specs.PeerIndex.{FindsPeers};
 ghost use Rattle.roam_conf.specs.TargetIndex.{FindsTargets};
-ghost use Rattle.roam_conf.specs.Ways.{has_no_way_out};
+ghost use Rattle.roam_conf.specs.Ways.{has_no_way_out, has_port};
 
 use crate::indexes::Indexes;
 use crate::{ConfigParts, Endpoint, Peer, Realm, RealmPattern};
@@ -28,10 +28,10 @@ pub struct Config {
     pub shards: u16,
     /// The key of the random words.
     pub seed: [u8; 32],
-    /// The broker's socket for Access-Requests (RFC 2865); its port isn't 0.
-    pub auth: Endpoint,
-    /// The broker's socket for Accounting-Requests (RFC 2866); its port isn't 0.
-    pub acct: Endpoint,
+    /// The broker's sockets for Access-Requests (RFC 2865): 1 to 8, of which no port is 0.
+    pub auth: Vec<Endpoint>,
+    /// The broker's sockets for Accounting-Requests (RFC 2866): 1 to 8, of which no port is 0.
+    pub acct: Vec<Endpoint>,
     /// How many steps a shard's trace holds: 1 to 1000000.
     pub trace_limit: u32,
     /// How many octets of datagrams and packets a shard's trace holds: 1 to 1073741824.
@@ -60,7 +60,9 @@ pub struct Config {
     /// What the look-ups find by.
     pub(crate) found_by: Indexes,
     ghost shards_range: { (1 ≤ shards) × (shards ≤ 64) },
-    ghost ports: { (1 ≤ auth.port) × (1 ≤ acct.port) },
+    ghost auth_count: { (1 ≤ vec_len auth) × (vec_len auth ≤ 8) },
+    ghost acct_count: { (1 ≤ vec_len acct) × (vec_len acct ≤ 8) },
+    ghost ports: { (list_all has_port auth.items ≡ true) × (list_all has_port acct.items ≡ true) },
     ghost trace_limit_range: { (1 ≤ trace_limit) × (trace_limit ≤ 1000000) },
     ghost trace_octets_range: { (1 ≤ trace_octets) × (trace_octets ≤ 1073741824) },
     ghost max_hops_range: { ForSome max_hops (λ n. (1 ≤ n) × (n ≤ 100)) },
@@ -77,7 +79,7 @@ pub struct Config {
     ghost distinct_realms: { has_duplicate_realm (map shown_realm realms.items)
         (map shown_pattern reject.items) ≡ false },
     ghost distinct_peers: { has_duplicate_peer (map shown_peer peers.items) ≡ false },
-    ghost distinct_endpoints: { has_duplicate_endpoint auth acct (map shown_realm realms.items) ≡ false },
+    ghost distinct_endpoints: { has_duplicate_endpoint auth.items acct.items (map shown_realm realms.items) ≡ false },
     ghost distinct_servers: { has_duplicate_server (map shown_realm realms.items) ≡ false },
     ghost distinct_links: { has_duplicate_link (map shown_peer peers.items) (map shown_realm realms.items) ≡ false },
     ghost ways_out: { has_no_way_out (map shown_realm realms.items) ≡ false },
@@ -90,8 +92,8 @@ impl Drop for Config {
         let Self {
             shards: _,
             seed: _,
-            auth: _,
-            acct: _,
+            auth,
+            acct,
             trace_limit: _,
             trace_octets: _,
             max_hops: _,
@@ -106,6 +108,8 @@ impl Drop for Config {
             realms,
             found_by,
         } = self;
+        drop(auth);
+        drop(acct);
         drop(reject);
         drop(peers);
         drop(realms);

@@ -20,7 +20,7 @@ impl Realm {
     }
 
     /// The number of the source with the address.
-    fn home_with_ip(&self, ip: Address) -> Option<u8>
+    pub fn home_with_ip(&self, ip: Address) -> Option<u8>
         ensures { result ≡ home_with_ip (shown_realm self.now) ip }
     {
         match list_search::server_with_ip(self.servers.as_slice(), ip) {
@@ -29,11 +29,11 @@ impl Realm {
         }
     }
 
-    /// The number of the source with the address, where the realm takes reverse requests.
-    pub fn home_of(&self, ip: Address) -> Option<u8>
-        ensures { result ≡ reverse_home (shown_realm self.now) ip }
+    /// The number of the source with the address, where the realm has a `reverse` of this place.
+    pub fn home_of(&self, place: u16, ip: Address) -> Option<u8>
+        ensures { result ≡ reverse_home (shown_realm self.now) place ip }
     {
-        if self.reverse.is_none() {
+        if usize::from(place) >= self.reverse.len() {
             return None;
         }
         self.home_with_ip(ip)
@@ -61,15 +61,15 @@ impl Config {
     ghost use Rattle.roam_conf.specs.Lookup.{home_in, homes_in};
     ghost use Rattle.roam_conf.specs.Shown.{shown};
 
-    /// Whose reverse requests come to a realm from the address: the first server, in the order of use, that
-    /// has it in its `auth` or its `acct` endpoint; else the `coa_client` that has it, whose number is its place behind
-    /// the servers. `None` also where the realm takes no reverse requests, or isn't configured.
-    pub fn home_of(&self, realm: u16, ip: Address) -> Option<u8>
-        ensures value { result ≡ home_in (shown self.now) realm ip }
+    /// Whose reverse requests come to a realm's `reverse` of this place from the address: the first server, in the
+    /// order of use, that has it in its `auth` or its `acct` endpoint; else the `coa_client` that has it, whose number
+    /// is its place behind the servers. `None` also where the realm has no such `reverse`, or isn't configured.
+    pub fn home_of(&self, realm: u16, place: u16, ip: Address) -> Option<u8>
+        ensures value { result ≡ home_in (shown self.now) realm place ip }
         ensures bound { IfSome result (λ home. home < homes_in (shown self.now) realm) }
     {
         match self.realms.get(usize::from(realm)) {
-            Some(realm) => realm.home_of(ip),
+            Some(realm) => realm.home_of(place, ip),
             None => None,
         }
     }

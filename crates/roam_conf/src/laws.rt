@@ -5,23 +5,30 @@ ghost use Rattle.std.specs.List.{AllByRecursion};
 ghost use Rattle.std.specs.Str.{str_eq_ignore_ascii_case};
 ghost use Rattle.roam_conf.specs.Config.{whole, suffix, any};
 ghost use Rattle.roam_conf.specs.Lookup.{EndsIn, NoSuffix, first_place, realm_named, realm_owning, realm_owned};
-ghost use Rattle.roam_conf.specs.Lookup.{owner_with, may_fit, link_in};
+ghost use Rattle.roam_conf.specs.Lookup.{owner_with, may_fit, link_in, out_of};
 ghost use Rattle.roam_conf.specs.Lookup.{endpoint_in_realm};
 ghost use Rattle.roam_conf.specs.Shown.{shown};
 ghost use Rattle.roam_conf.specs.Targets.{exactly, begins, BeginsWith, peer_with_nas, peer_meant};
 
 use crate::{Config, Endpoint, Link};
 
-/// The link that is found for an endpoint is one that ends there.
-pub fn link_of_finds_its_endpoint(config: &Config, realm: u16, endpoint: Endpoint, link: Link)
-    requires { link_in (shown config.now) realm endpoint ≡ Some link }
-    ensures { endpoint_in_realm (shown config.now) realm link ≡ Some endpoint }
+/// The link that is found for an endpoint at an `out` is one that ends there, and whose packets leave from that `out`.
+pub fn link_of_finds_its_endpoint(
+    config: &Config,
+    realm: u16,
+    out: u16,
+    endpoint: Endpoint,
+    link: Link,
+)
+    requires { link_in (shown config.now) realm out endpoint ≡ Some link }
+    ensures ends { endpoint_in_realm (shown config.now) realm link ≡ Some endpoint }
+    ensures leaves { out_of link ≡ out }
 {}
 
-/// Each link of a realm is the one that is found for its endpoint, since no two of them end there.
+/// Each link of a realm is the one that is found for its endpoint at its `out`, since no two of that `out` end there.
 pub fn link_of_finds_each_link(config: &Config, realm: u16, endpoint: Endpoint, link: Link)
     requires { endpoint_in_realm (shown config.now) realm link ≡ Some endpoint }
-    ensures { link_in (shown config.now) realm endpoint ≡ Some link }
+    ensures { link_in (shown config.now) realm (out_of link) endpoint ≡ Some link }
 {}
 
 /// Whose the name itself is decides, whatever patterns there are.

@@ -34,6 +34,7 @@ mod lookup;
 mod names;
 mod nas_index;
 mod nas_texts;
+mod nth_text;
 mod parts;
 mod pattern;
 mod peer;
@@ -61,6 +62,7 @@ pub use laws::{
     names_alone_are_matched_whole, whole_identifier_comes_first, whole_name_comes_first,
 };
 pub use nas_texts::has_duplicate_nas_text;
+pub use nth_text::NthText;
 pub use parts::ConfigParts;
 pub use pattern::RealmPattern;
 pub use peer::Peer;

@@ -98,13 +98,13 @@ pub(crate) fn coa_at(peers: &[Peer], endpoint: Endpoint) -> Option<usize>
     None
 }
 
-/// The link to a peer of this index.
-pub(crate) fn link_to_peer(peer: Option<usize>) -> Option<Link>
+/// The link to a peer of this index, by the `out` of this place.
+pub(crate) fn link_to_peer(peer: Option<usize>, out: u8) -> Option<Link>
     requires { IfSome peer (λ i. i < 2 ^ 16) }
-    ensures { result ≡ option_map (λ i. Link.Coa i) peer }
+    ensures { result ≡ option_map (λ i. Link.Coa i out) peer }
 {
     match peer {
-        Some(peer) => Some(Link::Coa(peer as u16)),
+        Some(peer) => Some(Link::Coa(peer as u16, out)),
         None => None,
     }
 }

@@ -9,29 +9,42 @@ use crate::{Address, Config, Endpoint, Link, Peer, Realm, list_search};
 
 impl Realm {
     ghost use Rattle.std.specs.Prelude.{◌≡◌, ◌≤◌, length, map};
-    ghost use Rattle.roam_conf.specs.Lookup.{link_at, acct_or_coa_at};
+    ghost use Rattle.roam_conf.specs.Lookup.{link_at, end_at, acct_or_coa_at};
     ghost use Rattle.roam_conf.specs.Parts.{shown_peer, shown_realm};
 
-    /// The link that the endpoint is, of this realm among these peers.
+    /// The link that the endpoint is by the `out` of this place, of this realm among these peers.
     #[tactic(auto, unfolding(crate::specs::Lookup::link_at))]
-    fn link_at(&self, peers: &[Peer], endpoint: Endpoint) -> Option<Link>
+    fn link_at(&self, peers: &[Peer], out: u16, endpoint: Endpoint) -> Option<Link>
         requires { length peers.now ≤ 1024 }
-        ensures { result ≡ link_at (map shown_peer peers.now) (shown_realm self.now) endpoint }
+        ensures { result ≡ link_at (map shown_peer peers.now) (shown_realm self.now) out endpoint }
+    {
+        let out = usize::from(out);
+        if self.is_way(out, endpoint) {
+            self.end_at(peers, out as u8, endpoint)
+        } else {
+            None
+        }
+    }
+
+    /// The same where the `out` is there, and sends to the endpoint.
+    fn end_at(&self, peers: &[Peer], out: u8, endpoint: Endpoint) -> Option<Link>
+        requires { length peers.now ≤ 1024 }
+        ensures { result ≡ end_at (map shown_peer peers.now) (shown_realm self.now) out endpoint }
     {
         match list_search::auth_at(self.servers.as_slice(), endpoint) {
-            Some(server) => Some(Link::Auth(server as u8)),
-            None => self.acct_or_coa_at(peers, endpoint),
+            Some(server) => Some(Link::Auth(server as u8, out)),
+            None => self.acct_or_coa_at(peers, out, endpoint),
         }
     }
 
     /// The same where the endpoint is no server's `auth`.
-    fn acct_or_coa_at(&self, peers: &[Peer], endpoint: Endpoint) -> Option<Link>
+    fn acct_or_coa_at(&self, peers: &[Peer], out: u8, endpoint: Endpoint) -> Option<Link>
         requires { length peers.now ≤ 1024 }
-        ensures { result ≡ acct_or_coa_at (map shown_peer peers.now) (shown_realm self.now) endpoint }
+        ensures { result ≡ acct_or_coa_at (map shown_peer peers.now) (shown_realm self.now) out endpoint }
     {
         match list_search::acct_at(self.servers.as_slice(), endpoint) {
-            Some(server) => Some(Link::Acct(server as u8)),
-            None => list_search::link_to_peer(list_search::coa_at(peers, endpoint)),
+            Some(server) => Some(Link::Acct(server as u8, out)),
+            None => list_search::link_to_peer(list_search::coa_at(peers, endpoint), out),
         }
     }
 }
@@ -53,7 +66,7 @@ impl Config {
     ghost use Rattle.roam_conf.specs.Index.{pattern_key, pattern_seen};
     ghost use Rattle.roam_conf.specs.Lookup.{realm_named, realm_owning, owner_with, may_fit, patterns_for, after_dots};
     ghost use Rattle.roam_conf.specs.Lookup.{further_patterns, first_answer};
-    ghost use Rattle.roam_conf.specs.Lookup.{peer_with_ip, link_in, IsLinkIn};
+    ghost use Rattle.roam_conf.specs.Lookup.{asker_at, peer_with_ip, link_in, IsLinkIn};
     ghost use Rattle.roam_conf.specs.Shown.{shown};
 
     /// Whose a pattern is; none has a name of more than 253 octets in it.
@@ -224,13 +237,36 @@ impl Config {
         self.found_by.ips.longest(ip)
     }
 
-    /// The link of a realm that the endpoint is; `None` also where the realm isn't configured.
-    pub fn link_of(&self, realm: u16, endpoint: Endpoint) -> Option<Link>
-        ensures value { result ≡ link_in (shown self.now) realm endpoint }
+    /// The index of the peer that asks from an address at the `auth` of this place; none where there is no such `auth`.
+    pub fn asker_at_auth(&self, place: u16, ip: Address) -> Option<u16>
+        ensures value { result ≡ asker_at (shown self.now).auth (shown self.now).peers place ip }
+        ensures bound { IfSome result (λ p. p < vec_len self.now.peers) }
+    {
+        if usize::from(place) >= self.auth.len() {
+            return None;
+        }
+        self.peer_by_ip(ip)
+    }
+
+    /// The same at the `acct` of this place.
+    pub fn asker_at_acct(&self, place: u16, ip: Address) -> Option<u16>
+        ensures value { result ≡ asker_at (shown self.now).acct (shown self.now).peers place ip }
+        ensures bound { IfSome result (λ p. p < vec_len self.now.peers) }
+    {
+        if usize::from(place) >= self.acct.len() {
+            return None;
+        }
+        self.peer_by_ip(ip)
+    }
+
+    /// The link of a realm that the endpoint is by the realm's `out` of this place; `None` also where the realm isn't
+    /// configured, or has no such `out`.
+    pub fn link_of(&self, realm: u16, out: u16, endpoint: Endpoint) -> Option<Link>
+        ensures value { result ≡ link_in (shown self.now) realm out endpoint }
         ensures bound { IfSome result (IsLinkIn (shown self.now) realm) }
     {
         match self.realms.get(usize::from(realm)) {
-            Some(realm) => realm.link_at(self.peers.as_slice(), endpoint),
+            Some(realm) => realm.link_at(self.peers.as_slice(), out, endpoint),
             None => None,
         }
     }

@@ -4,6 +4,7 @@ ghost use Rattle.std.specs.Prelude.{◌≡◌, ◌≤◌, map, true, vec_len};
 ghost use Rattle.std.specs.List.{list_all};
 ghost use Rattle.std.specs.Option.{ForSome};
 ghost use Rattle.roam_conf.specs.Patterns.{is_reject, shown_pattern};
+ghost use Rattle.roam_conf.specs.Ways.{has_port};
 
 use crate::{Endpoint, Peer, Realm, RealmPattern};
 
@@ -17,10 +18,10 @@ pub struct ConfigParts {
     pub shards: u16,
     /// The key of the random words.
     pub seed: [u8; 32],
-    /// The broker's socket for Access-Requests (RFC 2865); its port isn't 0.
-    pub auth: Endpoint,
-    /// The broker's socket for Accounting-Requests (RFC 2866); its port isn't 0.
-    pub acct: Endpoint,
+    /// The broker's sockets for Access-Requests (RFC 2865): 1 to 8, of which no port is 0.
+    pub auth: Vec<Endpoint>,
+    /// The broker's sockets for Accounting-Requests (RFC 2866): 1 to 8, of which no port is 0.
+    pub acct: Vec<Endpoint>,
     /// How many steps a shard's trace holds: 1 to 1000000.
     pub trace_limit: u32,
     /// How many octets of datagrams and packets a shard's trace holds: 1 to 1073741824.
@@ -47,7 +48,9 @@ pub struct ConfigParts {
     /// 1 to 1024 realms.
     pub realms: Vec<Realm>,
     ghost shards_range: { (1 ≤ shards) × (shards ≤ 64) },
-    ghost ports: { (1 ≤ auth.port) × (1 ≤ acct.port) },
+    ghost auth_count: { (1 ≤ vec_len auth) × (vec_len auth ≤ 8) },
+    ghost acct_count: { (1 ≤ vec_len acct) × (vec_len acct ≤ 8) },
+    ghost ports: { (list_all has_port auth.items ≡ true) × (list_all has_port acct.items ≡ true) },
     ghost trace_limit_range: { (1 ≤ trace_limit) × (trace_limit ≤ 1000000) },
     ghost trace_octets_range: { (1 ≤ trace_octets) × (trace_octets ≤ 1073741824) },
     ghost max_hops_range: { ForSome max_hops (λ n. (1 ≤ n) × (n ≤ 100)) },

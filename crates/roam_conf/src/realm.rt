@@ -8,6 +8,7 @@ ghost use Rattle.roam_conf.specs.Letters.{is_realm_letter};
 ghost use Rattle.roam_conf.specs.declared.accounting.Accounting.TheVariants.{Forwarded};
 ghost use Rattle.roam_conf.specs.declared.server.Server.{Server};
 ghost use Rattle.roam_conf.specs.Patterns.{is_pattern, shown_pattern};
+ghost use Rattle.roam_conf.specs.Ways.{has_port};
 
 use crate::{Accounting, CoaClient, Endpoint, RealmPattern, Server};
 use roam_wire::RemovedAttribute;
@@ -44,11 +45,11 @@ pub struct Realm {
     pub own_sessions: bool,
     /// From where reverse requests come beside the realm's servers: at most 8.
     pub coa_clients: Vec<CoaClient>,
-    /// The broker's socket from which the realm's packets are forwarded; its port isn't 0.
-    pub out: Endpoint,
-    /// The broker's socket that takes the realm's reverse requests (RFC 5176), where it takes them; its port
-    /// isn't 0.
-    pub reverse: Option<Endpoint>,
+    /// The broker's sockets from which the realm's packets are forwarded: 1 to 16, of which no port is 0.
+    pub out: Vec<Endpoint>,
+    /// The broker's sockets that take the realm's reverse requests (RFC 5176): at most 8, of which no port is 0; none
+    /// where it takes none.
+    pub reverse: Vec<Endpoint>,
     /// How often a packet is sent to one server: 1 to 10.
     pub tries: u8,
     /// The time from one sending to the next, in milliseconds: 1 to 60000.
@@ -78,7 +79,9 @@ pub struct Realm {
     ghost peer_share_range: { ForSome peer_share (λ n. (1 ≤ n) × (n ≤ 4096)) },
     ghost coa_client_count: { vec_len coa_clients ≤ 8 },
     ghost accounted: { accounting ≡ Forwarded → list_all (λ (s : Server). is_some s.acct) servers.items ≡ true },
-    ghost ports: { (1 ≤ out.port) × ForSome reverse (λ e. 1 ≤ e.port) },
+    ghost out_count: { (1 ≤ vec_len out) × (vec_len out ≤ 16) },
+    ghost reverse_count: { vec_len reverse ≤ 8 },
+    ghost ports: { (list_all has_port out.items ≡ true) × (list_all has_port reverse.items ≡ true) },
     ghost tries_range: { (1 ≤ tries) × (tries ≤ 10) },
     ghost wait_range: { (1 ≤ wait) × (wait ≤ 60000) },
     ghost hold_range: { hold ≤ 60000 },

@@ -1,9 +1,10 @@
-//! Which endpoints a realm's socket sends to. None of this takes memory.
+//! Which endpoints a realm's sockets send to. None of this takes memory.
 
-ghost use Rattle.std.specs.Prelude.{◌≡◌, map};
-ghost use Rattle.std.specs.List.{list_all};
+ghost use Rattle.std.specs.Prelude.{◌≡◌, ◌≤◌, map};
+ghost use Rattle.std.specs.List.{count_by, list_all};
 ghost use Rattle.roam_conf.specs.Parts.{shown_peer, shown_realm, shown_server};
-ghost use Rattle.roam_conf.specs.Ways.{same_kind, same_kind_if_there, is_reached, is_coa_reached, has_no_way_out};
+ghost use Rattle.roam_conf.specs.Ways.{same_kind, is_reached_at, is_reached_if_there, is_reached, is_way, is_coa_reached};
+ghost use Rattle.roam_conf.specs.Ways.{has_no_way_out};
 
 use crate::{Endpoint, Peer, Realm, Server};
 
@@ -18,35 +19,47 @@ pub fn is_same_kind(a: Endpoint, b: Endpoint) -> bool
     }
 }
 
-/// Whether what is there is of the same kind as the first.
-fn is_same_kind_if_there(out: Endpoint, endpoint: Option<Endpoint>) -> bool
-    ensures { result ≡ same_kind_if_there out endpoint }
+/// Whether one of the sockets sends to the endpoint.
+fn is_reached_at(outs: &[Endpoint], endpoint: Endpoint) -> bool
+    ensures { result ≡ is_reached_at outs.now endpoint }
+{
+    for out in outs {
+        if is_same_kind(*out, endpoint) {
+            return true;
+        }
+    }
+    false
+}
+
+/// Whether one of them does to what is there.
+fn is_reached_if_there(outs: &[Endpoint], endpoint: Option<Endpoint>) -> bool
+    ensures { result ≡ is_reached_if_there outs.now endpoint }
 {
     match endpoint {
-        Some(endpoint) => is_same_kind(out, endpoint),
+        Some(endpoint) => is_reached_at(outs, endpoint),
         None => true,
     }
 }
 
-/// Whether a socket sends to all endpoints of these servers.
-fn are_reached(out: Endpoint, servers: &[Server]) -> bool
-    ensures { result ≡ list_all (is_reached out) (map shown_server servers.now) }
+/// Whether the sockets send to all endpoints of these servers.
+fn are_reached(outs: &[Endpoint], servers: &[Server]) -> bool
+    ensures { result ≡ list_all (is_reached outs.now) (map shown_server servers.now) }
 {
     for server in servers {
-        if !(is_same_kind(out, server.auth) && is_same_kind_if_there(out, server.acct)) {
+        if !(is_reached_at(outs, server.auth) && is_reached_if_there(outs, server.acct)) {
             return false;
         }
     }
     true
 }
 
-/// Whether some realm has a server to which its `out` doesn't send.
+/// Whether some realm has a server to which none of its `out` sends.
 #[tactic(auto, unfolding(crate::specs::Ways::has_no_way_out))]
 pub fn has_no_way_out(realms: &[Realm]) -> bool
     ensures { result ≡ has_no_way_out (map shown_realm realms.now) }
 {
     for realm in realms {
-        if !are_reached(realm.out, realm.servers.as_slice()) {
+        if !are_reached(realm.out.as_slice(), realm.servers.as_slice()) {
             return true;
         }
     }
@@ -54,10 +67,34 @@ pub fn has_no_way_out(realms: &[Realm]) -> bool
 }
 
 impl Realm {
-    /// Whether the realm's `out` sends to where the peer takes reverse requests, if it does anywhere.
+    /// Whether one of the realm's `out` sends to where the peer takes reverse requests, if it does anywhere.
     pub(crate) fn is_coa_reached(&self, peer: &Peer) -> bool
         ensures { result ≡ is_coa_reached (shown_realm self.now) (shown_peer peer.now) }
     {
-        is_same_kind_if_there(self.out, peer.coa)
+        is_reached_if_there(self.out.as_slice(), peer.coa)
+    }
+
+    /// Whether the realm's `out` of this place is there, and sends to the endpoint.
+    pub fn is_way(&self, out: usize, endpoint: Endpoint) -> bool
+        ensures { result ≡ is_way (shown_realm self.now).out out endpoint }
+    {
+        match self.out.get(out) {
+            Some(out) => is_same_kind(*out, endpoint),
+            None => false,
+        }
+    }
+
+    /// How many of the realm's `out` send to the endpoint.
+    pub fn way_count(&self, endpoint: Endpoint) -> usize
+        ensures count { result ≡ count_by (λ out. same_kind out endpoint) (shown_realm self.now).out }
+        ensures few { result ≤ 16 }
+    {
+        let mut count = 0;
+        for out in &self.out {
+            if is_same_kind(*out, endpoint) {
+                count += 1;
+            }
+        }
+        count
     }
 }

@@ -1,5 +1,6 @@
 pub mod ArrayLemmas
 pub mod EachLemmas
+pub mod EndpointLemmas
 pub mod FaultLemmas
 pub mod ListLemmas
 pub mod RangeLemmas

@@ -95,9 +95,9 @@ stated_nas_text (string found) octets is =
 stated_nas_text found octets is = cc
 
 -- so many values, each of which passes
-record Pass {V : Type 0} (test : V → Bool) (n : ℕ) (values : List V) : Type 0 where
-  count : length values ≡ n
-  all : list_all test values ≡ true
+pub record Pass {V : Type 0} (test : V → Bool) (n : ℕ) (values : List V) : Type 0 where
+  pub count : length values ≡ n
+  pub all : list_all test values ≡ true
 
 -- at most so many values, each of which passes
 pub record IsListOf {V : Type 0} (test : V → Bool) (most : ℕ) (values : List V) : Type 0 where
@@ -119,7 +119,7 @@ module _ {V : Type 0} (reads : Data → Option V) (test : V → Bool) (passes : 
         all = and_from (test v) (list_all test vs) (passes found v here) others.all;
       })
 
-  each_passes : (items : Items) (values : List V) → each_of reads items ≡ Some values →
+  pub each_passes : (items : Items) (values : List V) → each_of reads items ≡ Some values →
       Pass test (item_count items) values
   each_passes no_items values is = rw (← same_Some [] values is) (record { count = refl; all = refl })
   each_passes (item found items) values is =

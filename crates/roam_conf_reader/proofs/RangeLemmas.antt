@@ -33,7 +33,7 @@ text_range most letters (string found) octets is =
     rw both.1 at (fitting most letters found both.0)
 text_range most letters value octets is = cc
 
-endpoint_range : (value : Data) (e : Endpoint) → endpoint value ≡ Some e → 1 ≤ e.port
+pub endpoint_range : (value : Data) (e : Endpoint) → endpoint value ≡ Some e → 1 ≤ e.port
 unfolding endpoint
 endpoint_range (string found) e is = endpoint_in-port found e is
 endpoint_range value e is = cc

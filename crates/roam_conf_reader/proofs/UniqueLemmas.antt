@@ -1,11 +1,9 @@
 -- A document states one configuration at most.
-use Rattle.std.proofs.Common.{◌≡◌, ℕ, codes, List, [], ◌∷◌, Option, Some, None, refl, subst, sym, ◌∙◌}
+use Rattle.std.proofs.Common.{◌≡◌, ℕ, List, [], ◌∷◌, Option, Some, None, refl, sym, ◌∙◌}
 use Rattle.std.proofs.lemmas.Option.{same_Some}
-use Rattle.toml.specs.Data.{Data, table, array, Items, no_items, item, Members, get_member}
-use Rattle.roam_address.specs.declared.endpoint.Endpoint.{Endpoint}
+use Rattle.toml.specs.Data.{Data, table, array, Items, no_items, item, Members}
 use Rattle.roam_conf.specs.Config.{ServerView, CoaClientView, PeerView, RealmView, ConfigView}
-use Rattle.roam_conf_reader.specs.Document.{StatesEach, StatesFew, StatesTables, StatesClient, StatesServer, StatesPeer, StatesRealm, StatesConfig, sessions_unless_said}
-use Rattle.roam_conf_reader.specs.Values.{number_or}
+use Rattle.roam_conf_reader.specs.Document.{StatesEach, StatesFew, StatesTables, StatesClient, StatesServer, StatesPeer, StatesRealm, StatesConfig}
 
 -- two values that one option states are one
 same_value : {V : Type 0} (o : Option V) (a b : V) → o ≡ Some a → o ≡ Some b → a ≡ b
@@ -111,9 +109,7 @@ realm_unique ms a b p q =
     let wait = same_value _ a.wait b.wait p.wait q.wait in
     let hold = same_value _ a.hold b.hold p.hold q.hold in
     let max_pending = same_value _ a.max_pending b.max_pending p.max_pending q.max_pending in
-    let alike = subst (λ (r : Option Endpoint). number_or (sessions_unless_said r) 0 65536
-    (get_member (codes "max_sessions") ms) ≡ Some b.max_sessions) (sym reverse) q.max_sessions in
-    let max_sessions = same_value _ a.max_sessions b.max_sessions p.max_sessions alike in
+    let max_sessions = same_value _ a.max_sessions b.max_sessions p.max_sessions q.max_sessions in
     let rest = same_value _ a.rest b.rest p.rest q.rest in
     let rest_after = same_value _ a.rest_after b.rest_after p.rest_after q.rest_after in
     let servers = tables_unique StatesServer server_unique _ a.servers b.servers p.servers q.servers in

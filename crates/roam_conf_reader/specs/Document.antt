@@ -7,9 +7,8 @@ use Rattle.roam_conf_reader.specs.declared.values.Letters.TheVariants.{Any, Peer
 use Rattle.roam_wire.specs.RemovedAttributes.{is_removal_in_requests, is_removal_in_replies}
 use Rattle.roam_conf.specs.declared.accounting.Accounting.{Accounting}
 use Rattle.roam_conf.specs.declared.accounting.Accounting.TheVariants as kinds
-use Rattle.roam_address.specs.declared.endpoint.Endpoint.{Endpoint}
 use Rattle.roam_conf.specs.Config.{ServerView, CoaClientView, PeerView, RealmView, ConfigView}
-use Rattle.roam_conf_reader.specs.Values.{number, letters_of, text, address, ipv4, ipv6, prefix, endpoint, seed_or_zeros, flag, exchange_lines, station_word, number_or, pattern, list_of, rejects, removed, nas_ids, peer_names, accounting, array_of, item_count, value_at, optional_at, file_path, socket_path}
+use Rattle.roam_conf_reader.specs.Values.{number, letters_of, text, address, ipv4, ipv6, prefix, endpoint, endpoints, endpoints_if_there, seed_or_zeros, flag, exchange_lines, station_word, number_or, pattern, list_of, rejects, removed, nas_ids, peer_names, accounting, array_of, item_count, value_at, optional_at, file_path, socket_path}
 
 -- the required keys of the five tables
 abbrev pub server_required : List (List ℕ)
@@ -120,8 +119,9 @@ pub record StatesPeer (members : Members) (peer : PeerView) : Type 0 where
       list_of (removed is_removal_in_replies) 64 (get_member (codes "reply_without") members) ≡ Some peer.reply_without
   pub no_other_key : has_only peer_required peer_optional members ≡ true
 
--- how many sessions a realm remembers where its table doesn't say it: none where it takes no reverse requests
-abbrev pub sessions_unless_said : Option Endpoint → ℕ
+-- how many sessions a realm remembers where its table doesn't say it, by what that has as `reverse`: none where the
+-- realm takes no reverse requests
+abbrev pub sessions_unless_said : Option Data → ℕ
 sessions_unless_said None = 0
 sessions_unless_said (Some reverse) = 20000
 
@@ -152,15 +152,15 @@ pub record StatesRealm (members : Members) (realm : RealmView) : Type 0 where
   pub conversations : flag (get_member (codes "conversations") members) ≡ Some realm.conversations
   pub own_sessions : flag (get_member (codes "own_sessions") members) ≡ Some realm.own_sessions
   pub coa_clients : StatesFew StatesClient 8 (get_member (codes "coa_client") members) realm.coa_clients
-  pub out : value_at endpoint (codes "out") members ≡ Some realm.out
-  pub reverse : optional_at endpoint (codes "reverse") members ≡ Some realm.reverse
+  pub out : value_at (endpoints 16) (codes "out") members ≡ Some realm.out
+  pub reverse : endpoints_if_there 8 (get_member (codes "reverse") members) ≡ Some realm.reverse
   pub tries : number_or 3 1 10 (get_member (codes "tries") members) ≡ Some realm.tries
   pub wait : number_or 2000 1 60000 (get_member (codes "wait") members) ≡ Some realm.wait
   pub hold : number_or 10000 0 60000 (get_member (codes "hold") members) ≡ Some realm.hold
   pub max_pending : number_or 4096 1 4096 (get_member (codes "max_pending") members) ≡ Some realm.max_pending
   pub max_sessions :
-      number_or (sessions_unless_said realm.reverse) 0 65536 (get_member (codes "max_sessions") members)
-      ≡ Some realm.max_sessions
+      number_or (sessions_unless_said (get_member (codes "reverse") members)) 0 65536
+      (get_member (codes "max_sessions") members) ≡ Some realm.max_sessions
   pub rest : number_or 30000 0 3600000 (get_member (codes "rest") members) ≡ Some realm.rest
   pub rest_after : number_or 3 1 256 (get_member (codes "rest_after") members) ≡ Some realm.rest_after
   pub servers : StatesTables StatesServer (value_at (array_of 8) (codes "server") members) realm.servers
@@ -181,8 +181,8 @@ pub record StatesRealm (members : Members) (realm : RealmView) : Type 0 where
 pub record StatesConfig (members : Members) (config : ConfigView) : Type 0 where
   pub shards : number_or 1 1 64 (get_member (codes "shards") members) ≡ Some config.shards
   pub seed_octets : seed_or_zeros (get_member (codes "seed") members) ≡ Some config.seed
-  pub auth : value_at endpoint (codes "auth") members ≡ Some config.auth
-  pub acct : value_at endpoint (codes "acct") members ≡ Some config.acct
+  pub auth : value_at (endpoints 8) (codes "auth") members ≡ Some config.auth
+  pub acct : value_at (endpoints 8) (codes "acct") members ≡ Some config.acct
   pub trace_limit :
       number_or 100000 1 1000000 (get_member (codes "trace_limit") members) ≡ Some config.trace_limit
   pub trace_octets :

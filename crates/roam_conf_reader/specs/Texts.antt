@@ -5,6 +5,7 @@ use Rattle.toml.specs.Data.{Members, get_member}
 use Rattle.toml.specs.View.{array_view}
 use Rattle.roam_wire.specs.RemovedAttributes.{is_removal_in_requests, is_removal_in_replies}
 use Rattle.roam_wire.specs.declared.removed_attribute.RemovedAttribute.{RemovedAttribute}
+use Rattle.roam_address.specs.declared.endpoint.Endpoint.{Endpoint}
 use Rattle.roam_address.specs.Prefixes.{shown_prefix}
 use Rattle.roam_conf.specs.Config.{ServerView, CoaClientView, PeerView, PatternView, whole, suffix, any, RealmView, ConfigView}
 use Rattle.roam_conf_reader.specs.declared.coa_client.ClientText.{ClientText}
@@ -15,7 +16,7 @@ use Rattle.roam_conf_reader.specs.declared.peer.PeerText.{PeerText}
 use Rattle.roam_conf_reader.specs.declared.realm.RealmText.{RealmText}
 use Rattle.roam_conf_reader.specs.declared.stated.TopText.{TopText}
 use Rattle.roam_conf_reader.specs.Document.{StatesEach, StatesFew, StatesClient, StatesServer, StatesPeer, StatesRealm, StatesConfig, are_accounted}
-use Rattle.roam_conf_reader.specs.Values.{pattern, list_of, rejects, removed, nas_ids, peer_names, optional_at}
+use Rattle.roam_conf_reader.specs.Values.{pattern, list_of, rejects, removed, nas_ids, peer_names, endpoints, endpoints_if_there, value_at, optional_at}
 
 -- a text of `also`
 abbrev pub pattern_said : PatternText → PatternView
@@ -66,8 +67,8 @@ StatesPeerBesideLists members text =
 -- with these lists
 abbrev pub realm_in :
     RealmText → List PatternView → Option (List (List ℕ)) → List RemovedAttribute → List RemovedAttribute
-    → List CoaClientView → List ServerView → RealmView
-realm_in text also peers request reply clients servers = record {
+    → List CoaClientView → List Endpoint → List Endpoint → List ServerView → RealmView
+realm_in text also peers request reply clients out reverse servers = record {
   gone = false;
   name = text.name.now;
   also = also;
@@ -82,8 +83,8 @@ realm_in text also peers request reply clients servers = record {
   conversations = text.conversations;
   own_sessions = text.own_sessions;
   coa_clients = clients;
-  out = text.out;
-  reverse = text.reverse;
+  out = out;
+  reverse = reverse;
   tries = text.tries;
   wait = text.wait;
   hold = text.hold;
@@ -98,23 +99,27 @@ realm_in text also peers request reply clients servers = record {
 abbrev pub StatesBesideLists : Members → RealmText → Type 0
 StatesBesideLists members text =
     (also : List PatternView) → (peers : Option (List (List ℕ))) → (request : List RemovedAttribute)
-    → (reply : List RemovedAttribute) → (clients : List CoaClientView) → (servers : List ServerView)
+    → (reply : List RemovedAttribute) → (clients : List CoaClientView) → (out : List Endpoint)
+    → (reverse : List Endpoint) → (servers : List ServerView)
     → list_of pattern 256 (get_member (codes "also") members) ≡ Some also
     → optional_at peer_names (codes "peers") members ≡ Some peers
     → list_of (removed is_removal_in_requests) 64 (get_member (codes "request_without") members) ≡ Some request
     → list_of (removed is_removal_in_replies) 64 (get_member (codes "reply_without") members) ≡ Some reply
     → StatesFew StatesClient 8 (get_member (codes "coa_client") members) clients
+    → value_at (endpoints 16) (codes "out") members ≡ Some out
+    → endpoints_if_there 8 (get_member (codes "reverse") members) ≡ Some reverse
     → StatesEach StatesServer (array_view text.servers.now) servers
     → are_accounted text.accounting servers ≡ true
-    → StatesRealm members (realm_in text also peers request reply clients servers)
+    → StatesRealm members (realm_in text also peers request reply clients out reverse servers)
 
--- with these names to reject, peers and realms
-abbrev pub config_in : TopText → List PatternView → List PeerView → List RealmView → ConfigView
-config_in text reject peers realms = record {
+-- with these endpoints, names to reject, peers and realms
+abbrev pub config_in :
+    TopText → List Endpoint → List Endpoint → List PatternView → List PeerView → List RealmView → ConfigView
+config_in text auth acct reject peers realms = record {
   shards = text.shards;
   seed = text.seed;
-  auth = text.auth;
-  acct = text.acct;
+  auth = auth;
+  acct = acct;
   trace_limit = text.trace_limit;
   trace_octets = text.trace_octets;
   max_hops = text.max_hops;
@@ -129,11 +134,14 @@ config_in text reject peers realms = record {
   realms = realms;
 }
 
--- the document states a configuration, whatever names to reject, peers and realms its arrays state
+-- the document states a configuration, whatever endpoints, names to reject, peers and realms its arrays state
 abbrev pub StatesBesideArrays : Members → TopText → Type 0
 StatesBesideArrays members text =
-    (reject : List PatternView) → (peers : List PeerView) → (realms : List RealmView)
+    (auth : List Endpoint) → (acct : List Endpoint) → (reject : List PatternView) → (peers : List PeerView)
+    → (realms : List RealmView)
+    → value_at (endpoints 8) (codes "auth") members ≡ Some auth
+    → value_at (endpoints 8) (codes "acct") members ≡ Some acct
     → rejects (get_member (codes "reject") members) ≡ Some reject
     → StatesEach StatesPeer (array_view text.peers.now) peers
     → StatesEach StatesRealm (array_view text.realms.now) realms
-    → StatesConfig members (config_in text reject peers realms)
+    → StatesConfig members (config_in text auth acct reject peers realms)

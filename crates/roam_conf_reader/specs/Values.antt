@@ -152,6 +152,21 @@ abbrev pub item_count : Items → ℕ
 item_count no_items = 0
 item_count (item found items) = suc (item_count items)
 
+-- the list of this one, if it is there
+abbrev pub one_of : {V : Type 0} → Option V → Option (List V)
+one_of found = option_map (λ value. value ∷ []) found
+
+-- an endpoint, or an array of 1 to `most` endpoints
+unfoldable pub endpoints : ℕ → Data → Option (List Endpoint)
+endpoints most (array items) =
+    if nat_le 1 (item_count items) && nat_le (item_count items) most then each_of endpoint items else None
+endpoints most found = one_of (endpoint found)
+
+-- the same; none where they are absent
+abbrev pub endpoints_if_there : ℕ → Option Data → Option (List Endpoint)
+endpoints_if_there most None = Some []
+endpoints_if_there most (Some found) = endpoints most found
+
 -- an array of 1 to `most` items
 unfoldable pub array_of : ℕ → Data → Option Items
 array_of most (array items) = if nat_le 1 (item_count items) && nat_le (item_count items) most then Some items else None

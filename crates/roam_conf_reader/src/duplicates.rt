@@ -1,7 +1,7 @@
 //! What may not stand twice in a configuration.
 //!
 //! Names and patterns of realms, and NAS-Identifiers, which may be many, are found by an index. The other searches
-//! compare all pairs: of at most 1024 peers, 8 `coa_client`s of a realm, 2050 sockets of the broker, 16 endpoints of
+//! compare all pairs: of at most 1024 peers, 8 `coa_client`s of a realm, the sockets of the broker, 16 endpoints of
 //! one realm's servers, and of 1024 endpoints of peers with 16384 of servers.
 
 ghost use Rattle.std.specs.Prelude.{◌≡◌, ◌≤◌, ◌+◌, ◌++◌, ◌||◌, Some, None, IfOk, OnOk, false, length, map, drop};
@@ -53,6 +53,15 @@ fn has_equal_endpoints(endpoints: &[Endpoint]) -> bool
     false
 }
 
+/// Adds endpoints.
+fn push_all(endpoints: &mut Vec<Endpoint>, more: &[Endpoint]) -> Result<(), ConfFault>
+    ensures ok { OnOk result (endpoints.new.items ≡ endpoints.old.items ++ more.now) }
+    ensures causes { IsMemoryFault result }
+{
+    endpoints.extend_from_slice(more)?;
+    Ok(())
+}
+
 /// Pushes the endpoints of a realm's sockets, if it is here.
 fn push_realm(endpoints: &mut Vec<Endpoint>, realm: &Realm) -> Result<(), ConfFault>
     ensures ok { OnOk result (endpoints.new.items
@@ -62,26 +71,23 @@ fn push_realm(endpoints: &mut Vec<Endpoint>, realm: &Realm) -> Result<(), ConfFa
     if realm.gone {
         return Ok(());
     }
-    endpoints.push(realm.out)?;
-    if let Some(reverse) = realm.reverse {
-        endpoints.push(reverse)?;
-    }
-    Ok(())
+    push_all(endpoints, realm.out.as_slice())?;
+    push_all(endpoints, realm.reverse.as_slice())
 }
 
 /// The endpoints of the broker's own sockets.
 fn own_endpoints(
     alloc: Global,
-    auth: Endpoint,
-    acct: Endpoint,
+    auth: &[Endpoint],
+    acct: &[Endpoint],
     realms: &[Realm],
 ) -> Result<Vec<Endpoint>, ConfFault>
-    ensures ok { IfOk result (λ v. v.items ≡ own_endpoints auth acct (map shown_realm realms.now)) }
+    ensures ok { IfOk result (λ v. v.items ≡ own_endpoints auth.now acct.now (map shown_realm realms.now)) }
     ensures causes { IsMemoryFault result }
 {
     let mut endpoints = Vec::new(alloc);
-    endpoints.push(auth)?;
-    endpoints.push(acct)?;
+    push_all(&mut endpoints, auth)?;
+    push_all(&mut endpoints, acct)?;
     for realm in realms {
         push_realm(&mut endpoints, realm)?;
     }
@@ -155,11 +161,11 @@ fn some_realm_at(endpoints: &[Endpoint], realms: &[Realm]) -> bool
 #[tactic(auto, unfolding(roam_conf::specs::Duplicates::has_duplicate_endpoint))]
 fn has_duplicate_endpoint(
     alloc: Global,
-    auth: Endpoint,
-    acct: Endpoint,
+    auth: &[Endpoint],
+    acct: &[Endpoint],
     realms: &[Realm],
 ) -> Result<bool, ConfFault>
-    ensures ok { IfOk result (λ b. b ≡ has_duplicate_endpoint auth acct (map shown_realm realms.now)) }
+    ensures ok { IfOk result (λ b. b ≡ has_duplicate_endpoint auth.now acct.now (map shown_realm realms.now)) }
     ensures causes { IsMemoryFault result }
 {
     let endpoints = own_endpoints(alloc, auth, acct, realms)?;
@@ -242,7 +248,7 @@ pub(crate) fn first_duplicate(
     if has_duplicate_peer(alloc, peers)? {
         return Ok(Some(ConfFault::DuplicatePeer));
     }
-    if has_duplicate_endpoint(alloc, parts.auth, parts.acct, realms)? {
+    if has_duplicate_endpoint(alloc, parts.auth.as_slice(), parts.acct.as_slice(), realms)? {
         return Ok(Some(ConfFault::DuplicateEndpoint));
     }
     if has_duplicate_server(alloc, realms)? {

@@ -30,7 +30,7 @@ pub enum ConfFault {
     DuplicateServer,
     /// A peer's `coa` endpoint is another peer's or a server's.
     DuplicateLink,
-    /// A server's endpoint is of another kind, IPv4 or IPv6, than its realm's `out`.
+    /// A server's endpoint is of a kind, IPv4 or IPv6, that none of its realm's `out` has.
     NoWayOut,
     /// A realm names a peer that isn't there.
     UnknownPeer,

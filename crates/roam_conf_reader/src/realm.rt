@@ -1,9 +1,9 @@
 //! The realms that tables state.
 
-ghost use Rattle.std.specs.Prelude.{◌≡◌, ◌≤◌, codes, Err, IfOk, List, MatchOption, Some, is_some, map};
+ghost use Rattle.std.specs.Prelude.{◌≡◌, ◌≤◌, codes, Err, IfOk, List, MatchOption, Some, is_some, map, option_map};
 ghost use Rattle.std.specs.List.{list_all};
 ghost use Rattle.toml.specs.Data.{get_member};
-ghost use Rattle.toml.specs.View.{array_view, table_view};
+ghost use Rattle.toml.specs.View.{array_view, table_view, view};
 ghost use Rattle.roam_conf.specs.Config.{RealmView, ServerView};
 ghost use Rattle.roam_conf.specs.Parts.{shown_realm, shown_server};
 ghost use Rattle.roam_conf_reader.specs.declared.realm.RealmText.{RealmText};
@@ -13,12 +13,12 @@ ghost use Rattle.roam_conf_reader.specs.Texts.{StatesBesideLists};
 ghost use Rattle.roam_conf_reader.specs.Values.{accounting, array_of, value_at};
 
 use crate::tables::{REALM_KEYS, REALM_OPTIONAL_KEYS, has_only};
-use crate::values::Letters;
-use crate::{ConfFault, coa_client, keys, names, pattern, removed, server};
-use roam_conf::{Accounting, Endpoint, Realm, Server};
+use crate::values::{Letters, value};
+use crate::{ConfFault, coa_client, endpoints, keys, names, pattern, removed, server};
+use roam_conf::{Accounting, Realm, Server};
 use std::alloc::Global;
-use toml::Table;
 use toml::value::Array;
+use toml::{Table, Value};
 
 /// What a table states of a realm. Its name, its lists and its servers' tables still stand in the document.
 #[derive(Clone, Copy)]
@@ -31,8 +31,6 @@ struct RealmText<'a> {
     own_names: bool,
     conversations: bool,
     own_sessions: bool,
-    out: Endpoint,
-    reverse: Option<Endpoint>,
     tries: u8,
     wait: u32,
     hold: u32,
@@ -43,9 +41,9 @@ struct RealmText<'a> {
     servers: &'a Array,
 }
 
-/// How many sessions a realm remembers where its table doesn't say it.
-fn sessions_unless_said(reverse: Option<Endpoint>) -> u32
-    ensures value { result ≡ sessions_unless_said reverse }
+/// How many sessions a realm remembers where its table doesn't say it, by what that has as `reverse`.
+fn sessions_unless_said(reverse: Option<&Value>) -> u32
+    ensures value { result ≡ sessions_unless_said (option_map (λ v. view v.now) reverse.entry) }
     ensures bound { result ≤ 65536 }
 {
     match reverse {
@@ -65,7 +63,6 @@ fn realm_text(table: &Table) -> Option<RealmText<'_>>
     if !has_only(table, &REALM_KEYS, &REALM_OPTIONAL_KEYS) {
         return None;
     }
-    let reverse = keys::optional_endpoint(table, "reverse")?;
     Some(RealmText {
         name: keys::text(table, "name", 253, Letters::RealmName)?,
         loop_prevention: keys::flag(table, "loop_prevention")?,
@@ -75,8 +72,6 @@ fn realm_text(table: &Table) -> Option<RealmText<'_>>
         own_names: keys::flag(table, "own_names")?,
         conversations: keys::flag(table, "conversations")?,
         own_sessions: keys::flag(table, "own_sessions")?,
-        out: keys::endpoint(table, "out")?,
-        reverse,
         tries: keys::number_or(table, "tries", 3, 1, 10)? as u8,
         wait: keys::number_or(table, "wait", 2000, 1, 60000)?,
         hold: keys::number_or(table, "hold", 10000, 0, 60000)?,
@@ -84,7 +79,7 @@ fn realm_text(table: &Table) -> Option<RealmText<'_>>
         max_sessions: keys::number_or(
             table,
             "max_sessions",
-            sessions_unless_said(reverse),
+            sessions_unless_said(value(table, "reverse")),
             0,
             65536,
         )?,
@@ -147,8 +142,8 @@ fn from_table(alloc: Global, table: &Table) -> Result<Realm, ConfFault>
         conversations: text.conversations,
         own_sessions: text.own_sessions,
         coa_clients: coa_client::all_from(alloc, table)?,
-        out: text.out,
-        reverse: text.reverse,
+        out: endpoints::at(alloc, table, "out", 16)?,
+        reverse: endpoints::at_if_there(alloc, table, "reverse", 8)?,
         tries: text.tries,
         wait: text.wait,
         hold: text.hold,

@@ -10,8 +10,8 @@ ghost use Rattle.roam_conf_reader.specs.Texts.{StatesBesideArrays};
 ghost use Rattle.roam_conf_reader.specs.Values.{array_of, value_at};
 
 use crate::tables::{TOP_KEYS, TOP_OPTIONAL_KEYS, has_only};
-use crate::{ConfFault, keys, pattern, peer, realm};
-use roam_conf::{ConfigParts, Endpoint};
+use crate::{ConfFault, endpoints, keys, pattern, peer, realm};
+use roam_conf::ConfigParts;
 use std::alloc::Global;
 use toml::Table;
 use toml::value::Array;
@@ -21,8 +21,6 @@ use toml::value::Array;
 struct TopText<'a> {
     shards: u16,
     seed: [u8; 32],
-    auth: Endpoint,
-    acct: Endpoint,
     trace_limit: u32,
     trace_octets: u32,
     max_hops: Option<u8>,
@@ -57,8 +55,6 @@ fn top_text(table: &Table) -> Option<TopText<'_>>
     Some(TopText {
         shards: keys::number_or(table, "shards", 1, 1, 64)? as u16,
         seed: keys::seed_or_zeros(table, "seed")?,
-        auth: keys::endpoint(table, "auth")?,
-        acct: keys::endpoint(table, "acct")?,
         trace_limit: keys::number_or(table, "trace_limit", 100000, 1, 1000000)?,
         trace_octets: keys::number_or(table, "trace_octets", 67108864, 1, 1073741824)?,
         max_hops: keys::optional_octet(table, "max_hops", 100)?,
@@ -86,8 +82,8 @@ pub(crate) fn parts_from(alloc: Global, table: &Table) -> Result<ConfigParts, Co
     Ok(ConfigParts {
         shards: text.shards,
         seed: text.seed,
-        auth: text.auth,
-        acct: text.acct,
+        auth: endpoints::at(alloc, table, "auth", 8)?,
+        acct: endpoints::at(alloc, table, "acct", 8)?,
         trace_limit: text.trace_limit,
         trace_octets: text.trace_octets,
         max_hops: text.max_hops,

@@ -1,6 +1,6 @@
 //! Stored steps as a script, which `roam sim` plays.
 
-use roam_conf::{Endpoint, Place};
+use roam_conf::{Endpoint, NthText, Place};
 use roam_trace::{Happened, Step};
 use std::alloc::{AllocError, Global};
 use std::fmt::Write;
@@ -24,10 +24,14 @@ fn push_hex(script: &mut Vec<u8>, octets: &[u8]) -> Result<(), AllocError> {
 /// The words of an arrival's line before its octets: when, at which place, and from where.
 fn words_of(alloc: Global, now: u64, at: Place, from: Endpoint) -> Result<String, AllocError> {
     match at {
-        Place::Auth => format!(in alloc; "A {now} auth {from} "),
-        Place::Acct => format!(in alloc; "A {now} acct {from} "),
-        Place::Out(realm) => format!(in alloc; "A {now} out:{realm} {from} "),
-        Place::Reverse(realm) => { format!(in alloc; "A {now} reverse:{realm} {from} ") }
+        Place::Auth(nth) => format!(in alloc; "A {now} auth{} {from} ", NthText(nth)),
+        Place::Acct(nth) => format!(in alloc; "A {now} acct{} {from} ", NthText(nth)),
+        Place::Out(realm, nth) => {
+            format!(in alloc; "A {now} out:{realm}{} {from} ", NthText(nth))
+        }
+        Place::Reverse(realm, nth) => {
+            format!(in alloc; "A {now} reverse:{realm}{} {from} ", NthText(nth))
+        }
     }
 }
 

@@ -83,15 +83,15 @@ unnamed_so config secret a s p =
 
 routed_so : (config : ConfigView) (secret : List ℕ) (a : Arrival) (s : Side) (p : Packet) (at : Place) →
     RejectsForNone (route_request config secret a s p at)
-routed_so config secret a s p (place.Reverse realm) =
+routed_so config secret a s p (place.Reverse realm nth) =
     checked_so (is_fresh config.fresh a.seconds p.attributes) refusal.Stale _
     (forwarded_so (sent_length config s p realm) a s p realm (realm_of config p.attributes))
-routed_so config secret a s p place.Auth =
+routed_so config secret a s p (place.Auth nth) =
     either_so (is_rejected config s p) (rejected_for secret a p)
     (for_named_realm config a s p (realm_of config p.attributes))
     (reject_so secret a p) (named_so config a s p (realm_of config p.attributes))
-routed_so config secret a s p place.Acct = unnamed_so config secret a s p
-routed_so config secret a s p (place.Out realm) = unnamed_so config secret a s p
+routed_so config secret a s p (place.Acct nth) = unnamed_so config secret a s p
+routed_so config secret a s p (place.Out realm nth) = unnamed_so config secret a s p
 
 request_so : (config : ConfigView) (secret : List ℕ) (a : Arrival) (s : Side) (p : Packet) →
     RejectsForNone (request_admission config secret a s p)
@@ -105,17 +105,18 @@ request_so config secret a s p =
 
 packet_so : (config : ConfigView) (a : Arrival) (s : Side) (p : Packet) (at : Place) →
     RejectsForNone (packet_admission config a s p at)
-packet_so config a s p (place.Out realm) = admitted_so _
-packet_so config a (side.Peer i) p place.Auth = request_so config (peer_secret config i) a (side.Peer i) p
-packet_so config a (side.Peer i) p place.Acct = request_so config (peer_secret config i) a (side.Peer i) p
-packet_so config a (side.Peer i) p (place.Reverse realm) = request_so config (peer_secret config i) a (side.Peer i) p
-packet_so config a (side.Home i) p (place.Reverse realm) =
+packet_so config a s p (place.Out realm nth) = admitted_so _
+packet_so config a (side.Peer i) p (place.Auth nth) = request_so config (peer_secret config i) a (side.Peer i) p
+packet_so config a (side.Peer i) p (place.Acct nth) = request_so config (peer_secret config i) a (side.Peer i) p
+packet_so config a (side.Peer i) p (place.Reverse realm nth) = request_so config (peer_secret config i) a
+    (side.Peer i) p
+packet_so config a (side.Home i) p (place.Reverse realm nth) =
     request_so config (home_secret config realm i) a (side.Home i) p
-packet_so config a (side.Home i) p place.Auth = refused_so refusal.WrongCode
-packet_so config a (side.Home i) p place.Acct = refused_so refusal.WrongCode
-packet_so config a (side.Link l) p place.Auth = refused_so refusal.WrongCode
-packet_so config a (side.Link l) p place.Acct = refused_so refusal.WrongCode
-packet_so config a (side.Link l) p (place.Reverse realm) = refused_so refusal.WrongCode
+packet_so config a (side.Home i) p (place.Auth nth) = refused_so refusal.WrongCode
+packet_so config a (side.Home i) p (place.Acct nth) = refused_so refusal.WrongCode
+packet_so config a (side.Link l) p (place.Auth nth) = refused_so refusal.WrongCode
+packet_so config a (side.Link l) p (place.Acct nth) = refused_so refusal.WrongCode
+packet_so config a (side.Link l) p (place.Reverse realm nth) = refused_so refusal.WrongCode
 
 status_so : (most : Option ℕ) (secret : List ℕ) (a : Arrival) (p : Packet) →
     RejectsForNone (status_admission most secret a p)

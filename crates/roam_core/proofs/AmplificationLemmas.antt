@@ -20,7 +20,8 @@ use Rattle.roam_reverse.specs.declared.error_cause.TheConstants.{OTHER_PROXY_PRO
 use Rattle.roam_book.specs.OnTick.{Progress, fail_over, given_up, given_up_at, once_refused, due_standing, due_entry, due_one, due_each}
 use Rattle.roam_core.specs.Amplification.{Ends, counted, counted_back, counted_links, is_counted, may_follow, sum_over}
 use Rattle.roam_core.proofs.SentLemmas.{either}
-use Rattle.roam_core.proofs.SumLemmas.{FitsIn, chosen-holds, found-in, later-fit, resent, sum-put, sum-replaced, sum-without, times}
+use Rattle.roam_core.proofs.SumLemmas.{chosen-holds, found-in, resent, sum-put, sum-replaced, sum-without, times}
+use Rattle.roam_core.proofs.TargetLemmas.{FitsIn, later-fit}
 
 -- a number where a test holds, else 0
 abbrev pub guard : Bool → ℕ → ℕ

@@ -8,6 +8,7 @@ use Rattle.roam_wire.specs.declared.refusal.Refusal.{Refusal}
 use Rattle.roam_back.specs.Returned.{returned_length}
 use Rattle.roam_back.specs.ReplyCheck.{reply_fault}
 use Rattle.roam_address.specs.declared.endpoint.Endpoint.{Endpoint}
+use Rattle.roam_conf.specs.Lookup.{out_of}
 use Rattle.roam_conf.specs.declared.place.Link.{Link}
 use Rattle.roam_conf.specs.declared.place.Place.TheVariants as place
 use Rattle.roam_pending.specs.declared.due.Due.{Due}
@@ -96,12 +97,13 @@ no_amplification-from_start c ends start events tries =
 -- Where no link is looked at, the requests count alone
 
 none-toward : (c : RealmConfig) (ends : Ends) (links : List Link) →
-    ((to : Endpoint) → ends (place.Out c.index) to ≡ false) → counted_links c ends links ≡ 0
+    ((nth : ℕ) (to : Endpoint) → ends (place.Out c.index nth) to ≡ false) → counted_links c ends links ≡ 0
 none-toward c ends [] h = refl
-none-toward c ends (l ∷ ls) h = rw (h (link_endpoint c l)) (none-toward c ends ls h)
+none-toward c ends (l ∷ ls) h = rw (h (out_of l) (link_endpoint c l)) (none-toward c ends ls h)
 
 only-back : (c : RealmConfig) (ends : Ends) (events : List RealmEvent) →
-    ((to : Endpoint) → ends (place.Out c.index) to ≡ false) → may_be_caused c ends events ≤ requests_from ends events
+    ((nth : ℕ) (to : Endpoint) → ends (place.Out c.index nth) to ≡ false)
+    → may_be_caused c ends events ≤ requests_from ends events
 only-back c ends [] h = omega arith
 only-back c ends (request_came now named q ∷ es) h =
     let none = ap (λ (n : ℕ). c.realm.tries * n) (none-toward c ends (targets c q) h) in

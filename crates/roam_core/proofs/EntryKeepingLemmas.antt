@@ -30,7 +30,8 @@ use Rattle.roam_book.specs.OneRealm.{request_came, reply_came, tick_came, on_eve
 use Rattle.roam_book.specs.Conversing.{new_target}
 use Rattle.roam_core.specs.Amplification.{Ends, counted_links}
 use Rattle.roam_core.proofs.SentLemmas.{either}
-use Rattle.roam_core.proofs.SumLemmas.{FitsIn, chosen-holds, found-in, later-fit, targets-fit, new-holds}
+use Rattle.roam_core.proofs.SumLemmas.{chosen-holds, found-in, new-holds}
+use Rattle.roam_core.proofs.TargetLemmas.{FitsIn, later-fit, targets-fit}
 use Rattle.roam_book.specs.declared.state.rest.Rest.{Rest}
 
 -- all packets are counted

@@ -1,5 +1,5 @@
 -- While ticks come in time, each entry that waits has so much time left as its sends and their waits take.
-use Rattle.std.proofs.Common.{◌≡◌, ◌≢◌, ℕ, suc, ◌+◌, ◌-◌, ◌*◌, ◌<◌, ◌≤◌, ◌^◌, Bool, true, false, List, [], ◌∷◌, ◌++◌, Option, refl, sym, ap, subst, ◌∙◌, inl, inr, arith, length, append_assoc, ltb}
+use Rattle.std.proofs.Common.{◌≡◌, ◌≢◌, ℕ, ◌+◌, ◌-◌, ◌*◌, ◌<◌, ◌≤◌, ◌^◌, Bool, true, false, List, [], ◌∷◌, ◌++◌, Option, refl, sym, ap, subst, ◌∙◌, inl, inr, arith, length, append_assoc, ltb}
 use Rattle.std.specs.List.{AllByRecursion, filter}
 use Rattle.std.proofs.Math.Nat.{mul-le-mul_right}
 use Rattle.std.proofs.lemmas.Bool.{cases_Bool}
@@ -21,7 +21,7 @@ use Rattle.roam_book.specs.OnTick.{due_each}
 use Rattle.roam_book.specs.OneRealm.{RealmEvent, request_came, reply_came, tick_came, on_event, one_realm_run}
 use Rattle.roam_book.specs.declared.state.start.Start.{Start}
 use Rattle.roam_book.proofs.LeastLemmas.{none-due_after}
-use Rattle.roam_core.specs.Amplification.{counted_links}
+use Rattle.roam_core.specs.Amplification.{counted_links, is_counted, one_each}
 use Rattle.roam_core.specs.InTime.{AreInTime, NoneWaitsLonger, last_moment, last_tick, longest_wait, moment_of}
 use Rattle.roam_core.specs.Openings.{state_then}
 use Rattle.roam_core.proofs.EntryKeepingLemmas.{IsOneOf, TickIsGood, all_ends, dues-keep, reply-keeps, request-keeps, tick-keeps}
@@ -64,23 +64,27 @@ turns a n w h =
     omega (arith, all)
 
 -- all links are counted
-counted-all : (c : RealmConfig) (links : List Link) → counted_links c all_ends links ≡ length links
-counted-all c [] = refl
-counted-all c (l ∷ ls) = ap suc (counted-all c ls)
+all-pass : (c : RealmConfig) (links : List Link) → filter (is_counted c all_ends) links ≡ links
+all-pass c [] = refl
+all-pass c (l ∷ ls) = ap (λ (ks : List Link). l ∷ ks) (all-pass c ls)
+
+counted-all : (c : RealmConfig) (links : List Link) → counted_links c all_ends links ≡ length (one_each links)
+counted-all c links = ap (λ (ls : List Link). length (one_each ls)) (all-pass c links)
 
 -- how many packets may still leave for an entry
 abbrev left_at : RealmConfig → Link → ℕ → ℕ
-left_at c l sends_left = sends_left + c.realm.tries * length (later_targets c l)
+left_at c l sends_left = sends_left + c.realm.tries * length (one_each (later_targets c l))
 
 -- one of some targets has fewer packets left than `tries` for each
 left-fewer : (c : RealmConfig) (links : List Link) (l : Link) → 1 ≤ c.realm.tries → IsOneOf c links l →
-    left_at c l (c.realm.tries - 1) + 1 ≤ c.realm.tries * length links
+    left_at c l (c.realm.tries - 1) + 1 ≤ c.realm.tries * length (one_each links)
 left-fewer c links l tries fits =
     let all = counted-all c links in
     let later = counted-all c (later_targets c l) in
     let one = counted-all c (l ∷ []) in
-    let within : 1 + length (later_targets c l) ≤ length links = omega (arith, all, later, one, fits) in
-    let product = times c.realm.tries 1 (length (later_targets c l)) (length links) within in
+    let further = length (one_each (later_targets c l)) in
+    let within : 1 + further ≤ length (one_each links) = omega (arith, all, later, one, fits) in
+    let product = times c.realm.tries 1 further (length (one_each links)) within in
     omega (arith, product)
 
 -- of a ticket, and the moment until which its entry may wait
@@ -273,7 +277,7 @@ begins c start first came named q gap tries wait =
     (all-more c gap s.ticket until tries came) (all-each c gap s.ticket until tries came) came s named q old
     (λ target signs fits at.
     let fewer = left-fewer c (targets c q) target.link tries fits in
-    let less = turns (left_at c target.link (c.realm.tries - 1)) (c.realm.tries * length (targets c q))
+    let less = turns (left_at c target.link (c.realm.tries - 1)) (c.realm.tries * length (one_each (targets c q)))
     (c.realm.wait + gap) fewer in
     record { beyond = omega arith; lasts = omega (arith, less) })
 

@@ -26,6 +26,8 @@ pub mod TicketLemmas
 pub mod ToRealmLemmas
 pub mod DrawLemmas
 pub mod SumLemmas
+pub mod OneEndLemmas
+pub mod TargetLemmas
 pub mod AmplificationLemmas
 pub mod RequestCauseLemmas
 pub mod BoundLemmas

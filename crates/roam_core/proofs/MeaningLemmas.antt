@@ -1,6 +1,6 @@
 -- Two configurations in which the same names mean a realm: an arrival gives the same event to it, but for which
 -- other realm a request names.
-use Rattle.std.proofs.Common.{◌≡◌, ℕ, Bool, List, [], Option, Some, None, option_map, refl, sym, ap, subst, ◌∙◌, inl, inr}
+use Rattle.std.proofs.Common.{◌≡◌, ℕ, Bool, List, [], length, Option, Some, None, option_map, refl, sym, ap, subst, ◌∙◌, inl, inr}
 use Rattle.std.specs.Prelude.{◌==◌, ◌||◌, if◌then◌else◌, Result, Ok, Err}
 use Rattle.std.specs.Option.{option_and_then, option_map_or}
 use Rattle.std.proofs.lemmas.Bool.{cases_Bool}
@@ -12,7 +12,7 @@ use Rattle.roam_wire.specs.declared.attribute_type.TheConstants.{USER_NAME}
 use Rattle.roam_wire.specs.declared.refusal.Refusal.{Refusal}
 use Rattle.roam_wire.specs.declared.refusal.Refusal.TheVariants as refusal
 use Rattle.roam_conf.specs.Config.{ConfigView, PeerView, RealmView}
-use Rattle.roam_conf.specs.Lookup.{realm_named, peer_with_ip, link_in, home_in}
+use Rattle.roam_conf.specs.Lookup.{asker_at, realm_named, peer_with_ip, link_in, home_in}
 use Rattle.roam_conf.specs.Secrets as secrets
 use Rattle.roam_address.specs.declared.address.Address.{Address}
 use Rattle.roam_address.specs.declared.endpoint.Endpoint.{Endpoint}
@@ -26,6 +26,7 @@ use Rattle.roam_route.specs.Shapings.{sent_length}
 use Rattle.roam_route.specs.Admission.{Arrival, Admission, sender, checked, forwarded_for, answered_by, accounted, accounting_in, is_answered_unnamed, route_request, request_admission, packet_admission, sent_admission, read_admission, admission, is_taken, peer_secret, home_secret, has_few_attributes, is_rightly_signed, is_rightly_sealed, has_needed_seal, has_few_hops, seal_required}
 use Rattle.roam_route.specs.declared.job.Side.{Side}
 use Rattle.roam_route.specs.declared.job.Side.TheVariants as side
+use Rattle.roam_route.proofs.AlikeLemmas.{there-same}
 use Rattle.roam_core.specs.Isolation.{is_realm}
 use Rattle.roam_core.specs.OwnPart.{AgreeFor}
 use Rattle.roam_core.proofs.ToRealmLemmas.{acct-given, auth-given, gives, none-out, none-reverse, own-reversed, same-checked, sent-judged, where_accounted, where_asked}
@@ -68,23 +69,23 @@ module _ (one other : ConfigView) (realm now : ℕ) (agree : AgreeFor one other 
       ∙ sym (acct-given realm now other secret a s p)
 
   route-same : (secret : List ℕ) (a : Arrival) (s : Side) (p : Packet) (at : Place) →
-      ((k : ℕ) → at ≡ place.Reverse k → k ≡ realm) →
+      ((k nth : ℕ) → at ≡ place.Reverse k nth → k ≡ realm) →
       gives realm now (route_request one secret a s p at) ≡ gives realm now (route_request other secret a s p at)
-  route-same secret a s p (place.Reverse k) own_place =
-      rw (own_place k refl)
+  route-same secret a s p (place.Reverse k nth) own_place =
+      rw (own_place k nth refl)
       ((λ i. gives realm now (checked (is_fresh (agree.fresh i) a.seconds p.attributes) refusal.Stale
       (forwarded_for (size-same s p i) a s p realm (realm_of one p.attributes))))
       ∙ own-reversed realm now other.fresh (sent_length other s p realm) a s p (realm_of one p.attributes)
       (realm_of other p.attributes) (realm-alike p.attributes))
-  route-same secret a s p place.Auth own_place =
+  route-same secret a s p (place.Auth nth) own_place =
       let bad = has_bad_password p in
       auth-given realm now one secret a s p bad (has_too_many_hops one.max_hops p) (realm_of one p.attributes)
       ∙ (λ i. if bad || has_too_many_hops (agree.max_hops i) p then []
       else where_asked realm now (takes-same s i) (size-same s p i) a s p (realm-alike p.attributes i))
       ∙ sym (auth-given realm now other secret a s p bad (has_too_many_hops other.max_hops p)
       (realm_of other p.attributes))
-  route-same secret a s p place.Acct own_place = acct-same secret a s p
-  route-same secret a s p (place.Out k) own_place = acct-same secret a s p
+  route-same secret a s p (place.Acct nth) own_place = acct-same secret a s p
+  route-same secret a s p (place.Out k nth) own_place = acct-same secret a s p
 
   seal-same : (s : Side) (p : Packet) → seal_required one s p ≡ seal_required other s p
   seal-same (side.Peer i) p = rw agree.peers refl
@@ -112,7 +113,7 @@ module _ (one other : ConfigView) (realm now : ℕ) (agree : AgreeFor one other 
       (same-checked realm now (has_few_hops most p) refusal.TooManyHops x y same)))
 
   request-same : (secret : List ℕ) (a : Arrival) (s : Side) (p : Packet) →
-      ((k : ℕ) → a.at ≡ place.Reverse k → k ≡ realm) →
+      ((k nth : ℕ) → a.at ≡ place.Reverse k nth → k ≡ realm) →
       gives realm now (request_admission one secret a s p) ≡ gives realm now (request_admission other secret a s p)
   request-same secret a s p own_place =
       let goes = route_request one secret a s p a.at in
@@ -127,7 +128,7 @@ module _ (one other : ConfigView) (realm now : ℕ) (agree : AgreeFor one other 
       (route-same secret a s p a.at own_place))
 
   -- a request of a peer, and of a home server of the realm
-  peer-same : (a : Arrival) (i : ℕ) (p : Packet) → ((k : ℕ) → a.at ≡ place.Reverse k → k ≡ realm) →
+  peer-same : (a : Arrival) (i : ℕ) (p : Packet) → ((k nth : ℕ) → a.at ≡ place.Reverse k nth → k ≡ realm) →
       gives realm now (request_admission one (peer_secret one i) a (side.Peer i) p)
       ≡ gives realm now (request_admission other (peer_secret other i) a (side.Peer i) p)
   peer-same a i p own_place =
@@ -136,7 +137,7 @@ module _ (one other : ConfigView) (realm now : ℕ) (agree : AgreeFor one other 
       ap (λ (x : List ℕ). gives realm now (request_admission one x a (side.Peer i) p)) secret
       ∙ request-same (peer_secret other i) a (side.Peer i) p own_place
 
-  home-same : (a : Arrival) (i : ℕ) (p : Packet) → ((k : ℕ) → a.at ≡ place.Reverse k → k ≡ realm) →
+  home-same : (a : Arrival) (i : ℕ) (p : Packet) → ((k nth : ℕ) → a.at ≡ place.Reverse k nth → k ≡ realm) →
       gives realm now (request_admission one (home_secret one realm i) a (side.Home i) p)
       ≡ gives realm now (request_admission other (home_secret other realm i) a (side.Home i) p)
   home-same a i p own_place =
@@ -147,22 +148,25 @@ module _ (one other : ConfigView) (realm now : ℕ) (agree : AgreeFor one other 
 
   -- a packet at a place that isn't another realm's
   packet-same : (a : Arrival) (s : Side) (p : Packet) (at : Place) → a.at ≡ at →
-      ((k : ℕ) → at ≡ place.Reverse k → k ≡ realm) →
+      ((k nth : ℕ) → at ≡ place.Reverse k nth → k ≡ realm) →
       gives realm now (packet_admission one a s p at) ≡ gives realm now (packet_admission other a s p at)
-  packet-same a s p (place.Out k) is own_place = refl
-  packet-same a (side.Peer i) p place.Auth is own_place = peer-same a i p (λ k here. own_place k (sym is ∙ here))
-  packet-same a (side.Peer i) p place.Acct is own_place = peer-same a i p (λ k here. own_place k (sym is ∙ here))
-  packet-same a (side.Peer i) p (place.Reverse k) is own_place = peer-same a i p (λ j here. own_place j (sym is ∙ here))
-  packet-same a (side.Home i) p (place.Reverse k) is own_place =
-      rw (own_place k refl) (home-same a i p (λ j here. own_place j (sym is ∙ here)))
-  packet-same a (side.Home i) p place.Auth is own_place = refl
-  packet-same a (side.Home i) p place.Acct is own_place = refl
-  packet-same a (side.Link l) p place.Auth is own_place = refl
-  packet-same a (side.Link l) p place.Acct is own_place = refl
-  packet-same a (side.Link l) p (place.Reverse k) is own_place = refl
+  packet-same a s p (place.Out k nth) is own_place = refl
+  packet-same a (side.Peer i) p (place.Auth nth) is own_place = peer-same a i p (λ k m here. own_place k m (sym is
+      ∙ here))
+  packet-same a (side.Peer i) p (place.Acct nth) is own_place = peer-same a i p (λ k m here. own_place k m (sym is
+      ∙ here))
+  packet-same a (side.Peer i) p (place.Reverse k nth) is own_place = peer-same a i p (λ j m here. own_place j m
+      (sym is ∙ here))
+  packet-same a (side.Home i) p (place.Reverse k nth) is own_place =
+      rw (own_place k nth refl) (home-same a i p (λ j m here. own_place j m (sym is ∙ here)))
+  packet-same a (side.Home i) p (place.Auth nth) is own_place = refl
+  packet-same a (side.Home i) p (place.Acct nth) is own_place = refl
+  packet-same a (side.Link l) p (place.Auth nth) is own_place = refl
+  packet-same a (side.Link l) p (place.Acct nth) is own_place = refl
+  packet-same a (side.Link l) p (place.Reverse k nth) is own_place = refl
 
   -- what it gives to the realm there
-  known-same : (a : Arrival) (p : Packet) (s : Option Side) → ((k : ℕ) → a.at ≡ place.Reverse k → k ≡ realm) →
+  known-same : (a : Arrival) (p : Packet) (s : Option Side) → ((k nth : ℕ) → a.at ≡ place.Reverse k nth → k ≡ realm) →
       gives realm now (sent_admission one a p s) ≡ gives realm now (sent_admission other a p s)
   known-same a p None own_place = refl
   known-same a p (Some s) own_place =
@@ -173,52 +177,58 @@ module _ (one other : ConfigView) (realm now : ℕ) (agree : AgreeFor one other 
       ∙ sym (sent-judged realm now other a p s)
 
   -- and who sent it is the same
-  peer-found : (ip : Address) → peer_with_ip one.peers ip ≡ peer_with_ip other.peers ip
-  peer-found ip = ap (λ (ps : List PeerView). peer_with_ip ps ip) agree.peers
+  asker-found : (own their : List Endpoint) (nth : ℕ) (ip : Address) → length own ≡ length their
+      → asker_at own one.peers nth ip ≡ asker_at their other.peers nth ip
+  asker-found own their nth ip many =
+      ap (λ (ps : List PeerView). asker_at own ps nth ip) agree.peers
+      ∙ there-same own their nth (peer_with_ip other.peers ip) many
 
-  link-found : (from : Endpoint) → link_in one realm from ≡ link_in other realm from
-  link-found from = rw (agree.peers, agree.entry) refl
+  link-found : (nth : ℕ) (from : Endpoint) → link_in one realm nth from ≡ link_in other realm nth from
+  link-found nth from = rw (agree.peers, agree.entry) refl
 
-  home-found : (ip : Address) → home_in one realm ip ≡ home_in other realm ip
-  home-found ip = rw agree.entry refl
+  home-found : (nth : ℕ) (ip : Address) → home_in one realm nth ip ≡ home_in other realm nth ip
+  home-found nth ip = rw agree.entry refl
 
   place-same : (at : Place) (from : Endpoint) (octets : List ℕ) (seconds : Option ℕ) (p : Packet) → let a : Arrival =
       record { at = at; from = from; octets = octets; seconds = seconds } in
       gives realm now (sent_admission one a p (sender one a at))
       ≡ gives realm now (sent_admission other a p (sender other a at))
-  place-same place.Auth from octets seconds p =
-      let a : Arrival = record { at = place.Auth; from = from; octets = octets; seconds = seconds } in
-      rw (peer-found from.ip) (known-same a p (sender other a place.Auth) (λ k is. absurd (cc is)))
-  place-same place.Acct from octets seconds p =
-      let a : Arrival = record { at = place.Acct; from = from; octets = octets; seconds = seconds } in
-      rw (peer-found from.ip) (known-same a p (sender other a place.Acct) (λ k is. absurd (cc is)))
-  place-same (place.Out k) from octets seconds p =
-      let a : Arrival = record { at = place.Out k; from = from; octets = octets; seconds = seconds } in
+  place-same (place.Auth nth) from octets seconds p =
+      let a : Arrival = record { at = (place.Auth nth); from = from; octets = octets; seconds = seconds } in
+      rw (asker-found one.auth other.auth nth from.ip agree.auth)
+      (known-same a p (sender other a (place.Auth nth)) (λ k m is. absurd (cc is)))
+  place-same (place.Acct nth) from octets seconds p =
+      let a : Arrival = record { at = (place.Acct nth); from = from; octets = octets; seconds = seconds } in
+      rw (asker-found one.acct other.acct nth from.ip agree.acct)
+      (known-same a p (sender other a (place.Acct nth)) (λ k m is. absurd (cc is)))
+  place-same (place.Out k nth) from octets seconds p =
+      let a : Arrival = record { at = place.Out k nth; from = from; octets = octets; seconds = seconds } in
       elim (cases_Bool (k == realm)) [
         | inl yes' ↦ (
             let here : k ≡ realm = (Decides-eqb k realm).0 yes' in
-            let found_by : sender one a (place.Out k) ≡ sender other a (place.Out k) =
-            subst (λ (j : ℕ). option_map (λ l. side.Link l) (link_in one j from)
-            ≡ option_map (λ l. side.Link l) (link_in other j from)) (sym here)
-            (ap (λ o. option_map (λ l. side.Link l) o) (link-found from)) in
-            known-same a p (sender one a (place.Out k)) (λ j is. absurd (cc is))
+            let found_by : sender one a (place.Out k nth) ≡ sender other a (place.Out k nth) =
+            subst (λ (j : ℕ). option_map (λ l. side.Link l) (link_in one j nth from)
+            ≡ option_map (λ l. side.Link l) (link_in other j nth from)) (sym here)
+            (ap (λ o. option_map (λ l. side.Link l) o) (link-found nth from)) in
+            known-same a p (sender one a (place.Out k nth)) (λ j m is. absurd (cc is))
             ∙ ap (λ (s : Option Side). gives realm now (sent_admission other a p s)) found_by)
-        | inr no' ↦ none-out realm now one k from octets seconds p (sender one a (place.Out k)) no'
-            ∙ sym (none-out realm now other k from octets seconds p (sender other a (place.Out k)) no')
+        | inr no' ↦ none-out realm now one k nth from octets seconds p (sender one a (place.Out k nth)) no'
+            ∙ sym (none-out realm now other k nth from octets seconds p (sender other a (place.Out k nth)) no')
       ]
-  place-same (place.Reverse k) from octets seconds p =
-      let a : Arrival = record { at = place.Reverse k; from = from; octets = octets; seconds = seconds } in
+  place-same (place.Reverse k nth) from octets seconds p =
+      let a : Arrival = record { at = place.Reverse k nth; from = from; octets = octets; seconds = seconds } in
       elim (cases_Bool (k == realm)) [
         | inl yes' ↦ (
             let here : k ≡ realm = (Decides-eqb k realm).0 yes' in
-            let found_by : sender one a (place.Reverse k) ≡ sender other a (place.Reverse k) =
-            subst (λ (j : ℕ). option_map (λ i. side.Home i) (home_in one j from.ip)
-            ≡ option_map (λ i. side.Home i) (home_in other j from.ip)) (sym here)
-            (ap (λ o. option_map (λ i. side.Home i) o) (home-found from.ip)) in
-            known-same a p (sender one a (place.Reverse k)) (λ j is. (let at_k : k ≡ j = cc is in sym at_k ∙ here))
+            let found_by : sender one a (place.Reverse k nth) ≡ sender other a (place.Reverse k nth) =
+            subst (λ (j : ℕ). option_map (λ i. side.Home i) (home_in one j nth from.ip)
+            ≡ option_map (λ i. side.Home i) (home_in other j nth from.ip)) (sym here)
+            (ap (λ o. option_map (λ i. side.Home i) o) (home-found nth from.ip)) in
+            known-same a p (sender one a (place.Reverse k nth)) (λ j m is. (let at_k : k ≡ j = cc is in sym at_k
+            ∙ here))
             ∙ ap (λ (s : Option Side). gives realm now (sent_admission other a p s)) found_by)
-        | inr no' ↦ none-reverse realm now one k from octets seconds p (home_in one k from.ip) no'
-            ∙ sym (none-reverse realm now other k from octets seconds p (home_in other k from.ip) no')
+        | inr no' ↦ none-reverse realm now one k nth from octets seconds p (home_in one k nth from.ip) no'
+            ∙ sym (none-reverse realm now other k nth from octets seconds p (home_in other k nth from.ip) no')
       ]
 
   read-same : (a : Arrival) (read : Result Packet Refusal) →

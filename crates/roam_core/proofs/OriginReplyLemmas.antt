@@ -1,6 +1,6 @@
 -- A reply keeps what is known: it is returned for the request that waits on its link.
-use Rattle.std.proofs.Common.{◌≡◌, ℕ, ◌+◌, Bool, true, false, List, [], ◌∷◌, ◌++◌, Option, Some, None, refl, sym, ap, subst, arith, eqb, ltb, inl, inr}
-use Rattle.std.specs.Prelude.{◌&&◌}
+use Rattle.std.proofs.Common.{◌≡◌, ℕ, ◌+◌, Bool, true, false, List, [], ◌∷◌, ◌++◌, Option, Some, None, refl, sym, ap, ◌∙◌, subst, arith, eqb, ltb, inl, inr}
+use Rattle.std.specs.Prelude.{◌&&◌, ◌==◌}
 use Rattle.std.proofs.lemmas.Bool.{cases_Bool}
 use Rattle.std.proofs.lemmas.Bool.Decides.{nat_tests}
 use Rattle.roam_wire.specs.Packet.{Packet}
@@ -27,20 +27,24 @@ use Rattle.roam_book.specs.declared.state.start.Start.{Start}
 use Rattle.roam_core.specs.Provenance.{IsSentBy, IsReturned, WaitsFor, StandsFrom, ComesFrom}
 use Rattle.roam_core.proofs.OriginLemmas.{EachComes, AreSentBy, TurnKeeps, request-later, each-later, in_time-keeps}
 
+-- two numbers that are equal make the same
+pair-equal : (f : ℕ → ℕ → Link) (a b out other : ℕ) → (a == b && out == other) ≡ true → f a out ≡ f b other
+pair-equal f a b out other h =
+    let first : a ≡ b = grind (arith, nat_tests, h) in
+    let second : out ≡ other = grind (arith, nat_tests, h) in
+    ap (λ x. f x out) first ∙ ap (f b) second
+
 -- links that are the same are equal
 pub same_link-equal : (a b : Link) → same_link a b ≡ true → a ≡ b
-same_link-equal (link.Auth a) (link.Auth b) h =
-    let is : a ≡ b = grind (arith, nat_tests, h) in ap link.Auth is
-same_link-equal (link.Auth a) (link.Acct b) h = absurd (let k : false ≡ true = h in cc)
-same_link-equal (link.Auth a) (link.Coa b) h = absurd (let k : false ≡ true = h in cc)
-same_link-equal (link.Acct a) (link.Auth b) h = absurd (let k : false ≡ true = h in cc)
-same_link-equal (link.Acct a) (link.Acct b) h =
-    let is : a ≡ b = grind (arith, nat_tests, h) in ap link.Acct is
-same_link-equal (link.Acct a) (link.Coa b) h = absurd (let k : false ≡ true = h in cc)
-same_link-equal (link.Coa a) (link.Auth b) h = absurd (let k : false ≡ true = h in cc)
-same_link-equal (link.Coa a) (link.Acct b) h = absurd (let k : false ≡ true = h in cc)
-same_link-equal (link.Coa a) (link.Coa b) h =
-    let is : a ≡ b = grind (arith, nat_tests, h) in ap link.Coa is
+same_link-equal (link.Auth a out) (link.Auth b other) h = pair-equal link.Auth a b out other h
+same_link-equal (link.Auth a out) (link.Acct b other) h = absurd (let k : false ≡ true = h in cc)
+same_link-equal (link.Auth a out) (link.Coa b other) h = absurd (let k : false ≡ true = h in cc)
+same_link-equal (link.Acct a out) (link.Auth b other) h = absurd (let k : false ≡ true = h in cc)
+same_link-equal (link.Acct a out) (link.Acct b other) h = pair-equal link.Acct a b out other h
+same_link-equal (link.Acct a out) (link.Coa b other) h = absurd (let k : false ≡ true = h in cc)
+same_link-equal (link.Coa a out) (link.Auth b other) h = absurd (let k : false ≡ true = h in cc)
+same_link-equal (link.Coa a out) (link.Acct b other) h = absurd (let k : false ≡ true = h in cc)
+same_link-equal (link.Coa a out) (link.Coa b other) h = pair-equal link.Coa a b out other h
 
 -- two tests that both hold
 pub both : (a b : Bool) → (a && b) ≡ true → (a ≡ true) × (b ≡ true)

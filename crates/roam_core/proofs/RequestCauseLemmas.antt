@@ -23,7 +23,8 @@ use Rattle.roam_book.specs.Rests.{signs_of}
 use Rattle.roam_book.specs.Conversing.{new_target}
 use Rattle.roam_core.specs.Amplification.{Ends, counted, counted_back, counted_links, may_cause, may_follow}
 use Rattle.roam_core.proofs.SentLemmas.{either}
-use Rattle.roam_core.proofs.SumLemmas.{FitsIn, found-in, sum-filter, sum-put, sum-replaced, targets-fit, new-holds}
+use Rattle.roam_core.proofs.SumLemmas.{found-in, sum-filter, sum-put, sum-replaced, new-holds}
+use Rattle.roam_core.proofs.TargetLemmas.{FitsIn, targets-fit}
 use Rattle.roam_core.proofs.AmplificationLemmas.{at_most, back as back_of, follow as follow_of, forwarded-fits as forwarded-fits_of, guard, more, nothing, weight as weight_of}
 use Rattle.roam_book.specs.declared.state.rest.Rest.{Rest}
 

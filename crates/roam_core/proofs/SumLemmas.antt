@@ -1,31 +1,24 @@
--- Sums over the entries of a realm, and how many of its links are counted.
-use Rattle.std.proofs.Common.{◌≡◌, ℕ, suc, ◌+◌, ◌-◌, ◌*◌, ◌≤◌, Bool, List, [], ◌∷◌, ◌++◌, Option, Some, None, refl, sym, ap, subst, ◌∙◌, inl, inr, arith, length, length-append, drop, drop-drop, eqb, is_some}
+-- Sums over the entries of a realm, how many pass a test, and what holds of the link of a target.
+use Rattle.std.proofs.Common.{◌≡◌, ℕ, ◌+◌, ◌-◌, ◌*◌, ◌≤◌, Bool, List, [], ◌∷◌, ◌++◌, Option, Some, None, ap, subst, ◌∙◌, inl, inr, arith, length, length-append, eqb, is_some}
 use Rattle.std.specs.Prelude.{◌⊎◌, not}
 use Rattle.std.specs.List.{AllByRecursion, filter, find}
 use Rattle.std.specs.Option.{option_or}
 use Rattle.std.proofs.Math.Nat.{mul-le-mul_left}
 use Rattle.std.proofs.lemmas.Bool.{cases_Bool}
 use Rattle.std.proofs.lemmas.List.Elements.{filter-append}
-use Rattle.roam_conf.specs.Config.{ServerView}
 use Rattle.roam_conf.specs.declared.place.Link.{Link}
-use Rattle.roam_conf.specs.declared.place.Link.TheVariants as link
-use Rattle.roam_wire.specs.Reading.{packet_of}
-use Rattle.roam_reverse.specs.Target as reverse
 use Rattle.roam_route.specs.Admission.{PlainOut}
 use Rattle.roam_pending.specs.ListLaws.{IsIn}
 use Rattle.roam_pending.specs.PlainEntry.{PlainEntry, PlainRequest, same_link}
 use Rattle.roam_pending.specs.EntryList.{above, below, put, without}
-use Rattle.roam_pending.proofs.TestLemmas.{all-filter, all-weaker, compared, less, not_less, same}
-use Rattle.roam_book.specs.RealmConfig.{RealmConfig, later_targets, links_from, server_link, server_links, service_of}
+use Rattle.roam_pending.proofs.TestLemmas.{all-append, all-filter, compared, less, not_less, same}
+use Rattle.roam_book.specs.RealmConfig.{RealmConfig}
 use Rattle.roam_book.specs.RealmState.{Target, chosen_target, first_target, next_toward, ready_links, this_or, RealmState}
 use Rattle.roam_book.specs.Rests.{stands_back, has_moment}
-use Rattle.roam_book.specs.OnRequest.{coa_links, is_reverse, targets}
 use Rattle.roam_book.specs.declared.state.rest.Rest.{Rest}
-use Rattle.roam_book.specs.declared.state.service.Service.{Service}
-use Rattle.roam_book.specs.declared.state.service.Service.TheVariants as service
-use Rattle.roam_book.specs.Conversing.{asked_state, bound_link, bound_links, bound_target, new_target, untried}
+use Rattle.roam_book.specs.Conversing.{asked_state, bound_link, bound_links, bound_target, new_target, same_end, untried}
 use Rattle.roam_core.proofs.SentLemmas.{either}
-use Rattle.roam_core.specs.Amplification.{Ends, TargetsAreFew, counted, counted_links, is_counted, sum_over}
+use Rattle.roam_core.specs.Amplification.{Ends, counted, sum_over}
 
 -- How many pass a test
 
@@ -160,7 +153,9 @@ chosen-holds Q c now rests cursors es links target h at =
 bound-all : (Q : Link → Type 0) (bound : Option Link) (links : List Link) → AllByRecursion Q links →
     AllByRecursion Q (bound_links bound links)
 bound-all Q None links h = tt
-bound-all Q (Some k) links h = all-filter Q (same_link k) links h
+bound-all Q (Some k) links h =
+    all-append Q (filter (same_link k) links) (filter (same_end k) links) (all-filter Q (same_link k) links h)
+    (all-filter Q (same_end k) links h)
 
 untried-all : (Q : Link → Type 0) (c : RealmConfig) (rests : List Rest) (q : PlainRequest) (links : List Link) →
     AllByRecursion Q links → AllByRecursion Q (untried c rests q links)
@@ -186,78 +181,6 @@ new-holds Q c now s es q links target h at =
                 first-holds Q c s.cursors es (untried c s.rests q links) target (untried-all Q c s.rests q links h) u
             | inr d ↦ chosen-holds Q c now s.rests s.cursors es links target h d
           ]
-    ]
-
--- Links that come after others
-
--- a link and its later targets are at most so many
-abbrev pub FitsIn : RealmConfig → Ends → ℕ → Link → Type 0
-FitsIn c ends n l = counted_links c ends (l ∷ []) + counted_links c ends (later_targets c l) ≤ n
-
-drop-next : (n : ℕ) (xs ys : List ServerView) (y : ServerView) → drop n xs ≡ y ∷ ys → drop (n + 1) xs ≡ ys
-drop-next n xs ys y is = sym (drop-drop 1 n xs) ∙ ap (drop 1) is
-
-later-are : (c : RealmConfig) (s : Service) (place : ℕ) →
-    later_targets c (server_link s place) ≡ links_from c s (place + 1)
-later-are c service.Authentication place = refl
-later-are c service.Accounting place = refl
-
-servers-fit : (c : RealmConfig) (ends : Ends) (s : Service) (place : ℕ) (xs : List ServerView) →
-    drop place c.realm.servers ≡ xs →
-    AllByRecursion (FitsIn c ends (counted_links c ends (server_links s place xs))) (server_links s place xs)
-servers-fit c ends s place [] is = tt
-servers-fit c ends s place (x ∷ xs) is =
-    let next = drop-next place c.realm.servers xs x is in
-    let here = server_link s place in
-    let others = server_links s (place + 1) xs in
-    let later : later_targets c here ≡ others = later-are c s place ∙ ap (server_links s (place + 1)) next in
-    let same = ap (counted_links c ends) later in
-    let count = counts (is_counted c ends) here others in
-    let all = servers-fit c ends s (place + 1) xs next in (
-      omega (arith, same, count),
-      all-weaker (FitsIn c ends (counted_links c ends others)) (FitsIn c ends (counted_links c ends (here ∷ others)))
-          others
-          (λ l fits. omega (arith, fits, count)) all,
-    )
-
-links-fit : (c : RealmConfig) (ends : Ends) (s : Service) (place : ℕ) →
-    AllByRecursion (FitsIn c ends (counted_links c ends (links_from c s place))) (links_from c s place)
-links-fit c ends s place = servers-fit c ends s place (drop place c.realm.servers) refl
-
-coa-fit : (c : RealmConfig) (ends : Ends) (peer : Option ℕ) →
-    AllByRecursion (FitsIn c ends (counted_links c ends (coa_links peer))) (coa_links peer)
-coa-fit c ends None = tt
-coa-fit c ends (Some peer) = (omega arith, tt)
-
--- so do those of a request, and those after a link
-pub targets-fit : (c : RealmConfig) (ends : Ends) (q : PlainRequest) →
-    AllByRecursion (FitsIn c ends (counted_links c ends (targets c q))) (targets c q)
-targets-fit c ends q =
-    either (λ (ls : List Link). AllByRecursion (FitsIn c ends (counted_links c ends ls)) ls) (is_reverse q) _ _
-    (coa-fit c ends (reverse.target c.peers (packet_of q.octets).attributes))
-    (links-fit c ends (service_of (packet_of q.octets).code) 0)
-
-pub later-fit : (c : RealmConfig) (ends : Ends) (l : Link) →
-    AllByRecursion (FitsIn c ends (counted_links c ends (later_targets c l))) (later_targets c l)
-later-fit c ends (link.Auth server) = links-fit c ends service.Authentication (server + 1)
-later-fit c ends (link.Acct server) = links-fit c ends service.Accounting (server + 1)
-later-fit c ends (link.Coa peer) = tt
-
--- how many they are
-servers-count : (s : Service) (place : ℕ) (xs : List ServerView) → length (server_links s place xs) ≡ length xs
-servers-count s place [] = refl
-servers-count s place (x ∷ xs) = ap suc (servers-count s (place + 1) xs)
-
-coa-count : (peer : Option ℕ) → length (coa_links peer) ≤ 1
-coa-count None = omega arith
-coa-count (Some peer) = omega arith
-
-pub targets_are_few : TargetsAreFew
-targets_are_few c q =
-    let all = servers-count (service_of (packet_of q.octets).code) 0 c.realm.servers in
-    elim (cases_Bool (is_reverse q)) [
-      | inl y ↦ rw y (coa-count (reverse.target c.peers (packet_of q.octets).attributes))
-      | inr n ↦ rw n (omega (arith, all))
     ]
 
 -- Products

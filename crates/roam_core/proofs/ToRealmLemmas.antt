@@ -220,14 +220,14 @@ module _ (realm now : ℕ) where
   -- a Status-Server's code is taken for nothing else
   pub not_taken : (config : ConfigView) (at : Place) (s : Side) (code : ℕ) → is_status_request config at s code ≡ true →
       is_taken at s code ≡ false
-  not_taken config place.Auth (side.Peer i) code is = grind (arith, nat_tests, is)
-  not_taken config place.Acct (side.Peer i) code is = grind (arith, nat_tests, is)
-  not_taken config place.Auth (side.Link l) code is = refl
-  not_taken config place.Acct (side.Link l) code is = refl
-  not_taken config place.Auth (side.Home i) code is = refl
-  not_taken config place.Acct (side.Home i) code is = refl
-  not_taken config (place.Out k) s code is = absurd (cc is)
-  not_taken config (place.Reverse k) s code is = absurd (cc is)
+  not_taken config (place.Auth nth) (side.Peer i) code is = grind (arith, nat_tests, is)
+  not_taken config (place.Acct nth) (side.Peer i) code is = grind (arith, nat_tests, is)
+  not_taken config (place.Auth nth) (side.Link l) code is = refl
+  not_taken config (place.Acct nth) (side.Link l) code is = refl
+  not_taken config (place.Auth nth) (side.Home i) code is = refl
+  not_taken config (place.Acct nth) (side.Home i) code is = refl
+  not_taken config (place.Out k nth) s code is = absurd (cc is)
+  not_taken config (place.Reverse k nth) s code is = absurd (cc is)
 
   -- so it gives nothing to a realm, whether it is answered or not
   abbrev pub judged : ConfigView → Arrival → Packet → Side → Admission
@@ -242,28 +242,29 @@ module _ (realm now : ℕ) where
       ]
 
   -- at another realm's places nothing is the realm's
-  pub none-out : (config : ConfigView) (k : ℕ) (from : Endpoint) (octets : List ℕ) (seconds : Option ℕ) (p : Packet)
+  pub none-out : (config : ConfigView) (k nth : ℕ) (from : Endpoint) (octets : List ℕ) (seconds : Option ℕ) (p : Packet)
       (s : Option Side) →
       (k == realm) ≡ false
       → gives
-      (sent_admission config (record { at = place.Out k; from = from; octets = octets; seconds = seconds }) p s) ≡ []
-  none-out config k from octets seconds p None differs = refl
-  none-out config k from octets seconds p (Some s) differs =
-      let a : Arrival = record { at = place.Out k; from = from; octets = octets; seconds = seconds } in
-      none-checked (is_taken (place.Out k) s p.code) refusal.WrongCode (job_of a s p k None)
+      (sent_admission config
+      (record { at = place.Out k nth; from = from; octets = octets; seconds = seconds }) p s) ≡ []
+  none-out config k nth from octets seconds p None differs = refl
+  none-out config k nth from octets seconds p (Some s) differs =
+      let a : Arrival = record { at = place.Out k nth; from = from; octets = octets; seconds = seconds } in
+      none-checked (is_taken (place.Out k nth) s p.code) refusal.WrongCode (job_of a s p k None)
       (none-given k a s p None differs)
 
-  pub none-reverse : (config : ConfigView) (k : ℕ) (from : Endpoint) (octets : List ℕ) (seconds : Option ℕ)
+  pub none-reverse : (config : ConfigView) (k nth : ℕ) (from : Endpoint) (octets : List ℕ) (seconds : Option ℕ)
       (p : Packet) (o : Option ℕ) →
       (k == realm) ≡ false
       → gives
-      (sent_admission config (record { at = place.Reverse k; from = from; octets = octets; seconds = seconds }) p
+      (sent_admission config (record { at = place.Reverse k nth; from = from; octets = octets; seconds = seconds }) p
       (option_map (λ i. side.Home i) o)) ≡ []
-  none-reverse config k from octets seconds p None differs = refl
-  none-reverse config k from octets seconds p (Some i) differs =
-      let a : Arrival = record { at = place.Reverse k; from = from; octets = octets; seconds = seconds } in
+  none-reverse config k nth from octets seconds p None differs = refl
+  none-reverse config k nth from octets seconds p (Some i) differs =
+      let a : Arrival = record { at = place.Reverse k nth; from = from; octets = octets; seconds = seconds } in
       let secret = home_secret config k i in
-      none-checked (is_taken (place.Reverse k) (side.Home i) p.code) refusal.WrongCode
+      none-checked (is_taken (place.Reverse k nth) (side.Home i) p.code) refusal.WrongCode
       (request_admission config secret a (side.Home i) p)
       (none-checked (has_few_attributes config.max_attributes p) refusal.TooManyAttributes _
       (none-checked (is_rightly_signed secret p) refusal.BadAuthenticator _

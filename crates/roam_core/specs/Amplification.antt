@@ -2,8 +2,9 @@
 -- came, whatever replies and ticks come besides. Counted are all packets, or those that leave from a place
 -- and go to an endpoint: toward one home server, say, or back to one sender.
 use Rattle.std.specs.Prelude.{◌≡◌, ◌≤◌, ◌+◌, ◌*◌, ℕ, Bool, false, List, [], ◌∷◌, length, if◌then◌else◌}
-use Rattle.std.specs.List.{filter}
+use Rattle.std.specs.List.{filter, list_any}
 use Rattle.roam_address.specs.declared.endpoint.Endpoint.{Endpoint}
+use Rattle.roam_conf.specs.Lookup.{out_of}
 use Rattle.roam_conf.specs.declared.place.Link.{Link}
 use Rattle.roam_conf.specs.declared.place.Place.{Place}
 use Rattle.roam_conf.specs.declared.place.Place.TheVariants as place
@@ -11,6 +12,7 @@ use Rattle.roam_route.specs.Admission.{PlainOut}
 use Rattle.roam_pending.specs.declared.key.Key.{Key}
 use Rattle.roam_pending.specs.DueOrder.{due_list}
 use Rattle.roam_pending.specs.PlainEntry.{PlainEntry, PlainRequest, PlainStanding, waiting, done}
+use Rattle.roam_book.specs.Conversing.{same_end}
 use Rattle.roam_book.specs.RealmConfig.{RealmConfig, later_targets, link_endpoint}
 use Rattle.roam_book.specs.RealmState.{RealmState}
 use Rattle.roam_book.specs.Turn.{packets_of}
@@ -21,14 +23,15 @@ use Rattle.roam_core.specs.Openings.{one_realm_packets}
 
 -- ## Amplification
 -- Packets are counted by the place that they leave from and the endpoint that they go to: all of them, those
--- toward one server, those back to one sender. What a request may cause: `tries` packets to each of its targets
--- that is counted, and one back to its sender. A reply or a tick causes nothing of its own. What may still
--- follow for an entry that waits: as many packets as sends are left, `tries` to each later target, and one
--- back; for one that is done nothing. What was sent, and what may still follow then, is at most what might
--- follow before and what the requests that came may cause. A request sends at most one packet, a reply too, a
--- tick at most one for each due entry.
+-- toward one server, those back to one sender. Links to one server by several `out` count once: a request is sent
+-- there by one of them. What a request may cause: `tries` packets to each server among its targets toward which any
+-- are counted, and one back to its sender. A reply or a tick causes nothing of its own. What may still follow for an
+-- entry that waits: as many packets as sends are left, `tries` to each later server, and one back; for one that is
+-- done nothing. What was sent, and what may still follow then, is at most what might follow before and what the
+-- requests that came may cause. A request sends at most one packet, a reply too, a tick at most one for each due entry.
 -- Source: ours
--- Rules out: a resend that uses up no send; a failover to a server that had its turn; a reply returned twice
+-- Rules out: a resend that uses up no send; a failover to a server that had its turn, by another `out` too; a reply
+-- returned twice
 -- Stands in: `roam_core` `Amplification.antt`: `Ends`, `NoAmplification`, `NoAmplificationFromStart`,
 -- `OnePacketEach`; the law `no_amplification`
 --
@@ -40,18 +43,23 @@ Ends = Place → Endpoint → Bool
 abbrev pub counted : Ends → List PlainOut → ℕ
 counted ends packets = length (filter (λ out. ends out.from out.to) packets)
 
--- whether packets of the realm toward a link are counted, and toward how many of some links
+-- one of some links for each end that they lead to, by whichever `out`: the last of these
+abbrev pub one_each : List Link → List Link
+one_each [] = []
+one_each (l ∷ ls) = if list_any (same_end l) ls then one_each ls else l ∷ one_each ls
+
+-- whether packets of the realm toward a link are counted, and to how many ends those of some links lead that are
 abbrev pub is_counted : RealmConfig → Ends → Link → Bool
-is_counted c ends l = ends (place.Out c.index) (link_endpoint c l)
+is_counted c ends l = ends (place.Out c.index (out_of l)) (link_endpoint c l)
 
 abbrev pub counted_links : RealmConfig → Ends → List Link → ℕ
-counted_links c ends links = length (filter (is_counted c ends) links)
+counted_links c ends links = length (one_each (filter (is_counted c ends) links))
 
 -- whether a packet back to the sender of a request is counted: 1 or 0
 abbrev pub counted_back : Ends → Key → ℕ
 counted_back ends key = if ends key.place key.from then 1 else 0
 
--- what a request may cause: `tries` packets to each of its targets, and one back to its sender
+-- what a request may cause: `tries` packets to each end that its targets lead to, and one back to its sender
 abbrev pub may_cause : RealmConfig → Ends → PlainRequest → ℕ
 may_cause c ends q =
     c.realm.tries * counted_links c ends (targets c q) + counted_back ends q.key
@@ -67,7 +75,7 @@ may_be_caused c ends [] = 0
 may_be_caused c ends (e ∷ es) = caused_by c ends e + may_be_caused c ends es
 
 -- what may still be sent for an entry that waits: to its link as often as sends are left, `tries` packets
--- to each of the later targets, and one back. For one that is done nothing, unless its request comes again
+-- to each end of the later targets, and one back. For one that is done nothing, unless its request comes again
 abbrev pub may_follow : RealmConfig → Ends → Key → PlainStanding → ℕ
 may_follow c ends key (waiting l id forwarded sends_left deadline signs) =
     sends_left * counted_links c ends (l ∷ [])
@@ -111,7 +119,7 @@ requests_from ends (tick_came now ∷ es) = requests_from ends es
 abbrev pub NoMoreAnswersThanRequests : Type 0
 NoMoreAnswersThanRequests =
     (c : RealmConfig) (ends : Ends) (start : Start) (events : List RealmEvent)
-    → 1 ≤ c.realm.tries → ((to : Endpoint) → ends (place.Out c.index) to ≡ false)
+    → 1 ≤ c.realm.tries → ((nth : ℕ) (to : Endpoint) → ends (place.Out c.index nth) to ≡ false)
     → counted ends (one_realm_packets c start events) ≤ requests_from ends events
 
 -- one event: a request sends one packet at most, a reply too, and a tick one for each entry that is due
@@ -125,8 +133,8 @@ OnePacketEach =
     (c : RealmConfig) (s : RealmState) (e : RealmEvent)
     → length (packets_of (on_event c s e)) ≤ sends_at_most s e
 
--- how many targets there are: of a reverse request one at most, of any other the realm's servers
+-- to how many ends targets lead: those of a reverse request to one at most, of any other to the realm's servers
 abbrev pub TargetsAreFew : Type 0
 TargetsAreFew =
     (c : RealmConfig) (q : PlainRequest)
-    → length (targets c q) ≤ (if is_reverse q then 1 else length c.realm.servers)
+    → length (one_each (targets c q)) ≤ (if is_reverse q then 1 else length c.realm.servers)

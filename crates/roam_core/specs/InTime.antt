@@ -8,6 +8,7 @@ use Rattle.roam_book.specs.Turn.{latest_moment}
 use Rattle.roam_book.specs.OnRequest.{targets}
 use Rattle.roam_book.specs.OneRealm.{RealmEvent, request_came, reply_came, tick_came}
 use Rattle.roam_book.specs.declared.state.start.Start.{Start}
+use Rattle.roam_core.specs.Amplification.{one_each}
 use Rattle.roam_core.specs.Openings.{state_then}
 use Rattle.roam_core.specs.Provenance.{TakesTicket}
 
@@ -36,16 +37,17 @@ abbrev pub last_moment : ℕ → List RealmEvent → ℕ
 last_moment before [] = before
 last_moment before (e ∷ es) = last_moment (moment_of e) es
 
--- how long a request may wait: each packet to a target for `wait`, and until the tick that follows
+-- how long a request may wait: each packet to a target for `wait`, and until the tick that follows; of the links to
+-- one server it is sent by one
 abbrev pub longest_wait : RealmConfig → ℕ → PlainRequest → ℕ
-longest_wait c gap q = c.realm.tries * length (targets c q) * (c.realm.wait + gap)
+longest_wait c gap q = c.realm.tries * length (one_each (targets c q)) * (c.realm.wait + gap)
 
 -- ## In time
 -- Events are in time for a gap where moments don't go back, and none comes more than `gap` milliseconds after
--- the tick before it. The longest wait of a request is `tries` times its targets times (`wait` + gap). A
--- request comes and is given a ticket; the events after it are in time; once they have lasted so long, no entry
--- of that ticket waits: it was answered, given up, or has made way. That ticks come, and aren't lost for want
--- of memory, is the premise and isn't claimed.
+-- the tick before it. The longest wait of a request is `tries` times the servers among its targets times (`wait` +
+-- gap), however many `out` the realm has. A request comes and is given a ticket; the events after it are in time; once
+-- they have lasted so long, no entry of that ticket waits: it was answered, given up, or has made way. That ticks come,
+-- and aren't lost for want of memory, is the premise and isn't claimed.
 -- Source: ours
 -- Rules out: a request that waits for ever at a silent server
 -- Stands in: `roam_core` `InTime.antt`: `NoneWaitsLonger`; the law `bounded_waits`

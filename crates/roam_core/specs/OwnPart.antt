@@ -1,6 +1,6 @@
--- Which part of a configuration decides what a realm sends (ours): its own entry, the peers, which names mean it,
--- the limits of attributes, hops and a reverse request's age, the seed and the number of shards. What it says of
--- other realms isn't looked at, nor which they are.
+-- Which part of a configuration decides what a realm sends (ours): its own entry, the peers, at how many `auth` and
+-- `acct` these ask, which names mean it, the limits of attributes, hops and a reverse request's age, the seed and the
+-- number of shards. What it says of other realms isn't looked at, nor which they are.
 use Rattle.std.specs.Prelude.{◌≡◌, ◌<◌, ◌≤◌, ℕ, List, length, slice_get}
 use Rattle.roam_conf.specs.Config.{ConfigView}
 use Rattle.roam_conf.specs.Lookup.{realm_named}
@@ -12,15 +12,15 @@ use Rattle.roam_core.specs.ManyRealms.{answers_to}
 use Rattle.roam_core.specs.Openings.{openings, start_of}
 
 -- ## Own part of a configuration
--- For what a realm sends: the peers, which names mean it, `max_attributes`, `max_hops`, `fresh`, its own table, the
--- seed and the number of shards. Of another realm nothing is looked at, not even which there are: of each name only
--- whether it means this realm. So other realms may be added, removed and renamed, and one broker of N realms is,
--- realm by realm, N brokers. (A realm with a suffix or with `*` takes the names that a removed realm leaves: then a
--- name means it that didn't, and the two don't agree for it.) For what one arrival gives to the realm, octet for
--- octet with the realm that a request names: the peers, what each name means, `max_attributes`, `max_hops`, `fresh`
--- and the realm's own table. For the broker's own answers: the peers, what each name means, `max_attributes`,
--- `max_hops`, `status_server`, `answer_unnamed`, and of each realm which peers may ask it and what becomes of its
--- accounting.
+-- For what a realm sends: how many `auth` and `acct` there are, the peers, which names mean it, `max_attributes`,
+-- `max_hops`, `fresh`, its own table, the seed and the number of shards. Of another realm nothing is looked at, not
+-- even which there are: of each name only whether it means this realm. So other realms may be added, removed and
+-- renamed, and one broker of N realms is, realm by realm, N brokers. (A realm with a suffix or with `*` takes the names
+-- that a removed realm leaves: then a name means it that didn't, and the two don't agree for it.) For what one arrival
+-- gives to the realm, octet for octet with the realm that a request names: how many `auth` and `acct` there are, the
+-- peers, what each name means, `max_attributes`, `max_hops`, `fresh` and the realm's own table. For the broker's own
+-- answers: how many `auth` and `acct` there are, the peers, what each name means, `max_attributes`, `max_hops`,
+-- `status_server`, `answer_unnamed`, and of each realm which peers may ask it and what becomes of its accounting.
 -- Source: ours
 -- Rules out: another realm's server, secret, socket, name or being there that takes a realm's arrivals away or
 -- changes its packets, or decides whether the broker answers itself
@@ -36,6 +36,8 @@ MeanAlike one other realm =
 
 -- two configurations agree for a realm: what an arrival gives to it, its random words, and its ticks
 pub record AgreeFor (one other : ConfigView) (realm : ℕ) : Type 0 where
+  pub auth : length one.auth ≡ length other.auth
+  pub acct : length one.acct ≡ length other.acct
   pub peers : one.peers ≡ other.peers
   pub names : MeanAlike one other realm
   pub max_attributes : one.max_attributes ≡ other.max_attributes

@@ -56,14 +56,14 @@ all_sent_for c ticket s (e ∷ es) =
 
 -- ## Sent for one request
 -- The packets of a ticket: those of the turn that takes it, those of a later tick for the due entry of that
--- ticket, and the one of a reply for an entry of that ticket. At most `tries` of them leave for each target of
--- the request, and one goes back, whatever comes between. (A held reply that is sent again to a duplicate isn't
--- among them: the duplicate causes it.)
+-- ticket, and the one of a reply for an entry of that ticket. At most `tries` of them leave for each server among the
+-- targets of the request, by however many `out`, and one goes back, whatever comes between. (A held reply that is sent
+-- again to a duplicate isn't among them: the duplicate causes it.)
 -- Source: ours
 -- Rules out: a request that is sent for ever
 -- Stands in: `roam_core` `SentFor.antt`: `AtMostTriesToEach`; the law `sent_for_one_request`
 --
--- for one request of a list at most `tries` packets leave for each of its targets, and one goes back,
+-- for one request of a list at most `tries` packets leave for each end that its targets lead to, and one goes back,
 -- whatever else comes
 abbrev pub AtMostTriesToEach : Type 0
 AtMostTriesToEach =

@@ -7,8 +7,8 @@ ghost use Rattle.roam_core.specs.Amplification.{TargetsAreFew};
 ghost use Rattle.roam_core.specs.InTime.{NoneWaitsLonger};
 ghost use Rattle.roam_core.specs.SentFor.{AtMostTriesToEach};
 
-/// For each request that comes a realm sends at most `tries` packets to each of its targets, and one
-/// back to its sender. A request or a reply sends at most one packet, a tick one for each due entry.
+/// For each request that comes a realm sends at most `tries` packets to each server among its targets, by however many
+/// `out`, and one back to its sender. A request or a reply sends at most one packet, a tick one for each due entry.
 pub fn no_amplification()
     ensures from_start { NoAmplificationFromStart }
     ensures from_states { NoAmplification }
@@ -17,7 +17,7 @@ pub fn no_amplification()
     ensures targets { TargetsAreFew }
 {}
 
-/// For one request at most `tries` packets leave for each of its targets, and one goes back.
+/// For one request at most `tries` packets leave for each server among its targets, and one goes back.
 pub fn sent_for_one_request()
     ensures { AtMostTriesToEach }
 {}

@@ -49,11 +49,11 @@ pub fn two_worlds()
     ensures from_states { SameInTwoWorlds }
 {}
 
-/// What a realm sends is decided by its own part of the configuration: its own entry, the peers, which names
-/// mean it, the limits of attributes, hops and a reverse request's age, the seed and the number of shards. Given the
-/// same events, it sends the same packets whatever else the configuration says of other realms, and whichever there
-/// are: they may be added, removed and renamed. So one broker of some realms is, realm by realm, as many brokers of
-/// one.
+/// What a realm sends is decided by its own part of the configuration: its own entry, the peers, at how many `auth` and
+/// `acct` these ask, which names mean it, the limits of attributes, hops and a reverse request's age, the seed and the
+/// number of shards. Given the same events, it sends the same packets whatever else the configuration says of other
+/// realms, and whichever there are: they may be added, removed and renamed. So one broker of some realms is, realm by
+/// realm, as many brokers of one.
 pub fn own_part()
     ensures packets { SamePacketsOfOwnPart }
     ensures events { SameOwnEvents }

@@ -60,15 +60,16 @@
 //! - the words of a position are drawn for one forwarding: two Access-Requests that were forwarded with them
 //!   are the same packet for the same request, under the same ticket (RFC 2865, section 3) | law `life_draws`:
 //!   `once`
-//! - for whichever place and endpoint one counts: at most `tries` packets for each target of each request that
-//!   came, and one back for each; per request and per reply at most one packet, per tick at most one for each
-//!   due entry; from any state | law `no_amplification`; `bounded_in_histories`
-//! - of one request, by its ticket: at most `tries` packets to each of its targets, and one back | law
-//!   `sent_for_one_request`
-//! - no entry waits longer than `tries` x targets x (`wait` + g), while moments don't go back and no event
-//!   comes more than g after the tick before it. That ticks come is the premise, and not claimed; where a tick
-//!   has a part of what is due, moments go back, by 100 ms at most, and the law says nothing of that stretch |
-//!   law `bounded_waits`; `bounded_waits_in_histories`
+//! - for whichever places and endpoints one counts: at most `tries` packets for each server among the targets of
+//!   each request that came, by however many `out`, and one back for each; per request and per reply at most one
+//!   packet, per tick at most one for each due entry; from any state | law `no_amplification`;
+//!   `bounded_in_histories`
+//! - of one request, by its ticket: at most `tries` packets to each server among its targets, by however many `out`,
+//!   and one back | law `sent_for_one_request`
+//! - no entry waits longer than `tries` x servers x (`wait` + g), of the servers among its request's targets, while
+//!   moments don't go back and no event comes more than g after the tick before it. That ticks come is the premise,
+//!   and not claimed; where a tick has a part of what is due, moments go back, by 100 ms at most, and the law says
+//!   nothing of that stretch | law `bounded_waits`; `bounded_waits_in_histories`
 #![tactic(auto)]
 
 mod bounds;

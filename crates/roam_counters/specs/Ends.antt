@@ -1,7 +1,7 @@
 -- Who is at the other end of a packet. Ours.
 use Rattle.std.specs.Prelude.{ℕ, min, Option, option_map}
 use Rattle.roam_conf.specs.Config.{ConfigView}
-use Rattle.roam_conf.specs.Lookup.{home_in, link_in, peer_with_ip}
+use Rattle.roam_conf.specs.Lookup.{asker_at, home_in, link_in}
 use Rattle.roam_address.specs.declared.endpoint.Endpoint.{Endpoint}
 use Rattle.roam_conf.specs.declared.place.Link.{Link}
 use Rattle.roam_conf.specs.declared.place.Link.TheVariants as link
@@ -12,9 +12,9 @@ use Rattle.roam_counters.specs.declared.cell.Subject.TheVariants as subject
 
 -- the subject of a link of a realm
 abbrev pub subject_of : ℕ → Link → Subject
-subject_of realm (link.Auth server) = subject.Server realm server
-subject_of realm (link.Acct server) = subject.Server realm server
-subject_of realm (link.Coa peer) = subject.Peer peer
+subject_of realm (link.Auth server out) = subject.Server realm server
+subject_of realm (link.Acct server out) = subject.Server realm server
+subject_of realm (link.Coa peer out) = subject.Peer peer
 
 -- a source of a realm's reverse requests, by its number: those behind the first eight are one
 abbrev pub source_of : ℕ → ℕ → Subject
@@ -24,7 +24,7 @@ source_of realm home = subject.Server realm (min home 8)
 -- at its
 -- `reverse` a source of its reverse requests by its address
 abbrev pub end_at : ConfigView → Place → Endpoint → Option Subject
-end_at config place.Auth endpoint = option_map subject.Peer (peer_with_ip config.peers endpoint.ip)
-end_at config place.Acct endpoint = option_map subject.Peer (peer_with_ip config.peers endpoint.ip)
-end_at config (place.Out realm) endpoint = option_map (subject_of realm) (link_in config realm endpoint)
-end_at config (place.Reverse realm) endpoint = option_map (source_of realm) (home_in config realm endpoint.ip)
+end_at config (place.Auth nth) endpoint = option_map subject.Peer (asker_at config.auth config.peers nth endpoint.ip)
+end_at config (place.Acct nth) endpoint = option_map subject.Peer (asker_at config.acct config.peers nth endpoint.ip)
+end_at config (place.Out realm nth) endpoint = option_map (subject_of realm) (link_in config realm nth endpoint)
+end_at config (place.Reverse realm nth) endpoint = option_map (source_of realm) (home_in config realm nth endpoint.ip)

@@ -9,10 +9,10 @@ use Rattle.roam_counters.specs.declared.process.Process.TheVariants as process
 
 -- that a datagram came to this place
 abbrev pub received : Place → Process
-received place.Auth = process.ReceivedAuth
-received place.Acct = process.ReceivedAcct
-received (place.Out realm) = process.ReceivedOut
-received (place.Reverse realm) = process.ReceivedReverse
+received (place.Auth nth) = process.ReceivedAuth
+received (place.Acct nth) = process.ReceivedAcct
+received (place.Out realm nth) = process.ReceivedOut
+received (place.Reverse realm nth) = process.ReceivedReverse
 
 -- that this became of a datagram
 abbrev pub handled_as : Handling → Process

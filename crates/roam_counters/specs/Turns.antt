@@ -42,10 +42,10 @@ silence_event (side.Home server) None = Some event.Waiting
 
 -- what leaves for a request from an `out` socket is its forwarded packet, from elsewhere its answer
 abbrev request_packet : Place → ℕ → ℕ → Option CountedEvent
-request_packet (place.Out realm) request code = option_map event.Forwarded (request_of request)
-request_packet place.Auth request code = option_map event.Answered (reply_of code)
-request_packet place.Acct request code = option_map event.Answered (reply_of code)
-request_packet (place.Reverse realm) request code = option_map event.Answered (reply_of code)
+request_packet (place.Out realm nth) request code = option_map event.Forwarded (request_of request)
+request_packet (place.Auth nth) request code = option_map event.Answered (reply_of code)
+request_packet (place.Acct nth) request code = option_map event.Answered (reply_of code)
+request_packet (place.Reverse realm nth) request code = option_map event.Answered (reply_of code)
 
 -- what leaves for a reply is the returned packet
 abbrev pub packet_event : Side → ℕ → Place → ℕ → Option CountedEvent
@@ -60,7 +60,7 @@ outcome_event side request refusal None = silence_event side refusal
 
 -- what leaves in a tick from an `out` socket is a request, from elsewhere an answer
 abbrev pub tick_event : Place → ℕ → Option CountedEvent
-tick_event (place.Out realm) code = option_map event.SentAgain (request_of code)
-tick_event place.Auth code = option_map event.AnsweredByTick (reply_of code)
-tick_event place.Acct code = option_map event.AnsweredByTick (reply_of code)
-tick_event (place.Reverse realm) code = option_map event.AnsweredByTick (reply_of code)
+tick_event (place.Out realm nth) code = option_map event.SentAgain (request_of code)
+tick_event (place.Auth nth) code = option_map event.AnsweredByTick (reply_of code)
+tick_event (place.Acct nth) code = option_map event.AnsweredByTick (reply_of code)
+tick_event (place.Reverse realm nth) code = option_map event.AnsweredByTick (reply_of code)

@@ -1,6 +1,6 @@
 //! Who is at the other end of a packet.
 
-ghost use Rattle.std.specs.Prelude.{◌≡◌};
+ghost use Rattle.std.specs.Prelude.{◌≡◌, option_map};
 ghost use Rattle.roam_conf.specs.Shown.{shown};
 ghost use Rattle.roam_counters.specs.Ends as spec;
 
@@ -12,8 +12,8 @@ pub fn subject_of(realm: u16, link: Link) -> Subject
     ensures { result ≡ spec.subject_of realm link }
 {
     match link {
-        Link::Auth(server) | Link::Acct(server) => Subject::Server(realm, server),
-        Link::Coa(peer) => Subject::Peer(peer),
+        Link::Auth(server, _) | Link::Acct(server, _) => Subject::Server(realm, server),
+        Link::Coa(peer, _) => Subject::Peer(peer),
     }
 }
 
@@ -24,21 +24,29 @@ pub fn source_of(realm: u16, home: u8) -> Subject
     Subject::Server(realm, home.min(8))
 }
 
+/// A peer as a subject, if it is there.
+fn subject_of_peer(peer: Option<u16>) -> Option<Subject>
+    ensures { result ≡ option_map Subject.Peer peer }
+{
+    match peer {
+        Some(peer) => Some(Subject::Peer(peer)),
+        None => None,
+    }
+}
+
 /// Who is at the other end of a packet that comes to this place from this endpoint, or leaves from this place to it;
 /// none where nobody of the configuration has it there.
 pub fn end_at(config: &Config, place: Place, endpoint: Endpoint) -> Option<Subject>
     ensures { result ≡ spec.end_at (shown config.now) place endpoint }
 {
     match place {
-        Place::Auth | Place::Acct => match config.peer_by_ip(endpoint.ip) {
-            Some(peer) => Some(Subject::Peer(peer)),
-            None => None,
-        },
-        Place::Out(realm) => match config.link_of(realm, endpoint) {
+        Place::Auth(nth) => subject_of_peer(config.asker_at_auth(nth, endpoint.ip)),
+        Place::Acct(nth) => subject_of_peer(config.asker_at_acct(nth, endpoint.ip)),
+        Place::Out(realm, nth) => match config.link_of(realm, nth, endpoint) {
             Some(link) => Some(subject_of(realm, link)),
             None => None,
         },
-        Place::Reverse(realm) => match config.home_of(realm, endpoint.ip) {
+        Place::Reverse(realm, nth) => match config.home_of(realm, nth, endpoint.ip) {
             Some(home) => Some(source_of(realm, home)),
             None => None,
         },

@@ -53,10 +53,10 @@ impl Process {
         ensures { result ≡ spec.received place }
     {
         match place {
-            Place::Auth => Process::ReceivedAuth,
-            Place::Acct => Process::ReceivedAcct,
-            Place::Out(_) => Process::ReceivedOut,
-            Place::Reverse(_) => Process::ReceivedReverse,
+            Place::Auth(_) => Process::ReceivedAuth,
+            Place::Acct(_) => Process::ReceivedAcct,
+            Place::Out(_, _) => Process::ReceivedOut,
+            Place::Reverse(_, _) => Process::ReceivedReverse,
         }
     }
 

@@ -70,7 +70,7 @@ impl CountedTurn {
                 Some(kind) => Some(CountedEvent::Returned(kind)),
                 None => None,
             },
-            (_, Place::Out(_)) => match RequestKind::of(self.code) {
+            (_, Place::Out(_, _)) => match RequestKind::of(self.code) {
                 Some(kind) => Some(CountedEvent::Forwarded(kind)),
                 None => None,
             },
@@ -97,7 +97,7 @@ pub fn tick_event(from: Place, code: u8) -> Option<CountedEvent>
     ensures { result ≡ spec.tick_event from code }
 {
     match from {
-        Place::Out(_) => match RequestKind::of(code) {
+        Place::Out(_, _) => match RequestKind::of(code) {
             Some(kind) => Some(CountedEvent::SentAgain(kind)),
             None => None,
         },

@@ -64,10 +64,14 @@ fn has_short_rest(at: Located<'_>) -> bool {
 
 /// Whether the text under the key is an endpoint at all addresses.
 fn is_at_any_address(at: Located<'_>, key: &str) -> bool {
-    match at.keys.text(key) {
-        Some(text) => text.starts_with("0.0.0.0:") || text.starts_with("[::]:"),
-        None => false,
+    for nth in 0..servers::count_under(at.keys, key) {
+        if let Some(endpoint) = servers::nth_under(at.keys, key, nth) {
+            if endpoint.ip.number() == 0 {
+                return true;
+            }
+        }
     }
+    false
 }
 
 impl Unwise {

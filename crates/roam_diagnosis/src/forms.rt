@@ -20,6 +20,8 @@ pub(crate) enum ValueForm {
     Seed,
     /// A text that says where something is.
     Network(NetworkForm),
+    /// An endpoint, or an array of 1 to so many.
+    Endpoints(usize),
     /// A text of 1 to so many octets.
     Text(usize),
     /// A text of 1 to so many octets, none of them 0.
@@ -108,6 +110,7 @@ fn text_fits(form: ValueForm, text: &str) -> bool {
     match form {
         ValueForm::Seed => is_seed(text),
         ValueForm::Network(form) => form.fits(text),
+        ValueForm::Endpoints(_) => NetworkForm::Endpoint.fits(text),
         ValueForm::Text(most) => !text.is_empty() && text.len() <= most,
         ValueForm::Path(most) => is_path(text, most),
         ValueForm::Secret => !text.is_empty() && text.len() <= 64,
@@ -169,7 +172,7 @@ fn may_have(form: ValueForm, items: usize) -> bool {
         ValueForm::Rejects | ValueForm::NasIds => items <= 1024,
         ValueForm::PeerNames => 1 <= items && items <= 1024,
         ValueForm::RequestRemovals | ValueForm::ReplyRemovals => items <= 64,
-        ValueForm::Tables(most) => 1 <= items && items <= most,
+        ValueForm::Tables(most) | ValueForm::Endpoints(most) => 1 <= items && items <= most,
         ValueForm::FewTables(most) => items <= most,
         _ => false,
     }
@@ -198,12 +201,20 @@ pub(crate) fn fits(form: ValueForm, value: &Value) -> bool {
     }
 }
 
+/// Whether an array of the form has texts, each of which may be wrong.
+fn may_be_list(form: ValueForm) -> bool {
+    match form {
+        ValueForm::Endpoints(_) => true,
+        _ => is_list(form),
+    }
+}
+
 /// What of a value is shown that isn't of the form: the first item that doesn't fit, or all of it.
 pub(crate) fn misfit(form: ValueForm, value: &Value) -> &Value {
     let Value::Array(items) = value else {
         return value;
     };
-    if !is_list(form) || !may_have(form, items.len()) {
+    if !may_be_list(form) || !may_have(form, items.len()) {
         return value;
     }
     match first_misfit(form, items.as_slice()) {
@@ -233,6 +244,10 @@ impl fmt::Display for ValueForm {
             ValueForm::StationWord => f.write_str("is neither \"clear\" nor \"hmac\""),
             ValueForm::Seed => f.write_str("is not a text of 64 hexadecimal digits"),
             ValueForm::Network(form) => f.write_str(form.misfit()),
+            ValueForm::Endpoints(most) => {
+                let misfit = NetworkForm::Endpoint.misfit();
+                write!(f, "{misfit}, nor an array of 1..{most} such")
+            }
             ValueForm::Text(most) => write!(f, "is not a text of 1..{most} octets"),
             ValueForm::Path(most) => write!(f, "is not a path of 1..{most} octets"),
             ValueForm::Secret => f.write_str("is not a text of 1..64 octets"),

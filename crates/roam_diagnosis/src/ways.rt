@@ -1,9 +1,9 @@
-//! Which servers are of another kind than their realm's `out`.
+//! Which servers are of a kind that none of their realm's `out` has.
 
 use crate::document::{Document, Located};
 use crate::lines::Lines;
 use crate::place::TableKind;
-use crate::servers::endpoint_under;
+use crate::servers::{count_under, endpoint_under, nth_under};
 use crate::unsaid::Unsaid;
 use roam_conf::Endpoint;
 use std::fmt::Write;
@@ -17,18 +17,27 @@ fn kind_of(endpoint: Endpoint) -> &'static str {
     }
 }
 
-/// Says that a server's endpoint is of another kind than the realm's `out`, where it is.
+/// Whether one of the endpoints under `out` is of the kind of this one.
+fn is_reached(at: Located<'_>, endpoint: Endpoint) -> bool {
+    for nth in 0..count_under(at.named, "out") {
+        if let Some(out) = nth_under(at.named, "out", nth) {
+            if kind_of(out) == kind_of(endpoint) {
+                return true;
+            }
+        }
+    }
+    false
+}
+
+/// Says that a server's endpoint is of a kind that none of the realm's `out` has, where it is.
 fn say_in_server(
     document: &Document<'_>,
     at: Located<'_>,
     key: &str,
     lines: &mut Lines,
 ) -> Result<(), Unsaid> {
-    match (
-        endpoint_under(at.keys, key),
-        endpoint_under(at.named, "out"),
-    ) {
-        (Some(endpoint), Some(out)) if kind_of(endpoint) != kind_of(out) && !lines.is_full() => {
+    match (endpoint_under(at.keys, key), nth_under(at.named, "out", 0)) {
+        (Some(endpoint), Some(out)) if !is_reached(at, endpoint) && !lines.is_full() => {
             let mut line = document.line_at(at, key)?;
             let (kind, other) = (kind_of(endpoint), kind_of(out));
             write!(line, ": \"{endpoint}\" is {kind}, but out is {other}")?;

@@ -1,7 +1,6 @@
 -- How a hub opened, and what its shards' histories are (ours).
 use Rattle.std.specs.Prelude.{ℕ, List, [], None, false}
 use Rattle.roam_conf.specs.Config.{ConfigView}
-use Rattle.roam_book.specs.RealmConfig.{nowhere}
 use Rattle.roam_book.specs.declared.state.start.Start.{Start}
 use Rattle.roam_book.specs.RealmState.{RealmState}
 use Rattle.roam_core.specs.Openings.{openings}
@@ -31,8 +30,8 @@ no_opening = record {
   config = record {
     shards = 0;
     seed = [];
-    auth = nowhere;
-    acct = nowhere;
+    auth = [];
+    acct = [];
     trace_limit = 0;
     trace_octets = 0;
     max_hops = None;

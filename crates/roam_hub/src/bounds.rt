@@ -3,7 +3,7 @@
 ghost use Rattle.roam_hub.specs.Bounds.{NoAmplificationFromOpening, NoAmplificationInHistories};
 ghost use Rattle.roam_hub.specs.Bounds.{NoneWaitsLongerInHistories};
 
-/// In the history of its shard a realm sends at most `tries` packets to each target of a request of
+/// In the history of its shard a realm sends at most `tries` packets to each server among the targets of a request of
 /// its own events there, and one packet back for each: no other realm's events add any.
 pub fn bounded_in_histories()
     ensures from_opening { NoAmplificationFromOpening }

@@ -68,7 +68,7 @@ impl OfGauges {
             OfGauges::Held => "Replies that are held for duplicates of their requests.",
             OfGauges::Sessions => "Sessions that are open in the ledger.",
             OfGauges::InUse =>
-                "Identifiers that are in use toward a home server's endpoint, of 256.",
+                "Identifiers in use toward a home server's endpoint, of 256 for each out of its kind.",
             OfGauges::Rests => "Whether a home server's endpoint rests since it kept silent.",
             OfGauges::Unanswered => {
                 "Requests that were given up there since a reply was last taken, 256 at most."

@@ -7,13 +7,13 @@ use crate::spans::span_of;
 use crate::tables::{Cell, Row, push_table};
 use crate::totals::{Service, Totals};
 use httpdate::HttpDate;
-use roam_conf::{Config, Realm};
+use roam_conf::{Config, Endpoint, Realm};
 use roam_counters::Subject;
 use std::alloc::{AllocError, Global};
 use std::fmt::Display;
 
-/// How many Identifiers there are toward an endpoint (RFC 2865, section 3).
-const IDENTIFIERS: u16 = 256;
+/// How many Identifiers there are toward an endpoint by one `out` (RFC 2865, section 3).
+const IDENTIFIERS: usize = 256;
 
 /// The heads of the columns of realms. The first column of each table stands left.
 const OF_REALMS: [&str; 10] = [
@@ -158,12 +158,14 @@ fn push_service<C: Counts>(
     of: (u16, u8),
     realm: &Realm,
     service: Service,
+    endpoint: Endpoint,
 ) -> Result<(), AllocError> {
     let (number, place) = of;
     let seen = service.seen(counts, number, place);
     table.push(realm.name.as_str())?;
     table.push(seen.standing())?;
-    table.push_part(counts.gauge(service.in_use(number, place)), IDENTIFIERS)?;
+    let identifiers = IDENTIFIERS * realm.way_count(endpoint);
+    table.push_part(counts.gauge(service.in_use(number, place)), identifiers)?;
     table.push_numbers(&service.totals(counts, number, place))?;
     table.end_row()
 }
@@ -182,10 +184,10 @@ fn write_servers<C: Counts>(
             let of = (number, u8::try_from(at).unwrap_or(u8::MAX));
             let auth = server.auth;
             table.push(format_args!("auth {auth}"))?;
-            push_service(&mut table, counts, of, realm, Service::Auth)?;
+            push_service(&mut table, counts, of, realm, Service::Auth, auth)?;
             if let Some(acct) = server.acct {
                 table.push(format_args!("acct {acct}"))?;
-                push_service(&mut table, counts, of, realm, Service::Acct)?;
+                push_service(&mut table, counts, of, realm, Service::Acct, acct)?;
             }
         }
     }

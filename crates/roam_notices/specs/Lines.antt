@@ -3,6 +3,7 @@ use Rattle.std.specs.Prelude.{ℕ, ◌==◌, List, [], ◌++◌, Option, Some, N
 use Rattle.std.specs.Fmt.{decimal}
 use Rattle.roam_address.specs.Endpoints.{endpoint_text}
 use Rattle.roam_address.specs.declared.endpoint.Endpoint.{Endpoint}
+use Rattle.roam_conf.specs.PlaceTexts.{nth_text}
 use Rattle.roam_conf.specs.declared.place.Place.{Place}
 use Rattle.roam_conf.specs.declared.place.Place.TheVariants as place
 use Rattle.roam_wire.specs.Refusal.{number_of}
@@ -47,11 +48,15 @@ refusal_name refusal.TooManyAttributes = codes "TooManyAttributes"
 refusal_name refusal.Stale = codes "Stale"
 
 -- a place as a script names it, with the name of its realm
+abbrev pub realm_place_text : List ℕ → ℕ → ℕ → List ℕ → List ℕ
+realm_place_text socket number nth realm =
+    socket ++ decimal number ++ nth_text nth ++ codes " (" ++ realm ++ codes ")"
+
 abbrev pub place_text : Place → List ℕ → List ℕ
-place_text place.Auth realm = codes "auth"
-place_text place.Acct realm = codes "acct"
-place_text (place.Out number) realm = codes "out:" ++ decimal number ++ codes " (" ++ realm ++ codes ")"
-place_text (place.Reverse number) realm = codes "reverse:" ++ decimal number ++ codes " (" ++ realm ++ codes ")"
+place_text (place.Auth nth) realm = codes "auth" ++ nth_text nth
+place_text (place.Acct nth) realm = codes "acct" ++ nth_text nth
+place_text (place.Out number nth) realm = realm_place_text (codes "out:") number nth realm
+place_text (place.Reverse number nth) realm = realm_place_text (codes "reverse:") number nth realm
 
 -- who sent it, where that is configured
 abbrev pub sender_text : Sender → List ℕ

@@ -24,10 +24,10 @@ kind_of (origin.Tick shard) = kind.Tick shard
 
 -- the realm that a place belongs to
 abbrev pub realm_at : Place → Option ℕ
-realm_at place.Auth = None
-realm_at place.Acct = None
-realm_at (place.Out realm) = Some realm
-realm_at (place.Reverse realm) = Some realm
+realm_at (place.Auth nth) = None
+realm_at (place.Acct nth) = None
+realm_at (place.Out realm nth) = Some realm
+realm_at (place.Reverse realm nth) = Some realm
 
 -- the realm whose name stands in a line
 abbrev pub realm_of : Origin → Option ℕ

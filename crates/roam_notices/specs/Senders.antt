@@ -1,7 +1,7 @@
 -- Who sent a datagram that was refused: a peer or a home server of the configuration, by where it came to. Ours.
 use Rattle.std.specs.Prelude.{ℕ, List, Option, Some, None, slice_get}
 use Rattle.roam_conf.specs.Config.{ConfigView, PeerView}
-use Rattle.roam_conf.specs.Lookup.{peer_with_ip, link_in, home_in}
+use Rattle.roam_conf.specs.Lookup.{asker_at, link_in, home_in}
 use Rattle.roam_address.specs.declared.endpoint.Endpoint.{Endpoint}
 use Rattle.roam_conf.specs.declared.place.Link.{Link}
 use Rattle.roam_conf.specs.declared.place.Link.TheVariants as link
@@ -36,9 +36,9 @@ peer_at peers (Some i) = peer_if (slice_get peers i)
 -- whose link it is
 abbrev pub who_at_link : List PeerView → Option Link → Who
 who_at_link peers None = unknown
-who_at_link peers (Some (link.Coa i)) = peer_at peers (Some i)
-who_at_link peers (Some (link.Auth i)) = home
-who_at_link peers (Some (link.Acct i)) = home
+who_at_link peers (Some (link.Coa i out)) = peer_at peers (Some i)
+who_at_link peers (Some (link.Auth i out)) = home
+who_at_link peers (Some (link.Acct i out)) = home
 
 abbrev home_if : Option ℕ → Who
 home_if None = unknown
@@ -46,10 +46,10 @@ home_if (Some i) = home
 
 -- who sends from this endpoint to this place
 abbrev pub who_sends : ConfigView → Place → Endpoint → Who
-who_sends config place.Auth from = peer_at config.peers (peer_with_ip config.peers from.ip)
-who_sends config place.Acct from = peer_at config.peers (peer_with_ip config.peers from.ip)
-who_sends config (place.Out realm) from = who_at_link config.peers (link_in config realm from)
-who_sends config (place.Reverse realm) from = home_if (home_in config realm from.ip)
+who_sends config (place.Auth nth) from = peer_at config.peers (asker_at config.auth config.peers nth from.ip)
+who_sends config (place.Acct nth) from = peer_at config.peers (asker_at config.acct config.peers nth from.ip)
+who_sends config (place.Out realm nth) from = who_at_link config.peers (link_in config realm nth from)
+who_sends config (place.Reverse realm nth) from = home_if (home_in config realm nth from.ip)
 
 -- ## Sender of what was refused
 -- At `auth` and `acct` the peer of its address; at a realm's `out` the home server or the peer whose link its

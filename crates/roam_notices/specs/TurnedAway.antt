@@ -15,17 +15,17 @@ use Rattle.roam_notices.specs.declared.turned_away.TurnedAway.{TurnedAway}
 
 -- replies of a realm's server that are signed as they ought to be, and refused all the same
 abbrev pub turned_away : Refusal → Origin → Option TurnedAway
-turned_away refusal.BadReplyMessageAuthenticator (origin.Unsealed (place.Out r) from) =
-    Some (record { realm = r; from = from; fault = fault.NoSeal })
-turned_away refusal.BadReplyMessageAuthenticator (origin.Datagram (place.Out r) from) =
-    Some (record { realm = r; from = from; fault = fault.WrongSeal })
-turned_away refusal.ReplyTooLong (origin.Datagram (place.Out r) from) =
-    Some (record { realm = r; from = from; fault = fault.TooLong })
+turned_away refusal.BadReplyMessageAuthenticator (origin.Unsealed (place.Out r nth) from) =
+    Some (record { realm = r; out = nth; from = from; fault = fault.NoSeal })
+turned_away refusal.BadReplyMessageAuthenticator (origin.Datagram (place.Out r nth) from) =
+    Some (record { realm = r; out = nth; from = from; fault = fault.WrongSeal })
+turned_away refusal.ReplyTooLong (origin.Datagram (place.Out r nth) from) =
+    Some (record { realm = r; out = nth; from = from; fault = fault.TooLong })
 turned_away _ _ = None
 
 -- where they came from
 abbrev pub origin_in : TurnedAway → Origin
-origin_in replies = origin.Datagram (place.Out replies.realm) replies.from
+origin_in replies = origin.Datagram (place.Out replies.realm replies.out) replies.from
 
 -- who sent them
 abbrev pub who_text : Sender → List ℕ

@@ -32,8 +32,8 @@ fn realm_at(place: Place) -> Option<u16>
     ensures { result ≡ spec.realm_at place }
 {
     match place {
-        Place::Out(realm) | Place::Reverse(realm) => Some(realm),
-        Place::Auth | Place::Acct => None,
+        Place::Out(realm, _) | Place::Reverse(realm, _) => Some(realm),
+        Place::Auth(_) | Place::Acct(_) => None,
     }
 }
 

@@ -35,8 +35,8 @@ fn at_link(config: &Config, link: Option<Link>) -> Sender<'_>
     ensures { shown_sender result ≡ who_at_link (shown config.now).peers link }
 {
     match link {
-        Some(Link::Coa(peer)) => peer_at(config, Some(peer)),
-        Some(Link::Auth(_) | Link::Acct(_)) => Sender::HomeServer,
+        Some(Link::Coa(peer, _)) => peer_at(config, Some(peer)),
+        Some(Link::Auth(_, _) | Link::Acct(_, _)) => Sender::HomeServer,
         None => Sender::Unknown,
     }
 }
@@ -46,9 +46,10 @@ fn at_place(config: &Config, place: Place, from: Endpoint) -> Sender<'_>
     ensures { shown_sender result ≡ who_sends (shown config.now) place from }
 {
     match place {
-        Place::Auth | Place::Acct => peer_at(config, config.peer_by_ip(from.ip)),
-        Place::Out(realm) => at_link(config, config.link_of(realm, from)),
-        Place::Reverse(realm) => match config.home_of(realm, from.ip) {
+        Place::Auth(nth) => peer_at(config, config.asker_at_auth(nth, from.ip)),
+        Place::Acct(nth) => peer_at(config, config.asker_at_acct(nth, from.ip)),
+        Place::Out(realm, nth) => at_link(config, config.link_of(realm, nth, from)),
+        Place::Reverse(realm, nth) => match config.home_of(realm, nth, from.ip) {
             Some(_) => Sender::HomeServer,
             None => Sender::Unknown,
         },

@@ -9,7 +9,7 @@ ghost use Rattle.roam_notices.specs.Senders.{shown_sender, who_sent};
 use crate::origin::Origin;
 use crate::sender::{Sender, sender_of};
 use crate::tally::RefusalCount;
-use roam_conf::{Config, Endpoint, Place};
+use roam_conf::{Config, Endpoint, NthText, Place};
 use roam_wire::Refusal;
 use std::fmt;
 use std::fmt::{Display, Formatter, Write};
@@ -27,10 +27,10 @@ impl Display for PlaceText<'_> {
     fn fmt<W: Write>(&self, f: &mut Formatter<W>) -> fmt::Result {
         let realm = self.realm;
         match self.place {
-            Place::Auth => f.write_str("auth"),
-            Place::Acct => f.write_str("acct"),
-            Place::Out(number) => write!(f, "out:{number} ({realm})"),
-            Place::Reverse(number) => write!(f, "reverse:{number} ({realm})"),
+            Place::Auth(nth) => write!(f, "auth{}", NthText(nth)),
+            Place::Acct(nth) => write!(f, "acct{}", NthText(nth)),
+            Place::Out(number, nth) => write!(f, "out:{number}{} ({realm})", NthText(nth)),
+            Place::Reverse(number, nth) => write!(f, "reverse:{number}{} ({realm})", NthText(nth)),
         }
     }
 }

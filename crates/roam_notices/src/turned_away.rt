@@ -29,6 +29,8 @@ pub enum ReplyFault {
 #[derive(Clone, Copy, PartialEq, Eq)]
 pub struct TurnedAway {
     pub realm: u16,
+    /// The place, in the realm's `out`, of the socket where they come.
+    pub out: u16,
     pub from: Endpoint,
     pub fault: ReplyFault,
 }
@@ -37,19 +39,24 @@ pub struct TurnedAway {
 pub fn turned_away(refusal: Refusal, origin: Origin) -> Option<TurnedAway>
     ensures { result ≡ spec.turned_away refusal origin }
 {
-    let (realm, from, fault) = match (refusal, origin) {
-        (Refusal::BadReplyMessageAuthenticator, Origin::Unsealed(Place::Out(realm), from)) => {
-            (realm, from, ReplyFault::NoSeal)
+    let (realm, out, from, fault) = match (refusal, origin) {
+        (Refusal::BadReplyMessageAuthenticator, Origin::Unsealed(Place::Out(realm, out), from)) => {
+            (realm, out, from, ReplyFault::NoSeal)
         }
-        (Refusal::BadReplyMessageAuthenticator, Origin::Datagram(Place::Out(realm), from)) => {
-            (realm, from, ReplyFault::WrongSeal)
+        (Refusal::BadReplyMessageAuthenticator, Origin::Datagram(Place::Out(realm, out), from)) => {
+            (realm, out, from, ReplyFault::WrongSeal)
         }
-        (Refusal::ReplyTooLong, Origin::Datagram(Place::Out(realm), from)) => {
-            (realm, from, ReplyFault::TooLong)
+        (Refusal::ReplyTooLong, Origin::Datagram(Place::Out(realm, out), from)) => {
+            (realm, out, from, ReplyFault::TooLong)
         }
         _ => return None,
     };
-    Some(TurnedAway { realm, from, fault })
+    Some(TurnedAway {
+        realm,
+        out,
+        from,
+        fault,
+    })
 }
 
 /// Which refusal it is.
@@ -107,7 +114,7 @@ impl<'n> TurnedAwayText<'n> {
         ensures sender { shown_sender result.sender ≡ who_sent (shown config.now)
             (Some (spec.origin_in replies)) }
     {
-        let origin = Origin::Datagram(Place::Out(replies.realm), replies.from);
+        let origin = Origin::Datagram(Place::Out(replies.realm, replies.out), replies.from);
         TurnedAwayText {
             sender: sender_of(config, Some(origin)),
             from: replies.from,

@@ -12,7 +12,7 @@ use Rattle.roam_pending.specs.PlainEntry.{PlainEntry, PlainStanding, waiting, do
 use Rattle.roam_conf.proofs.EqualPartsLemmas.{endpoint_decides}
 use Rattle.roam_conf.specs.Duplicates.{same_endpoint}
 use Rattle.roam_pending.specs.EntryList.{IsInOrder, HasDistinctKeys, find_client, find_link, find_ticket, first_done, identifier_on, identifiers_on, without, without_client}
-use Rattle.roam_pending.proofs.TestLemmas.{same, differs, key_is_same, all-find}
+use Rattle.roam_pending.proofs.TestLemmas.{same, differs, key_is_same, pair_decides, all-find}
 use Rattle.roam_pending.proofs.OrderLemmas.{IsOfOthers, find-above, without-absent}
 use Rattle.roam_pending.proofs.ChangeLemmas.{find-passes, found-is}
 
@@ -26,22 +26,28 @@ and_right true b h = h
 and_right false b h = absurd (let k : false ≡ true = h in cc)
 
 place_equal : (a b : Place) → same_place a b ≡ true → a ≡ b
-place_equal place.Auth place.Auth h = refl
-place_equal place.Auth place.Acct h = absurd (let k : false ≡ true = h in cc)
-place_equal place.Auth (place.Out b) h = absurd (let k : false ≡ true = h in cc)
-place_equal place.Auth (place.Reverse b) h = absurd (let k : false ≡ true = h in cc)
-place_equal place.Acct place.Auth h = absurd (let k : false ≡ true = h in cc)
-place_equal place.Acct place.Acct h = refl
-place_equal place.Acct (place.Out b) h = absurd (let k : false ≡ true = h in cc)
-place_equal place.Acct (place.Reverse b) h = absurd (let k : false ≡ true = h in cc)
-place_equal (place.Out a) place.Auth h = absurd (let k : false ≡ true = h in cc)
-place_equal (place.Out a) place.Acct h = absurd (let k : false ≡ true = h in cc)
-place_equal (place.Out a) (place.Out b) h = let is : a ≡ b = grind (arith, nat_tests, h) in ap place.Out is
-place_equal (place.Out a) (place.Reverse b) h = absurd (let k : false ≡ true = h in cc)
-place_equal (place.Reverse a) place.Auth h = absurd (let k : false ≡ true = h in cc)
-place_equal (place.Reverse a) place.Acct h = absurd (let k : false ≡ true = h in cc)
-place_equal (place.Reverse a) (place.Out b) h = absurd (let k : false ≡ true = h in cc)
-place_equal (place.Reverse a) (place.Reverse b) h = let is : a ≡ b = grind (arith, nat_tests, h) in ap place.Reverse is
+place_equal (place.Auth nth) (place.Auth nth') h =
+    let is : nth ≡ nth' = grind (arith, nat_tests, h) in ap place.Auth is
+place_equal (place.Auth nth) (place.Acct nth') h = absurd (let k : false ≡ true = h in cc)
+place_equal (place.Auth nth) (place.Out b nth') h = absurd (let k : false ≡ true = h in cc)
+place_equal (place.Auth nth) (place.Reverse b nth') h = absurd (let k : false ≡ true = h in cc)
+place_equal (place.Acct nth) (place.Auth nth') h = absurd (let k : false ≡ true = h in cc)
+place_equal (place.Acct nth) (place.Acct nth') h =
+    let is : nth ≡ nth' = grind (arith, nat_tests, h) in ap place.Acct is
+place_equal (place.Acct nth) (place.Out b nth') h = absurd (let k : false ≡ true = h in cc)
+place_equal (place.Acct nth) (place.Reverse b nth') h = absurd (let k : false ≡ true = h in cc)
+place_equal (place.Out a nth) (place.Auth nth') h = absurd (let k : false ≡ true = h in cc)
+place_equal (place.Out a nth) (place.Acct nth') h = absurd (let k : false ≡ true = h in cc)
+place_equal (place.Out a nth) (place.Out b nth') h =
+    let both = (pair_decides a b nth nth').0 h in let number = both.0 in let at = both.1 in
+    λ i. place.Out (number i) (at i)
+place_equal (place.Out a nth) (place.Reverse b nth') h = absurd (let k : false ≡ true = h in cc)
+place_equal (place.Reverse a nth) (place.Auth nth') h = absurd (let k : false ≡ true = h in cc)
+place_equal (place.Reverse a nth) (place.Acct nth') h = absurd (let k : false ≡ true = h in cc)
+place_equal (place.Reverse a nth) (place.Out b nth') h = absurd (let k : false ≡ true = h in cc)
+place_equal (place.Reverse a nth) (place.Reverse b nth') h =
+    let both = (pair_decides a b nth nth').0 h in let number = both.0 in let at = both.1 in
+    λ i. place.Reverse (number i) (at i)
 
 pub key-equal : (a b : Key) → same_key a b ≡ true → a ≡ b
 key-equal a b h =

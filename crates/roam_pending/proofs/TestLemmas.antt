@@ -1,14 +1,16 @@
 -- Tests of numbers and keys, and lists whose elements are kept or joined.
-use Rattle.std.proofs.Common.{◌≡◌, ◌≢◌, ℕ, ◌<◌, ◌≤◌, Bool, true, false, List, [], ◌∷◌, ◌++◌, Some, None, refl, arith, eqb, ltb, inl, inr}
+use Rattle.std.proofs.Common.{◌≡◌, ◌≢◌, ℕ, ◌<◌, ◌≤◌, Bool, true, false, ◌&&◌, Decides, List, [], ◌∷◌, ◌++◌, Some, None, refl, arith, eqb, ltb, inl, inr}
 use Rattle.std.specs.Prelude.{◌⊎◌}
 use Rattle.std.specs.List.{AllByRecursion, filter, find}
 use Rattle.std.proofs.lemmas.Bool.{cases_Bool}
-use Rattle.std.proofs.lemmas.Bool.Decides.{nat_tests}
+use Rattle.std.proofs.lemmas.Bool.Decides.{Decides-and, Decides-eqb, nat_tests}
 use Rattle.roam_conf.proofs.EqualPartsLemmas.{endpoint_decides}
+use Rattle.roam_conf.specs.declared.place.Link.{Link}
+use Rattle.roam_conf.specs.declared.place.Link.TheVariants as link
 use Rattle.roam_conf.specs.declared.place.Place.{Place}
 use Rattle.roam_conf.specs.declared.place.Place.TheVariants as place
 use Rattle.roam_pending.specs.declared.key.Key.{Key}
-use Rattle.roam_pending.specs.PlainEntry.{same_key, same_place}
+use Rattle.roam_pending.specs.PlainEntry.{same_key, same_link, same_place}
 
 pub same : (a b : ℕ) → a ≡ b → eqb a b ≡ true
 same a b h = grind (arith, nat_tests)
@@ -27,10 +29,20 @@ pub compared : (a b : ℕ) → (a < b) ⊎ ((a ≡ b) ⊎ (b < a))
 compared a b = grind arith
 
 place_is_same : (p : Place) → same_place p p ≡ true
-place_is_same place.Auth = refl
-place_is_same place.Acct = refl
-place_is_same (place.Out a) = same a a refl
-place_is_same (place.Reverse a) = same a a refl
+place_is_same (place.Auth nth) = same nth nth refl
+place_is_same (place.Acct nth) = same nth nth refl
+place_is_same (place.Out a nth) = rw (same a a refl) (same nth nth refl)
+place_is_same (place.Reverse a nth) = rw (same a a refl) (same nth nth refl)
+
+-- a link is the same as itself
+pub link_is_same : (l : Link) → same_link l l ≡ true
+link_is_same (link.Auth a out) = rw (same a a refl) (same out out refl)
+link_is_same (link.Acct a out) = rw (same a a refl) (same out out refl)
+link_is_same (link.Coa a out) = rw (same a a refl) (same out out refl)
+
+-- two numbers that are tested together
+pub pair_decides : (a b k j : ℕ) → Decides (eqb a b && eqb k j) ((a ≡ b) × (k ≡ j))
+pair_decides a b k j = Decides-and (eqb a b) (eqb k j) (Decides-eqb a b) (Decides-eqb k j)
 
 -- a key is the same as itself
 pub key_is_same : (k : Key) → same_key k k ≡ true

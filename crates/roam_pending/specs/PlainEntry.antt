@@ -38,21 +38,21 @@ pub record PlainEntry : Type 0 where
 
 -- one socket of the broker
 abbrev pub same_place : Place → Place → Bool
-same_place place.Auth place.Auth = true
-same_place place.Acct place.Acct = true
-same_place (place.Out a) (place.Out b) = a == b
-same_place (place.Reverse a) (place.Reverse b) = a == b
+same_place (place.Auth k) (place.Auth j) = k == j
+same_place (place.Acct k) (place.Acct j) = k == j
+same_place (place.Out a k) (place.Out b j) = a == b && k == j
+same_place (place.Reverse a k) (place.Reverse b j) = a == b && k == j
 same_place _ _ = false
 
 -- place, source and Identifier are the same (RFC 2865, section 3: what makes a request a duplicate)
 abbrev pub same_key : Key → Key → Bool
 same_key a b = same_place a.place b.place && same_endpoint a.from b.from && a.id == b.id
 
--- one remote endpoint of the realm
+-- one remote endpoint of the realm, by one `out`
 abbrev pub same_link : Link → Link → Bool
-same_link (link.Auth a) (link.Auth b) = a == b
-same_link (link.Acct a) (link.Acct b) = a == b
-same_link (link.Coa a) (link.Coa b) = a == b
+same_link (link.Auth a k) (link.Auth b j) = a == b && k == j
+same_link (link.Acct a k) (link.Acct b j) = a == b && k == j
+same_link (link.Coa a k) (link.Coa b j) = a == b && k == j
 same_link _ _ = false
 
 -- until when an entry stands as it does, in milliseconds

@@ -17,10 +17,10 @@ packets_one_more [] h left = refl
 packets_one_more (g ∷ hs) h left = ap (λ ps. g.out ∷ ps) (packets_one_more hs h left)
 
 pub calls_one_more : {A : Type 0} (hs : List (Handed A)) (h : Handed A)
-    → calls_of (hs ++ h ∷ []) ≡ calls_of hs ++ send_call h.answer h.out.to h.out.bytes ∷ []
+    → calls_of (hs ++ h ∷ []) ≡ calls_of hs ++ send_call h.answer h.out.from h.out.to h.out.bytes ∷ []
 calls_one_more [] h = refl
 calls_one_more (g ∷ hs) h =
-    ap (λ cs. send_call g.answer g.out.to g.out.bytes ∷ cs) (calls_one_more hs h)
+    ap (λ cs. send_call g.answer g.out.from g.out.to g.out.bytes ∷ cs) (calls_one_more hs h)
 
 pub account_one_more : {A : Type 0} (account : Account) (hs : List (Handed A)) (h : Handed A)
     → account_after account (hs ++ h ∷ []) ≡ accounted (account_after account hs) h.answer
@@ -68,7 +68,7 @@ module _ {A P : Type 0} (calls : P → Option (List PortCall)) (start port next 
             ∙ sym (packets_one_more so_far.handed h rest);
         none_blocked = none_one_more so_far.handed h so_far.none_blocked is.0;
         made = made_one_more (calls start) (calls port) (calls next) (calls_of so_far.handed)
-            (send_call h.answer h.out.to h.out.bytes) so_far.made one.made
+            (send_call h.answer h.out.from h.out.to h.out.bytes) so_far.made one.made
             ∙ ap (λ cs. option_map (λ c. c ++ cs) (calls start)) (sym (calls_one_more so_far.handed h));
         counted = one.counted_once ∙ ap (λ l. accounted l one.answer) so_far.counted
             ∙ sym (account_one_more account_0 so_far.handed h);

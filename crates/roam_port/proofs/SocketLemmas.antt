@@ -1,7 +1,6 @@
 -- Where a place's socket is bound is one of the broker's own endpoints.
-use Rattle.std.proofs.Common.{◌≡◌, ℕ, zero, suc, Bool, true, false, List, [], ◌∷◌, Option, Some, None, Contains, option_and_then, slice_get, refl, subst, sym, ap}
+use Rattle.std.proofs.Common.{◌≡◌, ℕ, zero, suc, Bool, true, false, List, [], ◌∷◌, ◌++◌, Option, Some, None, Contains, option_and_then, slice_get, refl, subst, sym}
 use Rattle.std.specs.List.{flat_map}
-use Rattle.std.specs.Option.{option_to_list}
 use Rattle.std.specs.Prelude.{if◌then◌else◌}
 use Rattle.std.proofs.lemmas.List.Elements.{Contains-append_left, Contains-append_right}
 use Rattle.std.proofs.lemmas.Option.{get_or_from_slice_get, same_Some, slice_get_within}
@@ -32,25 +31,38 @@ among_all (x ∷ xs) (suc k) r e is in_realm =
 -- behind `auth` and `acct`
 own : (config : ConfigView) (e : Endpoint) → Contains (flat_map realm_endpoints config.realms) e →
     Contains (socket_endpoints config) e
-own config e among = Contains-append_right (config.auth ∷ config.acct ∷ []) (flat_map realm_endpoints config.realms)
-    e among
+own config e among =
+    Contains-append_right (config.auth ++ config.acct) (flat_map realm_endpoints config.realms) e among
 
-own_out_there : (r : RealmView) (e : Endpoint) → own_out r ≡ Some e → Contains (realm_endpoints r) e
-own_out_there r e is = by_gone r.gone is
-  where
-    by_gone : (gone : Bool) → (if gone then None else Some r.out) ≡ Some e →
-        Contains (if gone then [] else r.out ∷ option_to_list r.reverse) e
-    by_gone true of = cc
-    by_gone false of = at (r.out ∷ option_to_list r.reverse) 0 e of
+-- one of these
+own_auth : (config : ConfigView) (nth : ℕ) (e : Endpoint) → slice_get config.auth nth ≡ Some e →
+    Contains (socket_endpoints config) e
+own_auth config nth e is =
+    Contains-append_left (config.auth ++ config.acct) (flat_map realm_endpoints config.realms) e
+    (Contains-append_left config.auth config.acct e (at config.auth nth e is))
 
-own_reverse_there : (r : RealmView) (e : Endpoint) → own_reverse r ≡ Some e → Contains (realm_endpoints r) e
-own_reverse_there r e is = by_gone r.gone is
+own_acct : (config : ConfigView) (nth : ℕ) (e : Endpoint) → slice_get config.acct nth ≡ Some e →
+    Contains (socket_endpoints config) e
+own_acct config nth e is =
+    Contains-append_left (config.auth ++ config.acct) (flat_map realm_endpoints config.realms) e
+    (Contains-append_right config.auth config.acct e (at config.acct nth e is))
+
+own_out_there : (nth : ℕ) (r : RealmView) (e : Endpoint) → own_out nth r ≡ Some e → Contains (realm_endpoints r) e
+own_out_there nth r e is = by_gone r.gone is
   where
-    by_gone : (gone : Bool) → (if gone then None else r.reverse) ≡ Some e →
-        Contains (if gone then [] else r.out ∷ option_to_list r.reverse) e
+    by_gone : (gone : Bool) → (if gone then None else slice_get r.out nth) ≡ Some e →
+        Contains (if gone then [] else r.out ++ r.reverse) e
     by_gone true of = cc
-    by_gone false of = at (r.out ∷ option_to_list r.reverse) 1 e
-        (ap (λ (o : Option Endpoint). slice_get (r.out ∷ option_to_list o) 1) of)
+    by_gone false of = Contains-append_left r.out r.reverse e (at r.out nth e of)
+
+own_reverse_there : (nth : ℕ) (r : RealmView) (e : Endpoint) → own_reverse nth r ≡ Some e →
+    Contains (realm_endpoints r) e
+own_reverse_there nth r e is = by_gone r.gone is
+  where
+    by_gone : (gone : Bool) → (if gone then None else slice_get r.reverse nth) ≡ Some e →
+        Contains (if gone then [] else r.out ++ r.reverse) e
+    by_gone true of = cc
+    by_gone false of = Contains-append_right r.out r.reverse e (at r.reverse nth e of)
 
 -- a socket of a realm is one of all
 there : (own_at : RealmView → Option Endpoint) →
@@ -62,9 +74,9 @@ there own_at in_realm config k e (Some r) is of = own config e (among_all config
 
 pub own_socket : (config : ConfigView) (at : Place) (e : Endpoint) → socket_endpoint config at ≡ Some e →
     Contains (socket_endpoints config) e
-own_socket config place.Auth e is = at (socket_endpoints config) 0 e is
-own_socket config place.Acct e is = at (socket_endpoints config) 1 e is
-own_socket config (place.Out realm) e is = there own_out own_out_there config realm e
+own_socket config (place.Auth nth) e is = own_auth config nth e is
+own_socket config (place.Acct nth) e is = own_acct config nth e is
+own_socket config (place.Out realm nth) e is = there (own_out nth) (own_out_there nth) config realm e
     (slice_get config.realms realm) refl is
-own_socket config (place.Reverse realm) e is = there own_reverse own_reverse_there config realm e
+own_socket config (place.Reverse realm nth) e is = there (own_reverse nth) (own_reverse_there nth) config realm e
     (slice_get config.realms realm) refl is

@@ -35,8 +35,8 @@ IsHeard nothing_came at old new h = (new ≡ 0) × (h ≡ nothing)
 IsHeard receive_failed at old new h =
     (new ≡ faults_after_fault old)
     × (h ≡ (if faults_after_fault old == FAULTS_TO_GIVE_UP then give_up else nothing))
-IsHeard (went to octets) at old new h = ⊥
-IsHeard (send_failed why to octets) at old new h = ⊥
+IsHeard (went place to octets) at old new h = ⊥
+IsHeard (send_failed why place to octets) at old new h = ⊥
 
 -- ## Receiving with a count of faults
 -- One receive. What came is heard as an arrival with its octets, its source and the socket's place (the wall clock's

@@ -1,13 +1,14 @@
 -- What is asked of a socket, and what it answers (ours).
 use Rattle.std.specs.Prelude.{◌≡◌, ℕ, List, [], ◌∷◌, ◌++◌, take, Option, Some, None, option_map, Result, Ok, Err}
 use Rattle.roam_address.specs.declared.endpoint.Endpoint.{Endpoint}
+use Rattle.roam_conf.specs.declared.place.Place.{Place}
 use Rattle.roam_port.specs.declared.port.SendFault.{SendFault}
 
 -- ## Call of a port
 -- What is asked of a socket, with its answer: a datagram came, from where, with which octets; nothing came; a
--- receive failed; a datagram went out, to where; a send failed. A port that keeps account has each call once,
--- the oldest first. A socket of the system keeps none: what is proved of all ports says what the code asks of
--- it, and not what it does.
+-- receive failed; a datagram went out, from which place and to where; a send failed. A port that keeps account has
+-- each call once, the oldest first. A socket of the system keeps none: what is proved of all ports says what the code
+-- asks of it, and not what it does.
 -- Source: ours
 -- Rules out: a second receive that nobody sees
 -- Stands in: `roam_port` `Port.antt`: `PortCall`, `IsOneCall`; the trait `Port`
@@ -18,10 +19,10 @@ pub data PortCall : Type 0 where
   came : List ℕ → Endpoint → PortCall
   nothing_came : PortCall
   receive_failed : PortCall
-  -- a datagram went out: where to, and its octets
-  went : Endpoint → List ℕ → PortCall
+  -- a datagram went out: from which place, where to, and its octets
+  went : Place → Endpoint → List ℕ → PortCall
   -- it didn't, and why
-  send_failed : SendFault → Endpoint → List ℕ → PortCall
+  send_failed : SendFault → Place → Endpoint → List ℕ → PortCall
 
 -- a receive, by its answer and what it left in the buffer
 abbrev pub receive_call : {E : Type 0} → Result (Option (ℕ × Endpoint)) E → List ℕ → PortCall
@@ -30,9 +31,9 @@ receive_call (Ok None) buffer = nothing_came
 receive_call (Err why) buffer = receive_failed
 
 -- a send, by its answer
-abbrev pub send_call : Result (Unit {0}) SendFault → Endpoint → List ℕ → PortCall
-send_call (Ok done) to octets = went to octets
-send_call (Err why) to octets = send_failed why to octets
+abbrev pub send_call : Result (Unit {0}) SendFault → Place → Endpoint → List ℕ → PortCall
+send_call (Ok done) from to octets = went from to octets
+send_call (Err why) from to octets = send_failed why from to octets
 
 -- a port that keeps account of its calls keeps account of this one, and of no other
 abbrev pub IsOneCall : Option (List PortCall) → Option (List PortCall) → PortCall → Type 0

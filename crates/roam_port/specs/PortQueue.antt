@@ -34,10 +34,10 @@ is_aside standing.Listed = false
 is_aside standing.Aside = true
 
 -- ## Packet handed once
--- The packets that wait for a port are handed to it in order, each once, with its destination and octets, until none
--- waits or the port answers that it has no room: that one and those behind it stand aside, and are handed on when
--- the port is tried again. A sending does so for each port for which packets are listed; every other port is
--- unchanged.
+-- The packets that wait for a port are handed to it in order, each once, from its place, with its destination and
+-- octets, until none waits or the port answers that it has no room: that one and those behind it stand aside, and are
+-- handed on when the port is tried again. A sending does so for each port for which packets are listed; every other
+-- port is unchanged.
 -- Source: ours
 -- Rules out: a packet sent twice, out of order, or from another realm's place; a port without room that holds up
 -- another
@@ -57,7 +57,7 @@ packets_of (h ∷ hs) = h.out ∷ packets_of hs
 -- the calls by which they were handed on, one for each
 abbrev pub calls_of : {A : Type 0} → List (Handed A) → List PortCall
 calls_of [] = []
-calls_of (h ∷ hs) = send_call h.answer h.out.to h.out.bytes ∷ calls_of hs
+calls_of (h ∷ hs) = send_call h.answer h.out.from h.out.to h.out.bytes ∷ calls_of hs
 
 -- the account after them: one more for each that failed, by its cause
 abbrev pub account_after : {A : Type 0} → Account → List (Handed A) → Account
@@ -83,7 +83,7 @@ pub record HandsOldest
   pub behind : List (Out A)
   pub oldest : old ≡ out ∷ behind
   pub answer : Result (Unit {0}) SendFault
-  pub made : IsOneCall (calls old_port) (calls new_port) (send_call answer out.to out.bytes)
+  pub made : IsOneCall (calls old_port) (calls new_port) (send_call answer out.from out.to out.bytes)
   pub left : IsLeft out behind new is_gone answer
   pub counted_once : new_account ≡ accounted old_account answer
 
@@ -121,7 +121,7 @@ pub record IsBlocked
   pub behind : List (Out A)
   pub waits_on : new.waiting.items ≡ out ∷ behind
   pub aside : new.standing ≡ standing.Aside
-  pub made : IsOneCall (calls old_port) (calls new_port) (send_call (Err fault.WouldBlock) out.to out.bytes)
+  pub made : IsOneCall (calls old_port) (calls new_port) (send_call (Err fault.WouldBlock) out.from out.to out.bytes)
 
 -- the packets that waited were handed to their port in order, each once, until none waited or it had no room for one;
 -- so many are gone

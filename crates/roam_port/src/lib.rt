@@ -48,4 +48,7 @@ pub use port::{Port, PortFault, SendFault};
 pub use port_queue::Standing;
 pub use sent::Sent;
 pub use sharing::{GREATEST_SHARE, LEAST_SHARE, share_of};
-pub use sockets::{endpoint_of, place_of, socket_count, socket_numbers, socket_of, worker_of};
+pub use sockets::{
+    MOST_OF_A_NUMBER, endpoint_of, nth_of, place_of, socket_count, socket_numbers, socket_of,
+    worker_of,
+};

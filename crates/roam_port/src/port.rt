@@ -1,6 +1,6 @@
 //! What is asked of a socket.
 
-use roam_conf::Endpoint;
+use roam_conf::{Endpoint, Place};
 
 /// A receive failed.
 #[derive(Clone, Copy, PartialEq, Eq)]
@@ -19,7 +19,7 @@ pub enum SendFault {
     Other,
 }
 
-/// A socket for datagrams, of the system or of a test.
+/// A socket for datagrams, of the system or of a test; or several, from each of which a packet of its place is sent.
 pub trait Port {
     ghost use Rattle.std.specs.Prelude.{◌≤◌, List, Option, IfOk, IfSome, length};
     ghost use Rattle.roam_port.specs.Port.{PortCall, IsOneCall, receive_call, send_call};
@@ -35,7 +35,7 @@ pub trait Port {
         ensures call { IsOneCall (calls self.old) (calls self.new)
             (receive_call result buffer.new) };
 
-    /// Sends these octets as one datagram.
-    fn send(&mut self, to: Endpoint, octets: &[u8]) -> Result<(), SendFault>
-        ensures { IsOneCall (calls self.old) (calls self.new) (send_call result to octets.now) };
+    /// Sends these octets as one datagram, from the socket of a place, where there are several.
+    fn send(&mut self, from: Place, to: Endpoint, octets: &[u8]) -> Result<(), SendFault>
+        ensures { IsOneCall (calls self.old) (calls self.new) (send_call result from to octets.now) };
 }

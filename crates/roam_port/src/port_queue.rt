@@ -110,7 +110,7 @@ impl<A: Allocator> PortQueue<A> {
         ensures share { self.new.share ≡ self.old.share }
     {
         let answer = match self.waiting.front() {
-            Some(out) => port.send(out.to, out.bytes.as_slice()),
+            Some(out) => port.send(out.from, out.to, out.bytes.as_slice()),
             None => unreachable!(),
         };
         if let Err(SendFault::WouldBlock) = answer {

@@ -1,42 +1,57 @@
 //! The broker's sockets by number: which place is whose, where they are bound, which worker serves
-//! one.
+//! one. Several `auth`, several `acct`, and several `out` or `reverse` of one realm, have one number.
 
-ghost use Rattle.std.specs.Prelude.{◌≡◌, ◌<◌, ◌≤◌, ◌+◌, ◌*◌, length, map};
+ghost use Rattle.std.specs.Prelude.{◌≡◌, ◌<◌, ◌≤◌, ◌+◌, ◌*◌, length, map, slice_get};
 ghost use Rattle.std.specs.List.{flat_map};
 ghost use Rattle.roam_conf.specs.Duplicates.{realm_endpoints};
 ghost use Rattle.roam_conf.specs.Parts.{shown_realm};
 ghost use Rattle.roam_conf.specs.Shown.{shown};
 ghost use Rattle.roam_port.specs.Sockets.{own_out, own_reverse, socket_number, socket_endpoint, socket_endpoints};
-ghost use Rattle.roam_port.specs.Sockets.{worker_number};
+ghost use Rattle.roam_port.specs.Sockets.{place_nth, worker_number};
 
 use roam_conf::{Config, Endpoint, Place, Realm};
 
-/// The number of a place's socket.
+/// How many places have one number at most.
+pub const MOST_OF_A_NUMBER: u16 = 16;
+
+/// The number of a place's sockets.
 pub fn socket_of(place: Place) -> usize
     ensures { result ≡ socket_number place }
 {
     match place {
-        Place::Auth => 0,
-        Place::Acct => 1,
-        Place::Out(realm) => 2 * usize::from(realm) + 2,
-        Place::Reverse(realm) => 2 * usize::from(realm) + 3,
+        Place::Auth(_) => 0,
+        Place::Acct(_) => 1,
+        Place::Out(realm, _) => 2 * usize::from(realm) + 2,
+        Place::Reverse(realm, _) => 2 * usize::from(realm) + 3,
     }
 }
 
-/// The place whose socket has this number.
-pub fn place_of(socket: usize) -> Place
+/// Which of the places of its number a place is.
+pub fn nth_of(place: Place) -> usize
+    ensures { result ≡ place_nth place }
+{
+    match place {
+        Place::Auth(nth) | Place::Acct(nth) | Place::Out(_, nth) | Place::Reverse(_, nth) => {
+            usize::from(nth)
+        }
+    }
+}
+
+/// The place of this number, and which of these it is.
+pub fn place_of(socket: usize, nth: u16) -> Place
     requires { socket < 131072 }
-    ensures { socket_number result ≡ socket }
+    ensures number { socket_number result ≡ socket }
+    ensures nth { place_nth result ≡ nth }
 {
     match socket {
-        0 => Place::Auth,
-        1 => Place::Acct,
+        0 => Place::Auth(nth),
+        1 => Place::Acct(nth),
         _ => {
             let realm = (socket / 2 - 1) as u16;
             if socket % 2 == 0 {
-                Place::Out(realm)
+                Place::Out(realm, nth)
             } else {
-                Place::Reverse(realm)
+                Place::Reverse(realm, nth)
             }
         }
     }
@@ -54,22 +69,19 @@ pub fn socket_numbers(config: &Config) -> usize
 /// How many sockets a realm has.
 fn sockets_of(realm: &Realm) -> usize
     ensures value { result ≡ length (realm_endpoints (shown_realm realm.now)) }
-    ensures bound { result ≤ 2 }
+    ensures bound { result ≤ 24 }
 {
     if realm.gone {
         return 0;
     }
-    match realm.reverse {
-        Some(_) => 2,
-        None => 1,
-    }
+    realm.out.len() + realm.reverse.len()
 }
 
 /// How many sockets realms have
 fn sockets_of_all(realms: &[Realm]) -> usize
     requires { length realms.now ≤ 1024 }
     ensures value { result ≡ length (flat_map realm_endpoints (map shown_realm realms.now)) }
-    ensures bound { result ≤ 2048 }
+    ensures bound { result ≤ 24576 }
 {
     let mut count = 0;
     for realm in realms {
@@ -81,54 +93,69 @@ fn sockets_of_all(realms: &[Realm]) -> usize
 /// How many sockets a configuration wants.
 pub fn socket_count(config: &Config) -> usize
     ensures value { result ≡ length (socket_endpoints (shown config.now)) }
-    ensures bound { result ≤ 2050 }
+    ensures bound { result ≤ 24592 }
 {
-    2 + sockets_of_all(config.realms.as_slice())
+    config.auth.len() + config.acct.len() + sockets_of_all(config.realms.as_slice())
 }
 
-/// Where a realm's `out` is bound; none where it is gone.
-fn own_out(realm: &Realm) -> Option<Endpoint>
-    ensures { result ≡ own_out (shown_realm realm.now) }
+/// The endpoint of a place in a list, if there is one.
+fn endpoint_at(own: &[Endpoint], nth: u16) -> Option<Endpoint>
+    ensures { result ≡ slice_get own.now nth }
 {
-    if realm.gone { None } else { Some(realm.out) }
+    own.get(usize::from(nth)).copied()
 }
 
-/// Where its `reverse` is bound, where it takes reverse requests.
-fn own_reverse(realm: &Realm) -> Option<Endpoint>
-    ensures { result ≡ own_reverse (shown_realm realm.now) }
+/// Where a realm's `out` of a place is bound; none where it is gone, or has no such `out`.
+fn own_out(realm: &Realm, nth: u16) -> Option<Endpoint>
+    ensures { result ≡ own_out nth (shown_realm realm.now) }
 {
-    if realm.gone { None } else { realm.reverse }
+    if realm.gone {
+        None
+    } else {
+        endpoint_at(realm.out.as_slice(), nth)
+    }
 }
 
-/// Where the socket of a place is bound; none where the realm isn't configured, or takes no reverse requests.
+/// Where its `reverse` of a place is bound, where it has such a one.
+fn own_reverse(realm: &Realm, nth: u16) -> Option<Endpoint>
+    ensures { result ≡ own_reverse nth (shown_realm realm.now) }
+{
+    if realm.gone {
+        None
+    } else {
+        endpoint_at(realm.reverse.as_slice(), nth)
+    }
+}
+
+/// Where the socket of a place is bound; none where the realm isn't configured, or there is no such place.
 pub fn endpoint_of(config: &Config, place: Place) -> Option<Endpoint>
     ensures { result ≡ socket_endpoint (shown config.now) place }
 {
     match place {
-        Place::Auth => Some(config.auth),
-        Place::Acct => Some(config.acct),
-        Place::Out(realm) => match config.realms.get(usize::from(realm)) {
-            Some(realm) => own_out(realm),
+        Place::Auth(nth) => endpoint_at(config.auth.as_slice(), nth),
+        Place::Acct(nth) => endpoint_at(config.acct.as_slice(), nth),
+        Place::Out(realm, nth) => match config.realms.get(usize::from(realm)) {
+            Some(realm) => own_out(realm, nth),
             None => None,
         },
-        Place::Reverse(realm) => match config.realms.get(usize::from(realm)) {
-            Some(realm) => own_reverse(realm),
+        Place::Reverse(realm, nth) => match config.realms.get(usize::from(realm)) {
+            Some(realm) => own_reverse(realm, nth),
             None => None,
         },
     }
 }
 
-/// The worker that hears the socket of a place, of so many workers: the sockets are dealt out in turn.
-/// With `spread` a realm's two sockets belong to the worker of its shard, and those that stand here as the
-/// first worker's, `auth` and `acct`, each worker has of its own.
+/// The worker that hears the socket of a place, of so many workers: the sockets are dealt out in turn, several of one
+/// number from that number on. With `spread` a realm's sockets belong to the worker of its shard, and those that stand
+/// here as the first worker's, `auth` and `acct`, each worker has of its own.
 pub fn worker_of(place: Place, workers: usize, is_spread: bool) -> usize
     requires { 1 ≤ workers }
     ensures value { result ≡ worker_number is_spread place workers }
     ensures below { result < workers }
 {
     match (is_spread, place) {
-        (false, place) => socket_of(place) % workers,
-        (true, Place::Auth | Place::Acct) => 0,
-        (true, Place::Out(realm) | Place::Reverse(realm)) => usize::from(realm) % workers,
+        (false, place) => (socket_of(place) + nth_of(place)) % workers,
+        (true, Place::Auth(_) | Place::Acct(_)) => 0,
+        (true, Place::Out(realm, _) | Place::Reverse(realm, _)) => usize::from(realm) % workers,
     }
 }

@@ -2,9 +2,6 @@
 use Rattle.std.proofs.Common.{◌≡◌, ◌≢◌, ◌↔◌, ◌∙◌, Bool, true, false, not, inl, inr, Decides, refl, sym, ap}
 use Rattle.std.proofs.lemmas.Bool.{cases_Bool, true≢false}
 use Rattle.std.specs.Prelude.{IsTrue}
-use Rattle.roam_address.specs.declared.endpoint.Endpoint.{Endpoint}
-use Rattle.roam_conf.proofs.EqualPartsLemmas.{endpoint_decides}
-use Rattle.roam_conf.specs.Duplicates.{same_endpoint}
 
 -- the test fails: they differ
 pub differs : {A : Type 0} (x y : A) (same test : Bool) → Decides same (x ≡ y) → test ≡ not same → test ≡ true →
@@ -30,12 +27,3 @@ tells x y same test decides is = (
         | inr no' ↦ absurd (apart (agrees x y same test decides is no'))
       ],
 )
-
--- endpoints that are the same by the test are one, and others aren't
-pub same_endpoints : (a b : Endpoint) → same_endpoint a b ≡ true → a ≡ b
-same_endpoints a b is = (endpoint_decides a b).0 is
-
-pub other_endpoints : (a b : Endpoint) → same_endpoint a b ≡ false → a ≡ b → ⊥
-other_endpoints a b no' is = true≢false (sym ((endpoint_decides a b).1 is) ∙ no')
-
-pub ruleset endpoint_tests = (same_endpoints, other_endpoints)

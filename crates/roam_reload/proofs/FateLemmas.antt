@@ -3,7 +3,6 @@ use Rattle.std.proofs.Common.{◌≡◌, ◌≢◌, ℕ, zero, suc, ◌<◌, Boo
 use Rattle.std.proofs.lemmas.Bool.{false≢true, true≢false}
 use Rattle.std.proofs.lemmas.List.{length-map}
 use Rattle.std.specs.Prelude.{is_none}
-use Rattle.roam_address.specs.declared.address.TheConstants.Address.{UNSPECIFIED}
 use Rattle.roam_conf.specs.declared.accounting.Accounting.TheVariants.{Forwarded}
 use Rattle.roam_conf.specs.Config.{ConfigView, PeerView, RealmView}
 use Rattle.roam_reload.specs.Differences.{IsOtherPeer, RealmsDiffer}
@@ -16,8 +15,8 @@ abbrev no_realm : RealmView
 no_realm = record {
   name = [];
   also = [];
-  out = record { ip = UNSPECIFIED; port = 0 };
-  reverse = None;
+  out = [];
+  reverse = [];
   tries = 0;
   wait = 0;
   hold = 0;

@@ -1,18 +1,17 @@
 -- Of equal tables all stays.
-use Rattle.std.proofs.Common.{◌≡◌, ℕ, zero, suc, ◌&&◌, Bool, true, false, List, [], ◌∷◌, ◌++◌, Option, Some, None, is_some, not, drop, get_or, map, refl, ap, ◌∙◌, slice_get}
+use Rattle.std.proofs.Common.{◌≡◌, ℕ, zero, suc, ◌&&◌, Bool, true, false, List, [], ◌∷◌, ◌++◌, Option, Some, None, not, drop, get_or, map, refl, ap, ◌∙◌, slice_get}
 use Rattle.std.specs.Cmp.Lexicographic.{pointwise}
 use Rattle.std.specs.Str.{bytes_eq}
 use Rattle.std.proofs.lemmas.Slice.Eq.{bytes_eq-Decides}
 use Rattle.roam_conf.specs.Config.{PeerView, RealmView, ServerView}
 use Rattle.roam_conf.specs.Duplicates.{same_endpoint}
 use Rattle.roam_address.specs.declared.address.Address.{Address}
-use Rattle.roam_address.specs.declared.endpoint.Endpoint.{Endpoint}
 use Rattle.roam_address.specs.Prefixes.{PrefixView}
 use Rattle.roam_address.specs.Same.{bits_of, same_address, same_prefix}
 use Rattle.roam_address.proofs.LongestLemmas.{key_itself}
 use Rattle.roam_address.proofs.SameLemmas.{address_decides}
 use Rattle.roam_conf.proofs.OneServerLemmas.{same_itself}
-use Rattle.roam_reload.specs.Kept.{Source, both_or_none, home_then, keeps_coa, keeps_requests, keeps_sessions, of_peer, same_server, same_servers, same_source, same_values, server_then, source, stays}
+use Rattle.roam_reload.specs.Kept.{Source, both_or_none, home_then, keeps_coa, keeps_requests, keeps_sessions, of_peer, same_server, same_servers, same_source, same_values, server_then, source, stays, takes_reverse}
 use Rattle.roam_reload.specs.Reload.{KeepsPeers, peer_part}
 
 bytes_itself : (xs : List ℕ) → bytes_eq xs xs ≡ true
@@ -57,13 +56,13 @@ ips_itself (ip ∷ ips) = rw (address_itself ip, ips_itself ips) refl
 source_itself : (s : Source) → same_source s s ≡ true
 source_itself s = rw (ips_itself s.ips, bytes_itself s.secret) refl
 
-never_closes : (o : Option Endpoint) → (is_some o && not (is_some o)) ≡ false
-never_closes None = refl
-never_closes (Some e) = refl
+never_closes : (takes : Bool) → (takes && not takes) ≡ false
+never_closes true = refl
+never_closes false = refl
 
 pub home_stays : (r : RealmView) (ip : Address) (home : ℕ) → home_then r r ip home ≡ Some home
 home_stays r ip home =
-    rw (never_closes r.reverse, both_itself same_source source_itself (source r home)) refl
+    rw (never_closes (takes_reverse r), both_itself same_source source_itself (source r home)) refl
 
 -- ---- peers
 

@@ -1,15 +1,20 @@
 -- The kinds of the broker's own places in two configurations.
-use Rattle.std.proofs.Common.{◌≡◌, ◌≢◌, Bool, true, false, ◌||◌, List, [], ◌∷◌, Some, None, refl, sym, subst, inl, inr, ◌∙◌}
+use Rattle.std.proofs.Common.{◌≡◌, ◌≢◌, ℕ, suc, ◌+◌, ◌<◌, Bool, true, false, not, ◌||◌, List, [], ◌∷◌, map, length, get_or, drop, Some, None, refl, sym, ap, subst, inl, inr, ◌∙◌, add-one, drop-cons}
 use Rattle.std.proofs.lemmas.Bool.{cases_Bool, true≢false, false≢true, or_cases, or_parts, or_left, or_right}
+use Rattle.std.proofs.lemmas.List.Folds.{find-append, list_any-append}
 use Rattle.std.proofs.lemmas.Option.{none-some, same_Some}
-use Rattle.std.specs.List.{find}
-use Rattle.roam_conf.specs.Config.{ConfigView}
+use Rattle.std.specs.List.{find, flat_map}
+use Rattle.std.specs.Option.{option_or}
+use Rattle.std.specs.Prelude.{if◌then◌else◌}
+use Rattle.roam_conf.specs.Config.{ConfigView, RealmView}
 use Rattle.roam_conf.specs.Duplicates.{is_among, same_endpoint}
+use Rattle.roam_conf.specs.Parts.{shown_realm}
+use Rattle.roam_conf.specs.declared.realm.Realm.{Realm}
 use Rattle.roam_address.specs.declared.endpoint.Endpoint.{Endpoint}
 use Rattle.roam_conf.proofs.EqualPartsLemmas.{endpoint_decides}
 use Rattle.roam_reload.specs.Differences.{HasMoved}
 use Rattle.roam_reload.specs.Moves.{is_moved}
-use Rattle.roam_reload.specs.Reload.{KeepsKinds, endpoints_of}
+use Rattle.roam_reload.specs.Reload.{KeepsKinds, endpoints_of, here}
 use Rattle.roam_reload.specs.declared.kind.PlaceKind.{PlaceKind}
 use Rattle.roam_reload.specs.declared.kind.PlaceKind.TheVariants.{Auth, Acct, Out, Reverse}
 
@@ -100,9 +105,6 @@ moves old new kind e was moved =
 same_self : (e : Endpoint) → same_endpoint e e ≡ true
 same_self e = (endpoint_decides e e).1 refl
 
-pub alone : (e : Endpoint) → is_among (e ∷ []) e ≡ true
-alone e = or_left (same_endpoint e e) false (same_self e)
-
 -- what is looked for and found is there, and passes
 pub found : (test : Endpoint → Bool) (es : List Endpoint) (e : Endpoint) → find test es ≡ Some e →
     (is_among es e ≡ true) × (test e ≡ true)
@@ -137,24 +139,30 @@ missed test (x ∷ xs) e is there =
           ])
     ]
 
--- the only one
-only : (test : Endpoint → Bool) (x e : Endpoint) → test x ≡ false → is_among (x ∷ []) e ≡ true → test e ≡ false
-only test x e none there =
-    elim (or_cases (same_endpoint e x) false there) [
-      | inl here ↦ (subst (λ y. test y ≡ false) (sym ((endpoint_decides e x).0 here)) none)
-      | inr never ↦ (absurd (false≢true never))
-    ]
-
 -- nothing has moved
-pub all_stay : (old new : ConfigView) → is_moved new Auth old.auth ≡ false → is_moved new Acct old.acct ≡ false
-    → find (is_moved new Out) (endpoints_of old Out) ≡ None →
-    find (is_moved new Reverse) (endpoints_of old Reverse) ≡ None
-    → KeepsKinds old new
-all_stay old new auth acct out reverse Auth after e was is =
-    stays new Auth after e (only (is_moved new Auth) old.auth e auth was) is
-all_stay old new auth acct out reverse Acct after e was is =
-    stays new Acct after e (only (is_moved new Acct) old.acct e acct was) is
-all_stay old new auth acct out reverse Out after e was is =
-    stays new Out after e (missed (is_moved new Out) (endpoints_of old Out) e out was) is
-all_stay old new auth acct out reverse Reverse after e was is =
-    stays new Reverse after e (missed (is_moved new Reverse) (endpoints_of old Reverse) e reverse was) is
+pub all_stay : (old new : ConfigView) → ((kind : PlaceKind) → find (is_moved new kind) (endpoints_of old kind) ≡ None) →
+    KeepsKinds old new
+all_stay old new none kind after e was is =
+    stays new kind after e (missed (is_moved new kind) (endpoints_of old kind) e (none kind) was) is
+
+-- what is looked for in many realms is looked for in the first that is here, and in those behind it
+pub in_realms : (test : Endpoint → Bool) (places : RealmView → List Endpoint) (realms : List Realm) (i : ℕ)
+    (realm : Realm) → i < length realms → realm ≡ get_or realms i realm →
+    find test (flat_map places (here (map shown_realm (drop i realms))))
+    ≡ option_or (if realm.gone then None else find test (places (shown_realm realm)))
+    (find test (flat_map places (here (map shown_realm (drop (i + 1) realms)))))
+in_realms test places realms i realm within is =
+    let there : drop i realms ≡ realm ∷ drop (i + 1) realms =
+    rw add-one (drop-cons realms i realm within ∙ ap (λ r. r ∷ drop (suc i) realms) (sym is)) in
+    rw there (by_gone realm.gone)
+  where
+    rest : List RealmView
+    rest = here (map shown_realm (drop (i + 1) realms))
+
+    by_gone : (gone : Bool) → find test (flat_map places (if not gone then shown_realm realm ∷ rest else rest))
+        ≡ option_or (if gone then None else find test (places (shown_realm realm))) (find test (flat_map places rest))
+    by_gone true = refl
+    by_gone false = find-append test (places (shown_realm realm)) (flat_map places rest)
+
+-- one that is there is in the first realm that is here, or behind it
+pub ruleset of_realms = (list_any-append)

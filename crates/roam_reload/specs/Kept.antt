@@ -1,6 +1,6 @@
 -- What stays the same between two configurations, as far as what waits in a realm, what is held there and what its
 -- ledger has depend on it: tests of the tables that stand at one number in both. Each is true of equal tables. Ours.
-use Rattle.std.specs.Prelude.{ℕ, ◌-◌, ◌&&◌, ◌||◌, not, nat_lt, Bool, true, false, List, [], ◌∷◌, length, Option, Some, None, is_some, option_and_then, option_map, slice_get, if◌then◌else◌}
+use Rattle.std.specs.Prelude.{ℕ, ◌-◌, ◌&&◌, ◌||◌, not, nat_lt, Bool, true, false, List, [], ◌∷◌, length, Option, Some, None, option_and_then, option_map, slice_get, if◌then◌else◌}
 use Rattle.std.specs.Cmp.Lexicographic.{pointwise}
 use Rattle.std.specs.Option.{option_map_or, option_to_list}
 use Rattle.std.specs.Str.{bytes_eq}
@@ -8,7 +8,7 @@ use Rattle.roam_address.specs.declared.address.Address.{Address}
 use Rattle.roam_address.specs.Same.{same_address, same_prefix}
 use Rattle.roam_conf.specs.Config.{CoaClientView, PeerView, RealmView, ServerView}
 use Rattle.roam_conf.specs.Duplicates.{same_endpoint}
-use Rattle.roam_conf.specs.Lookup.{first_place, reverse_home}
+use Rattle.roam_conf.specs.Lookup.{first_place, home_with_ip}
 use Rattle.roam_conf.specs.Secrets.{home_secret}
 
 -- both are there and the same by a test, or neither is
@@ -91,15 +91,18 @@ source realm home =
 abbrev pub same_source : Source → Source → Bool
 same_source a b = pointwise same_address a.ips b.ips && bytes_eq a.secret b.secret
 
--- a realm takes reverse requests no more
+-- a realm takes reverse requests; it does no more
+abbrev pub takes_reverse : RealmView → Bool
+takes_reverse realm = nat_lt 0 (length realm.reverse)
+
 abbrev pub closes_reverse : RealmView → RealmView → Bool
-closes_reverse old new = is_some old.reverse && not (is_some new.reverse)
+closes_reverse old new = takes_reverse old && not (takes_reverse new)
 
 -- the source at an address, if the secret shared with it is this
 abbrev pub home_at : RealmView → Address → List ℕ → Option ℕ
 home_at realm ip secret =
     option_and_then (λ home. if bytes_eq (home_secret realm home) secret then Some home else None)
-    (reverse_home realm ip)
+    (home_with_ip realm ip)
 
 -- ## Same source of reverse requests
 -- The reverse requests of a source stay where under the new table its address and its secret are a source's: the one of
@@ -116,9 +119,19 @@ home_then old new ip home =
     else if both_or_none same_source (source old home) (source new home) then Some home
     else home_at new ip (home_secret old home)
 
--- what a realm forwards leaves from the same endpoint
-abbrev pub same_out : RealmView → RealmView → Bool
-same_out old new = same_endpoint old.out new.out
+-- ## Same outgoing socket
+-- What waits at a server or a peer stays where the `out` by which it was forwarded is the same endpoint, at the same
+-- place of the list: only there its reply comes.
+-- Source: ours
+-- Rules out: a request that waits for a reply at another endpoint than it left from
+-- Stands in: `roam_reload` `Kept.antt`: `same_out`, `same_outs`; `is_same_out`, `has_same_outs`
+--
+-- what a realm forwards by the `out` of this place leaves from the same endpoint; by each of them
+abbrev pub same_out : RealmView → RealmView → ℕ → Bool
+same_out old new out = both_or_none same_endpoint (slice_get old.out out) (slice_get new.out out)
+
+abbrev pub same_outs : RealmView → RealmView → Bool
+same_outs old new = pointwise same_endpoint old.out new.out
 
 -- the ledger holds sessions told by their access servers in both, or in neither
 abbrev pub same_sessions : RealmView → RealmView → Bool

@@ -37,7 +37,7 @@ gone_realm realm = record realm {
   request_without = [];
   reply_without = [];
   coa_clients = [];
-  reverse = None;
+  reverse = [];
   servers = [];
 }
 

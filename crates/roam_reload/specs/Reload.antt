@@ -1,7 +1,7 @@
 -- When a configuration may follow another while the broker serves, and which realms go on then. Ours. Both are laid out
 -- by numbers (`Numbers.antt`): an index is one realm's, or one peer's, in both.
-use Rattle.std.specs.Prelude.{◌≡◌, ℕ, true, false, List, [], ◌∷◌, ◌++◌, filter, map, not, option_map, slice_get}
-use Rattle.std.specs.List.{filter_map}
+use Rattle.std.specs.Prelude.{◌≡◌, ℕ, true, false, List, [], ◌++◌, filter, map, not, option_map, slice_get}
+use Rattle.std.specs.List.{flat_map}
 use Rattle.roam_conf.specs.Config.{ConfigView, PeerView, RealmView}
 use Rattle.roam_conf.specs.Duplicates.{is_among}
 use Rattle.roam_address.specs.declared.endpoint.Endpoint.{Endpoint}
@@ -53,10 +53,10 @@ here realms = filter (λ realm. not realm.gone) realms
 
 -- the endpoints of the broker's own places of a kind
 abbrev pub endpoints_of : ConfigView → PlaceKind → List Endpoint
-endpoints_of config Auth = config.auth ∷ []
-endpoints_of config Acct = config.acct ∷ []
-endpoints_of config Out = map (λ realm. realm.out) (here config.realms)
-endpoints_of config Reverse = filter_map (λ realm. realm.reverse) (here config.realms)
+endpoints_of config Auth = config.auth
+endpoints_of config Acct = config.acct
+endpoints_of config Out = flat_map (λ realm. realm.out) (here config.realms)
+endpoints_of config Reverse = flat_map (λ realm. realm.reverse) (here config.realms)
 
 -- an endpoint that both have is at places of one kind
 abbrev pub KeepsKinds : ConfigView → ConfigView → Type 0

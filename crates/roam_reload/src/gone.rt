@@ -4,7 +4,7 @@ ghost use Rattle.std.specs.Prelude.{◌≡◌, IfOk};
 ghost use Rattle.roam_conf.specs.Parts.{shown_peer, shown_realm};
 ghost use Rattle.roam_reload.specs.Numbers.{gone_peer, gone_realm};
 
-use roam_conf::{Peer, Realm};
+use roam_conf::{Endpoint, Peer, Realm};
 use std::alloc::{AllocError, Global};
 
 /// What stands where a peer went: its name and address, which nothing means any more.
@@ -32,11 +32,21 @@ pub(crate) fn gone_peer(alloc: Global, peer: &Peer) -> Result<Peer, AllocError>
     })
 }
 
+/// The same endpoints once more.
+fn copies_of(alloc: Global, endpoints: &[Endpoint]) -> Result<Vec<Endpoint>, AllocError>
+    ensures { IfOk result (λ copies. copies.items ≡ endpoints.now) }
+{
+    let mut copies = Vec::new(alloc);
+    copies.extend_from_slice(endpoints)?;
+    Ok(copies)
+}
+
 /// What stands where a realm went: its name, which nothing means any more, without sockets and servers.
 pub(crate) fn gone_realm(alloc: Global, realm: &Realm) -> Result<Realm, AllocError>
     ensures { IfOk result (λ gone. shown_realm gone ≡ gone_realm (shown_realm realm.now)) }
 {
     let name = String::from_str(alloc, realm.name.as_str())?;
+    let out = copies_of(alloc, realm.out.as_slice())?;
     Ok(Realm {
         gone: true,
         name,
@@ -52,8 +62,8 @@ pub(crate) fn gone_realm(alloc: Global, realm: &Realm) -> Result<Realm, AllocErr
         conversations: realm.conversations,
         own_sessions: realm.own_sessions,
         coa_clients: Vec::new(alloc),
-        out: realm.out,
-        reverse: None,
+        out,
+        reverse: Vec::new(alloc),
         tries: realm.tries,
         wait: realm.wait,
         hold: realm.hold,

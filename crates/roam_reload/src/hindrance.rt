@@ -1,7 +1,8 @@
 //! Why a configuration may not follow another.
 
 ghost use Rattle.std.specs.Prelude.{◌≡◌, IfNone, IfSome, map};
-ghost use Rattle.std.specs.List.{filter_map, find};
+ghost use Rattle.std.specs.List.{find, flat_map};
+ghost use Rattle.std.specs.Option.{option_or};
 ghost use Rattle.roam_conf.specs.Parts.{shown_realm};
 ghost use Rattle.roam_conf.specs.Shown.{shown};
 ghost use Rattle.roam_reload.specs.Differences.{HasMoved, Hinders};
@@ -26,14 +27,28 @@ pub enum Hindrance {
     Endpoint(Endpoint),
 }
 
+/// The first of some endpoints, of places of a kind, which is at a place of another kind.
+fn moved_of(endpoints: &[Endpoint], kind: PlaceKind, new: &Config) -> Option<Endpoint>
+    ensures { result ≡ find (is_moved (shown new.now) kind) endpoints.now }
+{
+    for endpoint in endpoints {
+        if is_moved(new, kind, *endpoint) {
+            return Some(*endpoint);
+        }
+    }
+    None
+}
+
 /// The first `out` of those realms that are here which is at a place of another kind.
 fn moved_out(realms: &[Realm], new: &Config) -> Option<Endpoint>
     ensures { result ≡ find (is_moved (shown new.now) kind.Out)
-        (map (λ realm. realm.out) (here (map shown_realm realms.now))) }
+        (flat_map (λ realm. realm.out) (here (map shown_realm realms.now))) }
 {
     for realm in realms {
-        if !realm.gone && is_moved(new, PlaceKind::Out, realm.out) {
-            return Some(realm.out);
+        if !realm.gone {
+            if let Some(moved) = moved_of(realm.out.as_slice(), PlaceKind::Out, new) {
+                return Some(moved);
+            }
         }
     }
     None
@@ -42,16 +57,29 @@ fn moved_out(realms: &[Realm], new: &Config) -> Option<Endpoint>
 /// The first `reverse` of those realms that are here which is at a place of another kind.
 fn moved_reverse(realms: &[Realm], new: &Config) -> Option<Endpoint>
     ensures { result ≡ find (is_moved (shown new.now) kind.Reverse)
-        (filter_map (λ realm. realm.reverse) (here (map shown_realm realms.now))) }
+        (flat_map (λ realm. realm.reverse) (here (map shown_realm realms.now))) }
 {
     for realm in realms {
-        if let (false, Some(reverse)) = (realm.gone, realm.reverse) {
-            if is_moved(new, PlaceKind::Reverse, reverse) {
-                return Some(reverse);
+        if !realm.gone {
+            if let Some(moved) = moved_of(realm.reverse.as_slice(), PlaceKind::Reverse, new) {
+                return Some(moved);
             }
         }
     }
     None
+}
+
+/// The first endpoint of the realms' places which is at a place of another kind.
+fn moved_of_realms(realms: &[Realm], new: &Config) -> Option<Endpoint>
+    ensures { result ≡ option_or
+        (find (is_moved (shown new.now) kind.Out) (flat_map (λ realm. realm.out) (here (map shown_realm realms.now))))
+        (find (is_moved (shown new.now) kind.Reverse)
+        (flat_map (λ realm. realm.reverse) (here (map shown_realm realms.now)))) }
+{
+    match moved_out(realms, new) {
+        None => moved_reverse(realms, new),
+        moved => moved,
+    }
 }
 
 /// An endpoint that both have, and that isn't at places of one kind.
@@ -59,16 +87,13 @@ fn moved_endpoint(old: &Config, new: &Config) -> Option<Endpoint>
     ensures none { IfNone result (KeepsKinds (shown old.now) (shown new.now)) }
     ensures some { IfSome result (HasMoved (shown old.now) (shown new.now)) }
 {
-    if is_moved(new, PlaceKind::Auth, old.auth) {
-        return Some(old.auth);
+    if let Some(moved) = moved_of(old.auth.as_slice(), PlaceKind::Auth, new) {
+        return Some(moved);
     }
-    if is_moved(new, PlaceKind::Acct, old.acct) {
-        return Some(old.acct);
+    if let Some(moved) = moved_of(old.acct.as_slice(), PlaceKind::Acct, new) {
+        return Some(moved);
     }
-    match moved_out(old.realms.as_slice(), new) {
-        None => moved_reverse(old.realms.as_slice(), new),
-        moved => moved,
-    }
+    moved_of_realms(old.realms.as_slice(), new)
 }
 
 /// Why the new configuration may not follow the old one, if it may not.

@@ -5,7 +5,7 @@ ghost use Rattle.roam_conf.specs.Duplicates.{same_endpoint};
 ghost use Rattle.roam_conf.specs.Lookup.{first_place};
 ghost use Rattle.roam_conf.specs.Parts.{shown_peer, shown_realm, shown_server};
 ghost use Rattle.roam_reload.specs.Kept.{both_or_none, keeps_coa, keeps_requests, keeps_sessions, of_peer};
-ghost use Rattle.roam_reload.specs.Kept.{same_out, same_server, same_servers, server_then, stays};
+ghost use Rattle.roam_reload.specs.Kept.{same_out, same_outs, same_server, same_servers, server_then, stays};
 
 use roam_conf::{Endpoint, Peer, Realm, Server, is_same_endpoint};
 
@@ -134,9 +134,28 @@ pub fn server_then(old: &Realm, new: &Realm, server: u8) -> Option<u8>
     }
 }
 
-/// Whether what a realm forwards leaves from the same endpoint.
-pub fn is_same_out(old: &Realm, new: &Realm) -> bool
-    ensures { result ≡ same_out (shown_realm old.now) (shown_realm new.now) }
+/// Whether what a realm forwards by the `out` of this place leaves from the same endpoint.
+pub fn is_same_out(old: &Realm, new: &Realm, out: u8) -> bool
+    ensures { result ≡ same_out (shown_realm old.now) (shown_realm new.now) out }
 {
-    is_same_endpoint(old.out, new.out)
+    match (old.out.get(usize::from(out)), new.out.get(usize::from(out))) {
+        (Some(old), Some(new)) => is_same_endpoint(*old, *new),
+        (None, None) => true,
+        _ => false,
+    }
+}
+
+/// Whether it does by each of them.
+pub fn has_same_outs(old: &Realm, new: &Realm) -> bool
+    ensures { result ≡ same_outs (shown_realm old.now) (shown_realm new.now) }
+{
+    if old.out.len() != new.out.len() {
+        return false;
+    }
+    for place in 0..old.out.len() {
+        if !is_same_endpoint(old.out[place], new.out[place]) {
+            return false;
+        }
+    }
+    true
 }

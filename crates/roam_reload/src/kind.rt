@@ -1,7 +1,7 @@
 //! The kinds of the broker's own places.
 
 ghost use Rattle.std.specs.Prelude.{◌≡◌, map};
-ghost use Rattle.std.specs.List.{filter_map};
+ghost use Rattle.std.specs.List.{flat_map};
 ghost use Rattle.roam_conf.specs.Duplicates.{is_among};
 ghost use Rattle.roam_conf.specs.Parts.{shown_realm};
 ghost use Rattle.roam_conf.specs.Shown.{shown};
@@ -23,27 +23,39 @@ pub enum PlaceKind {
     Reverse,
 }
 
-/// Whether an endpoint is the `out` of a realm that is here.
-fn is_out(realms: &[Realm], endpoint: Endpoint) -> bool
-    ensures { result ≡ is_among (map (λ realm. realm.out) (here (map shown_realm realms.now))) endpoint }
+/// Whether an endpoint is one of these.
+fn is_among(endpoints: &[Endpoint], endpoint: Endpoint) -> bool
+    ensures { result ≡ is_among endpoints.now endpoint }
 {
-    for realm in realms {
-        if !realm.gone && is_same_endpoint(endpoint, realm.out) {
+    for other in endpoints {
+        if is_same_endpoint(endpoint, *other) {
             return true;
         }
     }
     false
 }
 
-/// Whether an endpoint is the `reverse` of a realm that is here.
-fn is_reverse(realms: &[Realm], endpoint: Endpoint) -> bool
-    ensures { result ≡ is_among (filter_map (λ realm. realm.reverse) (here (map shown_realm realms.now))) endpoint }
+/// Whether an endpoint is an `out` of a realm that is here.
+#[tactic(auto, using(crate::proofs::KindLemmas::of_realms))]
+fn is_out(realms: &[Realm], endpoint: Endpoint) -> bool
+    ensures { result ≡ is_among (flat_map (λ realm. realm.out) (here (map shown_realm realms.now))) endpoint }
 {
     for realm in realms {
-        if let (false, Some(reverse)) = (realm.gone, realm.reverse) {
-            if is_same_endpoint(endpoint, reverse) {
-                return true;
-            }
+        if !realm.gone && is_among(realm.out.as_slice(), endpoint) {
+            return true;
+        }
+    }
+    false
+}
+
+/// Whether an endpoint is a `reverse` of a realm that is here.
+#[tactic(auto, using(crate::proofs::KindLemmas::of_realms))]
+fn is_reverse(realms: &[Realm], endpoint: Endpoint) -> bool
+    ensures { result ≡ is_among (flat_map (λ realm. realm.reverse) (here (map shown_realm realms.now))) endpoint }
+{
+    for realm in realms {
+        if !realm.gone && is_among(realm.reverse.as_slice(), endpoint) {
+            return true;
         }
     }
     false
@@ -54,8 +66,8 @@ fn is_at(config: &Config, kind: PlaceKind, endpoint: Endpoint) -> bool
     ensures { result ≡ is_among (endpoints_of (shown config.now) kind) endpoint }
 {
     match kind {
-        PlaceKind::Auth => is_same_endpoint(endpoint, config.auth),
-        PlaceKind::Acct => is_same_endpoint(endpoint, config.acct),
+        PlaceKind::Auth => is_among(config.auth.as_slice(), endpoint),
+        PlaceKind::Acct => is_among(config.acct.as_slice(), endpoint),
         PlaceKind::Out => is_out(config.realms.as_slice(), endpoint),
         PlaceKind::Reverse => is_reverse(config.realms.as_slice(), endpoint),
     }

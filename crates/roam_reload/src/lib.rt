@@ -34,8 +34,8 @@ mod sources;
 pub use fate::{Fate, fate_of, is_carried, is_here, is_untouched};
 pub use hindrance::{Hindrance, hindrance_of};
 pub use kept::{
-    has_same_servers, is_same_out, peer_keeps_coa, peer_keeps_requests, peer_keeps_sessions,
-    server_then,
+    has_same_outs, has_same_servers, is_same_out, peer_keeps_coa, peer_keeps_requests,
+    peer_keeps_sessions, server_then,
 };
 pub use keys::{PeerKey, REALM_KEYS, RealmKey};
 pub use kind::PlaceKind;

@@ -1,13 +1,13 @@
 //! In which key two tables of a realm differ.
 
-ghost use Rattle.std.specs.Prelude.{◌≡◌, ◌≢◌, ◌↔◌, IfNone, IfSome, IsFalse, IsTrue};
+ghost use Rattle.std.specs.Prelude.{◌≡◌, ◌↔◌, IfNone, IfSome, IsTrue};
 ghost use Rattle.roam_conf.specs.Parts.{shown_realm};
 ghost use Rattle.roam_reload.specs.Differences.{RealmsDiffer};
 ghost use Rattle.roam_reload.specs.Reload.{realm_part};
 ghost use Rattle.roam_reload.specs.SameLimits.{HaveSameLimits, HaveSameParts, HaveSamePolicy};
 
 use crate::keys::RealmKey;
-use roam_conf::{Endpoint, Realm, is_same_endpoint};
+use roam_conf::Realm;
 
 /// The first key of a realm's times and limits in which two tables differ.
 fn limit_difference(old: &Realm, new: &Realm) -> Option<RealmKey>
@@ -92,19 +92,6 @@ fn other_difference(old: &Realm, new: &Realm) -> Option<RealmKey>
     }
 }
 
-/// Whether two realms take reverse requests at one endpoint, or neither takes them.
-#[tactic(auto, using(crate::proofs::DifferenceLemmas::endpoint_tests))]
-fn is_same_reverse(a: Option<Endpoint>, b: Option<Endpoint>) -> bool
-    ensures same { IsTrue result → a ≡ b }
-    ensures other { IsFalse result → a ≢ b }
-{
-    match (a, b) {
-        (Some(a), Some(b)) => is_same_endpoint(a, b),
-        (None, None) => true,
-        _ => false,
-    }
-}
-
 /// The first key in which two tables of a realm differ, its `name` and `also` aside.
 pub fn realm_difference(old: &Realm, new: &Realm) -> Option<RealmKey>
     ensures none { IfNone result (realm_part (shown_realm new.now) ≡ realm_part (shown_realm old.now)) }
@@ -112,9 +99,9 @@ pub fn realm_difference(old: &Realm, new: &Realm) -> Option<RealmKey>
 {
     if old.gone != new.gone {
         Some(RealmKey::Gone)
-    } else if !is_same_endpoint(old.out, new.out) {
+    } else if old.out != new.out {
         Some(RealmKey::Out)
-    } else if !is_same_reverse(new.reverse, old.reverse) {
+    } else if old.reverse != new.reverse {
         Some(RealmKey::Reverse)
     } else if old.servers != new.servers {
         Some(RealmKey::Servers)
@@ -129,8 +116,8 @@ pub fn is_other_in(old: &Realm, new: &Realm, key: RealmKey) -> bool
 {
     match key {
         RealmKey::Gone => old.gone != new.gone,
-        RealmKey::Out => !is_same_endpoint(old.out, new.out),
-        RealmKey::Reverse => !is_same_reverse(new.reverse, old.reverse),
+        RealmKey::Out => old.out != new.out,
+        RealmKey::Reverse => old.reverse != new.reverse,
         RealmKey::Tries => old.tries != new.tries,
         RealmKey::Wait => old.wait != new.wait,
         RealmKey::Hold => old.hold != new.hold,

@@ -4,7 +4,7 @@ ghost use Rattle.std.specs.Prelude.{◌≡◌, option_map};
 ghost use Rattle.roam_conf.specs.Parts.{shown_client, shown_realm, shown_server};
 ghost use Rattle.roam_conf.specs.Secrets.{home_secret};
 ghost use Rattle.roam_reload.specs.Kept.{both_or_none, client_source, closes_reverse, home_at, home_then, same_source};
-ghost use Rattle.roam_reload.specs.Kept.{server_source, source};
+ghost use Rattle.roam_reload.specs.Kept.{server_source, source, takes_reverse};
 ghost use Rattle.roam_reload.specs.Sources.{shown_source};
 
 use roam_conf::{Address, CoaClient, Realm, Server};
@@ -69,11 +69,18 @@ fn is_same_source(old: Option<SourceRef<'_>>, new: Option<SourceRef<'_>>) -> boo
     }
 }
 
+/// Whether a realm takes reverse requests.
+fn takes_reverse(realm: &Realm) -> bool
+    ensures { result ≡ takes_reverse (shown_realm realm.now) }
+{
+    !realm.reverse.is_empty()
+}
+
 /// Whether a realm takes reverse requests no more.
 fn closes_reverse(old: &Realm, new: &Realm) -> bool
     ensures { result ≡ closes_reverse (shown_realm old.now) (shown_realm new.now) }
 {
-    old.reverse.is_some() && new.reverse.is_none()
+    takes_reverse(old) && !takes_reverse(new)
 }
 
 /// The secret shared with the source of a number; none of its octets where there is no such source.
@@ -90,7 +97,7 @@ fn secret_of(realm: &Realm, home: u8) -> &[u8]
 fn home_at(old: &Realm, new: &Realm, ip: Address, home: u8) -> Option<u8>
     ensures { result ≡ home_at (shown_realm new.now) ip (home_secret (shown_realm old.now) home) }
 {
-    let there = new.home_of(ip)?;
+    let there = new.home_with_ip(ip)?;
     if secret_of(new, there) == secret_of(old, home) {
         Some(there)
     } else {

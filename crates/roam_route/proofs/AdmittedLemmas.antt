@@ -27,56 +27,56 @@ use Rattle.roam_route.proofs.RightLemmas.{Right, acct_admitted, auth_admitted, f
 
 -- the code of a request is one that is taken
 code_taken : (at : Place) (s : Side) (code : ℕ) → IsRequestAt at s code → is_taken at s code ≡ true
-code_taken place.Auth (side.Peer i) code h = rw h refl
-code_taken place.Acct (side.Peer i) code h = rw h refl
-code_taken (place.Reverse k) (side.Home i) code (inl h) = rw h refl
-code_taken (place.Reverse k) (side.Home i) code (inr h) = rw h refl
-code_taken (place.Reverse k) (side.Peer i) code h = absurd h
-code_taken (place.Reverse k) (side.Link l) code h = absurd h
-code_taken place.Auth (side.Link l) code h = absurd h
-code_taken place.Auth (side.Home i) code h = absurd h
-code_taken place.Acct (side.Link l) code h = absurd h
-code_taken place.Acct (side.Home i) code h = absurd h
-code_taken (place.Out k) (side.Peer i) code h = absurd h
-code_taken (place.Out k) (side.Link l) code h = absurd h
-code_taken (place.Out k) (side.Home i) code h = absurd h
+code_taken (place.Auth nth) (side.Peer i) code h = rw h refl
+code_taken (place.Acct nth) (side.Peer i) code h = rw h refl
+code_taken (place.Reverse k nth) (side.Home i) code (inl h) = rw h refl
+code_taken (place.Reverse k nth) (side.Home i) code (inr h) = rw h refl
+code_taken (place.Reverse k nth) (side.Peer i) code h = absurd h
+code_taken (place.Reverse k nth) (side.Link l) code h = absurd h
+code_taken (place.Auth nth) (side.Link l) code h = absurd h
+code_taken (place.Auth nth) (side.Home i) code h = absurd h
+code_taken (place.Acct nth) (side.Link l) code h = absurd h
+code_taken (place.Acct nth) (side.Home i) code h = absurd h
+code_taken (place.Out k nth) (side.Peer i) code h = absurd h
+code_taken (place.Out k nth) (side.Link l) code h = absurd h
+code_taken (place.Out k nth) (side.Home i) code h = absurd h
 
 -- and what is taken of a peer or a home server is a request's
 pub taken_code : (at : Place) (s : Side) (code : ℕ) → IsOfRequest s → is_taken at s code ≡ true
     → IsRequestAt at s code
-taken_code place.Auth (side.Peer i) code of h = (Decides-eqb code ACCESS_REQUEST).0 h
-taken_code place.Acct (side.Peer i) code of h = (Decides-eqb code ACCOUNTING_REQUEST).0 h
-taken_code (place.Reverse k) (side.Home i) code of h =
+taken_code (place.Auth nth) (side.Peer i) code of h = (Decides-eqb code ACCESS_REQUEST).0 h
+taken_code (place.Acct nth) (side.Peer i) code of h = (Decides-eqb code ACCOUNTING_REQUEST).0 h
+taken_code (place.Reverse k nth) (side.Home i) code of h =
     elim (cases_Bool (code == DISCONNECT_REQUEST)) [
       | inl one ↦ inl ((Decides-eqb code DISCONNECT_REQUEST).0 one)
       | inr other ↦ inr ((Decides-eqb code COA_REQUEST).0 (rw other at h))
     ]
-taken_code (place.Reverse k) (side.Peer i) code of h = absurd (cc h)
-taken_code place.Auth (side.Home i) code of h = absurd (cc h)
-taken_code place.Acct (side.Home i) code of h = absurd (cc h)
-taken_code (place.Out k) (side.Peer i) code of h = absurd (cc h)
-taken_code (place.Out k) (side.Home i) code of h = absurd (cc h)
+taken_code (place.Reverse k nth) (side.Peer i) code of h = absurd (cc h)
+taken_code (place.Auth nth) (side.Home i) code of h = absurd (cc h)
+taken_code (place.Acct nth) (side.Home i) code of h = absurd (cc h)
+taken_code (place.Out k nth) (side.Peer i) code of h = absurd (cc h)
+taken_code (place.Out k nth) (side.Home i) code of h = absurd (cc h)
 taken_code at (side.Link l) code of h = absurd of
 
 -- no Status-Server is a request that goes to a realm
 no_status : (config : ConfigView) (at : Place) (s : Side) (code : ℕ) → IsRequestAt at s code
     → is_status_request config at s code ≡ false
-no_status config place.Auth (side.Peer i) code h =
-    is_false (is_status_request config place.Auth (side.Peer i) code)
+no_status config (place.Auth nth) (side.Peer i) code h =
+    is_false (is_status_request config (place.Auth nth) (side.Peer i) code)
     (λ is. absurd (grind (arith, nat_tests, is, h)))
-no_status config place.Acct (side.Peer i) code h =
-    is_false (is_status_request config place.Acct (side.Peer i) code)
+no_status config (place.Acct nth) (side.Peer i) code h =
+    is_false (is_status_request config (place.Acct nth) (side.Peer i) code)
     (λ is. absurd (grind (arith, nat_tests, is, h)))
-no_status config (place.Reverse k) (side.Home i) code h = refl
-no_status config (place.Reverse k) (side.Peer i) code h = absurd h
-no_status config (place.Reverse k) (side.Link l) code h = absurd h
-no_status config place.Auth (side.Link l) code h = absurd h
-no_status config place.Auth (side.Home i) code h = absurd h
-no_status config place.Acct (side.Link l) code h = absurd h
-no_status config place.Acct (side.Home i) code h = absurd h
-no_status config (place.Out k) (side.Peer i) code h = absurd h
-no_status config (place.Out k) (side.Link l) code h = absurd h
-no_status config (place.Out k) (side.Home i) code h = absurd h
+no_status config (place.Reverse k nth) (side.Home i) code h = refl
+no_status config (place.Reverse k nth) (side.Peer i) code h = absurd h
+no_status config (place.Reverse k nth) (side.Link l) code h = absurd h
+no_status config (place.Auth nth) (side.Link l) code h = absurd h
+no_status config (place.Auth nth) (side.Home i) code h = absurd h
+no_status config (place.Acct nth) (side.Link l) code h = absurd h
+no_status config (place.Acct nth) (side.Home i) code h = absurd h
+no_status config (place.Out k nth) (side.Peer i) code h = absurd h
+no_status config (place.Out k nth) (side.Link l) code h = absurd h
+no_status config (place.Out k nth) (side.Home i) code h = absurd h
 
 -- so what its packet gives is judged
 pub judged_is : (config : ConfigView) (a : Arrival) (s : Side) (p : Packet) → IsRequestAt a.at s p.code
@@ -130,33 +130,33 @@ gives_at config secret a s p at =
 packet_right : (config : ConfigView) (a : Arrival) (s : Side) (p : Packet) (at : Place) (job : PlainJob)
     → a.at ≡ at → IsRequestAt at s p.code
     → (packet_admission config a s p at ≡ admitted job) ↔ Right config a at s p job
-packet_right config a (side.Peer i) p place.Auth job is code =
+packet_right config a (side.Peer i) p (place.Auth nth) job is code =
     subst (λ (x : Place). (gives_at config (peer_secret config i) a (side.Peer i) p x ≡ admitted job)
-    ↔ Right config a place.Auth (side.Peer i) p job) (sym is) (auth_admitted config a i p job code)
-packet_right config a (side.Peer i) p place.Acct job is code =
+    ↔ Right config a (place.Auth nth) (side.Peer i) p job) (sym is) (auth_admitted nth config a i p job code)
+packet_right config a (side.Peer i) p (place.Acct nth) job is code =
     subst (λ (x : Place). (gives_at config (peer_secret config i) a (side.Peer i) p x ≡ admitted job)
-    ↔ Right config a place.Acct (side.Peer i) p job) (sym is) (acct_admitted config a i p job code)
-packet_right config a (side.Home i) p (place.Reverse k) job is code =
+    ↔ Right config a (place.Acct nth) (side.Peer i) p job) (sym is) (acct_admitted nth config a i p job code)
+packet_right config a (side.Home i) p (place.Reverse k nth) job is code =
     subst (λ (x : Place). (gives_at config (home_secret config k i) a (side.Home i) p x ≡ admitted job)
-    ↔ Right config a (place.Reverse k) (side.Home i) p job) (sym is) (reverse_admitted config a k i p job code)
-packet_right config a (side.Peer i) p (place.Reverse k) job is code = absurd code
-packet_right config a (side.Link l) p (place.Reverse k) job is code = absurd code
-packet_right config a (side.Link l) p place.Auth job is code = absurd code
-packet_right config a (side.Home i) p place.Auth job is code = absurd code
-packet_right config a (side.Link l) p place.Acct job is code = absurd code
-packet_right config a (side.Home i) p place.Acct job is code = absurd code
-packet_right config a (side.Peer i) p (place.Out k) job is code = absurd code
-packet_right config a (side.Link l) p (place.Out k) job is code = absurd code
-packet_right config a (side.Home i) p (place.Out k) job is code = absurd code
+    ↔ Right config a (place.Reverse k nth) (side.Home i) p job) (sym is) (reverse_admitted nth config a k i p job code)
+packet_right config a (side.Peer i) p (place.Reverse k nth) job is code = absurd code
+packet_right config a (side.Link l) p (place.Reverse k nth) job is code = absurd code
+packet_right config a (side.Link l) p (place.Auth nth) job is code = absurd code
+packet_right config a (side.Home i) p (place.Auth nth) job is code = absurd code
+packet_right config a (side.Link l) p (place.Acct nth) job is code = absurd code
+packet_right config a (side.Home i) p (place.Acct nth) job is code = absurd code
+packet_right config a (side.Peer i) p (place.Out k nth) job is code = absurd code
+packet_right config a (side.Link l) p (place.Out k nth) job is code = absurd code
+packet_right config a (side.Home i) p (place.Out k nth) job is code = absurd code
 
 -- what a link sends is no request
 link_side : (config : ConfigView) (a : Arrival) (l : Link) (p : Packet) (at : Place) (job : PlainJob)
     → is_taken at (side.Link l) p.code ≡ true
     → packet_admission config a (side.Link l) p at ≡ admitted job → job.side ≡ side.Link l
-link_side config a l p (place.Out k) job taken h = ((given_by a (side.Link l) p k None job).0 h).1.side_is
-link_side config a l p place.Auth job taken h = absurd (cc taken)
-link_side config a l p place.Acct job taken h = absurd (cc taken)
-link_side config a l p (place.Reverse k) job taken h = absurd (cc taken)
+link_side config a l p (place.Out k nth) job taken h = ((given_by a (side.Link l) p k None job).0 h).1.side_is
+link_side config a l p (place.Auth nth) job taken h = absurd (cc taken)
+link_side config a l p (place.Acct nth) job taken h = absurd (cc taken)
+link_side config a l p (place.Reverse k nth) job taken h = absurd (cc taken)
 
 of_request : (config : ConfigView) (a : Arrival) (s : Side) (p : Packet) (job : PlainJob)
     → IsOfRequest job.side → is_taken a.at s p.code ≡ true

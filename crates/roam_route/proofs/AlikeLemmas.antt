@@ -1,5 +1,5 @@
 -- What an arrival gives to one realm: nothing of another one's, and the same where configurations look alike.
-use Rattle.std.proofs.Common.{◌≡◌, ℕ, Bool, true, false, List, [], ◌∷◌, Option, Some, None, option_map, refl, ap, inl, inr, arith}
+use Rattle.std.proofs.Common.{◌≡◌, ℕ, zero, suc, Bool, true, false, List, [], ◌∷◌, length, slice_get, Option, Some, None, option_map, refl, ap, ◌∙◌, inl, inr, arith}
 use Rattle.std.specs.Prelude.{◌==◌, ◌&&◌, ◌||◌, not, is_some, if◌then◌else◌, nat_le}
 use Rattle.std.proofs.lemmas.Bool.{cases_Bool}
 use Rattle.std.proofs.lemmas.Bool.Decides.{nat_tests}
@@ -11,7 +11,7 @@ use Rattle.roam_wire.specs.declared.refusal.Refusal.{Refusal}
 use Rattle.roam_wire.specs.declared.refusal.Refusal.TheVariants as refusal
 use Rattle.roam_auth.specs.Deciding.{is_well_sealed}
 use Rattle.roam_conf.specs.Config.{ConfigView, PeerView}
-use Rattle.roam_conf.specs.Lookup.{realm_named, peer_with_ip}
+use Rattle.roam_conf.specs.Lookup.{asker_at, realm_named, peer_with_ip}
 use Rattle.roam_conf.specs.Secrets as secrets
 use Rattle.roam_conf.specs.declared.accounting.Accounting.{Accounting}
 use Rattle.roam_conf.specs.declared.accounting.Accounting.TheVariants.{Forwarded, Answered, Dropped}
@@ -91,14 +91,14 @@ counted limit p further = checked (has_few_attributes limit p) refusal.TooManyAt
 -- a Status-Server's code is taken for nothing else
 not_taken : (config : ConfigView) (at : Place) (s : Side) (code : ℕ) → is_status_request config at s code ≡ true →
     is_taken at s code ≡ false
-not_taken config place.Auth (side.Peer i) code is = grind (arith, nat_tests, is)
-not_taken config place.Acct (side.Peer i) code is = grind (arith, nat_tests, is)
-not_taken config place.Auth (side.Link l) code is = refl
-not_taken config place.Acct (side.Link l) code is = refl
-not_taken config place.Auth (side.Home i) code is = refl
-not_taken config place.Acct (side.Home i) code is = refl
-not_taken config (place.Out k) s code is = absurd (cc is)
-not_taken config (place.Reverse k) s code is = absurd (cc is)
+not_taken config (place.Auth nth) (side.Peer i) code is = grind (arith, nat_tests, is)
+not_taken config (place.Acct nth) (side.Peer i) code is = grind (arith, nat_tests, is)
+not_taken config (place.Auth nth) (side.Link l) code is = refl
+not_taken config (place.Acct nth) (side.Link l) code is = refl
+not_taken config (place.Auth nth) (side.Home i) code is = refl
+not_taken config (place.Acct nth) (side.Home i) code is = refl
+not_taken config (place.Out k nth) s code is = absurd (cc is)
+not_taken config (place.Reverse k nth) s code is = absurd (cc is)
 
 -- so it gives nothing to a realm, whether it is answered or not
 pub sent-own : (realm : ℕ) (config : ConfigView) (a : Arrival) (p : Packet) (s : Side) →
@@ -148,28 +148,30 @@ none-access realm k config secret a s p most asks differs =
     (none-forwarded realm k (sent_length config s p k) a s p (Some k) differs)
 
 -- at another realm's places nothing is the realm's
-pub out-none : (realm : ℕ) (config : ConfigView) (k : ℕ) (from : Endpoint) (octets : List ℕ) (seconds : Option ℕ)
+pub out-none : (realm : ℕ) (config : ConfigView) (k nth : ℕ) (from : Endpoint) (octets : List ℕ) (seconds : Option ℕ)
     (p : Packet) (s : Option Side) →
     (k == realm) ≡ false
     → own realm
-    (sent_admission config (record { at = place.Out k; from = from; octets = octets; seconds = seconds }) p s) ≡ None
-out-none realm config k from octets seconds p None differs = refl
-out-none realm config k from octets seconds p (Some s) differs =
-    let a : Arrival = record { at = place.Out k; from = from; octets = octets; seconds = seconds } in
-    none-checked realm (is_taken (place.Out k) s p.code) refusal.WrongCode (job_of a s p k None)
+    (sent_admission config (record { at = place.Out k nth; from = from; octets = octets; seconds = seconds }) p s)
+    ≡ None
+out-none realm config k nth from octets seconds p None differs = refl
+out-none realm config k nth from octets seconds p (Some s) differs =
+    let a : Arrival = record { at = place.Out k nth; from = from; octets = octets; seconds = seconds } in
+    none-checked realm (is_taken (place.Out k nth) s p.code) refusal.WrongCode (job_of a s p k None)
     (none-given realm k a s p None differs)
 
-pub reverse-none : (realm : ℕ) (config : ConfigView) (k : ℕ) (from : Endpoint) (octets : List ℕ) (seconds : Option ℕ)
+pub reverse-none : (realm : ℕ) (config : ConfigView) (k nth : ℕ) (from : Endpoint) (octets : List ℕ)
+    (seconds : Option ℕ)
     (p : Packet) (o : Option ℕ) →
     (k == realm) ≡ false
     → own realm
-    (sent_admission config (record { at = place.Reverse k; from = from; octets = octets; seconds = seconds }) p
+    (sent_admission config (record { at = place.Reverse k nth; from = from; octets = octets; seconds = seconds }) p
     (option_map (λ i. side.Home i) o)) ≡ None
-reverse-none realm config k from octets seconds p None differs = refl
-reverse-none realm config k from octets seconds p (Some i) differs =
-    let a : Arrival = record { at = place.Reverse k; from = from; octets = octets; seconds = seconds } in
+reverse-none realm config k nth from octets seconds p None differs = refl
+reverse-none realm config k nth from octets seconds p (Some i) differs =
+    let a : Arrival = record { at = place.Reverse k nth; from = from; octets = octets; seconds = seconds } in
     let secret = home_secret config k i in
-    none-checked realm (is_taken (place.Reverse k) (side.Home i) p.code) refusal.WrongCode
+    none-checked realm (is_taken (place.Reverse k nth) (side.Home i) p.code) refusal.WrongCode
     (request_admission config secret a (side.Home i) p)
     (none-checked realm (has_few_attributes config.max_attributes p) refusal.TooManyAttributes _
     (none-checked realm (is_rightly_signed secret p) refusal.BadAuthenticator _
@@ -188,6 +190,15 @@ not-unnamed f g (Some x) z is = refl
 pub and-false : (b : Bool) → (b && false) ≡ false
 and-false true = refl
 and-false false = refl
+
+-- something is at a place of both of two lists that are as long, or of none
+pub there-same : {X : Type 0} (own their : List X) (nth : ℕ) (o : Option ℕ) → length own ≡ length their
+    → option_and_then (λ x. o) (slice_get own nth) ≡ option_and_then (λ x. o) (slice_get their nth)
+there-same [] [] nth o many = refl
+there-same [] (t ∷ ts) nth o many = absurd (omega (arith, many))
+there-same (x ∷ xs) [] nth o many = absurd (omega (arith, many))
+there-same (x ∷ xs) (t ∷ ts) zero o many = refl
+there-same (x ∷ xs) (t ∷ ts) (suc n) o many = there-same xs ts n o (omega (arith, many))
 
 -- two configurations have the same peers, the same meaning of each name, and the same limits of attributes and hops
 pub record LooksAlike (one other : ConfigView) : Type 0 where
@@ -212,6 +223,9 @@ module _ (one other : ConfigView) (same : LooksAlike one other) where
   pub secret-same : (i : ℕ) → peer_secret one i ≡ peer_secret other i
   secret-same i = ap (λ (ps : List PeerView). secrets.peer_secret ps i) same.peers
 
-  -- and which peer it is
-  pub peer-found : (ip : Address) → peer_with_ip one.peers ip ≡ peer_with_ip other.peers ip
-  peer-found ip = ap (λ (ps : List PeerView). peer_with_ip ps ip) same.peers
+  -- and which peer it is, at one of as many own endpoints
+  pub asker-found : (own their : List Endpoint) (nth : ℕ) (ip : Address) → length own ≡ length their
+      → asker_at own one.peers nth ip ≡ asker_at their other.peers nth ip
+  asker-found own their nth ip many =
+      ap (λ (ps : List PeerView). asker_at own ps nth ip) same.peers
+      ∙ there-same own their nth (peer_with_ip other.peers ip) many

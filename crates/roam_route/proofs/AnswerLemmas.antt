@@ -210,21 +210,21 @@ reject_carries_proxy_states secret request = answer_carries_proxy_states 3 secre
 
 pub status_at_auth : StatusAnswerAtAuth
 unfolding local_answer
-status_at_auth secret request = refl
+status_at_auth nth secret request = refl
 
 pub status_at_acct : StatusAnswerAtAcct
 unfolding local_answer
-status_at_acct secret request = refl
+status_at_acct nth secret request = refl
 
 pub status_has_identifier : StatusAnswerHasIdentifier
 unfolding local_answer
 status_has_identifier at secret request = refl
 
 status_code_is_octet : (at : Place) → status_code at < 256
-status_code_is_octet place.Auth = lit< tt
-status_code_is_octet place.Acct = lit< tt
-status_code_is_octet (place.Out realm) = lit< tt
-status_code_is_octet (place.Reverse realm) = lit< tt
+status_code_is_octet (place.Auth nth) = lit< tt
+status_code_is_octet (place.Acct nth) = lit< tt
+status_code_is_octet (place.Out realm nth) = lit< tt
+status_code_is_octet (place.Reverse realm nth) = lit< tt
 
 -- a Message-Authenticator of 16 octets and the Proxy-States are no longer than all attributes
 room_for_seal : (all : List Attribute) → AllByRecursion IsSized all → 0 < count_of MESSAGE_AUTHENTICATOR all →

@@ -49,9 +49,9 @@ near_decided (Some most) (Some now) (Some sent) = (
   λ h. (near_by most now sent).1 (h most now sent refl refl refl),
 )
 
-pub fresh_decided : (config : ConfigView) (seconds : Option ℕ) (realm : ℕ) (p : Packet)
-    → IsTrue (is_fresh config.fresh seconds p.attributes) ↔ IsFresh config seconds (place.Reverse realm) p
-fresh_decided config seconds realm p = near_decided config.fresh seconds (sent_at p.attributes)
+pub fresh_decided : (nth : ℕ) (config : ConfigView) (seconds : Option ℕ) (realm : ℕ) (p : Packet)
+    → IsTrue (is_fresh config.fresh seconds p.attributes) ↔ IsFresh config seconds (place.Reverse realm nth) p
+fresh_decided nth config seconds realm p = near_decided config.fresh seconds (sent_at p.attributes)
 
 -- ---- without a wall clock
 
@@ -79,13 +79,13 @@ drops-check b false why x holds job is = absurd (cc holds)
 
 keeps-route : (config : ConfigView) (secret : List ℕ) (a : Arrival) (s : Side) (p : Packet) (at : Place)
     → Keeps (route_request config secret a s p at) (route_request config secret (without_clock a) s p at)
-keeps-route config secret a s p (place.Reverse k) =
+keeps-route config secret a s p (place.Reverse k nth) =
     drops-check (is_fresh config.fresh a.seconds p.attributes) (is_fresh config.fresh None p.attributes) refusal.Stale
     (forwarded_for (sent_length config s p k) a s p k (realm_of config p.attributes))
     (no_clock config.fresh p.attributes)
-keeps-route config secret a s p place.Auth = λ job is. is
-keeps-route config secret a s p place.Acct = λ job is. is
-keeps-route config secret a s p (place.Out k) = λ job is. is
+keeps-route config secret a s p (place.Auth nth) = λ job is. is
+keeps-route config secret a s p (place.Acct nth) = λ job is. is
+keeps-route config secret a s p (place.Out k nth) = λ job is. is
 
 keeps-request : (config : ConfigView) (secret : List ℕ) (a : Arrival) (s : Side) (p : Packet)
     → Keeps (request_admission config secret a s p) (request_admission config secret (without_clock a) s p)
@@ -110,18 +110,18 @@ keeps-request config secret a s p =
 
 keeps-packet : (config : ConfigView) (a : Arrival) (s : Side) (p : Packet) (at : Place)
     → Keeps (packet_admission config a s p at) (packet_admission config (without_clock a) s p at)
-keeps-packet config a s p (place.Out k) = λ job is. is
-keeps-packet config a (side.Peer i) p place.Auth = keeps-request config (peer_secret config i) a (side.Peer i) p
-keeps-packet config a (side.Peer i) p place.Acct = keeps-request config (peer_secret config i) a (side.Peer i) p
-keeps-packet config a (side.Peer i) p (place.Reverse k) =
+keeps-packet config a s p (place.Out k nth) = λ job is. is
+keeps-packet config a (side.Peer i) p (place.Auth nth) = keeps-request config (peer_secret config i) a (side.Peer i) p
+keeps-packet config a (side.Peer i) p (place.Acct nth) = keeps-request config (peer_secret config i) a (side.Peer i) p
+keeps-packet config a (side.Peer i) p (place.Reverse k nth) =
     keeps-request config (peer_secret config i) a (side.Peer i) p
-keeps-packet config a (side.Home i) p (place.Reverse k) =
+keeps-packet config a (side.Home i) p (place.Reverse k nth) =
     keeps-request config (home_secret config k i) a (side.Home i) p
-keeps-packet config a (side.Home i) p place.Auth = λ job is. is
-keeps-packet config a (side.Home i) p place.Acct = λ job is. is
-keeps-packet config a (side.Link l) p place.Auth = λ job is. is
-keeps-packet config a (side.Link l) p place.Acct = λ job is. is
-keeps-packet config a (side.Link l) p (place.Reverse k) = λ job is. is
+keeps-packet config a (side.Home i) p (place.Auth nth) = λ job is. is
+keeps-packet config a (side.Home i) p (place.Acct nth) = λ job is. is
+keeps-packet config a (side.Link l) p (place.Auth nth) = λ job is. is
+keeps-packet config a (side.Link l) p (place.Acct nth) = λ job is. is
+keeps-packet config a (side.Link l) p (place.Reverse k nth) = λ job is. is
 
 -- by whether it is a Status-Server
 keeps-either : (b : Bool) (status x y : Admission) → Keeps x y

@@ -15,7 +15,7 @@ use Rattle.roam_address.specs.declared.endpoint.Endpoint.{Endpoint}
 use Rattle.roam_conf.specs.declared.place.Link.{Link}
 use Rattle.roam_conf.specs.declared.place.Place.{Place}
 use Rattle.roam_conf.specs.declared.place.Place.TheVariants as place
-use Rattle.roam_conf.specs.Lookup.{peer_with_ip, link_in, home_in}
+use Rattle.roam_conf.specs.Lookup.{asker_at, link_in, home_in}
 use Rattle.roam_route.specs.UserName.{realm_of}
 use Rattle.roam_route.specs.Freshness.{is_fresh}
 use Rattle.roam_route.specs.LocalAnswer.{accounting_answer}
@@ -25,7 +25,7 @@ use Rattle.roam_route.specs.Admission.{Arrival, Admission, sender, checked, acco
 use Rattle.roam_route.specs.declared.job.Side.{Side}
 use Rattle.roam_route.specs.declared.job.Side.TheVariants as side
 use Rattle.roam_route.specs.OwnPart.{AnswerAlike, OwnAnswersDecided, answered}
-use Rattle.roam_route.proofs.AlikeLemmas.{LooksAlike, access_by, asked, counted, peer-found, realm-same, seal-same, secret-same}
+use Rattle.roam_route.proofs.AlikeLemmas.{LooksAlike, access_by, asked, asker-found, counted, realm-same, seal-same, secret-same}
 
 -- what is checked is answered nowhere, where what follows isn't
 none-checked : (b : Bool) (why : Refusal) (x : Admission) → answered x ≡ None → answered (checked b why x) ≡ None
@@ -90,25 +90,26 @@ named-same one other a s p (Some realm) =
     ∙ sym (not-answered (sent_length other s p realm) a s p realm (Some realm))
 
 -- at a realm's sockets nothing is
-out-none : (config : ConfigView) (k : ℕ) (from : Endpoint) (octets : List ℕ) (seconds : Option ℕ) (p : Packet)
+out-none : (config : ConfigView) (k nth : ℕ) (from : Endpoint) (octets : List ℕ) (seconds : Option ℕ) (p : Packet)
     (s : Option Side)
     → answered
-    (sent_admission config (record { at = place.Out k; from = from; octets = octets; seconds = seconds }) p s) ≡ None
-out-none config k from octets seconds p None = refl
-out-none config k from octets seconds p (Some s) =
-    let a : Arrival = record { at = place.Out k; from = from; octets = octets; seconds = seconds } in
-    none-checked (is_taken (place.Out k) s p.code) refusal.WrongCode (job_of a s p k None) refl
+    (sent_admission config (record { at = place.Out k nth; from = from; octets = octets; seconds = seconds }) p s)
+    ≡ None
+out-none config k nth from octets seconds p None = refl
+out-none config k nth from octets seconds p (Some s) =
+    let a : Arrival = record { at = place.Out k nth; from = from; octets = octets; seconds = seconds } in
+    none-checked (is_taken (place.Out k nth) s p.code) refusal.WrongCode (job_of a s p k None) refl
 
-reverse-none : (config : ConfigView) (k : ℕ) (from : Endpoint) (octets : List ℕ) (seconds : Option ℕ) (p : Packet)
+reverse-none : (config : ConfigView) (k nth : ℕ) (from : Endpoint) (octets : List ℕ) (seconds : Option ℕ) (p : Packet)
     (o : Option ℕ)
     → answered
-    (sent_admission config (record { at = place.Reverse k; from = from; octets = octets; seconds = seconds }) p
+    (sent_admission config (record { at = place.Reverse k nth; from = from; octets = octets; seconds = seconds }) p
     (option_map (λ i. side.Home i) o)) ≡ None
-reverse-none config k from octets seconds p None = refl
-reverse-none config k from octets seconds p (Some i) =
-    let a : Arrival = record { at = place.Reverse k; from = from; octets = octets; seconds = seconds } in
+reverse-none config k nth from octets seconds p None = refl
+reverse-none config k nth from octets seconds p (Some i) =
+    let a : Arrival = record { at = place.Reverse k nth; from = from; octets = octets; seconds = seconds } in
     let secret = home_secret config k i in
-    none-checked (is_taken (place.Reverse k) (side.Home i) p.code) refusal.WrongCode
+    none-checked (is_taken (place.Reverse k nth) (side.Home i) p.code) refusal.WrongCode
     (request_admission config secret a (side.Home i) p)
     (none-checked (has_few_attributes config.max_attributes p) refusal.TooManyAttributes _
     (none-checked (is_rightly_signed secret p) refusal.BadAuthenticator _
@@ -149,9 +150,10 @@ module _ (one other : ConfigView) (same : AnswerAlike one other) where
       ∙ answered-checked (takes_of other realm s) refusal.NotForPeer (by_accounting m secret a s p realm way)
       (by_accounting n secret a s p realm way) (by-same way m n secret a s p realm)
 
-  access-same : (secret : List ℕ) (a : Arrival) (s : Side) (p : Packet)
-      → answered (route_request one secret a s p place.Auth) ≡ answered (route_request other secret a s p place.Auth)
-  access-same secret a s p =
+  access-same : (nth : ℕ) (secret : List ℕ) (a : Arrival) (s : Side) (p : Packet)
+      → answered (route_request one secret a s p (place.Auth nth))
+      ≡ answered (route_request other secret a s p (place.Auth nth))
+  access-same nth secret a s p =
       let o : Option ℕ = realm_of other p.attributes in
       let asks : Option ℕ = taking other s o in
       ap (λ (n : Option ℕ). answered (access_by one secret a s p one.max_hops (taking one s n) n))
@@ -167,9 +169,10 @@ module _ (one other : ConfigView) (same : AnswerAlike one other) where
   account_by secret a p answers further =
       if answers && is_unnamed p.attributes then answered_by a (accounting_answer secret p) else further
 
-  account-same : (secret : List ℕ) (a : Arrival) (s : Side) (p : Packet)
-      → answered (route_request one secret a s p place.Acct) ≡ answered (route_request other secret a s p place.Acct)
-  account-same secret a s p =
+  account-same : (nth : ℕ) (secret : List ℕ) (a : Arrival) (s : Side) (p : Packet)
+      → answered (route_request one secret a s p (place.Acct nth))
+      ≡ answered (route_request other secret a s p (place.Acct nth))
+  account-same nth secret a s p =
       let o : Option ℕ = realm_of other p.attributes in
       ap (λ (b : Bool). answered (account_by secret a p b (accounted one secret a s p (realm_of one p.attributes))))
       same.answer_unnamed
@@ -180,11 +183,11 @@ module _ (one other : ConfigView) (same : AnswerAlike one other) where
 
   route_request-same : (secret : List ℕ) (a : Arrival) (s : Side) (p : Packet) (at : Place)
       → answered (route_request one secret a s p at) ≡ answered (route_request other secret a s p at)
-  route_request-same secret a s p (place.Reverse k) =
+  route_request-same secret a s p (place.Reverse k nth) =
       not-reversed one a s p k ∙ sym (not-reversed other a s p k)
-  route_request-same secret a s p place.Auth = access-same secret a s p
-  route_request-same secret a s p place.Acct = account-same secret a s p
-  route_request-same secret a s p (place.Out k) = account-same secret a s p
+  route_request-same secret a s p (place.Auth nth) = access-same nth secret a s p
+  route_request-same secret a s p (place.Acct nth) = account-same nth secret a s p
+  route_request-same secret a s p (place.Out k nth) = account-same nth secret a s p
 
   request-same : (secret : List ℕ) (a : Arrival) (s : Side) (p : Packet) →
       answered (request_admission one secret a s p) ≡ answered (request_admission other secret a s p)
@@ -236,37 +239,41 @@ module _ (one other : ConfigView) (same : AnswerAlike one other) where
       (checked is_taken_there refusal.WrongCode y)
       (answered-checked is_taken_there refusal.WrongCode x y (peer-same a i p))
 
-  auth-same : (from : Endpoint) (octets : List ℕ) (seconds : Option ℕ) (p : Packet) (o : Option ℕ) → let a : Arrival =
-      record { at = place.Auth; from = from; octets = octets; seconds = seconds } in
+  auth-same : (nth : ℕ) (from : Endpoint) (octets : List ℕ) (seconds : Option ℕ) (p : Packet) (o : Option ℕ)
+      → let a : Arrival =
+      record { at = (place.Auth nth); from = from; octets = octets; seconds = seconds } in
       answered (sent_admission one a p (option_map (λ i. side.Peer i) o))
       ≡ answered (sent_admission other a p (option_map (λ i. side.Peer i) o))
-  auth-same from octets seconds p None = refl
-  auth-same from octets seconds p (Some i) =
-      let a : Arrival = record { at = place.Auth; from = from; octets = octets; seconds = seconds } in
-      judged-same a i p (p.code == STATUS_SERVER) (is_taken place.Auth (side.Peer i) p.code)
+  auth-same nth from octets seconds p None = refl
+  auth-same nth from octets seconds p (Some i) =
+      let a : Arrival = record { at = (place.Auth nth); from = from; octets = octets; seconds = seconds } in
+      judged-same a i p (p.code == STATUS_SERVER) (is_taken (place.Auth nth) (side.Peer i) p.code)
 
-  acct-same : (from : Endpoint) (octets : List ℕ) (seconds : Option ℕ) (p : Packet) (o : Option ℕ) → let a : Arrival =
-      record { at = place.Acct; from = from; octets = octets; seconds = seconds } in
+  acct-same : (nth : ℕ) (from : Endpoint) (octets : List ℕ) (seconds : Option ℕ) (p : Packet) (o : Option ℕ)
+      → let a : Arrival =
+      record { at = (place.Acct nth); from = from; octets = octets; seconds = seconds } in
       answered (sent_admission one a p (option_map (λ i. side.Peer i) o))
       ≡ answered (sent_admission other a p (option_map (λ i. side.Peer i) o))
-  acct-same from octets seconds p None = refl
-  acct-same from octets seconds p (Some i) =
-      let a : Arrival = record { at = place.Acct; from = from; octets = octets; seconds = seconds } in
-      judged-same a i p (p.code == STATUS_SERVER) (is_taken place.Acct (side.Peer i) p.code)
+  acct-same nth from octets seconds p None = refl
+  acct-same nth from octets seconds p (Some i) =
+      let a : Arrival = record { at = (place.Acct nth); from = from; octets = octets; seconds = seconds } in
+      judged-same a i p (p.code == STATUS_SERVER) (is_taken (place.Acct nth) (side.Peer i) p.code)
 
   place-same : (at : Place) (from : Endpoint) (octets : List ℕ) (seconds : Option ℕ) (p : Packet) → let a : Arrival =
       record { at = at; from = from; octets = octets; seconds = seconds } in
       answered (sent_admission one a p (sender one a at)) ≡ answered (sent_admission other a p (sender other a at))
-  place-same place.Auth from octets seconds p =
-      rw (peer-found one other alike from.ip) (auth-same from octets seconds p (peer_with_ip other.peers from.ip))
-  place-same place.Acct from octets seconds p =
-      rw (peer-found one other alike from.ip) (acct-same from octets seconds p (peer_with_ip other.peers from.ip))
-  place-same (place.Out k) from octets seconds p =
-      out-none one k from octets seconds p (option_map (λ l. side.Link l) (link_in one k from))
-      ∙ sym (out-none other k from octets seconds p (option_map (λ l. side.Link l) (link_in other k from)))
-  place-same (place.Reverse k) from octets seconds p =
-      reverse-none one k from octets seconds p (home_in one k from.ip)
-      ∙ sym (reverse-none other k from octets seconds p (home_in other k from.ip))
+  place-same (place.Auth nth) from octets seconds p =
+      rw (asker-found one other alike one.auth other.auth nth from.ip same.auth)
+      (auth-same nth from octets seconds p (asker_at other.auth other.peers nth from.ip))
+  place-same (place.Acct nth) from octets seconds p =
+      rw (asker-found one other alike one.acct other.acct nth from.ip same.acct)
+      (acct-same nth from octets seconds p (asker_at other.acct other.peers nth from.ip))
+  place-same (place.Out k nth) from octets seconds p =
+      out-none one k nth from octets seconds p (option_map (λ l. side.Link l) (link_in one k nth from))
+      ∙ sym (out-none other k nth from octets seconds p (option_map (λ l. side.Link l) (link_in other k nth from)))
+  place-same (place.Reverse k nth) from octets seconds p =
+      reverse-none one k nth from octets seconds p (home_in one k nth from.ip)
+      ∙ sym (reverse-none other k nth from octets seconds p (home_in other k nth from.ip))
 
   read-same : (a : Arrival) (read : Result Packet Refusal) →
       answered (read_admission one a read) ≡ answered (read_admission other a read)

@@ -29,7 +29,7 @@ use Rattle.roam_route.specs.Admission.{Arrival, Admission, sender, checked, acco
 use Rattle.roam_route.specs.declared.job.Side.{Side}
 use Rattle.roam_route.specs.declared.job.Side.TheVariants as side
 use Rattle.roam_route.specs.OwnPart.{own, HaveSamePart, OwnPartDecides}
-use Rattle.roam_route.proofs.AlikeLemmas.{LooksAlike, access_by, and-false, asked, either-none, none-access, none-accounted, none-reversed, not-unnamed, own-checked, peer-found, realm-same, seal-same, secret-same, sent-own, out-none, reverse-none, counted}
+use Rattle.roam_route.proofs.AlikeLemmas.{LooksAlike, access_by, and-false, asked, asker-found, either-none, none-access, none-accounted, none-reversed, not-unnamed, own-checked, realm-same, seal-same, secret-same, sent-own, out-none, reverse-none, counted}
 
 module _ (one other : ConfigView) (realm : ℕ) (same : HaveSamePart one other realm) where
   alike : LooksAlike one other
@@ -81,9 +81,10 @@ module _ (one other : ConfigView) (realm : ℕ) (same : HaveSamePart one other r
             ∙ sym (none-access realm k other secret a s p most (taking other s (Some k)) no')
       ]
 
-  own-access : (secret : List ℕ) (a : Arrival) (s : Side) (p : Packet)
-      → own realm (route_request one secret a s p place.Auth) ≡ own realm (route_request other secret a s p place.Auth)
-  own-access secret a s p =
+  own-access : (nth : ℕ) (secret : List ℕ) (a : Arrival) (s : Side) (p : Packet)
+      → own realm (route_request one secret a s p (place.Auth nth))
+      ≡ own realm (route_request other secret a s p (place.Auth nth))
+  own-access nth secret a s p =
       let o : Option ℕ = realm_of other p.attributes in
       ap (λ (n : Option ℕ). own realm (access_by one secret a s p one.max_hops (taking one s n) n))
       (realm-same one other alike p.attributes)
@@ -126,9 +127,10 @@ module _ (one other : ConfigView) (realm : ℕ) (same : HaveSamePart one other r
       not-unnamed realm_part (realm_named config) (first_value USER_NAME p.attributes) k is in
       ap (λ (b : Bool). config.answer_unnamed && b) has ∙ and-false config.answer_unnamed
 
-  own-account : (secret : List ℕ) (a : Arrival) (s : Side) (p : Packet)
-      → own realm (route_request one secret a s p place.Acct) ≡ own realm (route_request other secret a s p place.Acct)
-  own-account secret a s p =
+  own-account : (nth : ℕ) (secret : List ℕ) (a : Arrival) (s : Side) (p : Packet)
+      → own realm (route_request one secret a s p (place.Acct nth))
+      ≡ own realm (route_request other secret a s p (place.Acct nth))
+  own-account nth secret a s p =
       let o : Option ℕ = realm_of other p.attributes in
       let same_realm = realm-same one other alike p.attributes in
       ap (λ (n : Option ℕ). own realm
@@ -157,10 +159,10 @@ module _ (one other : ConfigView) (realm : ℕ) (same : HaveSamePart one other r
   -- where a request goes
   own-route : (secret : List ℕ) (a : Arrival) (s : Side) (p : Packet) (at : Place)
       → own realm (route_request one secret a s p at) ≡ own realm (route_request other secret a s p at)
-  own-route secret a s p (place.Reverse k) = own-reverse a s p k
-  own-route secret a s p place.Auth = own-access secret a s p
-  own-route secret a s p place.Acct = own-account secret a s p
-  own-route secret a s p (place.Out k) = own-account secret a s p
+  own-route secret a s p (place.Reverse k nth) = own-reverse a s p k
+  own-route secret a s p (place.Auth nth) = own-access nth secret a s p
+  own-route secret a s p (place.Acct nth) = own-account nth secret a s p
+  own-route secret a s p (place.Out k nth) = own-account nth secret a s p
 
   own-asked : (secret : List ℕ) (p : Packet) (required : Bool) (most : Option ℕ) (x y : Admission)
       → own realm x ≡ own realm y → own realm (asked secret p required most x)
@@ -213,21 +215,21 @@ module _ (one other : ConfigView) (realm : ℕ) (same : HaveSamePart one other r
       rw secret (own-request (home_secret other realm i) a (side.Home i) p)
 
   -- a packet at a place that isn't another realm's
-  own-packet : (a : Arrival) (s : Side) (p : Packet) (at : Place) → ((k : ℕ) → at ≡ place.Reverse k → k ≡ realm)
+  own-packet : (a : Arrival) (s : Side) (p : Packet) (at : Place) → ((k nth : ℕ) → at ≡ place.Reverse k nth → k ≡ realm)
       → own realm (packet_admission one a s p at) ≡ own realm (packet_admission other a s p at)
-  own-packet a s p (place.Out k) own_place = refl
-  own-packet a (side.Peer i) p place.Auth own_place = own-peer a i p
-  own-packet a (side.Peer i) p place.Acct own_place = own-peer a i p
-  own-packet a (side.Peer i) p (place.Reverse k) own_place = own-peer a i p
-  own-packet a (side.Home i) p (place.Reverse k) own_place = rw (own_place k refl) (own-home a i p)
-  own-packet a (side.Home i) p place.Auth own_place = refl
-  own-packet a (side.Home i) p place.Acct own_place = refl
-  own-packet a (side.Link l) p place.Auth own_place = refl
-  own-packet a (side.Link l) p place.Acct own_place = refl
-  own-packet a (side.Link l) p (place.Reverse k) own_place = refl
+  own-packet a s p (place.Out k nth) own_place = refl
+  own-packet a (side.Peer i) p (place.Auth nth) own_place = own-peer a i p
+  own-packet a (side.Peer i) p (place.Acct nth) own_place = own-peer a i p
+  own-packet a (side.Peer i) p (place.Reverse k nth) own_place = own-peer a i p
+  own-packet a (side.Home i) p (place.Reverse k nth) own_place = rw (own_place k nth refl) (own-home a i p)
+  own-packet a (side.Home i) p (place.Auth nth) own_place = refl
+  own-packet a (side.Home i) p (place.Acct nth) own_place = refl
+  own-packet a (side.Link l) p (place.Auth nth) own_place = refl
+  own-packet a (side.Link l) p (place.Acct nth) own_place = refl
+  own-packet a (side.Link l) p (place.Reverse k nth) own_place = refl
 
   -- what the packet gives to the realm there
-  known-same : (a : Arrival) (p : Packet) (s : Option Side) → ((k : ℕ) → a.at ≡ place.Reverse k → k ≡ realm) →
+  known-same : (a : Arrival) (p : Packet) (s : Option Side) → ((k nth : ℕ) → a.at ≡ place.Reverse k nth → k ≡ realm) →
       own realm (sent_admission one a p s) ≡ own realm (sent_admission other a p s)
   known-same a p None own_place = refl
   known-same a p (Some s) own_place =
@@ -238,48 +240,51 @@ module _ (one other : ConfigView) (realm : ℕ) (same : HaveSamePart one other r
       ∙ sym (sent-own realm other a p s)
 
   -- and who sent it is the same
-  link-found : (from : Endpoint) → link_in one realm from ≡ link_in other realm from
-  link-found from = rw (same.peers, same.entry) refl
+  link-found : (nth : ℕ) (from : Endpoint) → link_in one realm nth from ≡ link_in other realm nth from
+  link-found nth from = rw (same.peers, same.entry) refl
 
-  home-found : (ip : Address) → home_in one realm ip ≡ home_in other realm ip
-  home-found ip = rw same.entry refl
+  home-found : (nth : ℕ) (ip : Address) → home_in one realm nth ip ≡ home_in other realm nth ip
+  home-found nth ip = rw same.entry refl
 
   place-same : (at : Place) (from : Endpoint) (octets : List ℕ) (seconds : Option ℕ) (p : Packet) → let a : Arrival =
       record { at = at; from = from; octets = octets; seconds = seconds } in
       own realm (sent_admission one a p (sender one a at)) ≡ own realm (sent_admission other a p (sender other a at))
-  place-same place.Auth from octets seconds p =
-      let a : Arrival = record { at = place.Auth; from = from; octets = octets; seconds = seconds } in
-      rw (peer-found one other alike from.ip) (known-same a p (sender other a place.Auth) (λ k is. absurd (cc is)))
-  place-same place.Acct from octets seconds p =
-      let a : Arrival = record { at = place.Acct; from = from; octets = octets; seconds = seconds } in
-      rw (peer-found one other alike from.ip) (known-same a p (sender other a place.Acct) (λ k is. absurd (cc is)))
-  place-same (place.Out k) from octets seconds p =
-      let a : Arrival = record { at = place.Out k; from = from; octets = octets; seconds = seconds } in
+  place-same (place.Auth nth) from octets seconds p =
+      let a : Arrival = record { at = (place.Auth nth); from = from; octets = octets; seconds = seconds } in
+      rw (asker-found one other alike one.auth other.auth nth from.ip same.auth)
+      (known-same a p (sender other a (place.Auth nth)) (λ k m is. absurd (cc is)))
+  place-same (place.Acct nth) from octets seconds p =
+      let a : Arrival = record { at = (place.Acct nth); from = from; octets = octets; seconds = seconds } in
+      rw (asker-found one other alike one.acct other.acct nth from.ip same.acct)
+      (known-same a p (sender other a (place.Acct nth)) (λ k m is. absurd (cc is)))
+  place-same (place.Out k nth) from octets seconds p =
+      let a : Arrival = record { at = place.Out k nth; from = from; octets = octets; seconds = seconds } in
       elim (cases_Bool (k == realm)) [
         | inl yes' ↦ (
             let here : k ≡ realm = (Decides-eqb k realm).0 yes' in
-            let found_by : sender one a (place.Out k) ≡ sender other a (place.Out k) =
-            subst (λ (j : ℕ). option_map (λ l. side.Link l) (link_in one j from)
-            ≡ option_map (λ l. side.Link l) (link_in other j from)) (sym here)
-            (ap (λ o. option_map (λ l. side.Link l) o) (link-found from)) in
-            known-same a p (sender one a (place.Out k)) (λ j is. absurd (cc is))
+            let found_by : sender one a (place.Out k nth) ≡ sender other a (place.Out k nth) =
+            subst (λ (j : ℕ). option_map (λ l. side.Link l) (link_in one j nth from)
+            ≡ option_map (λ l. side.Link l) (link_in other j nth from)) (sym here)
+            (ap (λ o. option_map (λ l. side.Link l) o) (link-found nth from)) in
+            known-same a p (sender one a (place.Out k nth)) (λ j m is. absurd (cc is))
             ∙ ap (λ (s : Option Side). own realm (sent_admission other a p s)) found_by)
-        | inr no' ↦ out-none realm one k from octets seconds p (sender one a (place.Out k)) no'
-            ∙ sym (out-none realm other k from octets seconds p (sender other a (place.Out k)) no')
+        | inr no' ↦ out-none realm one k nth from octets seconds p (sender one a (place.Out k nth)) no'
+            ∙ sym (out-none realm other k nth from octets seconds p (sender other a (place.Out k nth)) no')
       ]
-  place-same (place.Reverse k) from octets seconds p =
-      let a : Arrival = record { at = place.Reverse k; from = from; octets = octets; seconds = seconds } in
+  place-same (place.Reverse k nth) from octets seconds p =
+      let a : Arrival = record { at = place.Reverse k nth; from = from; octets = octets; seconds = seconds } in
       elim (cases_Bool (k == realm)) [
         | inl yes' ↦ (
             let here : k ≡ realm = (Decides-eqb k realm).0 yes' in
-            let found_by : sender one a (place.Reverse k) ≡ sender other a (place.Reverse k) =
-            subst (λ (j : ℕ). option_map (λ i. side.Home i) (home_in one j from.ip)
-            ≡ option_map (λ i. side.Home i) (home_in other j from.ip)) (sym here)
-            (ap (λ o. option_map (λ i. side.Home i) o) (home-found from.ip)) in
-            known-same a p (sender one a (place.Reverse k)) (λ j is. (let at_k : k ≡ j = cc is in sym at_k ∙ here))
+            let found_by : sender one a (place.Reverse k nth) ≡ sender other a (place.Reverse k nth) =
+            subst (λ (j : ℕ). option_map (λ i. side.Home i) (home_in one j nth from.ip)
+            ≡ option_map (λ i. side.Home i) (home_in other j nth from.ip)) (sym here)
+            (ap (λ o. option_map (λ i. side.Home i) o) (home-found nth from.ip)) in
+            known-same a p (sender one a (place.Reverse k nth)) (λ j m is. (let at_k : k ≡ j = cc is in sym at_k
+            ∙ here))
             ∙ ap (λ (s : Option Side). own realm (sent_admission other a p s)) found_by)
-        | inr no' ↦ reverse-none realm one k from octets seconds p (home_in one k from.ip) no'
-            ∙ sym (reverse-none realm other k from octets seconds p (home_in other k from.ip) no')
+        | inr no' ↦ reverse-none realm one k nth from octets seconds p (home_in one k nth from.ip) no'
+            ∙ sym (reverse-none realm other k nth from octets seconds p (home_in other k nth from.ip) no')
       ]
 
   read-same : (a : Arrival) (read : Result Packet Refusal) →

@@ -63,9 +63,9 @@ accounted_fails config secret a s p (Some realm) why =
     (by_accounting size secret a s p realm way) why itself (accounting_fails way size secret a s p realm why)
 
 -- an Accounting-Request that is answered since it has no name isn't refused
-acct_fails : (config : ConfigView) (secret : List ℕ) (a : Arrival) (s : Side) (p : Packet) (why : Refusal)
-    → (route_request config secret a s p place.Acct ≡ refused why) ↔ FailsNamed config s p why
-acct_fails config secret a s p why =
+acct_fails : (nth : ℕ) (config : ConfigView) (secret : List ℕ) (a : Arrival) (s : Side) (p : Packet) (why : Refusal)
+    → (route_request config secret a s p (place.Acct nth) ≡ refused why) ↔ FailsNamed config s p why
+acct_fails nth config secret a s p why =
     let further = accounted_fails config secret a s p (realm_of config p.attributes) why in
     elim (cases_Bool (is_answered_unnamed config p)) [
       | inl unnamed ↦ rw unnamed (
@@ -94,9 +94,10 @@ answer_fails secret a p why =
     (answered_by a (local_reject secret p)) why (size_by (answer_length p)) (λ h. absurd (cc h), λ h. absurd h)
 
 -- an Access-Request
-access_fails : (config : ConfigView) (secret : List ℕ) (a : Arrival) (s : Side) (p : Packet) (why : Refusal)
-    → (route_request config secret a s p place.Auth ≡ refused why) ↔ FailsToGo config a.seconds s p place.Auth why
-access_fails config secret a s p why =
+access_fails : (nth : ℕ) (config : ConfigView) (secret : List ℕ) (a : Arrival) (s : Side) (p : Packet) (why : Refusal)
+    → (route_request config secret a s p (place.Auth nth)
+    ≡ refused why) ↔ FailsToGo config a.seconds s p (place.Auth nth) why
+access_fails nth config secret a s p why =
     let passed = passed_decided config s p in
     elim (cases_Bool (is_rejected config s p)) [
       | inl rejects ↦ (
@@ -162,33 +163,33 @@ goes_fails : (config : ConfigView) (secret : List ℕ) (a : Arrival) (s : Side) 
     → (checked (has_few_hops config.max_hops p) refusal.TooManyHops (route_request config secret a s p at)
     ≡ refused why)
     ↔ FailsToGo config a.seconds s p at why
-goes_fails config secret a (side.Peer i) p place.Auth why code =
-    rw (access_hops config.max_hops p code) (access_fails config secret a (side.Peer i) p why)
-goes_fails config secret a (side.Peer i) p place.Acct why code =
+goes_fails config secret a (side.Peer i) p (place.Auth nth) why code =
+    rw (access_hops config.max_hops p code) (access_fails nth config secret a (side.Peer i) p why)
+goes_fails config secret a (side.Peer i) p (place.Acct nth) why code =
     let other : p.code ≢ ACCESS_REQUEST = λ is. absurd (omega (arith, is, code)) in
     fails (FailsNamed config (side.Peer i) p) (has_few_hops config.max_hops p) refusal.TooManyHops
-    (route_request config secret a (side.Peer i) p place.Acct) why
-    (other_hops config.max_hops p other) (acct_fails config secret a (side.Peer i) p why)
-goes_fails config secret a (side.Home i) p (place.Reverse k) why code =
+    (route_request config secret a (side.Peer i) p (place.Acct nth)) why
+    (other_hops config.max_hops p other) (acct_fails nth config secret a (side.Peer i) p why)
+goes_fails config secret a (side.Home i) p (place.Reverse k nth) why code =
     let size : ℕ = sent_length config (side.Home i) p k in
     let fresh : Bool = is_fresh config.fresh a.seconds p.attributes in
     let last : Admission = forwarded_for size a (side.Home i) p k (realm_of config p.attributes) in
     let timely = fails (FailsFirst (Fits size) refusal.TooLong NothingFails) fresh refusal.Stale last why
-    (fresh_decided config a.seconds k p) (size_fails size a (side.Home i) p k (realm_of config p.attributes) why) in
+    (fresh_decided nth config a.seconds k p) (size_fails size a (side.Home i) p k (realm_of config p.attributes) why) in
     fails
-    (FailsFirst (IsFresh config a.seconds (place.Reverse k) p) refusal.Stale
+    (FailsFirst (IsFresh config a.seconds (place.Reverse k nth) p) refusal.Stale
     (FailsFirst (Fits size) refusal.TooLong NothingFails))
     (has_few_hops config.max_hops p) refusal.TooManyHops (checked fresh refusal.Stale last) why
-    (other_hops config.max_hops p (reverse_other k i p.code code)) timely
-goes_fails config secret a (side.Peer i) p (place.Reverse k) why code = absurd code
-goes_fails config secret a (side.Link l) p (place.Reverse k) why code = absurd code
-goes_fails config secret a (side.Link l) p place.Auth why code = absurd code
-goes_fails config secret a (side.Home i) p place.Auth why code = absurd code
-goes_fails config secret a (side.Link l) p place.Acct why code = absurd code
-goes_fails config secret a (side.Home i) p place.Acct why code = absurd code
-goes_fails config secret a (side.Peer i) p (place.Out k) why code = absurd code
-goes_fails config secret a (side.Link l) p (place.Out k) why code = absurd code
-goes_fails config secret a (side.Home i) p (place.Out k) why code = absurd code
+    (other_hops config.max_hops p (reverse_other nth k i p.code code)) timely
+goes_fails config secret a (side.Peer i) p (place.Reverse k nth) why code = absurd code
+goes_fails config secret a (side.Link l) p (place.Reverse k nth) why code = absurd code
+goes_fails config secret a (side.Link l) p (place.Auth nth) why code = absurd code
+goes_fails config secret a (side.Home i) p (place.Auth nth) why code = absurd code
+goes_fails config secret a (side.Link l) p (place.Acct nth) why code = absurd code
+goes_fails config secret a (side.Home i) p (place.Acct nth) why code = absurd code
+goes_fails config secret a (side.Peer i) p (place.Out k nth) why code = absurd code
+goes_fails config secret a (side.Link l) p (place.Out k nth) why code = absurd code
+goes_fails config secret a (side.Home i) p (place.Out k nth) why code = absurd code
 
 -- with the place of the arrival, by its sender
 request_fails : (config : ConfigView) (secret : List ℕ) (a : Arrival) (s : Side) (p : Packet) (at : Place)
@@ -211,21 +212,21 @@ request_fails config secret a s p at why is code =
 packet_fails : (config : ConfigView) (a : Arrival) (s : Side) (p : Packet) (at : Place) (why : Refusal)
     → a.at ≡ at → IsRequestAt at s p.code
     → (packet_admission config a s p at ≡ refused why) ↔ FailsFor config a.seconds at s p why
-packet_fails config a (side.Peer i) p place.Auth why is code =
-    request_fails config (peer_secret config i) a (side.Peer i) p place.Auth why is code
-packet_fails config a (side.Peer i) p place.Acct why is code =
-    request_fails config (peer_secret config i) a (side.Peer i) p place.Acct why is code
-packet_fails config a (side.Home i) p (place.Reverse k) why is code =
-    request_fails config (home_secret config k i) a (side.Home i) p (place.Reverse k) why is code
-packet_fails config a (side.Peer i) p (place.Reverse k) why is code = absurd code
-packet_fails config a (side.Link l) p (place.Reverse k) why is code = absurd code
-packet_fails config a (side.Link l) p place.Auth why is code = absurd code
-packet_fails config a (side.Home i) p place.Auth why is code = absurd code
-packet_fails config a (side.Link l) p place.Acct why is code = absurd code
-packet_fails config a (side.Home i) p place.Acct why is code = absurd code
-packet_fails config a (side.Peer i) p (place.Out k) why is code = absurd code
-packet_fails config a (side.Link l) p (place.Out k) why is code = absurd code
-packet_fails config a (side.Home i) p (place.Out k) why is code = absurd code
+packet_fails config a (side.Peer i) p (place.Auth nth) why is code =
+    request_fails config (peer_secret config i) a (side.Peer i) p (place.Auth nth) why is code
+packet_fails config a (side.Peer i) p (place.Acct nth) why is code =
+    request_fails config (peer_secret config i) a (side.Peer i) p (place.Acct nth) why is code
+packet_fails config a (side.Home i) p (place.Reverse k nth) why is code =
+    request_fails config (home_secret config k i) a (side.Home i) p (place.Reverse k nth) why is code
+packet_fails config a (side.Peer i) p (place.Reverse k nth) why is code = absurd code
+packet_fails config a (side.Link l) p (place.Reverse k nth) why is code = absurd code
+packet_fails config a (side.Link l) p (place.Auth nth) why is code = absurd code
+packet_fails config a (side.Home i) p (place.Auth nth) why is code = absurd code
+packet_fails config a (side.Link l) p (place.Acct nth) why is code = absurd code
+packet_fails config a (side.Home i) p (place.Acct nth) why is code = absurd code
+packet_fails config a (side.Peer i) p (place.Out k nth) why is code = absurd code
+packet_fails config a (side.Link l) p (place.Out k nth) why is code = absurd code
+packet_fails config a (side.Home i) p (place.Out k nth) why is code = absurd code
 
 pub refused_fails_first : RefusedFailsFirst
 refused_fails_first config a p s why read from code =

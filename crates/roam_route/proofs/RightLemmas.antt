@@ -87,22 +87,22 @@ Right config a at s p job =
     IsJob a s p (realm_of config p.attributes) job × IsRightRequest config a.seconds at s p job.realm
 
 -- an Access-Request of a peer
-pub auth_admitted : (config : ConfigView) (a : Arrival) (i : ℕ) (p : Packet) (job : PlainJob)
+pub auth_admitted : (nth : ℕ) (config : ConfigView) (a : Arrival) (i : ℕ) (p : Packet) (job : PlainJob)
     → p.code ≡ ACCESS_REQUEST
     → (front_checked config (peer_secret config i) (side.Peer i) p
     (checked (has_few_hops config.max_hops p) refusal.TooManyHops
-    (route_request config (peer_secret config i) a (side.Peer i) p place.Auth)) ≡ admitted job)
-    ↔ Right config a place.Auth (side.Peer i) p job
-auth_admitted config a i p job access =
+    (route_request config (peer_secret config i) a (side.Peer i) p (place.Auth nth))) ≡ admitted job)
+    ↔ Right config a (place.Auth nth) (side.Peer i) p job
+auth_admitted nth config a i p job access =
     let secret : List ℕ = peer_secret config i in
-    let goes = access_admitted config secret a (side.Peer i) p job in
+    let goes = access_admitted nth config secret a (side.Peer i) p job in
     let hops : IsTrue (has_few_hops config.max_hops p) = access_hops config.max_hops p access in
     let always : IsTrue (has_few_hops config.max_hops p) ↔ Unit {0} = (λ h. tt, λ h. hops) in
     let further = through (has_few_hops config.max_hops p) refusal.TooManyHops
-    (route_request config secret a (side.Peer i) p place.Auth) job always goes in
+    (route_request config secret a (side.Peer i) p (place.Auth nth)) job always goes in
     let whole = front_admitted config secret (side.Peer i) p
     (checked (has_few_hops config.max_hops p) refusal.TooManyHops
-    (route_request config secret a (side.Peer i) p place.Auth)) job further in (
+    (route_request config secret a (side.Peer i) p (place.Auth nth))) job further in (
       λ h. (
           let all = whole.0 h in
           let passed = all.1.1.0 in
@@ -142,22 +142,22 @@ auth_admitted config a i p job access =
     )
 
 -- any other request of a peer
-pub acct_admitted : (config : ConfigView) (a : Arrival) (i : ℕ) (p : Packet) (job : PlainJob)
+pub acct_admitted : (nth : ℕ) (config : ConfigView) (a : Arrival) (i : ℕ) (p : Packet) (job : PlainJob)
     → p.code ≡ ACCOUNTING_REQUEST
     → (front_checked config (peer_secret config i) (side.Peer i) p
     (checked (has_few_hops config.max_hops p) refusal.TooManyHops
-    (route_request config (peer_secret config i) a (side.Peer i) p place.Acct)) ≡ admitted job)
-    ↔ Right config a place.Acct (side.Peer i) p job
-acct_admitted config a i p job code =
+    (route_request config (peer_secret config i) a (side.Peer i) p (place.Acct nth))) ≡ admitted job)
+    ↔ Right config a (place.Acct nth) (side.Peer i) p job
+acct_admitted nth config a i p job code =
     let secret : List ℕ = peer_secret config i in
     let other : p.code ≢ ACCESS_REQUEST = λ is. absurd (omega (arith, is, code)) in
-    let goes = acct_goes config secret a (side.Peer i) p job in
+    let goes = acct_goes nth config secret a (side.Peer i) p job in
     let further = through (has_few_hops config.max_hops p) refusal.TooManyHops
-    (route_request config secret a (side.Peer i) p place.Acct) job
+    (route_request config secret a (side.Peer i) p (place.Acct nth)) job
     (other_hops config.max_hops p other) goes in
     let whole = front_admitted config secret (side.Peer i) p
     (checked (has_few_hops config.max_hops p) refusal.TooManyHops
-    (route_request config secret a (side.Peer i) p place.Acct)) job further in (
+    (route_request config secret a (side.Peer i) p (place.Acct nth))) job further in (
       λ h. (
           let all = whole.0 h in
           let rest = all.1.1 in (
@@ -191,28 +191,29 @@ acct_admitted config a i p job code =
     )
 
 -- a reverse request of a home server
-pub reverse_other : (realm i code : ℕ) → IsRequestAt (place.Reverse realm) (side.Home i) code → code ≢ ACCESS_REQUEST
-reverse_other realm i code (inl one) = λ is. absurd (omega (arith, one, is))
-reverse_other realm i code (inr one) = λ is. absurd (omega (arith, one, is))
+pub reverse_other : (nth : ℕ) (realm i code : ℕ) → IsRequestAt (place.Reverse realm nth) (side.Home i) code
+    → code ≢ ACCESS_REQUEST
+reverse_other nth realm i code (inl one) = λ is. absurd (omega (arith, one, is))
+reverse_other nth realm i code (inr one) = λ is. absurd (omega (arith, one, is))
 
-not_accounting : (realm i code : ℕ) → IsRequestAt (place.Reverse realm) (side.Home i) code
+not_accounting : (nth : ℕ) (realm i code : ℕ) → IsRequestAt (place.Reverse realm nth) (side.Home i) code
     → code ≢ ACCOUNTING_REQUEST
-not_accounting realm i code (inl one) = λ is. absurd (omega (arith, one, is))
-not_accounting realm i code (inr one) = λ is. absurd (omega (arith, one, is))
+not_accounting nth realm i code (inl one) = λ is. absurd (omega (arith, one, is))
+not_accounting nth realm i code (inr one) = λ is. absurd (omega (arith, one, is))
 
-pub reverse_admitted : (config : ConfigView) (a : Arrival) (own i : ℕ) (p : Packet) (job : PlainJob)
-    → IsRequestAt (place.Reverse own) (side.Home i) p.code
+pub reverse_admitted : (nth : ℕ) (config : ConfigView) (a : Arrival) (own i : ℕ) (p : Packet) (job : PlainJob)
+    → IsRequestAt (place.Reverse own nth) (side.Home i) p.code
     → (front_checked config (home_secret config own i) (side.Home i) p
     (checked (has_few_hops config.max_hops p) refusal.TooManyHops
-    (route_request config (home_secret config own i) a (side.Home i) p (place.Reverse own))) ≡ admitted job)
-    ↔ Right config a (place.Reverse own) (side.Home i) p job
-reverse_admitted config a own i p job code =
+    (route_request config (home_secret config own i) a (side.Home i) p (place.Reverse own nth))) ≡ admitted job)
+    ↔ Right config a (place.Reverse own nth) (side.Home i) p job
+reverse_admitted nth config a own i p job code =
     let secret : List ℕ = home_secret config own i in
-    let other : p.code ≢ ACCESS_REQUEST = reverse_other own i p.code code in
+    let other : p.code ≢ ACCESS_REQUEST = reverse_other nth own i p.code code in
     let size : ℕ = sent_length config (side.Home i) p own in
     let fresh : Bool = is_fresh config.fresh a.seconds p.attributes in
     let last : Admission = forwarded_for size a (side.Home i) p own (realm_of config p.attributes) in
-    let goes = through fresh refusal.Stale last job (fresh_decided config a.seconds own p)
+    let goes = through fresh refusal.Stale last job (fresh_decided nth config a.seconds own p)
     (forwarded_admitted size a (side.Home i) p own (realm_of config p.attributes) job) in
     let further = through (has_few_hops config.max_hops p) refusal.TooManyHops (checked fresh refusal.Stale last) job
     (other_hops config.max_hops p other) goes in
@@ -233,7 +234,7 @@ reverse_admitted config a own i p job code =
               realm_is = rest.1.0;
               fresh = all.1.1.0;
               asks = tt;
-              accounting = λ is. absurd (not_accounting own i p.code code is);
+              accounting = λ is. absurd (not_accounting nth own i p.code code is);
               size = rest.0;
             },
           )

@@ -134,13 +134,13 @@ rejected_never secret a p job h =
     ]
 
 -- an Access-Request
-pub access_admitted : (config : ConfigView) (secret : List ℕ) (a : Arrival) (s : Side) (p : Packet)
+pub access_admitted : (nth : ℕ) (config : ConfigView) (secret : List ℕ) (a : Arrival) (s : Side) (p : Packet)
     (job : PlainJob)
-    → (route_request config secret a s p place.Auth ≡ admitted job)
+    → (route_request config secret a s p (place.Auth nth) ≡ admitted job)
     ↔ (IsPassedOn config s p
     × ((realm_of config p.attributes ≡ Some job.realm)
     × (Fits (sent_length config s p job.realm) × IsJob a s p (realm_of config p.attributes) job)))
-access_admitted config secret a s p job =
+access_admitted nth config secret a s p job =
     let passed = passed_decided config s p in
     let further = named_admitted config a s p (realm_of config p.attributes) job in
     elim (cases_Bool (is_rejected config s p)) [
@@ -214,10 +214,10 @@ unnamed_asks_none : (config : ConfigView) (p : Packet) (realm : ℕ) → is_answ
 unnamed_asks_none config p realm none is =
     no_name config.answer_unnamed realm_part (realm_named config) (first_value USER_NAME p.attributes) realm none is
 
-pub acct_goes : (config : ConfigView) (secret : List ℕ) (a : Arrival) (s : Side) (p : Packet) (job : PlainJob)
-    → (route_request config secret a s p place.Acct ≡ admitted job)
+pub acct_goes : (nth : ℕ) (config : ConfigView) (secret : List ℕ) (a : Arrival) (s : Side) (p : Packet) (job : PlainJob)
+    → (route_request config secret a s p (place.Acct nth) ≡ admitted job)
     ↔ Accounts config a s p (realm_of config p.attributes) job
-acct_goes config secret a s p job =
+acct_goes nth config secret a s p job =
     elim (cases_Bool (is_answered_unnamed config p)) [
       | inl unnamed ↦ rw unnamed (
         λ h. absurd (cc h),

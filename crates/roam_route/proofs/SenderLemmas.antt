@@ -4,11 +4,12 @@ use Rattle.std.specs.Prelude.{option_map, option_and_then, slice_get}
 use Rattle.std.specs.List.{position_from}
 use Rattle.std.proofs.lemmas.Option.{option_and_then_some, slice_get_within}
 use Rattle.roam_address.specs.declared.address.Address.{Address}
+use Rattle.roam_address.specs.declared.endpoint.Endpoint.{Endpoint}
 use Rattle.roam_wire.specs.Packet.{Attribute}
 use Rattle.roam_wire.specs.Attributes.{first_value}
 use Rattle.roam_wire.specs.declared.attribute_type.TheConstants.{USER_NAME}
 use Rattle.roam_conf.specs.Config.{ConfigView, PeerView, RealmView}
-use Rattle.roam_conf.specs.Lookup.{realm_named, peer_with_ip, link_at, link_in, home_in, reverse_home}
+use Rattle.roam_conf.specs.Lookup.{asker_at, realm_named, peer_with_ip, link_at, link_in, home_in, reverse_home}
 use Rattle.roam_conf.specs.declared.place.Link.{Link}
 use Rattle.roam_conf.specs.declared.place.Place.TheVariants as place
 use Rattle.roam_conf.proofs.LookupLaws.{realm_named_within}
@@ -67,31 +68,38 @@ link_found : (o : Option Link) (l : Link) → option_map (λ x. side.Link x) o �
 link_found None l h = absurd (cc h)
 link_found (Some x) l h = let k : x ≡ l = cc h in ap (λ (m : Link). Some m) k
 
--- a peer
-pub peer_known : (config : ConfigView) (a : Arrival) (i : ℕ)
-    → option_map (λ n. side.Peer n) (peer_with_ip config.peers a.from.ip) ≡ Some (side.Peer i)
+-- what was found by a look-up that looks at no thing
+then_found : {X : Type 0} → (k : Option ℕ) (o : Option X) (i : ℕ) → option_and_then (λ x. k) o ≡ Some i → k ≡ Some i
+then_found k None i h = absurd (cc h)
+then_found k (Some x) i h = h
+
+-- a peer, at one of the broker's own sockets
+pub peer_known : (own : List Endpoint) (nth : ℕ) (config : ConfigView) (a : Arrival) (i : ℕ)
+    → option_map (λ n. side.Peer n) (asker_at own config.peers nth a.from.ip) ≡ Some (side.Peer i)
     → i < length config.peers
-peer_known config a i from =
-    peer_within config.peers a.from.ip i (peer_found (peer_with_ip config.peers a.from.ip) i from)
+peer_known own nth config a i from =
+    let found = peer_found (asker_at own config.peers nth a.from.ip) i from in
+    let asked = then_found (peer_with_ip config.peers a.from.ip) (slice_get own nth) i found in
+    peer_within config.peers a.from.ip i asked
 
 -- a link, and the realm of its place
-pub link_known : (config : ConfigView) (a : Arrival) (realm : ℕ) (l : Link)
-    → sender config a (place.Out realm) ≡ Some (side.Link l)
+pub link_known : (nth : ℕ) (config : ConfigView) (a : Arrival) (realm : ℕ) (l : Link)
+    → sender config a (place.Out realm nth) ≡ Some (side.Link l)
     → (realm < length config.realms) × IsConfigured config realm (side.Link l)
-link_known config a realm l from =
-    let found = link_found (link_in config realm a.from) l from in
-    let links : RealmView → Option Link = λ r. link_at config.peers r a.from in
+link_known nth config a realm l from =
+    let found = link_found (link_in config realm nth a.from) l from in
+    let links : RealmView → Option Link = λ r. link_at config.peers r nth a.from in
     let in_realm = there links (slice_get config.realms realm) l found in
     let within = slice_get_within config.realms realm in_realm.0 in_realm.1 in
-    (within, link_in_bound config realm a.from l found)
+    (within, link_in_bound config realm nth a.from l found)
 
 -- a home server, and the realm of its place
-pub home_known : (config : ConfigView) (a : Arrival) (realm i : ℕ)
-    → sender config a (place.Reverse realm) ≡ Some (side.Home i)
+pub home_known : (nth : ℕ) (config : ConfigView) (a : Arrival) (realm i : ℕ)
+    → sender config a (place.Reverse realm nth) ≡ Some (side.Home i)
     → (realm < length config.realms) × IsConfigured config realm (side.Home i)
-home_known config a realm i from =
-    let found = home_found (home_in config realm a.from.ip) i from in
-    let homes : RealmView → Option ℕ = λ r. reverse_home r a.from.ip in
+home_known nth config a realm i from =
+    let found = home_found (home_in config realm nth a.from.ip) i from in
+    let homes : RealmView → Option ℕ = λ r. reverse_home r nth a.from.ip in
     let in_realm = there homes (slice_get config.realms realm) i found in
     let within = slice_get_within config.realms realm in_realm.0 in_realm.1 in
-    (within, home_in_bound config realm a.from.ip i found)
+    (within, home_in_bound config realm nth a.from.ip i found)

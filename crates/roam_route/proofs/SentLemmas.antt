@@ -8,7 +8,8 @@ use Rattle.roam_wire.specs.declared.refusal.Refusal.TheVariants as refusal
 use Rattle.roam_auth.specs.Deciding.{is_well_sealed}
 use Rattle.roam_auth.specs.MessageAuthenticator.{HasAtMostOneMessageAuthenticator}
 use Rattle.roam_conf.specs.Config.{ConfigView}
-use Rattle.roam_conf.specs.Lookup.{peer_with_ip}
+use Rattle.roam_address.specs.declared.endpoint.Endpoint.{Endpoint}
+use Rattle.roam_conf.specs.Lookup.{asker_at}
 use Rattle.roam_conf.specs.declared.place.Place.{Place}
 use Rattle.roam_conf.specs.declared.place.Place.TheVariants as place
 use Rattle.roam_route.specs.UserName.{realm_of}
@@ -24,15 +25,15 @@ use Rattle.roam_route.proofs.SenderLemmas.{realm_of_within, peer_known, link_kno
 use Rattle.roam_route.proofs.AdmitsLemmas.{Admits, IsFor, IsFromPeer, accounted_admits, answer_admits, checked_admits, either_admits, forwarded_admits, given_admits, own_realm_admits, refused_admits, reject_admits, rejected_admits, request_admits}
 
 -- the codes of an access server at each place, and of a home server
-code_at_acct : (s : Side) (code : ℕ) → is_taken place.Acct s code ≡ true → code ≡ ACCESS_REQUEST
+code_at_acct : (nth : ℕ) (s : Side) (code : ℕ) → is_taken (place.Acct nth) s code ≡ true → code ≡ ACCESS_REQUEST
     → ⊥
-code_at_acct (side.Peer i) code taken access = grind (arith, nat_tests, taken, access)
-code_at_acct (side.Link l) code taken access = absurd (cc taken)
-code_at_acct (side.Home i) code taken access = absurd (cc taken)
+code_at_acct nth (side.Peer i) code taken access = grind (arith, nat_tests, taken, access)
+code_at_acct nth (side.Link l) code taken access = absurd (cc taken)
+code_at_acct nth (side.Home i) code taken access = absurd (cc taken)
 
-code_at_reverse : (realm i code : ℕ) → is_taken (place.Reverse realm) (side.Home i) code ≡ true
+code_at_reverse : (nth : ℕ) (realm i code : ℕ) → is_taken (place.Reverse realm nth) (side.Home i) code ≡ true
     → code ≡ ACCESS_REQUEST → ⊥
-code_at_reverse realm i code taken access = grind (arith, nat_tests, taken, access)
+code_at_reverse nth realm i code taken access = grind (arith, nat_tests, taken, access)
 
 -- a peer's request, where it goes from its place
 peer_admits : (config : ConfigView) (secret : List ℕ) (a : Arrival) (i : ℕ) (p : Packet)
@@ -41,7 +42,7 @@ peer_admits : (config : ConfigView) (secret : List ℕ) (a : Arrival) (i : ℕ) 
     → HasAtMostOneMessageAuthenticator p
     → Admits config a p (route_request config secret a (side.Peer i) p at)
 unfolding IsFromPeer
-peer_admits config secret a i p place.Auth test h seal =
+peer_admits config secret a i p (place.Auth nth) test h seal =
     let named_one : Admission = for_named_realm config a (side.Peer i) p (realm_of config p.attributes) in
     either_admits config a p (is_rejected config (side.Peer i) p) (rejected_for secret a p) named_one
     (reject_admits config secret a p)
@@ -49,40 +50,40 @@ peer_admits config secret a i p place.Auth test h seal =
       seal = seal;
       passwords = λ _. unrejected_blocks config (side.Peer i) p passes;
     }))
-peer_admits config secret a i p place.Acct test h seal =
+peer_admits config secret a i p (place.Acct nth) test h seal =
     let named : Option ℕ = realm_of config p.attributes in
     either_admits config a p (is_answered_unnamed config p) (answered_by a (accounting_answer secret p))
     (accounted config secret a (side.Peer i) p named) (answer_admits config secret a p)
     (λ _. accounted_admits config secret a i p named refl (λ x is. h x (realm_of_within config p.attributes x is))
     (record {
       seal = seal;
-      passwords = λ access. absurd (code_at_acct (side.Peer i) p.code test access);
+      passwords = λ access. absurd (code_at_acct nth (side.Peer i) p.code test access);
     }))
-peer_admits config secret a i p (place.Out realm) test h seal = absurd (cc test)
-peer_admits config secret a i p (place.Reverse realm) test h seal = absurd (cc test)
+peer_admits config secret a i p (place.Out realm nth) test h seal = absurd (cc test)
+peer_admits config secret a i p (place.Reverse realm nth) test h seal = absurd (cc test)
 
 -- a home server's goes to the realm of its place
-home_admits : (config : ConfigView) (secret : List ℕ) (a : Arrival) (i : ℕ) (p : Packet) (realm : ℕ)
-    → is_taken (place.Reverse realm) (side.Home i) p.code ≡ true
+home_admits : (nth : ℕ) (config : ConfigView) (secret : List ℕ) (a : Arrival) (i : ℕ) (p : Packet) (realm : ℕ)
+    → is_taken (place.Reverse realm nth) (side.Home i) p.code ≡ true
     → IsFor config a (side.Home i) p realm → HasAtMostOneMessageAuthenticator p
-    → Admits config a p (route_request config secret a (side.Home i) p (place.Reverse realm))
-home_admits config secret a i p realm test h seal =
+    → Admits config a p (route_request config secret a (side.Home i) p (place.Reverse realm nth))
+home_admits nth config secret a i p realm test h seal =
     let names : Option ℕ = realm_of config p.attributes in
     checked_admits config a p (is_fresh config.fresh a.seconds p.attributes) refusal.Stale
     (forwarded_for (sent_length config (side.Home i) p realm) a (side.Home i) p realm names) (λ _.
     forwarded_admits config a (side.Home i) p realm names h (record {
       seal = seal;
-      passwords = λ access. absurd (code_at_reverse realm i p.code test access);
+      passwords = λ access. absurd (code_at_reverse nth realm i p.code test access);
     }) refl)
 
-from_peer : (config : ConfigView) (a : Arrival) (i : ℕ) (p : Packet)
-    → option_map (λ n. side.Peer n) (peer_with_ip config.peers a.from.ip) ≡ Some (side.Peer i)
+from_peer : (own : List Endpoint) (nth : ℕ) (config : ConfigView) (a : Arrival) (i : ℕ) (p : Packet)
+    → option_map (λ n. side.Peer n) (asker_at own config.peers nth a.from.ip) ≡ Some (side.Peer i)
     → is_taken a.at (side.Peer i) p.code ≡ true → IsFromPeer config a i p
 unfolding IsFromPeer
-from_peer config a i p from test = λ realm within. record {
+from_peer own nth config a i p from test = λ realm within. record {
   code = test;
   within = within;
-  sender = peer_known config a i from;
+  sender = peer_known own nth config a i from;
 }
 
 -- the same by the place of the arrival
@@ -101,43 +102,43 @@ routed_at config secret a s p at is h =
 packet_admits : (config : ConfigView) (a : Arrival) (s : Side) (p : Packet) (at : Place)
     → a.at ≡ at → sender config a at ≡ Some s → is_taken at s p.code ≡ true
     → Admits config a p (packet_admission config a s p at)
-packet_admits config a (side.Link l) p (place.Out realm) is from test =
-    let known = link_known config a realm l from in
+packet_admits config a (side.Link l) p (place.Out realm nth) is from test =
+    let known = link_known nth config a realm l from in
     given_admits config a (side.Link l) p realm None (record {
-      code = taken_at a (side.Link l) p (place.Out realm) is test;
+      code = taken_at a (side.Link l) p (place.Out realm nth) is test;
       within = known.0;
       sender = known.1;
     }) tt refl
-packet_admits config a (side.Peer i) p (place.Out realm) is from test = absurd (cc test)
-packet_admits config a (side.Home i) p (place.Out realm) is from test = absurd (cc test)
-packet_admits config a (side.Peer i) p place.Auth is from test =
+packet_admits config a (side.Peer i) p (place.Out realm nth) is from test = absurd (cc test)
+packet_admits config a (side.Home i) p (place.Out realm nth) is from test = absurd (cc test)
+packet_admits config a (side.Peer i) p (place.Auth nth) is from test =
     let secret = peer_secret config i in
-    let of_peer = from_peer config a i p from (taken_at a (side.Peer i) p place.Auth is test) in
+    let of_peer = from_peer config.auth nth config a i p from (taken_at a (side.Peer i) p (place.Auth nth) is test) in
     request_admits config secret a (side.Peer i) p (λ seal.
-    routed_at config secret a (side.Peer i) p place.Auth is
-    (peer_admits config secret a i p place.Auth test of_peer seal))
-packet_admits config a (side.Peer i) p place.Acct is from test =
+    routed_at config secret a (side.Peer i) p (place.Auth nth) is
+    (peer_admits config secret a i p (place.Auth nth) test of_peer seal))
+packet_admits config a (side.Peer i) p (place.Acct nth) is from test =
     let secret = peer_secret config i in
-    let of_peer = from_peer config a i p from (taken_at a (side.Peer i) p place.Acct is test) in
+    let of_peer = from_peer config.acct nth config a i p from (taken_at a (side.Peer i) p (place.Acct nth) is test) in
     request_admits config secret a (side.Peer i) p (λ seal.
-    routed_at config secret a (side.Peer i) p place.Acct is
-    (peer_admits config secret a i p place.Acct test of_peer seal))
-packet_admits config a (side.Peer i) p (place.Reverse realm) is from test = absurd (cc test)
-packet_admits config a (side.Home i) p (place.Reverse realm) is from test =
+    routed_at config secret a (side.Peer i) p (place.Acct nth) is
+    (peer_admits config secret a i p (place.Acct nth) test of_peer seal))
+packet_admits config a (side.Peer i) p (place.Reverse realm nth) is from test = absurd (cc test)
+packet_admits config a (side.Home i) p (place.Reverse realm nth) is from test =
     let secret = home_secret config realm i in
-    let known = home_known config a realm i from in
+    let known = home_known nth config a realm i from in
     request_admits config secret a (side.Home i) p (λ seal.
-    routed_at config secret a (side.Home i) p (place.Reverse realm) is
-    (home_admits config secret a i p realm test (record {
-      code = taken_at a (side.Home i) p (place.Reverse realm) is test;
+    routed_at config secret a (side.Home i) p (place.Reverse realm nth) is
+    (home_admits nth config secret a i p realm test (record {
+      code = taken_at a (side.Home i) p (place.Reverse realm nth) is test;
       within = known.0;
       sender = known.1;
     }) seal))
-packet_admits config a (side.Home i) p place.Auth is from test = absurd (cc test)
-packet_admits config a (side.Home i) p place.Acct is from test = absurd (cc test)
-packet_admits config a (side.Link l) p place.Auth is from test = absurd (cc test)
-packet_admits config a (side.Link l) p place.Acct is from test = absurd (cc test)
-packet_admits config a (side.Link l) p (place.Reverse realm) is from test = absurd (cc test)
+packet_admits config a (side.Home i) p (place.Auth nth) is from test = absurd (cc test)
+packet_admits config a (side.Home i) p (place.Acct nth) is from test = absurd (cc test)
+packet_admits config a (side.Link l) p (place.Auth nth) is from test = absurd (cc test)
+packet_admits config a (side.Link l) p (place.Acct nth) is from test = absurd (cc test)
+packet_admits config a (side.Link l) p (place.Reverse realm nth) is from test = absurd (cc test)
 
 -- a Status-Server is no event
 status_admits : (config : ConfigView) (most : Option ℕ) (secret : List ℕ) (a : Arrival) (p : Packet)

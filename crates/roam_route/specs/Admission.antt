@@ -14,7 +14,7 @@ use Rattle.roam_wire.specs.declared.packet_size.TheConstants.{MAX_PACKET_LENGTH}
 use Rattle.roam_auth.specs.Authenticators.{zero_octets}
 use Rattle.roam_auth.specs.Deciding.{is_signed_request, is_well_sealed}
 use Rattle.roam_conf.specs.Config.{ConfigView, PeerView}
-use Rattle.roam_conf.specs.Lookup.{peer_with_ip, link_in, home_in}
+use Rattle.roam_conf.specs.Lookup.{asker_at, link_in, home_in}
 use Rattle.roam_conf.specs.Secrets as secrets
 use Rattle.roam_conf.specs.declared.accounting.Accounting.{Accounting}
 use Rattle.roam_conf.specs.declared.accounting.Accounting.TheVariants.{Forwarded, Answered, Dropped}
@@ -42,10 +42,10 @@ pub data Admission : Type 0 where
 -- link of the realm by its endpoint, a home server of the realm by its address, or else a `coa_client` of the realm by
 -- its own (RFC 2865, section 3)
 abbrev pub sender : ConfigView → Arrival → Place → Option Side
-sender config a place.Auth = option_map (λ i. side.Peer i) (peer_with_ip config.peers a.from.ip)
-sender config a place.Acct = option_map (λ i. side.Peer i) (peer_with_ip config.peers a.from.ip)
-sender config a (place.Out realm) = option_map (λ l. side.Link l) (link_in config realm a.from)
-sender config a (place.Reverse realm) = option_map (λ i. side.Home i) (home_in config realm a.from.ip)
+sender config a (place.Auth nth) = option_map (λ i. side.Peer i) (asker_at config.auth config.peers nth a.from.ip)
+sender config a (place.Acct nth) = option_map (λ i. side.Peer i) (asker_at config.acct config.peers nth a.from.ip)
+sender config a (place.Out realm nth) = option_map (λ l. side.Link l) (link_in config realm nth a.from)
+sender config a (place.Reverse realm nth) = option_map (λ i. side.Home i) (home_in config realm nth a.from.ip)
 
 -- the secret shared with a peer; with a source of a realm's reverse requests
 abbrev pub peer_secret : ConfigView → ℕ → List ℕ
@@ -56,9 +56,9 @@ home_secret config realm i = secrets.home_secret_in config realm i
 
 -- the codes that a link sends (RFC 2865 section 4, RFC 2866 section 4, RFC 5176 section 2.3)
 abbrev pub is_code_of_link : Link → ℕ → Bool
-is_code_of_link (link.Auth server) code = is_access_reply code
-is_code_of_link (link.Acct server) code = code == ACCOUNTING_RESPONSE
-is_code_of_link (link.Coa peer) code = is_reverse_reply code
+is_code_of_link (link.Auth server out) code = is_access_reply code
+is_code_of_link (link.Acct server out) code = code == ACCOUNTING_RESPONSE
+is_code_of_link (link.Coa peer out) code = is_reverse_reply code
 
 -- ## Codes that are taken
 -- At `auth` from a peer an Access-Request; at `acct` from a peer an Accounting-Request; at both from a peer a
@@ -72,10 +72,10 @@ is_code_of_link (link.Coa peer) code = is_reverse_reply code
 --
 -- whether a code is taken at a place from a sender
 abbrev pub is_taken : Place → Side → ℕ → Bool
-is_taken place.Auth (side.Peer i) code = code == ACCESS_REQUEST
-is_taken place.Acct (side.Peer i) code = code == ACCOUNTING_REQUEST
-is_taken (place.Out realm) (side.Link l) code = is_code_of_link l code
-is_taken (place.Reverse realm) (side.Home i) code = is_reverse_request code
+is_taken (place.Auth nth) (side.Peer i) code = code == ACCESS_REQUEST
+is_taken (place.Acct nth) (side.Peer i) code = code == ACCOUNTING_REQUEST
+is_taken (place.Out realm nth) (side.Link l) code = is_code_of_link l code
+is_taken (place.Reverse realm nth) (side.Home i) code = is_reverse_request code
 is_taken _ _ code = false
 
 -- a check with its refusal, and what follows where it holds
@@ -214,8 +214,8 @@ reversed config a s p realm =
 -- what a request that passed the checks of its signature and seal gives: to the realm of its place
 -- where it came from a home server; else to the realm that it names
 abbrev pub route_request : ConfigView → List ℕ → Arrival → Side → Packet → Place → Admission
-route_request config secret a s p (place.Reverse realm) = reversed config a s p realm
-route_request config secret a s p place.Auth =
+route_request config secret a s p (place.Reverse realm nth) = reversed config a s p realm
+route_request config secret a s p (place.Auth nth) =
     if is_rejected config s p then rejected_for secret a p
     else for_named_realm config a s p (realm_of config p.attributes)
 route_request config secret a s p _ =
@@ -235,18 +235,18 @@ request_admission config secret a s p =
 -- what a packet of a known sender and a code that is taken gives: a reply goes to the realm of its
 -- place as it is, and is judged there
 abbrev pub packet_admission : ConfigView → Arrival → Side → Packet → Place → Admission
-packet_admission config a s p (place.Out realm) = job_of a s p realm None
+packet_admission config a s p (place.Out realm nth) = job_of a s p realm None
 packet_admission config a (side.Peer i) p _ =
     request_admission config (peer_secret config i) a (side.Peer i) p
-packet_admission config a (side.Home i) p (place.Reverse realm) =
+packet_admission config a (side.Home i) p (place.Reverse realm nth) =
     request_admission config (home_secret config realm i) a (side.Home i) p
 packet_admission config a s p _ = refused refusal.WrongCode
 
 -- whether a packet is a Status-Server that is answered: one that a peer sent to where its requests are
 -- taken, where the configuration has it answered (RFC 5997, section 3)
 abbrev pub is_status_request : ConfigView → Place → Side → ℕ → Bool
-is_status_request config place.Auth (side.Peer i) code = config.status_server && code == STATUS_SERVER
-is_status_request config place.Acct (side.Peer i) code = config.status_server && code == STATUS_SERVER
+is_status_request config (place.Auth nth) (side.Peer i) code = config.status_server && code == STATUS_SERVER
+is_status_request config (place.Acct nth) (side.Peer i) code = config.status_server && code == STATUS_SERVER
 is_status_request config _ _ code = false
 
 -- whether a Status-Server has a Message-Authenticator, which it always must (RFC 5997, section 3)

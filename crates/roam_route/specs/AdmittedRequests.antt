@@ -33,9 +33,9 @@ use Rattle.roam_route.specs.declared.job.Side.TheVariants as side
 -- (RFC 2865, section 4.1), its Accounting-Request to where those are (RFC 2866, section 4.1), and a home
 -- server's Disconnect-Request or CoA-Request to where its realm takes them (RFC 5176, section 2.3)
 abbrev pub IsRequestAt : Place → Side → ℕ → Type 0
-IsRequestAt place.Auth (side.Peer i) code = code ≡ ACCESS_REQUEST
-IsRequestAt place.Acct (side.Peer i) code = code ≡ ACCOUNTING_REQUEST
-IsRequestAt (place.Reverse realm) (side.Home i) code =
+IsRequestAt (place.Auth nth) (side.Peer i) code = code ≡ ACCESS_REQUEST
+IsRequestAt (place.Acct nth) (side.Peer i) code = code ≡ ACCOUNTING_REQUEST
+IsRequestAt (place.Reverse realm nth) (side.Home i) code =
     (code ≡ DISCONNECT_REQUEST) ⊎ (code ≡ COA_REQUEST)
 IsRequestAt _ _ code = ⊥
 
@@ -46,7 +46,7 @@ HasFewAttributes most p = (limit : ℕ) → most ≡ Some limit → length p.att
 -- the secret that the sender of a request shares with the broker (RFC 2865, section 3)
 abbrev pub shared_secret : ConfigView → Place → Side → List ℕ
 shared_secret config at (side.Peer i) = peer_secret config i
-shared_secret config (place.Reverse realm) (side.Home i) = home_secret config realm i
+shared_secret config (place.Reverse realm nth) (side.Home i) = home_secret config realm i
 shared_secret config _ _ = []
 
 -- a request is signed where its code has a signature: each but an Access-Request (RFC 2866, section 3;
@@ -82,7 +82,7 @@ pub record HasGoodPasswords (p : Packet) : Type 0 where
 -- the realm that a request is for: of a home server's the realm of its place, whatever it names; of a
 -- peer's the one that its User-Name names (RFC 2865, section 2.3; how a name gives a realm is ours)
 abbrev pub IsForRealm : ConfigView → Place → Packet → ℕ → Type 0
-IsForRealm config (place.Reverse own) p realm = realm ≡ own
+IsForRealm config (place.Reverse own nth) p realm = realm ≡ own
 IsForRealm config _ p realm = realm_of config p.attributes ≡ Some realm
 
 -- the realm takes the requests of the sender: of a peer where it may ask (ours); of a home server always
@@ -205,13 +205,13 @@ FailsForSize config s p (Some realm) why =
 -- why a request isn't forwarded that is signed and sealed as it must be: its hops, its realm, its time, its size,
 -- in this order. An Access-Request fails for the size alone, of its local reject where it gets one
 abbrev pub FailsToGo : ConfigView → Option ℕ → Side → Packet → Place → Refusal → Type 0
-FailsToGo config seconds s p place.Auth why =
+FailsToGo config seconds s p (place.Auth nth) why =
     (IsPassedOn config s p × FailsForSize config s p (realm_of config p.attributes) why)
     ⊎ ((IsPassedOn config s p → ⊥)
     × FailsFirst (answer_length p ≤ MAX_PACKET_LENGTH) refusal.TooLong NothingFails why)
-FailsToGo config seconds s p (place.Reverse own) why =
+FailsToGo config seconds s p (place.Reverse own nth) why =
     FailsFirst (HasFewHops config.max_hops p) refusal.TooManyHops
-    (FailsFirst (IsFresh config seconds (place.Reverse own) p) refusal.Stale
+    (FailsFirst (IsFresh config seconds (place.Reverse own nth) p) refusal.Stale
     (FailsFirst (sent_length config s p own ≤ MAX_PACKET_LENGTH) refusal.TooLong NothingFails)) why
 FailsToGo config seconds s p _ why =
     FailsFirst (HasFewHops config.max_hops p) refusal.TooManyHops (FailsNamed config s p) why

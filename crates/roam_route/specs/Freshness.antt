@@ -43,7 +43,7 @@ is_fresh most seconds attributes = near_enough most seconds (sent_at attributes)
 
 -- the same as a fact, of a request by its place: one that came elsewhere is never stale
 abbrev pub IsFresh : ConfigView → Option ℕ → Place → Packet → Type 0
-IsFresh config seconds (place.Reverse realm) p =
+IsFresh config seconds (place.Reverse realm nth) p =
     (most now sent : ℕ) → config.fresh ≡ Some most → seconds ≡ Some now → sent_at p.attributes ≡ Some sent
     → (now ≤ sent + most) × (sent ≤ now + most)
 IsFresh config seconds _ p = Unit {0}

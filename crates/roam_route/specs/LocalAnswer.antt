@@ -47,7 +47,7 @@ local_reject secret request = local_answer ACCESS_REJECT secret request
 -- what answers a Status-Server: an Access-Accept where Access-Requests are taken, an Accounting-Response
 -- where Accounting-Requests are (RFC 5997, section 3)
 abbrev pub status_code : Place → ℕ
-status_code place.Acct = ACCOUNTING_RESPONSE
+status_code (place.Acct nth) = ACCOUNTING_RESPONSE
 status_code _ = ACCESS_ACCEPT
 
 -- ## Answer to a Status-Server

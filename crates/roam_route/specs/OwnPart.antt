@@ -1,5 +1,5 @@
 -- What an arrival gives to one realm. Ours.
-use Rattle.std.specs.Prelude.{◌≡◌, ℕ, ◌==◌, List, Option, Some, None, slice_get, if◌then◌else◌}
+use Rattle.std.specs.Prelude.{◌≡◌, ℕ, ◌==◌, List, length, Option, Some, None, slice_get, if◌then◌else◌}
 use Rattle.roam_conf.specs.Asking.{takes_in}
 use Rattle.roam_conf.specs.Config.{ConfigView}
 use Rattle.roam_conf.specs.Lookup.{realm_named}
@@ -11,9 +11,11 @@ own realm (refused why) = None
 own realm (rejected out) = None
 own realm (admitted job) = if job.realm == realm then Some job else None
 
--- two configurations have the same peers, the same meaning of each name, the same limits of attributes, of hops and
--- of a reverse request's age, and the same entry for a realm: its part of the configuration
+-- two configurations have as many `auth` and `acct`, the same peers, the same meaning of each name, the same limits of
+-- attributes, of hops and of a reverse request's age, and the same entry for a realm: its part of the configuration
 pub record HaveSamePart (one other : ConfigView) (realm : ℕ) : Type 0 where
+  pub auth : length one.auth ≡ length other.auth
+  pub acct : length one.acct ≡ length other.acct
   pub peers : one.peers ≡ other.peers
   pub names : (name : List ℕ) → realm_named one name ≡ realm_named other name
   pub max_attributes : one.max_attributes ≡ other.max_attributes
@@ -34,10 +36,12 @@ answered (refused why) = None
 answered (rejected out) = Some out
 answered (admitted job) = None
 
--- two configurations have the same peers, the same meaning of each name, the same limits of attributes and hops,
--- and both have Status-Servers answered, or neither, and unnamed accounting; of each realm the same peers may ask,
--- and its accounting becomes the same: what the broker's own answers are made by
+-- two configurations have as many `auth` and `acct`, the same peers, the same meaning of each name, the same limits of
+-- attributes and hops, and both have Status-Servers answered, or neither, and unnamed accounting; of each realm the
+-- same peers may ask, and its accounting becomes the same: what the broker's own answers are made by
 pub record AnswerAlike (one other : ConfigView) : Type 0 where
+  pub auth : length one.auth ≡ length other.auth
+  pub acct : length one.acct ≡ length other.acct
   pub peers : one.peers ≡ other.peers
   pub names : (name : List ℕ) → realm_named one name ≡ realm_named other name
   pub max_attributes : one.max_attributes ≡ other.max_attributes

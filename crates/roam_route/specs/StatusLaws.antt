@@ -13,12 +13,12 @@ use Rattle.roam_route.specs.LocalAnswer.{status_answer}
 
 -- it is an Access-Accept at the one place, and an Accounting-Response at the other (RFC 5997, section 3)
 abbrev pub StatusAnswerAtAuth : Type 0
-StatusAnswerAtAuth = (secret : List ℕ) (request : Packet) →
-    (status_answer place.Auth secret request).code ≡ 2
+StatusAnswerAtAuth = (nth : ℕ) (secret : List ℕ) (request : Packet) →
+    (status_answer (place.Auth nth) secret request).code ≡ 2
 
 abbrev pub StatusAnswerAtAcct : Type 0
-StatusAnswerAtAcct = (secret : List ℕ) (request : Packet) →
-    (status_answer place.Acct secret request).code ≡ 5
+StatusAnswerAtAcct = (nth : ℕ) (secret : List ℕ) (request : Packet) →
+    (status_answer (place.Acct nth) secret request).code ≡ 5
 
 -- with the request's Identifier (RFC 2865, section 3)
 abbrev pub StatusAnswerHasIdentifier : Type 0

@@ -61,13 +61,13 @@ fn admit_packet<A: Allocator + Copy>(
     packet: &SentPacket<'_, A>,
 ) -> Result<Prepared<A>, Refusal>
     requires peer { (i : ℕ) → packet.now.side ≡ Side.Peer i → i < vec_len config.now.peers }
-    requires home { (realm i : ℕ) → packet.now.datagram.now.at ≡ Place.Reverse realm
+    requires home { (realm nth i : ℕ) → packet.now.datagram.now.at ≡ Place.Reverse realm nth
         → packet.now.side ≡ Side.Home i → IsHome config.now realm i }
     ensures { Prepares result (packet_admission (shown config.now)
         (shown_arrival packet.now.datagram.now) packet.now.side packet.now.view
         packet.now.datagram.now.at) }
 {
-    if let Place::Out(realm) = packet.datagram.at {
+    if let Place::Out(realm, _) = packet.datagram.at {
         return job_of(packet, realm, None);
     }
     match packet.side {
@@ -76,7 +76,7 @@ fn admit_packet<A: Allocator + Copy>(
             request(config, packet, secret)
         }
         Side::Home(server) => match packet.datagram.at {
-            Place::Reverse(realm) => {
+            Place::Reverse(realm, _) => {
                 let secret = secret_of_home(config, realm, server);
                 request(config, packet, secret)
             }
@@ -141,7 +141,7 @@ fn sent<A: Allocator + Copy>(
     packet: &SentPacket<'_, A>,
 ) -> Result<Prepared<A>, Refusal>
     requires peer { (i : ℕ) → packet.now.side ≡ Side.Peer i → i < vec_len config.now.peers }
-    requires home { (realm i : ℕ) → packet.now.datagram.now.at ≡ Place.Reverse realm
+    requires home { (realm nth i : ℕ) → packet.now.datagram.now.at ≡ Place.Reverse realm nth
         → packet.now.side ≡ Side.Home i → IsHome config.now realm i }
     ensures { Prepares result (sent_admission (shown config.now)
         (shown_arrival packet.now.datagram.now) packet.now.view (Some packet.now.side)) }

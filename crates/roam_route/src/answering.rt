@@ -96,7 +96,7 @@ fn status_code(at: Place) -> u8
     ensures { result ≡ status_code at }
 {
     match at {
-        Place::Acct => ACCOUNTING_RESPONSE,
+        Place::Acct(_) => ACCOUNTING_RESPONSE,
         _ => ACCESS_ACCEPT,
     }
 }

@@ -206,10 +206,10 @@ pub(crate) fn route_request<A: Allocator + Copy>(
 {
     let view = &packet.view;
     let realm = realm_of(config, view);
-    if let Place::Reverse(own) = packet.datagram.at {
+    if let Place::Reverse(own, _) = packet.datagram.at {
         return reversed(config, packet, own, realm);
     }
-    if packet.datagram.at == Place::Auth {
+    if let Place::Auth(_) = packet.datagram.at {
         return if is_rejected(config, packet, realm) {
             rejected_for(packet, secret)
         } else {

@@ -1,6 +1,6 @@
 //! Who sent a datagram, the secret shared with it, and the codes that are taken from it.
 
-ghost use Rattle.std.specs.Prelude.{◌≡◌, ℕ, ◌<◌, Some, vec_len};
+ghost use Rattle.std.specs.Prelude.{◌≡◌, ℕ, ◌<◌, Some, option_map, vec_len};
 ghost use Rattle.roam_conf.specs.Parts.{shown_peer};
 ghost use Rattle.roam_conf.specs.Shown.{shown};
 ghost use Rattle.roam_wire.specs.Codes.{is_reverse_reply, is_reverse_request};
@@ -21,25 +21,33 @@ use roam_wire::code::{
 };
 use std::alloc::Allocator;
 
+/// A peer as a sender, if it is there.
+fn side_of_peer(peer: Option<u16>) -> Option<Side>
+    ensures { result ≡ option_map (λ i. Side.Peer i) peer }
+{
+    match peer {
+        Some(peer) => Some(Side::Peer(peer)),
+        None => None,
+    }
+}
+
 /// Who the source of a datagram is at its place; none where the broker shares no secret with it there,
 /// or where the place's realm isn't configured.
 pub(crate) fn sender<A: Allocator>(config: &Config, datagram: &Datagram<A>) -> Option<Side>
     ensures value { result
         ≡ sender (shown config.now) (shown_arrival datagram.now) datagram.now.at }
     ensures peer { (i : ℕ) → result ≡ Some (Side.Peer i) → i < vec_len config.now.peers }
-    ensures home { (realm i : ℕ) → datagram.now.at ≡ Place.Reverse realm
+    ensures home { (realm nth i : ℕ) → datagram.now.at ≡ Place.Reverse realm nth
         → result ≡ Some (Side.Home i) → IsHome config.now realm i }
 {
     match datagram.at {
-        Place::Auth | Place::Acct => match config.peer_by_ip(datagram.from.ip) {
-            Some(peer) => Some(Side::Peer(peer)),
-            None => None,
-        },
-        Place::Out(realm) => match config.link_of(realm, datagram.from) {
+        Place::Auth(nth) => side_of_peer(config.asker_at_auth(nth, datagram.from.ip)),
+        Place::Acct(nth) => side_of_peer(config.asker_at_acct(nth, datagram.from.ip)),
+        Place::Out(realm, nth) => match config.link_of(realm, nth, datagram.from) {
             Some(link) => Some(Side::Link(link)),
             None => None,
         },
-        Place::Reverse(realm) => match config.home_of(realm, datagram.from.ip) {
+        Place::Reverse(realm, nth) => match config.home_of(realm, nth, datagram.from.ip) {
             Some(server) => Some(Side::Home(server)),
             None => None,
         },
@@ -122,9 +130,9 @@ fn is_code_of_link(link: Link, code: u8) -> bool
     ensures { result ≡ is_code_of_link link code }
 {
     match link {
-        Link::Auth(_) => is_access_reply(code),
-        Link::Acct(_) => code == ACCOUNTING_RESPONSE,
-        Link::Coa(_) => is_reverse_reply(code),
+        Link::Auth(_, _) => is_access_reply(code),
+        Link::Acct(_, _) => code == ACCOUNTING_RESPONSE,
+        Link::Coa(_, _) => is_reverse_reply(code),
     }
 }
 
@@ -133,10 +141,10 @@ pub(crate) fn is_taken(at: Place, side: Side, code: u8) -> bool
     ensures { result ≡ is_taken at side code }
 {
     match (at, side) {
-        (Place::Auth, Side::Peer(_)) => code == ACCESS_REQUEST,
-        (Place::Acct, Side::Peer(_)) => code == ACCOUNTING_REQUEST,
-        (Place::Out(_), Side::Link(link)) => is_code_of_link(link, code),
-        (Place::Reverse(_), Side::Home(_)) => is_reverse_request(code),
+        (Place::Auth(_), Side::Peer(_)) => code == ACCESS_REQUEST,
+        (Place::Acct(_), Side::Peer(_)) => code == ACCOUNTING_REQUEST,
+        (Place::Out(_, _), Side::Link(link)) => is_code_of_link(link, code),
+        (Place::Reverse(_, _), Side::Home(_)) => is_reverse_request(code),
         _ => false,
     }
 }
@@ -147,7 +155,9 @@ pub(crate) fn is_status_request(config: &Config, at: Place, side: Side, code: u8
     ensures { result ≡ is_status_request (shown config.now) at side code }
 {
     match (at, side) {
-        (Place::Auth | Place::Acct, Side::Peer(_)) => config.status_server && code == STATUS_SERVER,
+        (Place::Auth(_) | Place::Acct(_), Side::Peer(_)) => {
+            config.status_server && code == STATUS_SERVER
+        }
         _ => false,
     }
 }

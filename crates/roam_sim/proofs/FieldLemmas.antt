@@ -1,7 +1,6 @@
 -- What stands last in a line or in a place has no separator in it.
 use Rattle.std.proofs.Common.{◌≡◌, ℕ, ◌-◌, ◌^◌, ◌⊎◌, inl, inr, true, false, Bool, cond, eqb, List, [], ◌∷◌, length, get_or, Option, Some, None, Result, Ok, Err, refl, sym, ap, arith}
 use Rattle.std.proofs.lemmas.Bool.Decides.{nat_tests}
-use Rattle.std.proofs.lemmas.Grind.{common_steps}
 use Rattle.std.proofs.lemmas.List.Splits.{length-slice_split, slice_split_none}
 use Rattle.std.proofs.lemmas.Slice.Eq.{bytes_eq-Decides}
 use Rattle.std.specs.List.{AllPass}
@@ -15,21 +14,7 @@ use Rattle.roam_conf.specs.Texts.{parts}
 use Rattle.roam_conf.specs.declared.place.Place.{Place}
 use Rattle.roam_address.specs.declared.endpoint.Endpoint.{Endpoint}
 use Rattle.roam_conf.proofs.TextLemmas.{decimal_part, one_part}
-use Rattle.roam_sim.specs.Script.{times_in, times_of, with_seconds, index_in, moment_in, place_in, datagram_in, realm_place, realm_place_of, arrival, arrival_of, tick, tick_of}
-
-no_realm : (socket realm : List ℕ) → index_in realm ≡ None → realm_place socket realm ≡ None
-no_realm socket realm is = grind (arith, common_steps)
-
-realm_place_at : (socket realm : List ℕ) (number : Option ℕ) (rest : List (List ℕ)) → index_in realm ≡ number →
-    parts 58 realm ≡ rest → realm_place_of (socket ∷ rest) ≡ realm_place socket realm
-realm_place_at socket realm (Some n) rest is cut = rw (← cut, decimal_part 58 0 (2 ^ 16 - 1) realm n refl is) refl
-realm_place_at socket realm None [] is cut = sym (no_realm socket realm is)
-realm_place_at socket realm None (x ∷ []) is cut = rw (one_part 58 realm x cut) refl
-realm_place_at socket realm None (x ∷ y ∷ more) is cut = sym (no_realm socket realm is)
-
--- what follows the colon is the index of a realm, or no place is read
-pub realm_place_of-parts : (socket realm : List ℕ) → realm_place_of (socket ∷ parts 58 realm) ≡ realm_place socket realm
-realm_place_of-parts socket realm = realm_place_at socket realm _ _ refl refl
+use Rattle.roam_sim.specs.Script.{times_in, times_of, with_seconds, index_in, moment_in, nth_in, place_in, place_of, datagram_in, realm_place, arrival, arrival_of, tick, tick_of}
 
 -- a text has a part at least
 parts-some : (separator : ℕ) (text : List ℕ) → parts separator text ≡ [] → ⊥
@@ -37,6 +22,23 @@ unfolding parts
 parts-some separator text is =
     let none : length (parts separator text) ≡ 0 = ap (λ (l : List (List ℕ)). length l) is in
     omega (arith, none, length-slice_split (λ octet. eqb octet separator) text)
+
+no_nth : (socket : List ℕ) (realm : Option ℕ) → realm_place socket realm None ≡ None
+no_nth socket None = refl
+no_nth socket (Some r) = refl
+
+place_of_at : (socket realm number : List ℕ) (nth : Option ℕ) (rest : List (List ℕ)) → nth_in number ≡ nth →
+    parts 58 number ≡ rest → place_of (socket ∷ realm ∷ rest) ≡ realm_place socket (index_in realm) nth
+place_of_at socket realm number (Some n) rest is cut =
+    rw (← cut, decimal_part 58 1 (2 ^ 16 - 1) number n refl is, is) refl
+place_of_at socket realm number None [] is cut = absurd (parts-some 58 number cut)
+place_of_at socket realm number None (x ∷ []) is cut = rw (one_part 58 number x cut, is) refl
+place_of_at socket realm number None (x ∷ y ∷ more) is cut = sym (no_nth socket _)
+
+-- what follows a realm's index and a colon says which of several sockets it is, or no place is read
+pub place_of-parts : (socket realm number : List ℕ) →
+    place_of (socket ∷ realm ∷ parts 58 number) ≡ realm_place socket (index_in realm) (nth_in number)
+place_of-parts socket realm number = place_of_at socket realm number _ _ refl refl
 
 no_seconds : (now : Option ℕ) → with_seconds now None ≡ None
 no_seconds None = refl
@@ -142,4 +144,4 @@ even_digits text is_digits even is = (
   (λ decodes. let r = ok_value (decode_of text) decodes in is.1 ((decode_of-ok text r.0 r.1).1)),
 )
 
-pub ruleset last_fields = (realm_place_of-parts, times_of-parts, tick_of-parts, arrival_of-parts)
+pub ruleset last_fields = (place_of-parts, times_of-parts, tick_of-parts, arrival_of-parts)

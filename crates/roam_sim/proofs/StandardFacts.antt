@@ -21,7 +21,7 @@ tick_line = refl
 -- a datagram of two octets, at the outgoing socket of realm 1, without and with the wall clock's seconds
 arrival_line : line_states (codes "A 0 out:1 192.0.2.1:5000 0aFF")
     ≡ states (arrives 0 (record {
-      at = place.Out 1;
+      at = place.Out 1 0;
       from = record { ip = record { ip = V4 (record { octets = 192 ∷ 0 ∷ 2 ∷ 1 ∷ [] }) }; port = 5000 };
       octets = 10 ∷ 255 ∷ [];
       seconds = None;
@@ -32,7 +32,7 @@ arrival_line = refl
 
 timed_line : line_states (codes "A 0/1700000000 out:1 192.0.2.1:5000 0aFF")
     ≡ states (arrives 0 (record {
-      at = place.Out 1;
+      at = place.Out 1 0;
       from = record { ip = record { ip = V4 (record { octets = 192 ∷ 0 ∷ 2 ∷ 1 ∷ [] }) }; port = 5000 };
       octets = 10 ∷ 255 ∷ [];
       seconds = Some 1700000000;
@@ -52,7 +52,7 @@ unfolding script_states line_states parts decimal_in is_decimal
 third_line = refl
 
 -- a packet that leaves for realm 0
-printed_packet : packet_line (Some 0) (place.Out 0)
+printed_packet : packet_line (Some 0) (place.Out 0 0)
     (record { ip = record { ip = V4 (record { octets = 198 ∷ 51 ∷ 100 ∷ 1 ∷ [] }) }; port = 1812 })
     (1 ∷ 0 ∷ 0 ∷ 61 ∷ []) ≡ codes "0 out:0 198.51.100.1:1812 0100003d\n"
 unfolding digits encode_with

@@ -5,6 +5,7 @@ use Rattle.std.specs.List.{flat_map}
 use Rattle.hex.specs.Hex.{encode_lower}
 use Rattle.roam_address.specs.Endpoints.{endpoint_text}
 use Rattle.roam_address.specs.declared.endpoint.Endpoint.{Endpoint}
+use Rattle.roam_conf.specs.PlaceTexts.{nth_text}
 use Rattle.roam_conf.specs.declared.place.Place.{Place}
 use Rattle.roam_conf.specs.declared.place.Place.TheVariants as place
 use Rattle.roam_route.specs.Admission.{PlainOut}
@@ -16,10 +17,10 @@ realm_text None = codes "-"
 
 -- one of the broker's sockets
 abbrev pub place_text : Place → List ℕ
-place_text place.Auth = codes "auth"
-place_text place.Acct = codes "acct"
-place_text (place.Out realm) = codes "out:" ++ decimal realm
-place_text (place.Reverse realm) = codes "reverse:" ++ decimal realm
+place_text (place.Auth nth) = codes "auth" ++ nth_text nth
+place_text (place.Acct nth) = codes "acct" ++ nth_text nth
+place_text (place.Out realm nth) = codes "out:" ++ decimal realm ++ nth_text nth
+place_text (place.Reverse realm nth) = codes "reverse:" ++ decimal realm ++ nth_text nth
 
 -- ## Line of a packet
 -- The realm's index or `-`, the place that the packet leaves from, where it goes, and its octets in hexadecimal

@@ -1,5 +1,6 @@
 -- What a script states: its events in order, or the number of its first faulty line. Ours.
 use Rattle.std.specs.Prelude.{ℕ, ◌+◌, ◌-◌, ◌^◌, ◌==◌, ◌&&◌, ◌||◌, nat_lt, nat_le, if◌then◌else◌, List, [], ◌∷◌, length, slice_index, codes, Option, Some, None, option_map, Result, Ok, Err}
+use Rattle.std.specs.Option.{option_or}
 use Rattle.std.specs.Result.{result_ok}
 use Rattle.std.specs.Str.{bytes_eq}
 use Rattle.hex.specs.Hex.{decode_of}
@@ -47,23 +48,36 @@ times_of _ = None
 unfoldable pub times_in : List ℕ → Option (ℕ × Option ℕ)
 times_in text = times_of (parts 47 text)
 
--- a socket of a realm: which of the two, and the realm's index
-abbrev pub realm_place : List ℕ → List ℕ → Option Place
-realm_place socket realm =
-    if bytes_eq socket (codes "out") then option_map (λ r. place.Out r) (index_in realm)
-    else if bytes_eq socket (codes "reverse") then option_map (λ r. place.Reverse r) (index_in realm)
+-- which of several sockets of a kind it is, where it isn't the first
+abbrev pub nth_in : List ℕ → Option ℕ
+nth_in text = decimal_in 1 (2 ^ 16 - 1) text
+
+-- a socket for requests of peers: which of the two kinds, and which of these
+abbrev pub peer_place : List ℕ → Option ℕ → Option Place
+peer_place socket nth =
+    if bytes_eq socket (codes "auth") then option_map (λ k. place.Auth k) nth
+    else if bytes_eq socket (codes "acct") then option_map (λ k. place.Acct k) nth
     else None
 
-abbrev pub realm_place_of : List (List ℕ) → Option Place
-realm_place_of (socket ∷ realm ∷ []) = realm_place socket realm
-realm_place_of _ = None
+-- a socket of a realm: which of the two kinds, the realm's index, and which of these
+abbrev pub realm_place : List ℕ → Option ℕ → Option ℕ → Option Place
+realm_place socket (Some realm) (Some nth) =
+    if bytes_eq socket (codes "out") then Some (place.Out realm nth)
+    else if bytes_eq socket (codes "reverse") then Some (place.Reverse realm nth)
+    else None
+realm_place socket _ _ = None
 
--- one of the broker's sockets; a colon (58) stands before a realm's index
+-- a place by its parts: a kind alone, or with which of these; of a realm's the realm's index stands between
+abbrev pub place_of : List (List ℕ) → Option Place
+place_of (socket ∷ []) = peer_place socket (Some 0)
+place_of (socket ∷ number ∷ []) =
+    option_or (peer_place socket (nth_in number)) (realm_place socket (index_in number) (Some 0))
+place_of (socket ∷ realm ∷ number ∷ []) = realm_place socket (index_in realm) (nth_in number)
+place_of _ = None
+
+-- one of the broker's sockets; a colon (58) stands before a realm's index, and before which of several it is
 unfoldable pub place_in : List ℕ → Option Place
-place_in text =
-    if bytes_eq text (codes "auth") then Some place.Auth
-    else if bytes_eq text (codes "acct") then Some place.Acct
-    else realm_place_of (parts 58 text)
+place_in text = place_of (parts 58 text)
 
 -- the octets of a datagram: a hyphen for none, or else the hexadecimal digits of 1 to 65535 of them
 unfoldable pub datagram_in : List ℕ → Option (List ℕ)

@@ -17,6 +17,7 @@
 #![tactic(auto)]
 
 mod fault;
+mod places;
 mod printing;
 mod reading;
 mod script;

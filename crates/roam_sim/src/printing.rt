@@ -9,7 +9,7 @@ ghost use Rattle.hex.specs.Hex.{encode_lower};
 ghost use Rattle.roam_address.specs.Endpoints.{endpoint_text};
 ghost use Rattle.roam_sim.specs.Lines.{realm_text, place_text, packet_line};
 
-use roam_conf::{Endpoint, Place};
+use roam_conf::{Endpoint, NthText, Place};
 use std::io;
 use std::io::Write;
 
@@ -26,10 +26,10 @@ fn print_place<W: Write>(writer: &mut W, place: Place) -> io::Result<()>
     ensures { OnOk result (Appends (W.contents writer.old) (W.contents writer.new) (place_text place)) }
 {
     match place {
-        Place::Auth => writer.write_all(b"auth"),
-        Place::Acct => writer.write_all(b"acct"),
-        Place::Out(realm) => write!(writer, "out:{realm}"),
-        Place::Reverse(realm) => write!(writer, "reverse:{realm}"),
+        Place::Auth(nth) => write!(writer, "auth{}", NthText(nth)),
+        Place::Acct(nth) => write!(writer, "acct{}", NthText(nth)),
+        Place::Out(realm, nth) => write!(writer, "out:{realm}{}", NthText(nth)),
+        Place::Reverse(realm, nth) => write!(writer, "reverse:{realm}{}", NthText(nth)),
     }
 }
 

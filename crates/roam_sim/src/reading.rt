@@ -11,8 +11,9 @@ ghost use Rattle.roam_sim.specs.Script as spec;
 ghost use Rattle.roam_core.specs.Shown.{shown_event, shown_events};
 ghost use Rattle.roam_sim.specs.Shown.{shown_line};
 
+use crate::places::{index, place};
 use crate::script::{ScriptFault, ScriptLine};
-use roam_conf::{Endpoint, Place, decimal};
+use roam_conf::{Endpoint, decimal};
 use roam_core::Event;
 use roam_route::Datagram;
 use roam_wire::{NoMemory, Octets};
@@ -27,14 +28,6 @@ fn cut_at_space(text: &str) -> Option<(&str, &str)>
         (λ cut. parts 32 text.now ≡ cut.0.now ∷ parts 32 cut.1.now) }
 {
     text.split_once(' ')
-}
-
-/// What stands before the first colon, and after it.
-fn cut_at_colon(text: &str) -> Option<(&str, &str)>
-    ensures { MatchOption result (parts 58 text.now ≡ text.now ∷ [])
-        (λ cut. parts 58 text.now ≡ cut.0.now ∷ parts 58 cut.1.now) }
-{
-    text.split_once(':')
 }
 
 /// A moment in milliseconds.
@@ -67,44 +60,6 @@ fn times(text: &str) -> Option<(u64, Option<u64>)>
             _ => None,
         },
     }
-}
-
-/// The index of a shard or of a realm.
-fn index(text: &str) -> Option<u16>
-    ensures { result ≡ spec.index_in text.now }
-{
-    match decimal(text, 0, 65535) {
-        Some(number) => Some(number as u16),
-        None => None,
-    }
-}
-
-/// A socket of a realm, by its name and the realm's index.
-fn realm_place(socket: &str, realm: &str) -> Option<Place>
-    ensures { result ≡ spec.realm_place socket.now realm.now }
-{
-    if socket == "out" {
-        Some(Place::Out(index(realm)?))
-    } else if socket == "reverse" {
-        Some(Place::Reverse(index(realm)?))
-    } else {
-        None
-    }
-}
-
-/// One of the broker's sockets.
-#[tactic(auto, using(crate::proofs::FieldLemmas::last_fields), unfolding(crate::specs::Script::place_in))]
-fn place(text: &str) -> Option<Place>
-    ensures { result ≡ spec.place_in text.now }
-{
-    if text == "auth" {
-        return Some(Place::Auth);
-    }
-    if text == "acct" {
-        return Some(Place::Acct);
-    }
-    let (socket, realm) = cut_at_colon(text)?;
-    realm_place(socket, realm)
 }
 
 /// Whether octets are hexadecimal digits.

@@ -1,7 +1,7 @@
 -- Sockets come in behind others, and each place has one of its own.
 use Rattle.std.proofs.Common.{◌≡◌, inl, inr, ℕ, zero, suc, ◌+◌, ◌*◌, ◌<◌, List, [], ◌∷◌, ◌++◌, length}
 use Rattle.std.proofs.Common.{true, Option, Result, Ok, Err, OnOk}
-use Rattle.std.proofs.Common.{Contains, Some, None, option_and_then, slice_get, refl, ap, sym, subst, ◌∙◌, append_assoc, append-nil, arith}
+use Rattle.std.proofs.Common.{Contains, Some, option_and_then, slice_get, refl, ap, sym, subst, ◌∙◌, append_assoc, append-nil, arith}
 use Rattle.std.proofs.lemmas.Bool.{cases_lt}
 use Rattle.std.proofs.lemmas.List.{length-append}
 use Rattle.std.proofs.lemmas.List.Elements.{Contains-append_cases, Contains-append_left, Contains-append_right, Contains-push_cases}
@@ -11,11 +11,11 @@ use Rattle.roam_conf.specs.Duplicates.{same_endpoint}
 use Rattle.roam_conf.proofs.EqualPartsLemmas.{endpoint_decides}
 use Rattle.roam_conf.specs.declared.place.Place.{Place}
 use Rattle.roam_conf.specs.declared.place.Place.TheVariants as place
-use Rattle.roam_port.specs.Sockets.{own_out, own_reverse, socket_endpoint, socket_number}
-use Rattle.roam_sockets.specs.Bound.{AreBoundFor, AreBoundUpTo, Gains, GainsSome, HasOne, IsAt}
+use Rattle.roam_port.specs.Sockets.{own_out, own_reverse, place_nth, socket_endpoint, socket_number}
+use Rattle.roam_sockets.specs.Bound.{AreBoundFor, AreBoundUpTo, Gains, GainsNumber, GainsSome, HasOne, IsAt}
 use Rattle.roam_sockets.specs.declared.bind.BoundSocket.{BoundSocket}
 
-none_in : {X : Type 0} {P : Type 0} (x : X) → Contains [] x → P
+pub none_in : {X : Type 0} {P : Type 0} (x : X) → Contains [] x → P
 none_in x h = absurd (let lt = h.1 in omega (arith, lt))
 
 pub gains_none : (at : Place) (e : Endpoint) (xs : List BoundSocket) → Gains at e xs xs 0
@@ -114,24 +114,28 @@ gains_rest at e old mid new n m (Ok x) some first more =
     gains_then at e old mid new n m (positive n some) first more
 gains_rest at e old mid new n m (Err f) some first more = tt
 
--- a number is one place's
-pub same_place : (a b : Place) → socket_number a ≡ socket_number b → a ≡ b
-same_place place.Auth place.Auth is = refl
-same_place place.Auth place.Acct is = absurd (omega (arith, is))
-same_place place.Auth (place.Out r) is = absurd (omega (arith, is))
-same_place place.Auth (place.Reverse r) is = absurd (omega (arith, is))
-same_place place.Acct place.Auth is = absurd (omega (arith, is))
-same_place place.Acct place.Acct is = refl
-same_place place.Acct (place.Out r) is = absurd (omega (arith, is))
-same_place place.Acct (place.Reverse r) is = absurd (omega (arith, is))
-same_place (place.Out q) place.Auth is = absurd (omega (arith, is))
-same_place (place.Out q) place.Acct is = absurd (omega (arith, is))
-same_place (place.Out q) (place.Out r) is = ap place.Out (omega (arith, is))
-same_place (place.Out q) (place.Reverse r) is = absurd (omega (arith, is))
-same_place (place.Reverse q) place.Auth is = absurd (omega (arith, is))
-same_place (place.Reverse q) place.Acct is = absurd (omega (arith, is))
-same_place (place.Reverse q) (place.Out r) is = absurd (omega (arith, is))
-same_place (place.Reverse q) (place.Reverse r) is = ap place.Reverse (omega (arith, is))
+-- a number, and a place of those of the number, are one place's
+pub same_place : (a b : Place) → socket_number a ≡ socket_number b → place_nth a ≡ place_nth b → a ≡ b
+same_place (place.Auth m) (place.Auth n) is nth = ap place.Auth nth
+same_place (place.Auth m) (place.Acct n) is nth = absurd (omega (arith, is))
+same_place (place.Auth m) (place.Out r n) is nth = absurd (omega (arith, is))
+same_place (place.Auth m) (place.Reverse r n) is nth = absurd (omega (arith, is))
+same_place (place.Acct m) (place.Auth n) is nth = absurd (omega (arith, is))
+same_place (place.Acct m) (place.Acct n) is nth = ap place.Acct nth
+same_place (place.Acct m) (place.Out r n) is nth = absurd (omega (arith, is))
+same_place (place.Acct m) (place.Reverse r n) is nth = absurd (omega (arith, is))
+same_place (place.Out q m) (place.Auth n) is nth = absurd (omega (arith, is))
+same_place (place.Out q m) (place.Acct n) is nth = absurd (omega (arith, is))
+same_place (place.Out q m) (place.Out r n) is nth =
+    let realm : q ≡ r = omega (arith, is) in
+    ap (λ k. place.Out k m) realm ∙ ap (place.Out r) nth
+same_place (place.Out q m) (place.Reverse r n) is nth = absurd (omega (arith, is))
+same_place (place.Reverse q m) (place.Auth n) is nth = absurd (omega (arith, is))
+same_place (place.Reverse q m) (place.Acct n) is nth = absurd (omega (arith, is))
+same_place (place.Reverse q m) (place.Out r n) is nth = absurd (omega (arith, is))
+same_place (place.Reverse q m) (place.Reverse r n) is nth =
+    let realm : q ≡ r = omega (arith, is) in
+    ap (λ k. place.Reverse k m) realm ∙ ap (place.Reverse r) nth
 
 -- what is configured has one of so many numbers
 realm_within : {E : Type 0} (own_at : RealmView → Option E) (realms : List RealmView) (k : ℕ) (e : E) →
@@ -143,16 +147,18 @@ realm_within own_at (r ∷ rs) (suc k) e is = let lt = realm_within own_at rs k 
 
 pub numbered : (config : ConfigView) (at : Place) (e : Endpoint) → socket_endpoint config at ≡ Some e
     → socket_number at < 2 * length config.realms + 2
-numbered config place.Auth e is = omega arith
-numbered config place.Acct e is = omega arith
-numbered config (place.Out r) e is = let lt = realm_within own_out config.realms r e is in omega (arith, lt)
-numbered config (place.Reverse r) e is = let lt = realm_within own_reverse config.realms r e is in omega (arith, lt)
+numbered config (place.Auth nth) e is = omega arith
+numbered config (place.Acct nth) e is = omega arith
+numbered config (place.Out r nth) e is =
+    let lt = realm_within (own_out nth) config.realms r e is in omega (arith, lt)
+numbered config (place.Reverse r nth) e is =
+    let lt = realm_within (own_reverse nth) config.realms r e is in omega (arith, lt)
 
 first_in : (xs : List BoundSocket) → 0 < length xs → (b : BoundSocket) × Contains xs b
 first_in [] some = absurd (omega (arith, some))
 first_in (x ∷ xs) some = (x, (0, some, refl))
 
-has_more : (old new more : List BoundSocket) (at : Place) → new ≡ old ++ more → HasOne old at → HasOne new at
+pub has_more : (old new more : List BoundSocket) (at : Place) → new ≡ old ++ more → HasOne old at → HasOne new at
 has_more old new more at behind h = record {
   bound = h.bound;
   among = subst (λ (l : List BoundSocket). Contains l h.bound) (sym behind)
@@ -160,48 +166,38 @@ has_more old new more at behind h = record {
   place_is = h.place_is;
 }
 
-has_first : (old new : List BoundSocket) (at : Place) (e : Endpoint) → GainsSome at e old new → HasOne new at
-has_first old new at e s =
+pub has_behind : (old new more : List BoundSocket) (at : Place) → new ≡ old ++ more → HasOne more at → HasOne new at
+has_behind old new more at behind h = record {
+  bound = h.bound;
+  among = subst (λ (l : List BoundSocket). Contains l h.bound) (sym behind)
+      (Contains-append_right old more h.bound h.among);
+  place_is = h.place_is;
+}
+
+pub has_first : (at : Place) (e : Endpoint) (old new : List BoundSocket) (s : GainsSome at e old new) →
+    HasOne s.gains.more at
+has_first at e old new s =
     let g = s.gains in
     let many = g.as_many in
     let some = s.some in
     let first = first_in g.more (omega (arith, many, some)) in record {
       bound = first.0;
-      among = subst (λ (l : List BoundSocket). Contains l first.0) (sym g.behind)
-          (Contains-append_right old g.more first.0 first.1);
+      among = first.1;
       place_is = (g.each first.0 first.1).place_is;
     }
 
-pub bound_more : (config : ConfigView) (k : ℕ) (at : Place) (e : Endpoint) (old new : List BoundSocket) →
-    socket_number at ≡ k
-    → socket_endpoint config at ≡ Some e → GainsSome at e old new → AreBoundUpTo config k old →
-    AreBoundUpTo config (k + 1) new
-bound_more config k at e old new number of s before =
-    let g = s.gains in record {
-      each = λ b h. (elim (Contains-append_cases old g.more b
-          (subst (λ (l : List BoundSocket). Contains l b) g.behind h)) [
-            | inl was ↦ before.each b was
-            | inr comes ↦ (let is = g.each b comes in ap (socket_endpoint config) is.place_is
-                ∙ (of ∙ ap Some (sym is.endpoint_is)))
-          ]);
-      all = λ other its there lt. (elim (cases_lt (socket_number other) k) [
-        | inl less ↦ has_more old new g.more other g.behind (before.all other its there less)
-        | inr more ↦ (let same = same_place at other (omega (arith, number, lt, more)) in
-            subst (HasOne new) same (has_first old new at e s))
+-- those of the next number came in behind
+pub bound_more : (config : ConfigView) (k : ℕ) (old new : List BoundSocket) → GainsNumber config k old new
+    → AreBoundUpTo config k old → AreBoundUpTo config (k + 1) new
+bound_more config k old new g before = record {
+  each = λ b h. (elim (Contains-append_cases old g.more b
+      (subst (λ (l : List BoundSocket). Contains l b) g.behind h)) [
+        | inl was ↦ before.each b was
+        | inr comes ↦ g.each b comes
       ]);
-    }
-
--- a place that isn't there has none
-pub bound_passed : (config : ConfigView) (k : ℕ) (at : Place) (xs : List BoundSocket) → socket_number at ≡ k
-    → socket_endpoint config at ≡ None → AreBoundUpTo config k xs → AreBoundUpTo config (k + 1) xs
-bound_passed config k at xs number none before = record {
-  each = before.each;
   all = λ other its there lt. (elim (cases_lt (socket_number other) k) [
-    | inl less ↦ before.all other its there less
-    | inr more ↦ (
-        let same = same_place at other (omega (arith, number, lt, more)) in
-        let bad : None ≡ Some its = sym none ∙ (ap (socket_endpoint config) same ∙ there) in
-        absurd cc)
+    | inl less ↦ has_more old new g.more other g.behind (before.all other its there less)
+    | inr more ↦ has_behind old new g.more other g.behind (g.all other its there (omega (arith, lt, more)))
   ]);
 }
 

@@ -1,3 +1,5 @@
 mod PathLemmas
 pub mod BoundLemmas
 pub mod DealingLemmas
+pub mod NumberLemmas
+pub mod PlaceSocketLemmas

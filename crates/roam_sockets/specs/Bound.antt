@@ -4,8 +4,10 @@ use Rattle.std.specs.List.{filter}
 use Rattle.roam_address.specs.declared.endpoint.Endpoint.{Endpoint}
 use Rattle.roam_conf.specs.declared.place.Place.{Place}
 use Rattle.roam_conf.specs.Config.{ConfigView}
-use Rattle.roam_port.specs.Sockets.{socket_endpoint, socket_number}
+use Rattle.roam_port.specs.Sockets.{place_nth, socket_endpoint, socket_number}
 use Rattle.roam_sockets.specs.declared.bind.BoundSocket.{BoundSocket}
+use Rattle.roam_sockets.specs.PlaceSockets.{socket_at}
+use Rattle.roam_sockets.specs.declared.place_sockets.PlaceSockets.{PlaceSockets}
 use Rattle.roam_sockets.specs.declared.receiver.Receiver.{Receiver}
 use Rattle.roam_sockets.specs.declared.socket.Socket.{Socket}
 
@@ -33,9 +35,18 @@ pub record HasOne (sockets : List BoundSocket) (at : Place) : Type 0 where
   pub among : Contains sockets bound
   pub place_is : bound.place ≡ at
 
+-- further sockets came in behind, each of a place of this number, at the endpoint of its place; and each such place
+-- that is configured has one
+pub record GainsNumber (config : ConfigView) (number : ℕ) (old new : List BoundSocket) : Type 0 where
+  pub more : List BoundSocket
+  pub behind : new ≡ old ++ more
+  pub each : (b : BoundSocket) → Contains more b → socket_endpoint config b.place ≡ Some b.endpoint
+  pub all : (at : Place) (e : Endpoint) → socket_endpoint config at ≡ Some e → socket_number at ≡ number
+      → HasOne more at
+
 -- ## Sockets of a configuration
--- Each is at the endpoint of its own place, and each place that is configured has one at least: `auth`, `acct`, and
--- `out` and where it is there `reverse` of each realm. That a socket is where it says, the system alone knows.
+-- Each is at the endpoint of its own place, and each place that is configured has one at least: each `auth`, `acct`,
+-- and `out` and where it is there `reverse` of each realm. That a socket is where it says, the system alone knows.
 -- Source: ours
 -- Rules out: the packets of one realm at another's endpoint; a place that nobody hears
 -- Stands in: `roam_sockets` `Bound.antt`: `AreBoundFor`; `bind_all`, `bind_following`
@@ -68,15 +79,19 @@ heard_by worker sockets = filter (λ b. b.worker == worker) sockets
 abbrev pub IsOwn : ℕ → BoundSocket → Type 0
 IsOwn worker bound = (bound.is_spread ≡ false) ⊎ (bound.worker ≡ worker)
 
--- at a number there stands a socket of the place of that number, from which the worker sends
-pub record HasOwnAt (worker : ℕ) (sockets : List BoundSocket) (ports : List Socket) (number : ℕ) : Type 0 where
+-- at a number, and there at a place, there stands a socket of the place of that number, from which the worker sends
+pub record HasOwnAt (worker : ℕ) (sockets : List BoundSocket) (ports : List PlaceSockets)
+    (number nth : ℕ) : Type 0 where
   pub bound : BoundSocket
   pub among : Contains sockets bound
   pub own : IsOwn worker bound
   pub number_is : socket_number bound.place ≡ number
-  pub port : Socket
+  pub nth_is : place_nth bound.place ≡ nth
+  pub port : PlaceSockets
   pub port_is : slice_get ports number ≡ Some port
-  pub socket_is : port.socket.now ≡ bound.socket
+  pub socket : Socket
+  pub there : socket_at port nth ≡ Some socket
+  pub socket_is : socket.socket.now ≡ bound.socket
 
 -- ## Sockets of a thread
 -- A worker receives from exactly those that it hears, in their order, each at the place for which it was bound. It
@@ -86,7 +101,7 @@ pub record HasOwnAt (worker : ℕ) (sockets : List BoundSocket) (ports : List So
 -- Rules out: what came to one realm taken as another's; a packet that leaves from another place's socket
 -- Stands in: `roam_sockets` `Bound.antt`: `AreReceiversOf`, `heard_by`, `AreOwnPorts`; `receivers`, `ports`
 --
-abbrev pub AreOwnPorts : ℕ → List BoundSocket → List Socket → Type 0
+abbrev pub AreOwnPorts : ℕ → List BoundSocket → List PlaceSockets → Type 0
 AreOwnPorts worker sockets ports =
     (b : BoundSocket) → Contains sockets b → IsOwn worker b → socket_number b.place < length ports
-    → HasOwnAt worker sockets ports (socket_number b.place)
+    → HasOwnAt worker sockets ports (socket_number b.place) (place_nth b.place)

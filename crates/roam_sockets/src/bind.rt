@@ -1,20 +1,20 @@
 //! The broker's sockets are bound.
 
-ghost use Rattle.std.specs.Prelude.{◌-◌, ◌≤◌, Contains, IfErr, IfOk, OnOk};
+ghost use Rattle.std.specs.Prelude.{◌-◌, ◌<◌, ◌≤◌, Contains, IfErr, IfOk, OnOk};
 ghost use Rattle.roam_conf.specs.Shown.{shown};
 ghost use Rattle.roam_port.specs.Sockets.{socket_endpoints};
-ghost use Rattle.roam_sockets.specs.Bound.{AreBoundFor, Gains, GainsSome};
+ghost use Rattle.roam_sockets.specs.Bound.{AreBoundFor, Gains, GainsNumber, GainsSome};
 ghost use Rattle.roam_sockets.specs.Faults.{IsFaultOf};
 
+use crate::bind_faults::{fault_at, fault_of_copy};
 use crate::descriptors::descriptors_wanted;
-use crate::fault::{ServeFault, reason_of};
+use crate::fault::ServeFault;
 use crate::one_socket::{beside_which, bind_one, open_beside, share};
 use crate::opening::{bind_beside, is_free};
 use crate::workers::{is_spread_at, wanted_at, worker_of_nth};
 use roam_conf::{Config, Endpoint, Place, is_same_endpoint};
-use roam_port::{endpoint_of, place_of, socket_numbers};
+use roam_port::{MOST_OF_A_NUMBER, endpoint_of, place_of, socket_numbers};
 use std::alloc::Global;
-use std::io;
 use std::net::{Net, UdpSocket};
 
 /// A socket that is bound.
@@ -29,19 +29,6 @@ pub struct BoundSocket {
     /// Whether it was open before for another configuration.
     pub was_open: bool,
     pub socket: UdpSocket,
-}
-
-/// The fault of a socket that can't be bound to an endpoint, where the server wants so many descriptors.
-fn fault_at(config: &Config, endpoint: Endpoint, error: &io::Error, wanted: u32) -> ServeFault
-    requires { Contains (socket_endpoints (shown config.now)) endpoint }
-    ensures { IsFaultOf (shown config.now) result }
-{
-    let reason = reason_of(error);
-    if reason.is_want_of_descriptors() {
-        ServeFault::Descriptors(wanted)
-    } else {
-        ServeFault::Bind(endpoint, reason)
-    }
 }
 
 /// The sockets of a place: one, or one for each worker.
@@ -146,18 +133,6 @@ impl Sockets {
     }
 }
 
-/// The fault of a socket of which the system gives no second descriptor, where the server wants so many.
-fn fault_of_copy(config: &Config, error: &io::Error, wanted: u32) -> ServeFault
-    ensures { IsFaultOf (shown config.now) result }
-{
-    let reason = reason_of(error);
-    if reason.is_want_of_descriptors() {
-        ServeFault::Descriptors(wanted)
-    } else {
-        ServeFault::Wait(reason)
-    }
-}
-
 impl Sockets {
     /// Takes the sockets of an endpoint that are open, by a second descriptor each: what lies in their buffers stays
     /// there. Answers how many there are.
@@ -237,6 +212,27 @@ impl Sockets {
         share(open, endpoint, true);
         self.bind_rest(config, place, endpoint, there, wanted)
     }
+
+    /// Takes or binds the sockets of all places of a number.
+    fn take_or_bind_number<R: Net>(
+        &mut self,
+        rt: &R,
+        config: &Config,
+        number: usize,
+        open: &[BoundSocket],
+    ) -> Result<(), ServeFault>
+        requires { number < 131072 }
+        ensures ok { OnOk result (GainsNumber (shown config.now) number self.old.bound.items self.new.bound.items) }
+        ensures err { IfErr result (IsFaultOf (shown config.now)) }
+    {
+        for nth in 0..MOST_OF_A_NUMBER {
+            let place = place_of(number, nth);
+            if let Some(endpoint) = endpoint_of(config, place) {
+                self.take_or_bind(rt, config, place, endpoint, open)?;
+            }
+        }
+        Ok(())
+    }
 }
 
 /// The sockets of a configuration that follows another one, in order of their numbers, where the server wants so many
@@ -262,10 +258,7 @@ pub fn bind_following<R: Net>(
         wanted,
     };
     for number in 0..socket_numbers(config) {
-        let place = place_of(number);
-        if let Some(endpoint) = endpoint_of(config, place) {
-            sockets.take_or_bind(rt, config, place, endpoint, open)?;
-        }
+        sockets.take_or_bind_number(rt, config, number, open)?;
     }
     Ok(sockets.bound)
 }

@@ -6,9 +6,10 @@ ghost use Rattle.roam_sockets.specs.Faults.{IsAfterBinding};
 
 use crate::bind::BoundSocket;
 use crate::fault::ServeFault;
+use crate::place_sockets::PlaceSockets;
 use crate::receiver::Receiver;
 use crate::socket::Socket;
-use roam_port::socket_of;
+use roam_port::{nth_of, socket_of};
 use std::alloc::Global;
 
 /// The sockets that one worker receives from: all that it hears, each at the place for which it was bound.
@@ -45,20 +46,21 @@ fn ports_of<'s>(
     alloc: Global,
     socket: Socket<'s>,
     count: usize,
-) -> Result<Vec<Socket<'s>>, ServeFault>
+) -> Result<Vec<PlaceSockets<'s>>, ServeFault>
     ensures count { IfOk result (λ ports. vec_len ports ≡ count) }
     ensures err { IfErr result IsAfterBinding }
 {
     let mut ports = Vec::with_capacity(alloc, count)?;
     for _ in 0..count {
-        ports.push(socket)?;
+        ports.push(PlaceSockets::new(alloc, socket))?;
     }
     Ok(ports)
 }
 
-/// The sockets from which a worker sends, each at the number of its place, of so many numbers: of a place that has
-/// several, its own. The timer, whose number is above those of the workers, has those of the first one. The number of a
-/// `reverse` that isn't there is nobody's, so no packet leaves by what stands there.
+/// The sockets from which a worker sends, each at the number of its place, and there at its place of those of that
+/// number, of so many numbers: of a place that has several, its own. The timer, whose number is above those of the
+/// workers, has those of the first one. The number of a `reverse` that isn't there is nobody's, so no packet leaves by
+/// what stands there.
 ///
 /// # Errors
 ///
@@ -69,7 +71,7 @@ pub fn ports<'s>(
     numbers: usize,
     worker: usize,
     workers: usize,
-) -> Result<Vec<Socket<'s>>, ServeFault>
+) -> Result<Vec<PlaceSockets<'s>>, ServeFault>
     requires { 1 ≤ workers }
     ensures own { IfOk result (λ ports. AreOwnPorts (worker % workers) sockets.now ports.items) }
     ensures count { IfOk result (λ ports. 1 ≤ length sockets.now → vec_len ports ≡ numbers) }
@@ -83,7 +85,7 @@ pub fn ports<'s>(
     for bound in sockets {
         let number = socket_of(bound.place);
         if number < ports.len() && is_own(bound, own) {
-            ports[number] = Socket::new(&bound.socket);
+            ports[number].put(nth_of(bound.place), Socket::new(&bound.socket))?;
         }
     }
     Ok(ports)

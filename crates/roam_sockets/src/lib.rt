@@ -17,6 +17,7 @@
 #![tactic(auto)]
 
 mod bind;
+mod bind_faults;
 mod clock;
 mod control_socket;
 mod dealing;
@@ -26,6 +27,7 @@ mod listener;
 mod one_socket;
 mod opening;
 mod options;
+mod place_sockets;
 mod polls;
 mod receiver;
 mod seed;
@@ -41,6 +43,7 @@ pub use fault::{Reason, ServeFault, SocketPath, reason_of};
 pub use listener::listen_at;
 pub use one_socket::open_beside;
 pub use options::{RECEIVE_BUFFER, widen};
+pub use place_sockets::PlaceSockets;
 pub use polls::{Polls, make_polls, make_wakers};
 pub use receiver::{Receiver, WAIT_AFTER_FAULT};
 pub use seed::with_drawn_seed;

@@ -1,13 +1,13 @@
 //! One socket is bound: alone at its endpoint, or beside others.
 
-ghost use Rattle.std.specs.Prelude.{◌≡◌, IfSome, true};
+ghost use Rattle.std.specs.Prelude.{◌≡◌, ◌<◌, IfSome, true};
 ghost use Rattle.roam_sockets.specs.Beside.{is_every, overlap};
 
 use crate::bind::BoundSocket;
 use crate::opening::{bind, bind_beside};
 use crate::options::set_option;
 use roam_conf::{Address, Config, Endpoint, is_same_endpoint, is_same_kind};
-use roam_port::{endpoint_of, place_of, socket_numbers};
+use roam_port::{MOST_OF_A_NUMBER, endpoint_of, place_of, socket_numbers};
 use std::io;
 use std::net::{Net, UdpSocket};
 use std::os::fd::AsRawFd;
@@ -38,13 +38,25 @@ pub fn open_beside(open: &[BoundSocket], endpoint: Endpoint) -> Option<Endpoint>
     None
 }
 
-/// Whether a configuration has a socket at an endpoint.
-fn is_wanted(config: &Config, endpoint: Endpoint) -> bool {
-    for number in 0..socket_numbers(config) {
-        if let Some(own) = endpoint_of(config, place_of(number)) {
+/// Whether a configuration has a socket of a number at an endpoint.
+fn is_wanted_of(config: &Config, number: usize, endpoint: Endpoint) -> bool
+    requires { number < 131072 }
+{
+    for nth in 0..MOST_OF_A_NUMBER {
+        if let Some(own) = endpoint_of(config, place_of(number, nth)) {
             if is_same_endpoint(own, endpoint) {
                 return true;
             }
+        }
+    }
+    false
+}
+
+/// Whether a configuration has a socket at an endpoint.
+fn is_wanted(config: &Config, endpoint: Endpoint) -> bool {
+    for number in 0..socket_numbers(config) {
+        if is_wanted_of(config, number, endpoint) {
+            return true;
         }
     }
     false

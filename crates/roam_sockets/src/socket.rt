@@ -3,7 +3,7 @@
 ghost use Rattle.std.specs.Prelude.{◌≡◌, IfSome};
 ghost use Rattle.roam_sockets.specs.SocketErrors as spec;
 
-use roam_conf::Endpoint;
+use roam_conf::{Endpoint, Place};
 use roam_port::{Port, PortFault, SendFault};
 use std::io::ErrorKind;
 use std::net::{SocketAddr, UdpSocket};
@@ -53,8 +53,6 @@ fn send_fault_of(kind: ErrorKind) -> SendFault
 #[derive(Clone, Copy)]
 pub struct Socket<'s> {
     socket: &'s UdpSocket,
-    /// Whether the system is asked to tell when it has room for a packet.
-    is_watched: bool,
 }
 
 impl<'s> Socket<'s> {
@@ -62,29 +60,12 @@ impl<'s> Socket<'s> {
     pub fn new(socket: &'s UdpSocket) -> Socket<'s>
         ensures { result.socket.now ≡ socket.now }
     {
-        Socket {
-            socket,
-            is_watched: false,
-        }
+        Socket { socket }
     }
 
     /// The system's number for it.
     pub fn descriptor(&self) -> RawFd {
         self.socket.as_raw_fd()
-    }
-
-    /// Whether the system is asked to tell when it has room for a packet.
-    pub fn is_watched(&self) -> bool
-        ensures { result ≡ self.now.is_watched }
-    {
-        self.is_watched
-    }
-
-    /// The system is asked to tell when it has room for a packet, or is asked no more.
-    pub fn set_watched(&mut self, is_watched: bool)
-        ensures { self.new.is_watched ≡ is_watched }
-    {
-        self.is_watched = is_watched;
     }
 }
 
@@ -119,7 +100,7 @@ impl Port for Socket<'_> {
         Err(PortFault)
     }
 
-    fn send(&mut self, to: Endpoint, octets: &[u8]) -> Result<(), SendFault> {
+    fn send(&mut self, _from: Place, to: Endpoint, octets: &[u8]) -> Result<(), SendFault> {
         match self.socket.send_to(octets, to.socket_address()) {
             Ok(_) => Ok(()),
             Err(error) => Err(send_fault_of(error.kind())),

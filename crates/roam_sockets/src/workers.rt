@@ -6,8 +6,8 @@ use roam_port::worker_of;
 /// Whether each worker has a socket of its own at a place.
 pub(crate) fn is_spread_at(config: &Config, place: Place) -> bool {
     match place {
-        Place::Auth | Place::Acct => config.spread,
-        Place::Out(_) | Place::Reverse(_) => false,
+        Place::Auth(_) | Place::Acct(_) => config.spread,
+        Place::Out(_, _) | Place::Reverse(_, _) => false,
     }
 }
 

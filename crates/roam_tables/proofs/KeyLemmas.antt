@@ -51,22 +51,22 @@ round_equality = record {
 
 -- the derived tests of a place and of a key are those of the list's definitions
 place_tests : (a b : Place) → (places.ghosts).eq a b ≡ same_place a b
-place_tests place.Auth place.Auth = refl
-place_tests place.Auth place.Acct = refl
-place_tests place.Auth (place.Out b) = refl
-place_tests place.Auth (place.Reverse b) = refl
-place_tests place.Acct place.Auth = refl
-place_tests place.Acct place.Acct = refl
-place_tests place.Acct (place.Out b) = refl
-place_tests place.Acct (place.Reverse b) = refl
-place_tests (place.Out a) place.Auth = refl
-place_tests (place.Out a) place.Acct = refl
-place_tests (place.Out a) (place.Out b) = refl
-place_tests (place.Out a) (place.Reverse b) = refl
-place_tests (place.Reverse a) place.Auth = refl
-place_tests (place.Reverse a) place.Acct = refl
-place_tests (place.Reverse a) (place.Out b) = refl
-place_tests (place.Reverse a) (place.Reverse b) = refl
+place_tests (place.Auth nth) (place.Auth nth') = refl
+place_tests (place.Auth nth) (place.Acct nth') = refl
+place_tests (place.Auth nth) (place.Out b nth') = refl
+place_tests (place.Auth nth) (place.Reverse b nth') = refl
+place_tests (place.Acct nth) (place.Auth nth') = refl
+place_tests (place.Acct nth) (place.Acct nth') = refl
+place_tests (place.Acct nth) (place.Out b nth') = refl
+place_tests (place.Acct nth) (place.Reverse b nth') = refl
+place_tests (place.Out a nth) (place.Auth nth') = refl
+place_tests (place.Out a nth) (place.Acct nth') = refl
+place_tests (place.Out a nth) (place.Out b nth') = refl
+place_tests (place.Out a nth) (place.Reverse b nth') = refl
+place_tests (place.Reverse a nth) (place.Auth nth') = refl
+place_tests (place.Reverse a nth) (place.Acct nth') = refl
+place_tests (place.Reverse a nth) (place.Out b nth') = refl
+place_tests (place.Reverse a nth) (place.Reverse b nth') = refl
 
 regroup : (a b c : Bool) → (a && (b && c)) ≡ ((a && b) && c)
 regroup true b c = refl

@@ -57,9 +57,12 @@ pub fn is_taken_over(config: &Config, out: &Out<Global>, past: Option<&Past>) ->
     };
     match past.stands {
         Stood::Waiting { link, id, .. } => {
-            out.from == Place::Out(past.realm)
+            let Place::Out(realm, nth) = out.from else {
+                return false;
+            };
+            realm == past.realm
                 && out.bytes.as_slice().get(1) == Some(&id)
-                && config.link_of(past.realm, out.to) == Some(link)
+                && config.link_of(realm, nth, out.to) == Some(link)
         }
         Stood::Held | Stood::Gone => false,
     }

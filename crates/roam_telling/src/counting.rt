@@ -100,8 +100,8 @@ impl Counting<'_> {
     pub fn refused(&self, refusal: Refusal, place: Place, from: Endpoint) {
         if let Some(counts) = &self.counts {
             let realm = match place {
-                Place::Out(realm) | Place::Reverse(realm) => Some(Subject::Realm(realm)),
-                Place::Auth | Place::Acct => None,
+                Place::Out(realm, _) | Place::Reverse(realm, _) => Some(Subject::Realm(realm)),
+                Place::Auth(_) | Place::Acct(_) => None,
             };
             let sender = end_at(self.config, place, from);
             counts.event_of(
@@ -194,7 +194,7 @@ impl Counting<'_> {
         let Some(realm) = self.config.realms.get(usize::from(past.realm)) else {
             return;
         };
-        if let Link::Auth(_) | Link::Acct(_) = link {
+        if let Link::Auth(_, _) | Link::Acct(_, _) = link {
             let sent = deadline.saturating_sub(u64::from(realm.wait));
             let time = now.saturating_sub(sent);
             let server = subject_of(past.realm, link);

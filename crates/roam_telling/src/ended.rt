@@ -46,8 +46,8 @@ fn has_waited(past: Past) -> bool {
 /// What ends by a request for which a packet leaves from this place.
 fn end_by_request(past: Option<Past>, from: Place) -> End {
     match (from, past) {
-        (Place::Out(_), Some(past)) if has_waited(past) => End::Replaced(past),
-        (Place::Out(_), _) => End::Nothing,
+        (Place::Out(_, _), Some(past)) if has_waited(past) => End::Replaced(past),
+        (Place::Out(_, _), _) => End::Nothing,
         (_, Some(past)) if past.is_same => End::AnsweredAgain,
         _ => End::Nak,
     }
@@ -108,7 +108,7 @@ pub fn exchange_of(
     exchange.details.charged = charged_by(reply);
     match (past.requester, link) {
         (Requester::Peer(peer), _) => exchange.peer = Some(peer),
-        (Requester::Home(_), Link::Coa(peer)) => {
+        (Requester::Home(_), Link::Coa(peer, _)) => {
             exchange.peer = Some(peer);
             exchange.server = Some(past.key.from);
         }

@@ -81,9 +81,9 @@ fn link_text(config: &Config, realm: u16, link: Link) -> LinkText<'_> {
 /// The endpoint of a home server's link; none where the link is a peer's.
 pub fn server_endpoint(realm: &Realm, link: Link) -> Option<Endpoint> {
     match link {
-        Link::Auth(server) => Some(realm.servers.get(usize::from(server))?.auth),
-        Link::Acct(server) => realm.servers.get(usize::from(server))?.acct,
-        Link::Coa(_) => None,
+        Link::Auth(server, _) => Some(realm.servers.get(usize::from(server))?.auth),
+        Link::Acct(server, _) => realm.servers.get(usize::from(server))?.acct,
+        Link::Coa(_, _) => None,
     }
 }
 

@@ -9,7 +9,7 @@ use mio::unix::SourceFd;
 use mio::{Events, Interest, Poll, Token};
 use roam_port::{Outbox, Sent, Standing};
 use roam_route::Out;
-use roam_sockets::{Polls, Socket};
+use roam_sockets::{PlaceSockets, Polls};
 use roam_telling::Counting;
 use roam_wire::NoMemory;
 use std::alloc::Global;
@@ -31,8 +31,8 @@ pub struct RoomEvents {
 #[derive(Drop)]
 pub struct Outgoing<'s> {
     pub(crate) outbox: Outbox<Global>,
-    /// In the order of their numbers, one of each place.
-    ports: Vec<Socket<'s>>,
+    /// In the order of their numbers.
+    ports: Vec<PlaceSockets<'s>>,
     losses: &'s SharedLosses,
     counting: Counting<'s>,
     room: RoomEvents,
@@ -68,7 +68,7 @@ impl<'s> Outgoing<'s> {
     pub fn new(
         alloc: Global,
         before: Outbox<Global>,
-        ports: Vec<Socket<'s>>,
+        ports: Vec<PlaceSockets<'s>>,
         losses: &'s SharedLosses,
         counting: Counting<'s>,
         room: RoomEvents,

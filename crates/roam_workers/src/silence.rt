@@ -11,14 +11,15 @@ use std::sync::Wait;
 /// From one look to the next, in milliseconds.
 const BETWEEN_LOOKS: u64 = 1000;
 
-/// The link of a place, of so many servers: their `auth`, and then their `acct`.
+/// The first link to the end of a place, of so many servers: their `auth`, and then their `acct`. All links to it rest
+/// together.
 fn link_at(servers: usize, place: usize) -> Option<Link> {
     if place < servers {
-        return Some(Link::Auth(u8::try_from(place).ok()?));
+        return Some(Link::Auth(u8::try_from(place).ok()?, 0));
     }
     let behind = place - servers;
     if behind < servers {
-        return Some(Link::Acct(u8::try_from(behind).ok()?));
+        return Some(Link::Acct(u8::try_from(behind).ok()?, 0));
     }
     None
 }

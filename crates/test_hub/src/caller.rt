@@ -86,7 +86,7 @@ impl<'h, 'c, A: Allocator + Copy, N: Opened> Caller<'h, 'c, A, N> {
     ) -> Caller<'h, 'c, A, N>
         requires { shown config.now ≡ N.opening.config }
     {
-        let datagram = datagram(rt, alloc, Place::Auth, nas(), octets);
+        let datagram = datagram(rt, alloc, Place::Auth(0), nas(), octets);
         let Ok(Prepared::Job(job)) = prepare(alloc, config, &datagram) else {
             panic!(rt; "no job");
         };

@@ -106,13 +106,13 @@ const CHANGED: [&str; 5] = [
 pub(crate) fn before() -> [Exchange; 2] {
     [
         Exchange {
-            at: Place::Acct,
+            at: Place::Acct(0),
             from: nas(),
             octets: START,
             sent: FORWARDED,
         },
         Exchange {
-            at: Place::Auth,
+            at: Place::Auth(0),
             from: nas(),
             octets: OTHER_REQUEST_7,
             sent: OTHER_FIRST,
@@ -124,19 +124,19 @@ pub(crate) fn before() -> [Exchange; 2] {
 pub(crate) fn what_goes_on() -> [Exchange; 3] {
     [
         Exchange {
-            at: Place::Out(0),
+            at: Place::Out(0, 0),
             from: home_server(),
             octets: STARTED,
             sent: RETURNED,
         },
         Exchange {
-            at: Place::Acct,
+            at: Place::Acct(0),
             from: nas(),
             octets: START,
             sent: RETURNED,
         },
         Exchange {
-            at: Place::Reverse(0),
+            at: Place::Reverse(0, 0),
             from: server_in_reverse(),
             octets: DISCONNECT,
             sent: DISCONNECTED,

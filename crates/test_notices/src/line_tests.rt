@@ -45,14 +45,14 @@ fn lines(rt: HostRuntime) {
     expect(
         &rt,
         Refusal::BadReply,
-        Some(Origin::Datagram(Place::Out(3), source())),
+        Some(Origin::Datagram(Place::Out(3, 0), source())),
         1,
         "refused 16 BadReply at out:3 (b.example) from 198.51.100.1:1812 (peer north): other secret?",
     );
     expect(
         &rt,
         Refusal::BadReplyMessageAuthenticator,
-        Some(Origin::Unsealed(Place::Out(3), source())),
+        Some(Origin::Unsealed(Place::Out(3, 0), source())),
         2,
         "refused 17 BadReplyMessageAuthenticator at out:3 (b.example) from 198.51.100.1:1812 (peer north) \
             (2 times): no Message-Authenticator",
@@ -60,21 +60,21 @@ fn lines(rt: HostRuntime) {
     expect(
         &rt,
         Refusal::UnknownSource,
-        Some(Origin::Datagram(Place::Auth, source())),
+        Some(Origin::Datagram(Place::Auth(0), source())),
         1234,
         "refused 4 UnknownSource at auth from 198.51.100.1:1812 (peer north) (1234 times)",
     );
     expect(
         &rt,
         Refusal::WrongCode,
-        Some(Origin::Datagram(Place::Reverse(0), source())),
+        Some(Origin::Datagram(Place::Reverse(0, 0), source())),
         2,
         "refused 5 WrongCode at reverse:0 (b.example) from 198.51.100.1:1812 (peer north) (2 times)",
     );
     expect(
         &rt,
         Refusal::NoMemory,
-        Some(Origin::Place(Place::Acct)),
+        Some(Origin::Place(Place::Acct(0))),
         1,
         "refused 21 NoMemory at acct",
     );

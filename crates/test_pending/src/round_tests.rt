@@ -37,7 +37,7 @@ fn challenge<A: Allocator>(alloc: A, number: u16) -> Result<Octets<A>, NoMemory>
 /// The key of a request: its port is the ticket's.
 fn key(ticket: u16) -> Key {
     Key {
-        place: Place::Auth,
+        place: Place::Auth(0),
         from: Endpoint {
             ip: Address::from_ipv4_octets([192, 0, 2, 1]),
             port: ticket,
@@ -59,7 +59,7 @@ fn waiting<A: Allocator + Copy>(alloc: A, ticket: u16, peer: u16) -> Entry<A>
         },
         ticket: u64::from(ticket),
         standing: Standing::Waiting(Waiting {
-            link: Link::Auth(0),
+            link: Link::Auth(0, 0),
             id: 7,
             forwarded: Octets::from_vec(Vec::new(alloc)),
             sends_left: 2,
@@ -97,7 +97,7 @@ fn hold<A: Allocator + Copy>(
     let mut standing = Standing::Done(Done {
         reply: challenge(alloc, number)?,
         deadline: 600,
-        from: Some(Link::Auth(1)),
+        from: Some(Link::Auth(1, 0)),
     });
     tables.hold(REALM, u64::from(ticket), &mut standing)
 }

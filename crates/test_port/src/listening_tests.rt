@@ -43,7 +43,7 @@ fn word<A: Allocator>(heard: &Heard<A>) -> &'static str {
         Heard::GiveUp => "given up",
         Heard::NoMemory => "no memory",
         Heard::Datagram(d)
-            if d.at == Place::Acct
+            if d.at == Place::Acct(0)
                 && d.from == access_server()
                 && d.octets.as_slice() == REQUEST.as_slice() => { "the request" }
         Heard::Datagram(_) => "another datagram",
@@ -62,7 +62,7 @@ fn heard_after_silence<A: Allocator + Copy>(
         if *faults > FAULTS_TO_GIVE_UP {
             break;
         }
-        let heard = word(&listen(alloc, port, Place::Acct, &mut buffer, faults));
+        let heard = word(&listen(alloc, port, Place::Acct(0), &mut buffer, faults));
         if heard != "nothing" {
             return (n, heard, *faults);
         }

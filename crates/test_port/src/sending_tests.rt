@@ -52,7 +52,7 @@ fn send_three(
 ) -> Result<([(u64, bool); 3], usize, Losses), NoMemory> {
     let mut outbox = Outbox::new(alloc, ports.len())?;
     for octet in 1..4 {
-        outbox.put(packet(alloc, Place::Auth, octet)?);
+        outbox.put(packet(alloc, Place::Auth(0), octet)?);
     }
     let mut sent = [(0, false); 3];
     for (round, sent) in sent.iter_mut().enumerate() {
@@ -152,12 +152,12 @@ fn flood(alloc: Global, count: u16) -> Result<AfterFlood, NoMemory> {
     let mut ports = with_a_blocked_socket(alloc);
     let mut outbox = Outbox::new(alloc, PORTS)?;
     for n in 0..count {
-        let out = packet(alloc, Place::Out(0), (n % 256) as u8)?;
+        let out = packet(alloc, Place::Out(0, 0), (n % 256) as u8)?;
         if outbox.port_count() <= ports.len() {
             outbox.put_sending(&mut ports, out);
         }
     }
-    outbox.put(packet(alloc, Place::Auth, 7)?);
+    outbox.put(packet(alloc, Place::Auth(0), 7)?);
     if outbox.port_count() <= ports.len() {
         outbox.send_all(&mut ports);
     }
@@ -230,11 +230,11 @@ fn send_by_place(alloc: Global, places: &[Place]) -> Result<([u8; PORTS], u64), 
 
 pub(crate) fn packet_leaves_from_its_place<R: Abort + AllocGlobal>(rt: &R) -> Result<(), Fail> {
     let places = [
-        Place::Reverse(0),
-        Place::Out(0),
-        Place::Acct,
-        Place::Auth,
-        Place::Out(1),
+        Place::Reverse(0, 0),
+        Place::Out(0, 0),
+        Place::Acct(0),
+        Place::Auth(0),
+        Place::Out(1, 0),
     ];
     let sent = send_by_place(rt.alloc(), &places)?;
     assert!(rt; sent == ([4, 3, 2, 1], 1));

@@ -2,7 +2,7 @@
 
 ghost use Rattle.std.specs.Prelude.{◌≤◌, length};
 
-use roam_conf::Endpoint;
+use roam_conf::{Endpoint, Place};
 use roam_port::{Port, PortFault, SendFault};
 use std::alloc::Global;
 
@@ -57,7 +57,7 @@ impl Port for Tape<'_> {
         }
     }
 
-    fn send(&mut self, _to: Endpoint, octets: &[u8]) -> Result<(), SendFault> {
+    fn send(&mut self, _from: Place, _to: Endpoint, octets: &[u8]) -> Result<(), SendFault> {
         let number = self.sends;
         self.sends = self.sends.saturating_add(1);
         for (failing, fault) in self.failing {

@@ -1,11 +1,10 @@
 -- How a new request is admitted, in steps: words of private functions alone (ours).
-use Rattle.std.specs.Prelude.{◌≡◌, ℕ, ◌<◌, ◌^◌, Bool, List, [], ◌∷◌, Option, Some, None, Result, Ok, Err, option_map, unwrap_or, is_some, true, if◌then◌else◌}
+use Rattle.std.specs.Prelude.{◌≡◌, ℕ, ◌<◌, ◌^◌, Bool, List, [], Option, Some, None, Result, Ok, Err, length, option_map, unwrap_or, is_some, true, if◌then◌else◌}
 use Rattle.roam_wire.specs.declared.refusal.Refusal.{Refusal}
 use Rattle.roam_conf.specs.declared.place.Link.{Link}
-use Rattle.roam_conf.specs.declared.place.Link.TheVariants as link
 use Rattle.roam_pending.specs.PlainEntry.{PlainEntry, PlainRequest}
 use Rattle.roam_pending.specs.EntryList.{besides, find_client, first_done}
-use Rattle.roam_book.specs.RealmConfig.{RealmConfig, IsLink, links_from}
+use Rattle.roam_book.specs.RealmConfig.{RealmConfig, IsLink, links_from, peer_ways}
 use Rattle.std.specs.List.{find}
 use Rattle.std.specs.Option.{option_and_then, option_or}
 use Rattle.roam_ids.specs.LaneState.{LaneState}
@@ -16,6 +15,7 @@ use Rattle.roam_book.specs.Turn.{Turn, Answers, refuses}
 use Rattle.roam_book.specs.OnRequest.{admit, targets}
 use Rattle.roam_book.specs.Sound.{CountsAsGone, IsRequest, chosen_link, gone_ticket, is_sought}
 use Rattle.roam_book.specs.Private.Memory.{HasBuffers, IsOuts}
+use Rattle.roam_book.specs.declared.state.link_rests.Wanted.TheVariants as wanted
 use Rattle.roam_book.specs.declared.state.rest.Rest.{Rest}
 use Rattle.roam_book.specs.declared.rules.admit.Supplies.{Supplies}
 use Rattle.roam_book.specs.declared.rules.replaced.Replaced.{Replaced}
@@ -86,20 +86,26 @@ admits c now s q way =
 -- the links of targets, in the order of their use
 abbrev pub links_of : RealmConfig → Targets → List Link
 links_of c (kind.HomeServers service) = links_from c service 0
-links_of c (kind.AccessServer peer) = link.Coa peer ∷ []
+links_of c (kind.AccessServer peer) = peer_ways c peer
+
+-- the one of some links that is this one, where it is open; else the first that is open to the same end
+abbrev pub way_of_end : RealmConfig → List Rest → List LaneState → Option Link → Link → List Link → Option Link
+way_of_end c rests lanes freed bound links =
+    option_or (find (is_sought c rests lanes (wanted.This bound) freed) links)
+    (find (is_sought c rests lanes (wanted.SameEnd bound) freed) links)
 
 -- the one of some links that goes on with a request's conversation, where it is open
 abbrev pub bound_way :
     RealmConfig → List Rest → List LaneState → Option Link → PlainRequest → List PlainEntry → List Link
     → Option Link
 bound_way c rests lanes freed q entries links =
-    option_and_then (λ bound. find (is_sought c rests lanes (Some bound) freed) links) (bound_link c q entries)
+    option_and_then (λ bound. way_of_end c rests lanes freed bound links) (bound_link c q entries)
 
 -- the first of some links that is open and has no moment until which it rests, where a request has a conversation
 abbrev pub untried_way :
     RealmConfig → List Rest → List LaneState → Option Link → PlainRequest → List Link → Option Link
 untried_way c rests lanes freed q links =
-    if is_some (asked_state c q) then find (is_sought c rests lanes None freed) links else None
+    if is_some (asked_state c q) then find (is_sought c rests lanes wanted.Untried freed) links else None
 
 -- the link of the target of a new request among some links
 abbrev pub way_link :
@@ -112,7 +118,7 @@ way_link c now rests lanes freed q entries links =
 -- the access server among targets is a configured peer
 abbrev pub AreConfigured : RealmConfig → Targets → Type 0
 AreConfigured c (kind.HomeServers service) = Unit {0}
-AreConfigured c (kind.AccessServer peer) = IsLink c (link.Coa peer)
+AreConfigured c (kind.AccessServer peer) = peer < length c.peers
 
 -- a request is new that has these targets, while an entry counts as gone: no entry has its key then
 pub record IsNew (c : RealmConfig) (entries : List PlainEntry) (gone : Option Replaced) (found : Targets)

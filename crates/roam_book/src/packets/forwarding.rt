@@ -69,7 +69,7 @@ pub(crate) fn packet_to_link<A: Allocator>(
 {
     Out {
         realm: Some(settings.index()),
-        from: Place::Out(settings.index()),
+        from: Place::Out(settings.index(), u16::from(settings.out_of(link))),
         to: settings.endpoint_of(link),
         bytes,
     }

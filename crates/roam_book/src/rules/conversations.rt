@@ -7,6 +7,7 @@ ghost use Rattle.std.specs.Prelude.{◌≡◌, [], IfSome, is_some, option_map};
 ghost use Rattle.std.specs.List.{find};
 ghost use Rattle.roam_book.specs.Conversing.{asked_state, bound_link, round_link, state_in};
 ghost use Rattle.roam_book.specs.Private.NewEntry.{AreConfigured, bound_way, links_of, untried_way, way_link};
+ghost use Rattle.roam_book.specs.Private.NewEntry.{way_of_end};
 ghost use Rattle.roam_book.specs.RealmConfig.{IsLink};
 ghost use Rattle.roam_book.specs.RealmTurn.{IsRealm, entries};
 ghost use Rattle.roam_book.specs.Sound.{IsRequest, is_sought, shown_request};
@@ -14,6 +15,7 @@ ghost use Rattle.roam_book.specs.Sound.{IsRequest, is_sought, shown_request};
 use crate::packets::forwarding::RequestRef;
 use crate::rules::admit_plan::LinkChoice;
 use crate::rules::targets::Targets;
+use crate::state::link_rests::Wanted;
 use crate::state::realm_broker::RealmBroker;
 use crate::state::realm_settings::RealmSettings;
 use roam_conf::Link;
@@ -74,38 +76,43 @@ impl<A: Allocator + Copy, E: Entries<A>> RealmBroker<'_, '_, '_, '_, A, E> {
         }
     }
 
-    /// The first of some targets that has a free Identifier, or is `freed`, and is the one that alone is wanted; where
-    /// none is, that has no moment until which it rests.
-    fn first_sought(
-        &self,
-        targets: Targets,
-        only: Option<Link>,
-        freed: Option<Link>,
-    ) -> Option<Link>
+    /// The first of the links to some targets that has a free Identifier, or is `freed`, and is wanted.
+    fn first_sought(&self, targets: Targets, wanted: Wanted, freed: Option<Link>) -> Option<Link>
         requires realm { IsRealm E.Entries self.now }
         requires targets { AreConfigured self.now.settings.now targets }
         ensures first { result ≡ find (is_sought self.now.settings.now self.now.numbers.now.rests.items
-            self.now.numbers.now.lanes.items only freed) (links_of self.now.settings.now targets) }
+            self.now.numbers.now.lanes.items wanted freed) (links_of self.now.settings.now targets) }
         ensures link { IfSome result (λ l. IsLink self.now.settings.now l) }
     {
         match targets {
             Targets::HomeServers(service) => {
                 self.numbers
-                    .first_sought(self.settings, service, only, freed)
+                    .first_sought(self.settings, service, wanted, freed)
             }
             Targets::AccessServer(peer) => {
-                let link = Link::Coa(peer);
-                if self.numbers.is_sought(self.settings, only, freed, link) {
-                    Some(link)
-                } else {
-                    None
-                }
+                self.numbers
+                    .sought_to_peer(self.settings, peer, wanted, freed)
             }
         }
     }
 
-    /// The one of a request's targets that goes on with its conversation, where it has a free Identifier, or is
-    /// `freed`, whether it stands back or not.
+    /// The one of the links to some targets that is this one, where it has a free Identifier, or is `freed`; else the
+    /// first of those to the same end that does, or is.
+    fn way_of_end(&self, targets: Targets, bound: Link, freed: Option<Link>) -> Option<Link>
+        requires realm { IsRealm E.Entries self.now }
+        requires targets { AreConfigured self.now.settings.now targets }
+        ensures way { result ≡ way_of_end self.now.settings.now self.now.numbers.now.rests.items
+            self.now.numbers.now.lanes.items freed bound (links_of self.now.settings.now targets) }
+        ensures link { IfSome result (λ l. IsLink self.now.settings.now l) }
+    {
+        match self.first_sought(targets, Wanted::This(bound), freed) {
+            None => self.first_sought(targets, Wanted::SameEnd(bound), freed),
+            this => this,
+        }
+    }
+
+    /// The one of a request's links that goes on with its conversation, or else one to the same end, where it has a
+    /// free Identifier, or is `freed`, whether it stands back or not.
     fn bound_way(
         &self,
         asked: RequestRef<'_>,
@@ -122,7 +129,7 @@ impl<A: Allocator + Copy, E: Entries<A>> RealmBroker<'_, '_, '_, '_, A, E> {
     {
         match self.bound_link(asked) {
             None => None,
-            Some(link) => self.first_sought(targets, Some(link), freed),
+            Some(link) => self.way_of_end(targets, link, freed),
         }
     }
 
@@ -144,7 +151,7 @@ impl<A: Allocator + Copy, E: Entries<A>> RealmBroker<'_, '_, '_, '_, A, E> {
     {
         match asked_state(self.settings, asked) {
             None => None,
-            Some(_) => self.first_sought(targets, None, freed),
+            Some(_) => self.first_sought(targets, Wanted::Untried, freed),
         }
     }
 

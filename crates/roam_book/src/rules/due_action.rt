@@ -82,21 +82,21 @@ fn later_target<A: Allocator + Copy>(
         ≡ true) }
 {
     match link {
-        Link::Auth(server) => {
+        Link::Auth(server, _) => {
             let servers = ServersFrom {
                 service: Service::Authentication,
                 first: usize::from(server) + 1,
             };
             numbers.chosen(settings, now, servers, None)
         }
-        Link::Acct(server) => {
+        Link::Acct(server, _) => {
             let servers = ServersFrom {
                 service: Service::Accounting,
                 first: usize::from(server) + 1,
             };
             numbers.chosen(settings, now, servers, None)
         }
-        Link::Coa(_) => None,
+        Link::Coa(_, _) => None,
     }
 }
 

@@ -113,9 +113,7 @@ impl<A: Allocator + Copy, E: Entries<A>> RealmBroker<'_, '_, '_, '_, A, E> {
                 let servers = ServersFrom { service, first: 0 };
                 self.numbers.chosen(self.settings, now, servers, freed)
             }
-            Targets::AccessServer(peer) => {
-                self.numbers.if_open(self.settings, Link::Coa(peer), freed)
-            }
+            Targets::AccessServer(peer) => { self.numbers.open_to_peer(self.settings, peer, freed) }
         }
     }
 

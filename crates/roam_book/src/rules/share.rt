@@ -1,8 +1,8 @@
 //! The shares of a name and of a peer: how many requests for one name may wait for a service, and how many of one peer at
 //! all.
 //!
-//! What waits for a service is looked up by the Identifiers in use toward its servers, 256 for each, so that a look
-//! costs no more because replies are held or other requests are pending.
+//! What waits for a service is looked up by the Identifiers in use toward its servers, 256 for each by each `out`, so
+//! that a look costs no more because replies are held or other requests are pending.
 
 ghost use Rattle.std.specs.Prelude.{◌≡◌, ◌≤◌, length, option_map, if◌then◌else◌};
 ghost use Rattle.roam_pending.specs.Shown.{shown};
@@ -120,17 +120,38 @@ impl<A: Allocator + Copy, E: Entries<A>> RealmBroker<'_, '_, '_, '_, A, E> {
         count
     }
 
+    /// How many requests of this share wait at a server for a service, by all `out`.
+    fn sharers_to(
+        &self,
+        service: Service,
+        server: u8,
+        sharer: Sharer<'_>,
+        gone: Option<u64>,
+    ) -> usize
+        requires realm { IsRealm E.Entries self.now }
+        ensures count { result ≡ sum_below (length self.now.settings.now.realm.out) (λ out.
+            held_below 256 (is_sharer sharer.entry) gone
+            (server_link service server out) (entries E.Entries self.now)) }
+        ensures few { result ≤ 4096 }
+    {
+        let mut count = 0;
+        for out in 0..self.settings.out_count() {
+            count += self.sharers_at(service.link(server, out as u8), sharer, gone);
+        }
+        count
+    }
+
     /// How many requests of this share wait for a service.
     fn sharers_for(&self, service: Service, sharer: Sharer<'_>, gone: Option<u64>) -> usize
         requires realm { IsRealm E.Entries self.now }
         ensures count { result ≡ sum_below (length self.now.settings.now.realm.servers) (λ server.
-            held_below 256 (is_sharer sharer.entry) gone
-            (server_link service server) (entries E.Entries self.now)) }
-        ensures few { result ≤ 2048 }
+            sum_below (length self.now.settings.now.realm.out) (λ out. held_below 256 (is_sharer sharer.entry) gone
+            (server_link service server out) (entries E.Entries self.now))) }
+        ensures few { result ≤ 32768 }
     {
         let mut count = 0;
         for server in 0..self.settings.server_count() {
-            count += self.sharers_at(service.link(server as u8), sharer, gone);
+            count += self.sharers_to(service, server as u8, sharer, gone);
         }
         count
     }

@@ -14,7 +14,7 @@ use roam_ids::LazyLane;
 use roam_pending::{Entries, Entry};
 use std::alloc::Allocator;
 
-/// How many links to home servers a realm has at most: two to each of eight.
+/// How many ends at home servers a realm has at most: two at each of eight.
 pub const SERVER_LINKS: usize = 16;
 
 /// How a realm stands, in numbers.
@@ -26,10 +26,10 @@ pub struct Gauges {
     pub in_use: usize,
     /// How many sessions are open in its ledger.
     pub sessions: usize,
-    /// How many Identifiers are in use toward each of its servers' links: in the order of the servers their `auth`,
-    /// and then their `acct`. What is behind these is 0.
+    /// How many Identifiers are in use toward each of its servers' ends, by all `out`: in the order of the servers
+    /// their `auth`, and then their `acct`. What is behind these is 0.
     pub in_use_at: [u16; SERVER_LINKS],
-    /// How each of these links rests.
+    /// How the links to each of these ends rest.
     pub rests: [Rest; SERVER_LINKS],
 }
 
@@ -87,8 +87,8 @@ impl<A: Allocator + Copy> RealmNumbers<A> {
         }
     }
 
-    /// How a realm stands that has so many entries. Takes no memory.
-    pub fn gauges(&self, entries: usize) -> Gauges
+    /// How a realm stands that has so many entries, and so many `out`. Takes no memory.
+    pub fn gauges(&self, entries: usize, outs: usize) -> Gauges
         ensures entries { result.entries ≡ entries }
         ensures sessions { result.sessions ≡ length self.now.sessions.sessions }
     {
@@ -103,9 +103,10 @@ impl<A: Allocator + Copy> RealmNumbers<A> {
         for (place, lane) in self.lanes.iter().enumerate() {
             let count = in_use(lane);
             gauges.in_use = gauges.in_use.saturating_add(usize::from(count));
-            if place < servers {
-                gauges.in_use_at[place] = count;
-                gauges.rests[place] = self.rest_at(place);
+            let end = place / outs.max(1);
+            if end < servers {
+                gauges.in_use_at[end] = gauges.in_use_at[end].saturating_add(count);
+                gauges.rests[end] = self.rest_at(end);
             }
         }
         gauges

@@ -1,7 +1,7 @@
 //! How the servers' links rest that keep silent, and what signs of life they give.
 
 ghost use Rattle.std.specs.Prelude.{◌≡◌, ◌≤◌, ◌^◌, length};
-ghost use Rattle.roam_book.specs.Conversing.{rests_chosen};
+ghost use Rattle.roam_book.specs.Conversing.{rests_chosen, same_end};
 ghost use Rattle.roam_book.specs.RealmConfig.{IsLink, link_count};
 ghost use Rattle.roam_book.specs.Rests.{after_choice, after_sign, after_silence, has_moment, rest_of};
 ghost use Rattle.roam_book.specs.Rests.{signs_of, with_rest};
@@ -14,13 +14,36 @@ use crate::state::rest::Rest;
 use roam_conf::Link;
 use std::alloc::Allocator;
 
+/// Which links are wanted for a request that goes on with a conversation.
+#[derive(Clone, Copy)]
+pub(crate) enum Wanted {
+    /// This one.
+    This(Link),
+    /// Those to the same end as this one, by whichever `out`.
+    SameEnd(Link),
+    /// Those that have no moment until which they rest.
+    Untried,
+}
+
+/// Whether two links lead to one end.
+fn is_same_end(a: Link, b: Link) -> bool
+    ensures { result ≡ same_end a b }
+{
+    match (a, b) {
+        (Link::Auth(a, _), Link::Auth(b, _)) => a == b,
+        (Link::Acct(a, _), Link::Acct(b, _)) => a == b,
+        (Link::Coa(a, _), Link::Coa(b, _)) => a == b,
+        _ => false,
+    }
+}
+
 impl<A: Allocator + Copy> RealmNumbers<A> {
     /// How a link rests: a peer's `coa` never does.
     fn rest_of(&self, settings: &RealmSettings<'_>, link: Link) -> Rest
         requires link { IsLink settings.now link }
         ensures { result ≡ rest_of settings.now self.now.rests.items link }
     {
-        let place = settings.place_of(link);
+        let place = settings.end_place(link);
         if place < self.rests.len() {
             self.rests[place]
         } else {
@@ -60,14 +83,15 @@ impl<A: Allocator + Copy> RealmNumbers<A> {
         self.rest_of(settings, link).until.is_some()
     }
 
-    /// Whether a link is the one that alone is wanted; where none is, whether it has no moment until which it rests.
-    fn is_wanted(&self, settings: &RealmSettings<'_>, only: Option<Link>, link: Link) -> bool
+    /// Whether a link is one that is wanted.
+    fn is_wanted(&self, settings: &RealmSettings<'_>, wanted: Wanted, link: Link) -> bool
         requires link { IsLink settings.now link }
-        ensures { result ≡ is_wanted settings.now self.now.rests.items only link }
+        ensures { result ≡ is_wanted settings.now self.now.rests.items wanted link }
     {
-        match only {
-            Some(only) => only == link,
-            None => !self.has_moment(settings, link),
+        match wanted {
+            Wanted::This(only) => only == link,
+            Wanted::SameEnd(other) => is_same_end(other, link),
+            Wanted::Untried => !self.has_moment(settings, link),
         }
     }
 
@@ -75,15 +99,15 @@ impl<A: Allocator + Copy> RealmNumbers<A> {
     pub(crate) fn is_sought(
         &self,
         settings: &RealmSettings<'_>,
-        only: Option<Link>,
+        wanted: Wanted,
         freed: Option<Link>,
         link: Link,
     ) -> bool
         requires link { IsLink settings.now link }
         requires count { length self.now.lanes.items ≡ link_count settings.now }
-        ensures { result ≡ is_sought settings.now self.now.rests.items self.now.lanes.items only freed link }
+        ensures { result ≡ is_sought settings.now self.now.rests.items self.now.lanes.items wanted freed link }
     {
-        self.is_wanted(settings, only, link) && self.is_open(settings, freed, link)
+        self.is_wanted(settings, wanted, link) && self.is_open(settings, freed, link)
     }
 
     /// Writes how a link rests: a peer's `coa` never does, and the rests stay.
@@ -92,7 +116,7 @@ impl<A: Allocator + Copy> RealmNumbers<A> {
         ensures { RestsBecome (with_rest settings.now self.old.rests.items link rest)
             self.old self.new }
     {
-        let place = settings.place_of(link);
+        let place = settings.end_place(link);
         if place < self.rests.len() {
             self.rests[place] = rest;
         }

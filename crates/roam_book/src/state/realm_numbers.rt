@@ -30,8 +30,8 @@ use std::alloc::Allocator;
 pub struct RealmNumbers<A: Allocator> {
     /// Whence the memory of entries and packets comes.
     pub alloc: A,
-    /// A lane for each link, in the order of their places. Toward a peer it is made when a reverse
-    /// request first needs it.
+    /// A lane for each link, in the order of their places: at each end one for each `out`. Toward a peer it is made
+    /// when a reverse request first needs it.
     pub lanes: Vec<LazyLane<A>, A>,
     /// The next ticket.
     pub ticket: u64,
@@ -63,7 +63,7 @@ impl<A: Allocator> Drop for RealmNumbers<A> {
 
 /// The tag of a lane: its realm's index, and the place of its link.
 pub fn tag_of(settings: &RealmSettings<'_>, place: usize) -> u32
-    requires { place < 1040 }
+    requires { place < 16640 }
     ensures { result ≡ settings.now.index * 65536 + place }
 {
     u32::from(settings.index()) * 65536 + place as u32
@@ -76,15 +76,15 @@ fn new_lane<A: Allocator>(
     settings: &RealmSettings<'_>,
     place: usize,
 ) -> Result<LazyLane<A>, NoMemory>
-    requires { place < 1040 }
+    requires { place < 16640 }
     ensures tag { IfOk result (λ lane. lane.tag ≡ settings.now.index * 65536 + place) }
     ensures cursor { IfOk result (λ lane. lane.cursor ≡ 0) }
     ensures free { IfOk result (λ lane. (id : ℕ) → place_at lane id ≡ Free) }
-    ensures made { IfOk result (λ lane. place < 2 * length settings.now.realm.servers
-        → lane.made ≡ true) }
+    ensures made { IfOk result (λ lane.
+        place < 2 * length settings.now.realm.servers * length settings.now.realm.out → lane.made ≡ true) }
 {
     let mut lane = LazyLane::new(alloc, tag_of(settings, place));
-    if place < 2 * settings.server_count() {
+    if place < 2 * settings.server_count() * settings.out_count() {
         lane.make()?;
     }
     Ok(lane)

@@ -1,6 +1,6 @@
 //! What the rules of a realm read of the configuration.
 
-ghost use Rattle.std.specs.Prelude.{◌≡◌, ◌↔◌, ◌<◌, ◌≤◌, ◌+◌, IfOk, IsTrue, Some, length, map, slice_get, unwrap_or, vec_len};
+ghost use Rattle.std.specs.Prelude.{◌≡◌, ◌<◌, ◌≤◌, ℕ, IfOk, Some, length, map, slice_get, vec_len};
 ghost use Rattle.std.specs.Result.{result_err};
 ghost use Rattle.roam_wire.specs.Secret.{IsSecret};
 ghost use Rattle.roam_conf.specs.Shown.{shown};
@@ -8,11 +8,10 @@ ghost use Rattle.roam_conf.specs.Parts.{shown_realm, shown_peer, shown_server};
 ghost use Rattle.roam_reverse.specs.Causes.{cause};
 ghost use Rattle.roam_reverse.specs.Target.{target};
 ghost use Rattle.roam_book.specs.RealmConfig.{realm_config, server_secret, peer_secret, link_secret, requester_secret};
-ghost use Rattle.roam_book.specs.RealmConfig.{seal_required, link_endpoint, link_place, link_count, nowhere, IsLink, IsRequester};
+ghost use Rattle.roam_book.specs.RealmConfig.{seal_required, IsLink, IsRequester};
 
 use crate::state::hash_key::hash_key;
-use crate::state::nowhere::NOWHERE;
-use roam_conf::{Config, Endpoint, Link, Peer, Realm, Server};
+use roam_conf::{Config, Link, Peer, Realm, Server};
 use roam_hash::HashKey;
 use roam_pending::Requester;
 use roam_reverse::{Sessions, route_of};
@@ -183,12 +182,11 @@ impl<'c> RealmSettings<'c> {
     }
 
     /// The home server of a place.
-    fn server(&self, server: u8) -> &Server
+    pub(crate) fn server(&self, server: u8) -> &Server
         requires { server < length self.now.realm.servers }
         ensures secret { server_secret self.now server ≡ (shown_server result.now).secret }
-        ensures auth { link_endpoint self.now (Link.Auth server) ≡ result.now.auth }
-        ensures seal { seal_required self.now (Link.Auth server) ≡ result.now.require_seal }
-        ensures acct { link_endpoint self.now (Link.Acct server) ≡ unwrap_or result.now.acct nowhere }
+        ensures seal { (out : ℕ) → seal_required self.now (Link.Auth server out) ≡ result.now.require_seal }
+        ensures server { slice_get self.now.realm.servers server ≡ Some (shown_server result.now) }
     {
         &self.realm().servers[usize::from(server)]
     }
@@ -197,7 +195,6 @@ impl<'c> RealmSettings<'c> {
     pub(crate) fn peer(&self, peer: u16) -> &Peer
         requires { peer < length self.now.peers }
         ensures secret { peer_secret self.now peer ≡ (shown_peer result.now).secret }
-        ensures coa { link_endpoint self.now (Link.Coa peer) ≡ unwrap_or result.now.coa nowhere }
         ensures peer { slice_get self.now.peers peer ≡ Some (shown_peer result.now) }
     {
         &self.config.peers[usize::from(peer)]
@@ -210,8 +207,8 @@ impl<'c> RealmSettings<'c> {
         ensures secret { IsSecret result.now }
     {
         match link {
-            Link::Auth(server) | Link::Acct(server) => self.server(server).secret(),
-            Link::Coa(peer) => self.peer(peer).secret(),
+            Link::Auth(server, _) | Link::Acct(server, _) => self.server(server).secret(),
+            Link::Coa(peer, _) => self.peer(peer).secret(),
         }
     }
 
@@ -221,8 +218,8 @@ impl<'c> RealmSettings<'c> {
         ensures { result ≡ seal_required self.now link }
     {
         match link {
-            Link::Auth(server) => self.server(server).require_seal,
-            Link::Acct(_) | Link::Coa(_) => false,
+            Link::Auth(server, _) => self.server(server).require_seal,
+            Link::Acct(_, _) | Link::Coa(_, _) => false,
         }
     }
 
@@ -251,50 +248,5 @@ impl<'c> RealmSettings<'c> {
         ensures there { IfOk result (λ peer. peer < length self.now.peers) }
     {
         route_of(self.config, self.realm, named, request, sessions)
-    }
-
-    /// The endpoint of a link of the realm.
-    pub(crate) fn endpoint_of(&self, link: Link) -> Endpoint
-        requires { IsLink self.now link }
-        ensures { result ≡ link_endpoint self.now link }
-    {
-        match link {
-            Link::Auth(server) => self.server(server).auth,
-            Link::Acct(server) => self.server(server).acct.unwrap_or(NOWHERE),
-            Link::Coa(peer) => self.peer(peer).coa.unwrap_or(NOWHERE),
-        }
-    }
-
-    /// How many places there are for links.
-    pub fn link_count(&self) -> usize
-        ensures count { result ≡ link_count self.now }
-        ensures few { result ≤ 1040 }
-    {
-        2 * self.server_count() + self.peer_count()
-    }
-
-    /// Whether a link is the realm's.
-    pub fn has_link(&self, link: Link) -> bool
-        ensures { IsTrue result ↔ IsLink self.now link }
-    {
-        match link {
-            Link::Auth(server) | Link::Acct(server) => usize::from(server) < self.server_count(),
-            Link::Coa(peer) => usize::from(peer) < self.peer_count(),
-        }
-    }
-
-    /// The place of a link among the realm's links.
-    pub fn place_of(&self, link: Link) -> usize
-        requires { IsLink self.now link }
-        ensures place { result ≡ link_place self.now link }
-        ensures below { result < link_count self.now }
-    {
-        let servers = self.server_count();
-        let _peers = self.peer_count();
-        match link {
-            Link::Auth(server) => usize::from(server),
-            Link::Acct(server) => servers + usize::from(server),
-            Link::Coa(peer) => 2 * servers + usize::from(peer),
-        }
     }
 }

@@ -27,13 +27,13 @@ impl Service {
         }
     }
 
-    /// The link to the server of this place.
-    pub(crate) fn link(self, server: u8) -> Link
-        ensures { result ≡ server_link self server }
+    /// The link to the server of this place, by the `out` of this place.
+    pub(crate) fn link(self, server: u8, out: u8) -> Link
+        ensures { result ≡ server_link self server out }
     {
         match self {
-            Service::Authentication => Link::Auth(server),
-            Service::Accounting => Link::Acct(server),
+            Service::Authentication => Link::Auth(server, out),
+            Service::Accounting => Link::Acct(server, out),
         }
     }
 }

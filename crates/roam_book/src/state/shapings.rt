@@ -83,7 +83,9 @@ impl<'c> RealmSettings<'c> {
         ensures name { HasShortName (shown_shaping result) }
     {
         match link {
-            Link::Coa(peer) if code == COA_REQUEST => only_without(self.reply_removal(peer, true)),
+            Link::Coa(peer, _) if code == COA_REQUEST => only_without(self.reply_removal(
+                peer, true,
+            )),
             _ => only_without(nothing_removed()),
         }
     }

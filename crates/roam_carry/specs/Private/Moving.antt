@@ -44,7 +44,7 @@ pub record StandsFor (c : RealmConfig) (place : ℕ) (before lane : LaneState) :
   pub cursor : lane.cursor ≡ before.cursor
   pub places : (id : ℕ) → place_at lane id ≡ place_at before id
   pub tag : lane.tag ≡ c.index * 65536 + place
-  pub made : place < 2 * length c.realm.servers → lane.made ≡ true
+  pub made : place < 2 * length c.realm.servers * length c.realm.out → lane.made ≡ true
 
 -- lanes of which nothing is in use
 pub record AreFresh (c : RealmConfig) (lanes : List LaneState) : Type 0 where
@@ -68,22 +68,22 @@ pub record IsPlaceBefore (old new : RealmConfig) (m : Link) (place : ℕ) : Type
 abbrev pub IsLeft : RealmConfig → RealmConfig → Link → Type 0
 IsLeft old new m = (l : Link) → way_before old new m ≡ Some l → IsLink old l → ⊥
 
--- the place of a peer's link
-abbrev pub coa_place : RealmConfig → ℕ → ℕ
-coa_place c peer = link_place c (link.Coa peer)
+-- the place of a peer's link by an `out`
+abbrev pub coa_place : RealmConfig → ℕ → ℕ → ℕ
+coa_place c peer out = link_place c (link.Coa peer out)
 
 -- lanes of which those of some peers, where their `coa` isn't what it was, are fresh, and all others as they were
 pub record AreRenewed (old new : RealmConfig) (changed : List ℕ) (before after : List LaneState) : Type 0 where
   pub count : length after ≡ length before
-  pub servers : (k : ℕ) → k < 2 * length old.realm.servers
+  pub servers : (k : ℕ) → k < 2 * length old.realm.servers * length old.realm.out
       → slice_index_or after k no_lane ≡ slice_index_or before k no_lane
-  pub kept : (peer : ℕ) → of_peer keeps_coa old.peers new.peers peer ≡ true
-      → slice_index_or after (coa_place old peer) no_lane ≡ slice_index_or before (coa_place old peer) no_lane
+  pub kept : (peer out : ℕ) → out < length old.realm.out → of_peer keeps_coa old.peers new.peers peer ≡ true
+      → slice_index_or after (coa_place old peer out) no_lane ≡ slice_index_or before (coa_place old peer out) no_lane
   pub each : (k : ℕ) → (slice_index_or after k no_lane ≡ slice_index_or before k no_lane)
       ⊎ StandsFor new k no_lane (slice_index_or after k no_lane)
-  pub renewed : (peer : ℕ) → IsIn peer changed → peer < length old.peers
+  pub renewed : (peer out : ℕ) → IsIn peer changed → peer < length old.peers → out < length old.realm.out
       → of_peer keeps_coa old.peers new.peers peer ≡ false
-      → StandsFor new (coa_place old peer) no_lane (slice_index_or after (coa_place old peer) no_lane)
+      → StandsFor new (coa_place old peer out) no_lane (slice_index_or after (coa_place old peer out) no_lane)
 
 -- the places before this one have their lanes, the others fresh ones, and what wasn't taken is where it was
 pub record IsMoving (old new : RealmConfig) (first before after : List LaneState) (k : ℕ) : Type 0 where

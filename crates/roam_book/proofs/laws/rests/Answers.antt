@@ -1,8 +1,8 @@
-use Rattle.roam_book.proofs.SilenceLemmas.{choice-is_never_worse, links-have_own_places, rests-only_when_silent}
+use Rattle.roam_book.proofs.SilenceLemmas.{choice-is_never_worse, ends-have_own_places, rests-only_when_silent}
 use Rattle.roam_book.proofs.laws.rests.Goals as goal
 
 pub returns-clause-places : goal.returns-clause-places
-returns-clause-places c = links-have_own_places
+returns-clause-places c = ends-have_own_places
 
 pub returns-clause-silent : goal.returns-clause-silent
 returns-clause-silent c = rests-only_when_silent

@@ -1,6 +1,5 @@
 use Rattle.std.proofs.Common.{Option, false, sym, ap, ◌∙◌, arith}
 use Rattle.std.specs.Option.{option_map_or}
-use Rattle.roam_pending.specs.EntryList.{find_ticket}
 use Rattle.roam_pending.specs.PlainEntry.{PlainEntry, is_done}
 use Rattle.roam_carry.specs.Private.Lost.{one_if}
 use Rattle.roam_carry.proofs.LossLemmas.{all_read, few_count, fewer_left, more_read, none_read, room_read}

@@ -5,7 +5,7 @@ use Rattle.roam_conf.specs.Duplicates.{has_pair_of_servers}
 use Rattle.roam_conf.specs.Parts.{shown_realm}
 use Rattle.roam_conf.specs.Shown.{shown}
 use Rattle.roam_pending.specs.Realms.{entries_in}
-use Rattle.roam_book.specs.RealmConfig.{RealmConfig}
+use Rattle.roam_book.specs.RealmConfig.{RealmConfig, realm_config}
 use Rattle.roam_book.specs.Sound.{IsSound}
 use Rattle.roam_book.proofs.BookLemmas.{held-entries, own-realm}
 use Rattle.roam_carry.proofs.BookCarryLemmas.{carried-book, carried-sound, configured, peers-changed, same-view, servers-apart, whatever}
@@ -66,6 +66,18 @@ returns-in_err-fresh-clause-err g c =
     whatever c.from_residual-in_err-fresh.result _
     (same-view (shown b.config.now) b.realm _ _ c.args.book.now (c.reserve_carry.ensures.state b.entries.entries)
     c.book.view_is)
+
+-- it is still a book then
+pub invariant_of-book : goal.invariant_of-book
+invariant_of-book g c =
+    let b = c.book.inside in
+    let inv = c.book.invariant in
+    record {
+      configured = inv.configured;
+      own_entries = inv.own_entries;
+      sound = c.reserve_carry.ensures.sound (realm_config (shown b.config.now) b.realm) b.entries.entries inv.sound;
+      list = inv.list;
+    }
 
 -- it is a book under the new configuration
 pub invariant_of-book-2 : goal.invariant_of-book-2

@@ -1,4 +1,4 @@
-use Rattle.std.proofs.Common.{ℕ, List, false, ap, sym, subst, ◌∙◌}
+use Rattle.std.proofs.Common.{ℕ, List, ap, sym, subst, ◌∙◌}
 use Rattle.roam_reload.specs.Reload.{realm_part}
 use Rattle.roam_carry.specs.Carrying.{AreChanged}
 use Rattle.roam_carry.proofs.ChangedLemmas.{keeps-peers, none-noted}

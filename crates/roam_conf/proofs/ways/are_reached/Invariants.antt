@@ -6,5 +6,5 @@ use Rattle.roam_conf.proofs.ways.are_reached.Given as goal
 
 abbrev pub invariant-loop-server : goal.invariant-loop-server
 invariant-loop-server l =
-    list_all (is_reached l.out) (map shown_server (drop l.server-index l.servers))
-    ≡ list_all (is_reached l.fn.out) (map shown_server l.fn.servers)
+    list_all (is_reached l.outs) (map shown_server (drop l.server-index l.servers))
+    ≡ list_all (is_reached l.fn.outs) (map shown_server l.fn.servers)

@@ -1,4 +1,4 @@
-use Rattle.toml.specs.Data.{get_member}
+use Rattle.toml.specs.Data.{Data, get_member}
 use Rattle.toml.specs.View.{table_view, array_view}
 use Rattle.std.proofs.Common.{◌≡◌, ◌≤◌, ◌∙◌, true, false, Option, Some, None, List, codes, is_some, map, option_map, sym, arith}
 use Rattle.std.proofs.lemmas.List.{length-map}
@@ -6,19 +6,19 @@ use Rattle.std.specs.List.{list_all}
 use Rattle.roam_wire.specs.RemovedAttributes.{is_removal_in_requests, is_removal_in_replies}
 use Rattle.roam_conf.specs.declared.accounting.Accounting.{Accounting}
 use Rattle.roam_conf.specs.declared.accounting.Accounting.TheVariants.{Forwarded, Answered, Dropped}
-use Rattle.roam_address.specs.declared.endpoint.Endpoint.{Endpoint}
 use Rattle.roam_conf.specs.declared.server.Server.{Server}
 use Rattle.roam_conf.specs.Parts.{shown_client, shown_names, shown_server}
 use Rattle.roam_conf.specs.Patterns.{is_pattern, shown_pattern}
 use Rattle.roam_conf_reader.specs.Document.{StatesServer, sessions_unless_said, are_accounted}
 use Rattle.roam_conf_reader.specs.Values.{pattern, removed}
+use Rattle.roam_conf_reader.proofs.EndpointLemmas.{endpoints_at, endpoints_if}
 use Rattle.roam_conf_reader.proofs.ListLemmas.{is_list_of, stated_pattern, stated_removed, few_names, accounted_shown, not_accounted}
-use Rattle.roam_conf_reader.proofs.RangeLemmas.{text_at, port_at, optional_port_at, number_or_at, optional_number_at, each_range}
+use Rattle.roam_conf_reader.proofs.RangeLemmas.{text_at, number_or_at, optional_number_at, each_range}
 use Rattle.roam_conf_reader.proofs.realm.from_table.Goals as goal
 
-few_sessions : (reverse : Option Endpoint) → sessions_unless_said reverse ≤ 65536
+few_sessions : (reverse : Option Data) → sessions_unless_said reverse ≤ 65536
 few_sessions None = omega arith
-few_sessions (Some e) = omega arith
+few_sessions (Some found) = omega arith
 
 -- where accounting is forwarded, each server takes it
 all_take : (accounting : Accounting) (servers : List Server) →
@@ -37,16 +37,23 @@ invariant_of-result c =
     let request = c.in_ok-of_requests.field-0 in
     let reply = c.in_ok-of_replies.field-0 in
     let clients = c.in_ok-all_from-2.field-0 in
+    let out = c.in_ok-at.field-0 in
+    let reverse = c.in_ok-at_if_there.field-0 in
     let servers = c.in_ok-servers.servers in
     let accounted : are_accounted c.in-Some.text.accounting (map shown_server servers.items) ≡ true =
     rw (← c.as_slice.ensures.value, ← c.are_accounted.ensures) c.if-not-are_accounted.false in
     let stated = c.in-Some.ensures.0 (map shown_pattern patterns.items) (option_map shown_names peers) request.items
-    reply.items (map shown_client clients.items) (map shown_server servers.items) c.in_ok-all_from.ensures.ok
+    reply.items (map shown_client clients.items) out.items reverse.items (map shown_server servers.items)
+    c.in_ok-all_from.ensures.ok
     c.in_ok-of_peers.ensures.ok c.in_ok-of_requests.ensures.ok c.in_ok-of_replies.ensures.ok
-    c.in_ok-all_from-2.ensures.ok c.in_ok-servers.ensures.ok accounted in
+    c.in_ok-all_from-2.ensures.ok c.in_ok-at.ensures.ok c.in_ok-at_if_there.ensures.ok
+    c.in_ok-servers.ensures.ok accounted in
     let count = each_range StatesServer shown_server 8 (codes "server") members
     (array_view c.in-Some.text.servers.now) servers.items c.in-Some.ensures.1 c.in_ok-servers.ensures.ok in
     let name = text_at 253 _ (codes "name") members _ stated.name in
+    let found = get_member (codes "reverse") members in
+    let outs = endpoints_at 16 (codes "out") members _ (omega arith) stated.out in
+    let reverses = endpoints_if 8 found _ (omega arith) stated.reverse in
     let also = is_list_of pattern is_pattern stated_pattern 256 (get_member (codes "also") members)
     (map shown_pattern patterns.items) c.in_ok-all_from.ensures.ok in
     let of_requests = is_list_of (removed is_removal_in_requests) is_removal_in_requests
@@ -72,17 +79,16 @@ invariant_of-result c =
       peer_share_range = optional_number_at 1 4096 (codes "peer_share") members _ stated.peer_share;
       coa_client_count = c.in_ok-all_from-2.ensures.count;
       accounted = all_take c.in-Some.text.accounting servers.items accounted;
-      ports = (
-        port_at (codes "out") members _ stated.out,
-        optional_port_at (codes "reverse") members c.in-Some.text.reverse stated.reverse,
-      );
+      out_count = (omega (arith, outs.size, out.ok), omega (arith, outs.size, out.ok));
+      reverse_count = omega (arith, reverses.0, reverse.ok);
+      ports = (outs.ports, reverses.1);
       tries_range = number_or_at 3 1 10 (codes "tries") members _ (omega arith) (omega arith) stated.tries;
       wait_range = number_or_at 2000 1 60000 (codes "wait") members _ (omega arith) (omega arith) stated.wait;
       hold_range = (number_or_at 10000 0 60000 (codes "hold") members _ (omega arith) (omega arith) stated.hold).1;
       max_pending_range = number_or_at 4096 1 4096 (codes "max_pending") members _ (omega arith) (omega arith)
           stated.max_pending;
-      max_sessions_range = (number_or_at (sessions_unless_said c.in-Some.text.reverse) 0 65536 (codes "max_sessions")
-          members _ (omega arith) (few_sessions c.in-Some.text.reverse) stated.max_sessions).1;
+      max_sessions_range = (number_or_at (sessions_unless_said found) 0 65536 (codes "max_sessions")
+          members _ (omega arith) (few_sessions found) stated.max_sessions).1;
       rest_range = (number_or_at 30000 0 3600000 (codes "rest") members _ (omega arith) (omega arith) stated.rest).1;
       rest_after_range = number_or_at 3 1 256 (codes "rest_after") members _ (omega arith) (omega arith)
           stated.rest_after;
@@ -101,9 +107,11 @@ returns-clause-ok c =
     let accounted : are_accounted c.in-Some.text.accounting (map shown_server servers.items) ≡ true =
     rw (← c.as_slice.ensures.value, ← c.are_accounted.ensures) c.if-not-are_accounted.false in
     rw c.in_ok-from_str.ensures.ok (c.in-Some.ensures.0 (map shown_pattern patterns.items)
-    (option_map shown_names peers) request.items reply.items (map shown_client clients.items)
+    (option_map shown_names peers) request.items reply.items (map shown_client clients.items) c.in_ok-at.field-0.items
+    c.in_ok-at_if_there.field-0.items
     (map shown_server servers.items) c.in_ok-all_from.ensures.ok c.in_ok-of_peers.ensures.ok
     c.in_ok-of_requests.ensures.ok c.in_ok-of_replies.ensures.ok c.in_ok-all_from-2.ensures.ok
+    c.in_ok-at.ensures.ok c.in_ok-at_if_there.ensures.ok
     c.in_ok-servers.ensures.ok accounted)
 
 -- A realm whose accounting is forwarded to a server that takes none is stated by no table.

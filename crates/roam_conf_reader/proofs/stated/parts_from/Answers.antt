@@ -5,8 +5,9 @@ use Rattle.std.proofs.Common.{codes, map, arith}
 use Rattle.roam_conf.specs.Parts.{shown_peer, shown_realm}
 use Rattle.roam_conf.specs.Patterns.{shown_pattern}
 use Rattle.roam_conf_reader.specs.Document.{StatesPeer, StatesRealm}
+use Rattle.roam_conf_reader.proofs.EndpointLemmas.{endpoints_at}
 use Rattle.roam_conf_reader.proofs.ListLemmas.{are_rejects}
-use Rattle.roam_conf_reader.proofs.RangeLemmas.{port_at, number_or_at, optional_number_at, each_range}
+use Rattle.roam_conf_reader.proofs.RangeLemmas.{number_or_at, optional_number_at, each_range}
 use Rattle.roam_conf_reader.proofs.stated.parts_from.Goals as goal
 
 -- What is stated is in its range.
@@ -16,9 +17,14 @@ invariant_of-result c =
     let peers = c.in_ok-all_from.field-0 in
     let realms = c.in_ok-all_from-2.field-0 in
     let reject = c.in_ok-rejects_from.field-0 in
-    let stated = c.in-Some.ensures.0 (map shown_pattern reject.items) (map shown_peer peers.items)
-    (map shown_realm realms.items) c.in_ok-rejects_from.ensures.ok c.in_ok-all_from.ensures.ok
+    let auth = c.in_ok-at.field-0 in
+    let acct = c.in_ok-at-2.field-0 in
+    let stated = c.in-Some.ensures.0 auth.items acct.items (map shown_pattern reject.items) (map shown_peer peers.items)
+    (map shown_realm realms.items) c.in_ok-at.ensures.ok c.in_ok-at-2.ensures.ok c.in_ok-rejects_from.ensures.ok
+    c.in_ok-all_from.ensures.ok
     c.in_ok-all_from-2.ensures.ok in
+    let auths = endpoints_at 8 (codes "auth") members _ (omega arith) stated.auth in
+    let accts = endpoints_at 8 (codes "acct") members _ (omega arith) stated.acct in
     let rejects = are_rejects (get_member (codes "reject") members) (map shown_pattern reject.items)
     c.in_ok-rejects_from.ensures.ok in
     let of_peers = each_range StatesPeer shown_peer 1024 (codes "peer") members (array_view c.in-Some.text.peers.now)
@@ -27,7 +33,9 @@ invariant_of-result c =
     (array_view c.in-Some.text.realms.now) realms.items c.in-Some.ensures.2 c.in_ok-all_from-2.ensures.ok in
     record {
       shards_range = number_or_at 1 1 64 (codes "shards") members _ (omega arith) (omega arith) stated.shards;
-      ports = (port_at (codes "auth") members _ stated.auth, port_at (codes "acct") members _ stated.acct);
+      auth_count = (omega (arith, auths.size, auth.ok), omega (arith, auths.size, auth.ok));
+      acct_count = (omega (arith, accts.size, acct.ok), omega (arith, accts.size, acct.ok));
+      ports = (auths.ports, accts.ports);
       trace_limit_range = number_or_at 100000 1 1000000 (codes "trace_limit") members _ (omega arith) (omega arith)
           stated.trace_limit;
       trace_octets_range = number_or_at 67108864 1 1073741824 (codes "trace_octets") members _ (omega arith)
@@ -43,6 +51,8 @@ invariant_of-result c =
 
 pub returns-clause-ok : goal.returns-clause-ok
 returns-clause-ok c =
-    c.in-Some.ensures.0 (map shown_pattern c.in_ok-rejects_from.field-0.items)
+    c.in-Some.ensures.0 c.in_ok-at.field-0.items c.in_ok-at-2.field-0.items
+    (map shown_pattern c.in_ok-rejects_from.field-0.items)
     (map shown_peer c.in_ok-all_from.field-0.items) (map shown_realm c.in_ok-all_from-2.field-0.items)
-    c.in_ok-rejects_from.ensures.ok c.in_ok-all_from.ensures.ok c.in_ok-all_from-2.ensures.ok
+    c.in_ok-at.ensures.ok c.in_ok-at-2.ensures.ok c.in_ok-rejects_from.ensures.ok c.in_ok-all_from.ensures.ok
+    c.in_ok-all_from-2.ensures.ok

@@ -1,5 +1,5 @@
 use Rattle.roam_core.proofs.BoundLemmas.{no_amplification, no_amplification-from_start, no_more_answers, one_packet_each}
-use Rattle.roam_core.proofs.SumLemmas.{targets_are_few}
+use Rattle.roam_core.proofs.TargetLemmas.{targets_are_few}
 use Rattle.roam_core.proofs.bounds.no_amplification.Goals as goal
 
 pub returns-clause-from_start : goal.returns-clause-from_start

@@ -8,4 +8,4 @@ abbrev pub invariant-loop-realm : goal.invariant-loop-realm
 invariant-loop-realm l =
     (l.count + length (flat_map realm_endpoints (map shown_realm (drop l.realm-index l.realms)))
     ≡ length (flat_map realm_endpoints (map shown_realm l.fn.realms)))
-    × (l.count ≤ 2 * l.realm-index)
+    × (l.count ≤ 24 * l.realm-index)

@@ -1,5 +1,5 @@
 use Rattle.std.proofs.Common.{◌≡◌, map, drop}
-use Rattle.std.specs.List.{filter_map, find}
+use Rattle.std.specs.List.{find, flat_map}
 use Rattle.roam_conf.specs.Config.{RealmView}
 use Rattle.roam_conf.specs.Parts.{shown_realm}
 use Rattle.roam_conf.specs.Shown.{shown}
@@ -11,6 +11,6 @@ use Rattle.roam_reload.proofs.hindrance.moved_reverse.Given as goal
 abbrev pub invariant-loop-realm : goal.invariant-loop-realm
 invariant-loop-realm l =
     find (is_moved (shown l.new) kind.Reverse)
-    (filter_map (λ (x : RealmView). x.reverse) (here (map shown_realm (drop l.realm-index l.realms))))
+    (flat_map (λ (x : RealmView). x.reverse) (here (map shown_realm (drop l.realm-index l.realms))))
     ≡ find (is_moved (shown l.fn.new) kind.Reverse)
-    (filter_map (λ (x : RealmView). x.reverse) (here (map shown_realm l.fn.realms)))
+    (flat_map (λ (x : RealmView). x.reverse) (here (map shown_realm l.fn.realms)))

@@ -83,6 +83,8 @@ invariant_of-result c =
     let old_realms = ap length c.as_slice-2.ensures.value in
     record {
       shards_range = parts.shards_range;
+      auth_count = parts.auth_count;
+      acct_count = parts.acct_count;
       ports = parts.ports;
       trace_limit_range = parts.trace_limit_range;
       trace_octets_range = parts.trace_octets_range;

@@ -3,16 +3,30 @@ use Rattle.std.specs.Option.{option_eq}
 use Rattle.std.specs.Cmp.Lexicographic.{pointwise}
 use Rattle.roam_conf.specs.Parts.{shown_client, shown_names, shown_server}
 use Rattle.roam_conf.proofs.EqualLemmas.{client_decides, client_eq, server_decides, server_eq}
-use Rattle.roam_conf.proofs.EqualPartsLemmas.{list_decides, names_eq, names_decides, option_decides, removed_eq, removed_decides, whole_list_decides}
+use Rattle.roam_conf.proofs.EqualPartsLemmas.{endpoint_decides, endpoint_eq, list_decides, names_eq, names_decides, option_decides, removed_eq, removed_decides, whole_list_decides}
 use Rattle.roam_reload.proofs.DifferenceLemmas.{tells}
 use Rattle.roam_reload.proofs.realms.is_other_in.Goals as goal
+
+pub returns-in-Out : goal.returns-in-Out
+returns-in-Out c =
+    let old = c.args.old.now.out.items in
+    let new = c.args.new.now.out.items in
+    rw c.in-Out.is (tells old new (pointwise endpoint_eq old new) c.ne.result
+    (whole_list_decides endpoint_eq endpoint_decides old new) c.ne.ensures)
+
+pub returns-in-Reverse : goal.returns-in-Reverse
+returns-in-Reverse c =
+    let old = c.args.old.now.reverse.items in
+    let new = c.args.new.now.reverse.items in
+    rw c.in-Reverse.is (tells old new (pointwise endpoint_eq old new) c.ne-in-Reverse.result
+    (whole_list_decides endpoint_eq endpoint_decides old new) c.ne-in-Reverse.ensures)
 
 pub returns-in-Servers : goal.returns-in-Servers
 returns-in-Servers c =
     let old = c.args.old.now.servers.items in
     let new = c.args.new.now.servers.items in
-    rw c.in-Servers.is (tells (map shown_server old) (map shown_server new) (pointwise server_eq old new) c.ne.result
-    (list_decides server_eq shown_server server_decides old new) c.ne.ensures)
+    rw c.in-Servers.is (tells (map shown_server old) (map shown_server new) (pointwise server_eq old new)
+    c.ne-in-Servers.result (list_decides server_eq shown_server server_decides old new) c.ne-in-Servers.ensures)
 
 pub returns-in-Peers : goal.returns-in-Peers
 returns-in-Peers c =

@@ -1,33 +1,13 @@
-use Rattle.std.proofs.Common.{rules, ◌≡◌, Bool, true, false, not, [], Option, Some, None, IfNone, List, map, refl, sym, ap, ◌∙◌}
-use Rattle.std.proofs.lemmas.Bool.{true≢false}
+use Rattle.std.proofs.Common.{rules, ◌≡◌, [], Option, Some, None, IfNone, map}
 use Rattle.std.specs.Cmp.Lexicographic.{pointwise}
 use Rattle.roam_conf.specs.Config.{RealmView}
 use Rattle.roam_conf.specs.Parts.{shown_realm, shown_server}
-use Rattle.roam_conf.specs.declared.server.Server.{Server}
 use Rattle.roam_conf.proofs.EqualLemmas.{server_decides, server_eq}
-use Rattle.roam_conf.proofs.EqualPartsLemmas.{list_decides, endpoint_decides}
+use Rattle.roam_conf.proofs.EqualPartsLemmas.{list_decides, endpoint_decides, endpoint_eq, whole_list_decides}
 use Rattle.roam_reload.specs.Reload.{realm_part}
 use Rattle.roam_reload.specs.SameLimits.{HaveSameLimits, HaveSameParts, HaveSamePolicy}
+use Rattle.roam_reload.proofs.DifferenceLemmas.{agrees, differs}
 use Rattle.roam_reload.proofs.realms.realm_difference.Goals as goal
-
--- servers of another list
-others : (a b : List Server) (test : Bool) → test ≡ not (pointwise server_eq a b) → test ≡ true →
-    map shown_server b ≡ map shown_server a → ⊥
-others a b test is yes' same =
-    true≢false (sym (yes'') ∙ ap not ((list_decides server_eq shown_server server_decides a b).1 (sym same)))
-  where
-    yes'' : not (pointwise server_eq a b) ≡ true
-    yes'' = sym is ∙ yes'
-
--- the same servers
-sames : (a b : List Server) (test : Bool) → test ≡ not (pointwise server_eq a b) → test ≡ false →
-    map shown_server b ≡ map shown_server a
-sames a b test is no' = sym ((list_decides server_eq shown_server server_decides a b).0
-    (passed (pointwise server_eq a b) (sym is ∙ no')))
-  where
-    passed : (t : Bool) → not t ≡ false → t ≡ true
-    passed true e = refl
-    passed false e = absurd (true≢false e)
 
 -- the same tables in this part
 same_part : (a b : RealmView) → b.gone ≡ a.gone → b.out ≡ a.out → b.reverse ≡ a.reverse → b.servers ≡ a.servers →
@@ -63,20 +43,44 @@ if_none : {K P Q : Type 0} (o : Option K) → (P → Q) → IfNone o P → IfNon
 if_none None f p = f p
 if_none (Some k) f p = tt
 
+-- other endpoints
 pub returns-then-ne-clause-some : goal.returns-then-ne-clause-some
 returns-then-ne-clause-some c =
-    others c.args.old.now.servers.items c.args.new.now.servers.items c.ne.result c.ne.ensures c.if-ne.true
+    let old = c.args.old.now.out.items in
+    let new = c.args.new.now.out.items in
+    differs old new (pointwise endpoint_eq old new) c.ne.result
+    (whole_list_decides endpoint_eq endpoint_decides old new) c.ne.ensures c.if-ne.true
 
-pub returns-else-ne-clause-none : goal.returns-else-ne-clause-none
-returns-else-ne-clause-none c =
+pub returns-then-ne-2-clause-some : goal.returns-then-ne-2-clause-some
+returns-then-ne-2-clause-some c =
+    let old = c.args.old.now.reverse.items in
+    let new = c.args.new.now.reverse.items in
+    differs old new (pointwise endpoint_eq old new) c.ne-else-ne.result
+    (whole_list_decides endpoint_eq endpoint_decides old new) c.ne-else-ne.ensures c.if-ne-2.true
+
+-- other servers
+pub returns-then-ne-3-clause-some : goal.returns-then-ne-3-clause-some
+returns-then-ne-3-clause-some c =
+    let old = c.args.old.now.servers.items in
+    let new = c.args.new.now.servers.items in
+    differs (map shown_server old) (map shown_server new) (pointwise server_eq old new) c.ne-else-ne-2.result
+    (list_decides server_eq shown_server server_decides old new) c.ne-else-ne-2.ensures c.if-ne-3.true
+
+-- none of these differs
+pub returns-else-ne-3-clause-none : goal.returns-else-ne-3-clause-none
+returns-else-ne-3-clause-none c =
     let old = c.args.old.now in
     let new = c.args.new.now in
     let gone : new.gone ≡ old.gone = search rules in
-    let out : new.out ≡ old.out =
-    sym ((endpoint_decides old.out new.out).0 (sym c.is_same_endpoint.ensures ∙ c.if-not-is_same_endpoint.false)) in
-    let reverse : new.reverse ≡ old.reverse =
-    c.is_same_reverse.ensures.same c.if-not-is_same_reverse.false in
     if_none c.other_difference.result
-    (same_part (shown_realm old) (shown_realm new) gone out reverse
-    (sames old.servers.items new.servers.items c.ne.result c.ne.ensures c.if-ne.false))
+    (same_part (shown_realm old) (shown_realm new) gone
+    (agrees old.out.items new.out.items (pointwise endpoint_eq old.out.items new.out.items) c.ne.result
+    (whole_list_decides endpoint_eq endpoint_decides old.out.items new.out.items) c.ne.ensures c.if-ne.false)
+    (agrees old.reverse.items new.reverse.items (pointwise endpoint_eq old.reverse.items new.reverse.items)
+    c.ne-else-ne.result (whole_list_decides endpoint_eq endpoint_decides old.reverse.items new.reverse.items)
+    c.ne-else-ne.ensures c.if-ne-2.false)
+    (agrees (map shown_server old.servers.items) (map shown_server new.servers.items)
+    (pointwise server_eq old.servers.items new.servers.items) c.ne-else-ne-2.result
+    (list_decides server_eq shown_server server_decides old.servers.items new.servers.items) c.ne-else-ne-2.ensures
+    c.if-ne-3.false))
     c.other_difference.ensures.none

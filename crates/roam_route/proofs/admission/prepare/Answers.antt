@@ -9,8 +9,8 @@ use Rattle.roam_route.proofs.admission.prepare.Goals as goal
 
 -- a home server that was found is one of the realm of its place
 pub sent-requires-clause-home : goal.sent-requires-clause-home
-sent-requires-clause-home g c = λ realm i at home.
-    c.in-Some.ensures.home realm i at (ap (λ (s : Side). Some s) home)
+sent-requires-clause-home g c = λ realm nth i at home.
+    c.in-Some.ensures.home realm nth i at (ap (λ (s : Side). Some s) home)
 
 -- the packet is one, and its sender is known
 pub returns-clause-prepared : goal.returns-clause-prepared

@@ -10,7 +10,7 @@ invariant-loop-place g l = record {
   room : l.count ≤ vec_capacity l.lanes;
   cursors : cursors_of l.lanes.items ≡ replicate l.place 0;
   tags : map (λ (m : Mark). m.tag) (marks_of l.lanes.items) ≡ own_tags l.settings.index l.place;
-  made : (k : ℕ) → k < l.place → k < 2 * length l.settings.realm.servers
+  made : (k : ℕ) → k < l.place → k < 2 * length l.settings.realm.servers * length l.settings.realm.out
       → (get_or (marks_of l.lanes.items) k (mark_of no_lane)).made ≡ true;
   free : (k id : ℕ) → place_at (get_or l.lanes.items k no_lane) id ≡ Free;
 }

@@ -14,7 +14,8 @@ returns-in-Some-clause-value c =
 
 pub returns-in-Some-clause-bound : goal.returns-in-Some-clause-bound
 returns-in-Some-clause-bound c =
-    home_in_bounds (shown c.args.self.now) c.args.realm c.args.ip c.home_of.result (returns-in-Some-clause-value c)
+    home_in_bounds (shown c.args.self.now) c.args.realm c.args.place c.args.ip c.home_of.result
+    (returns-in-Some-clause-value c)
 
 -- the realm isn't configured
 pub returns-in-None-clause-value : goal.returns-in-None-clause-value

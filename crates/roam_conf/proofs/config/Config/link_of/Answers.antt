@@ -17,7 +17,7 @@ returns-in-Some-clause-value c =
 
 pub returns-in-Some-clause-bound : goal.returns-in-Some-clause-bound
 returns-in-Some-clause-bound c =
-    link_in_bounds (shown c.args.self.now) c.args.realm c.args.endpoint c.link_at.result
+    link_in_bounds (shown c.args.self.now) c.args.realm c.args.out c.args.endpoint c.link_at.result
     (returns-in-Some-clause-value c)
 
 -- the realm isn't configured

@@ -1,4 +1,7 @@
-use Rattle.std.proofs.Common.{◌∙◌, List, length, ap}
+use Rattle.std.proofs.Common.{arith, ◌∙◌, List, length, ap}
+use Rattle.std.proofs.lemmas.List.{length-map}
+use Rattle.std.proofs.lemmas.Option.{slice_get_within}
+use Rattle.roam_conf.specs.Parts.{shown_realm}
 use Rattle.roam_pending.specs.PlainEntry.{PlainEntry}
 use Rattle.roam_reverse.specs.Sessions.{Session}
 use Rattle.roam_shard.specs.ShardView.{shown_opening}
@@ -11,6 +14,15 @@ returns-in_default-clause-there g c = λ own.
     let i = c.self.inside in
     absurd (not_own (shown_opening i.opening) i.entries i.numbers.items c.args.self.now c.self.view_is
     c.deref.result.now c.deref.ensures.value c.self.invariant c.args.realm c.in_default.ensures.none own)
+
+-- the realm is configured
+pub new-requires : goal.new-requires
+new-requires g c =
+    let i = c.self.inside in
+    let lt = slice_get_within c.deref.result.now c.args.realm _ c.in-Some.ensures.some in
+    let same = ap (λ (ns : List _). length ns) c.deref.ensures.value in
+    let count = length-map i.opening.config.now.realms.items shown_realm in
+    omega (arith, lt, same, count, c.self.invariant.count, i.opening.config.now.realms.ok.0)
 
 pub returns-clause-stands : goal.returns-clause-stands
 returns-clause-stands g c =

@@ -2,7 +2,7 @@ use Rattle.std.proofs.Common.{arith, sym}
 use Rattle.std.specs.Prelude.{if◌then◌else◌}
 use Rattle.roam_book.specs.Private.Sharing.{held_as, is_sharer}
 use Rattle.roam_book.specs.RealmTurn.{entries}
-use Rattle.roam_book.proofs.SharingLemmas.{sum-more, sum-none}
+use Rattle.roam_book.proofs.SumLemmas.{sum-more, sum-none}
 use Rattle.roam_book.proofs.state.realm_broker.RealmBroker.sharers_at.Goals as goal
 
 -- none was looked at

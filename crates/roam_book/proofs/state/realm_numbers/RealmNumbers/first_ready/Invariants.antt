@@ -8,6 +8,7 @@ use Rattle.roam_book.proofs.state.realm_numbers.RealmNumbers.first_ready.Given a
 abbrev pub invariant-loop-server : goal.invariant-loop-server
 invariant-loop-server g l =
     let ready = is_ready l.settings l.at l.self.rests.items l.self.lanes.items l.freed in
+    let outs = l.settings.realm.out in
     let servers = l.settings.realm.servers in
-    find ready (server_links l.servers.service l.server (drop l.server servers))
-    ≡ find ready (server_links l.servers.service l.servers.first (drop l.servers.first servers))
+    find ready (server_links outs l.servers.service l.server (drop l.server servers))
+    ≡ find ready (server_links outs l.servers.service l.servers.first (drop l.servers.first servers))

@@ -1,12 +1,11 @@
-use Rattle.std.proofs.Common.{◌≡◌, drop}
+use Rattle.std.proofs.Common.{◌≡◌}
 use Rattle.std.specs.List.{find}
-use Rattle.roam_book.specs.RealmConfig.{links_from, server_links}
+use Rattle.roam_book.specs.RealmConfig.{links_from}
 use Rattle.roam_book.specs.Sound.{is_sought}
 use Rattle.roam_book.proofs.state.realm_numbers.RealmNumbers.first_sought.Given as goal
 
 -- no link of the servers that were passed is sought
 abbrev pub invariant-loop-server : goal.invariant-loop-server
 invariant-loop-server g l =
-    let sought = is_sought l.settings l.self.rests.items l.self.lanes.items l.only l.freed in
-    find sought (server_links l.service l.server (drop l.server l.settings.realm.servers))
-    ≡ find sought (links_from l.settings l.service 0)
+    let sought = is_sought l.settings l.self.rests.items l.self.lanes.items l.wanted l.freed in
+    find sought (links_from l.settings l.service l.server) ≡ find sought (links_from l.settings l.service 0)
