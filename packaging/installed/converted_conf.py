@@ -7,7 +7,7 @@ import socket
 import sys
 
 NAME = re.compile(r"[A-Za-z0-9.-]{1,253}\Z")
-TABLES, SERVERS, ALSO, REJECTS = 1024, 8, 256, 1024
+TABLES, SERVERS, PLACES, ALSO, REJECTS = 1024, 8, 8, 256, 1024
 # Behind `*` a server is silent where one home server behind it is.
 REST_AFTER_OF_ALL, HOPS = 50, 10
 
@@ -120,6 +120,12 @@ def kind_of(address):
 def endpoint_text(endpoint):
     address, port = endpoint
     return f'"{address}:{port}"' if is_ipv4(address) else f'"[{address}]:{port}"'
+
+
+def endpoint_texts(endpoints):
+    """One endpoint, or a list of them, as a value."""
+    texts = [endpoint_text(it) for it in endpoints]
+    return texts[0] if len(texts) == 1 else "[" + ", ".join(texts) + "]"
 
 
 def fault_of(secret):

@@ -9,9 +9,9 @@ Where a whole client or realm isn't carried over, its status is 1.
 
 import sys
 
-from converted_conf import (ALSO, HOPS, NAME, REJECTS, REST_AFTER_OF_ALL, SERVERS, TABLES, Written, closed, endpoint_of, fault_of, kind_of,
+from converted_conf import (ALSO, HOPS, NAME, PLACES, REJECTS, REST_AFTER_OF_ALL, SERVERS, TABLES, Written, closed, endpoint_of, fault_of, kind_of,
                             network_of, network_text, options_of, peer_name, toml)
-from converted_conf import endpoint_text as written
+from converted_conf import endpoint_text as written, endpoint_texts as written_all
 from freeradius_conf import Unreadable, read
 from radsecproxy_names import NotASuffix, covers, items_of
 
@@ -68,9 +68,13 @@ class Conversion:
 
     # The top of the file
 
+    def all_listening(self, kinds):
+        """The listen sections of such a type."""
+        return [it for it in self.root.of("listen") if (it.get("type") or "").lower() in kinds]
+
     def listening(self, kinds):
-        """The first listen section of such a type with its endpoint's parts."""
-        return next((it for it in self.root.of("listen") if (it.get("type") or "").lower() in kinds), None)
+        """The first of them with its endpoint's parts."""
+        return next(iter(self.all_listening(kinds)), None)
 
     def endpoint_at(self, section, port):
         stated = section and section.get("port")
@@ -91,8 +95,13 @@ class Conversion:
         self.own = [self.address, *(it[0] for it in found)]
         places = self.endpoint_at(auth, 1812), self.endpoint_at(acct, 1813)
         self.kind = kind_of(places[0][0])
-        self.used |= set(places)
-        out.put(f"auth = {written(places[0])}", f"acct = {written(places[1])}")
+        auths, accts = [places[0]], [places[1]]
+        for these, others, kind, port in ((auths, accts, "auth", 1812), (accts, auths, "acct", 1813)):
+            for place in (self.endpoint_at(it, port) for it in self.all_listening((kind, "auth+acct"))):
+                if place not in these + others and len(these) < PLACES:
+                    these.append(place)
+        self.used |= {*auths, *accts}
+        out.put(f"auth = {written_all(auths)}", f"acct = {written_all(accts)}")
         if self.security is None or self.security.says("status_server") is not False:
             out.put("status_server = true")
         most = self.security and self.security.get("max_attributes") or ""

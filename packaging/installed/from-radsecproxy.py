@@ -10,9 +10,9 @@ import ipaddress
 import re
 import sys
 
-from converted_conf import (ALSO, HOPS, NAME, REJECTS, REST_AFTER_OF_ALL, SERVERS, TABLES, Written, closed, endpoint_of, fault_of, kind_of,
+from converted_conf import (ALSO, HOPS, NAME, PLACES, REJECTS, REST_AFTER_OF_ALL, SERVERS, TABLES, Written, closed, endpoint_of, fault_of, kind_of,
                             network_of, network_text, options_of, peer_name, toml)
-from converted_conf import endpoint_text as written
+from converted_conf import endpoint_text as written, endpoint_texts as written_all
 from radsecproxy_conf import Block, Unreadable, blocks_of
 from radsecproxy_names import NotASuffix, covers, items_of
 from radsecproxy_rewrite import MOST, rewriting_of
@@ -107,8 +107,14 @@ class Conversion:
         others = [it for it in found[1:] if kind_of(it[0]) == kind_of(auth[0])]
         acct = others[0] if others else (auth[0], 1813 if auth[1] != 1813 else 1814)
         self.kind, self.own = kind_of(auth[0]), [*(it[0] for it in homes), auth[0], *named]
+        auths, accts = [auth], [acct]
         for text in [text for text, endpoint in zip(udp, listen) if endpoint not in (auth, acct) and endpoint]:
-            out.lose(f"listenudp {text}: one endpoint for Access, one for accounting")
+            more = endpoint_of(text, 1812, self.options)
+            places = accts if more[1] in (1646, 1813) else auths
+            if more in auths + accts or len(places) == PLACES:
+                out.lose(f"listenudp {text}: {PLACES} endpoints for Access, and as many for accounting")
+            else:
+                places.append(more)
         for text, endpoint in zip(udp, listen):
             if not endpoint and not re.match(r"\*|\[?::[\]:]|0\.0\.0\.0\b", text + ":"):
                 out.lose(f"listenudp {text}: no address")
@@ -120,8 +126,8 @@ class Conversion:
             out.change("loopprevention compares names; loop_prevention, in the realms that it is for, compares addresses, and an"
                        " Access-Request gets an Access-Reject")
         out.lose_options(top, {"listenudp", "sourceudp", "loopprevention", "logfullusername", "logmac"})
-        self.used |= {auth, acct}
-        out.put(f"auth = {written(auth)}", f"acct = {written(acct)}",
+        self.used |= {*auths, *accts}
+        out.put(f"auth = {written_all(auths)}", f"acct = {written_all(accts)}",
                 "# Status-Server is answered, and accounting without a User-Name (Accounting-On), as radsecproxy does.",
                 "status_server = true", "answer_unnamed = true",
                 "# How many proxies a request may have passed; in place of TTL.",

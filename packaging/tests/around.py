@@ -49,9 +49,10 @@ def say(words):
 
 def opened_at(config):
     """A socket for each place of a configuration."""
-    places = {"auth": config.auth, "acct": config.acct}
+    lists = {"auth": config.auth, "acct": config.acct}
     for n, realm in enumerate(config.realms):
-        places |= {f"{key}:{n}": realm[key] for key in ("out", "reverse") if key in realm}
+        lists |= {f"{key}:{n}": apart.listed(realm.get(key)) for key in ("out", "reverse")}
+    places = {place + f":{nth}" * (nth > 0): text for place, texts in lists.items() for nth, text in enumerate(texts)}
     sockets = {}
     for place, text in places.items():
         own = apart.endpoint(text)
@@ -81,7 +82,7 @@ def stand_in(path):
             last = now
         for _, place, to, octets in sent:
             sockets[place].sendto(octets, to)
-        rests = {apart.at(*realm.endpoint_of(link)) for realm in core.realms for link in realm.rests}
+        rests = {apart.at(*realm.endpoint_of((*link, 0))) for realm in core.realms for link in realm.rests}
         for endpoint in rests - resting:
             say(f"home server {endpoint} keeps silent: it rests")
         for endpoint in resting - rests:

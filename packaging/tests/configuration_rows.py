@@ -147,6 +147,12 @@ name = "a.example"
 out = "127.0.0.1:2000"
 """
 
+
+def endpoints(count):
+    """An array of so many endpoints, which no other key has."""
+    return "[" + ", ".join(f'"127.0.0.1:{4000 + it}"' for it in range(count)) + "]"
+
+
 # Nothing is replaced: the line ends before the first table.
 AS_IT_IS = "\n"
 
@@ -359,6 +365,33 @@ CHANGES = [
     ("127.0.0.1:1813", "127.0.0.1:1812", "DuplicateEndpoint"),
     ("127.0.0.1:3000", "127.0.0.1:2000", "DuplicateEndpoint"),
     ("127.0.0.1:3000", "127.0.0.1:1813", "DuplicateEndpoint"),
+    # More than one endpoint: an array of 1 to 8, of `out` 1 to 16, all of them different, whose addresses may be of both kinds.
+    ('auth = "127.0.0.1:1812"', f"auth = {endpoints(1)}", None),
+    ('auth = "127.0.0.1:1812"', f"auth = {endpoints(8)}", None),
+    ('auth = "127.0.0.1:1812"', f"auth = {endpoints(9)}", "BadValue"),
+    ('auth = "127.0.0.1:1812"', "auth = []", "BadValue"),
+    ('auth = "127.0.0.1:1812"', 'auth = ["127.0.0.1:1812", 1812]', "BadValue"),
+    ('auth = "127.0.0.1:1812"', 'auth = ["127.0.0.1:1812", ["127.0.0.1:1645"]]', "BadValue"),
+    ('auth = "127.0.0.1:1812"', 'auth = ["127.0.0.1:1812", "127.0.0.1:1812"]', "DuplicateEndpoint"),
+    ('auth = "127.0.0.1:1812"', 'auth = ["127.0.0.1:1645", "127.0.0.1:1813"]', "DuplicateEndpoint"),
+    ('auth = "127.0.0.1:1812"', 'auth = ["127.0.0.1:1812", "[2001:db8::10]:1812"]', None),
+    ('acct = "127.0.0.1:1813"', f"acct = {endpoints(8)}", None),
+    ('acct = "127.0.0.1:1813"', f"acct = {endpoints(9)}", "BadValue"),
+    ('acct = "127.0.0.1:1813"', "acct = []", "BadValue"),
+    ('acct = "127.0.0.1:1813"', 'acct = ["127.0.0.1:1646", "127.0.0.1:3000"]', "DuplicateEndpoint"),
+    ('out = "127.0.0.1:2000"', f"out = {endpoints(16)}", None),
+    ('out = "127.0.0.1:2000"', f"out = {endpoints(17)}", "BadValue"),
+    ('out = "127.0.0.1:2000"', "out = []", "BadValue"),
+    ('out = "127.0.0.1:2000"', 'out = ["127.0.0.1:2000", "127.0.0.1"]', "BadValue"),
+    ('out = "127.0.0.1:2000"', 'out = ["127.0.0.1:2000", "127.0.0.1:2001", "127.0.0.1:2000"]', "DuplicateEndpoint"),
+    ('out = "127.0.0.1:2000"', 'out = ["127.0.0.1:2000", "[2001:db8::10]:2000"]', None),
+    ('out = "127.0.0.1:2000"', 'out = ["[2001:db8::10]:2000", "[2001:db8::10]:2001"]', "NoWayOut"),
+    ('reverse = "127.0.0.1:3000"', f"reverse = {endpoints(8)}", None),
+    ('reverse = "127.0.0.1:3000"', f"reverse = {endpoints(9)}", "BadValue"),
+    ('reverse = "127.0.0.1:3000"', "reverse = []", "BadValue"),
+    ('reverse = "127.0.0.1:3000"', 'reverse = ["127.0.0.1:3000", "127.0.0.1:2000"]', "DuplicateEndpoint"),
+    ('coa = "192.0.2.1:3799"', 'coa = ["192.0.2.1:3799"]', "BadValue"),
+    ('auth = "198.51.100.1:1812"', 'auth = ["198.51.100.1:1812"]', "BadValue"),
     # Names to reject.
     ("shards = 1", "reject = []", None),
     ("shards = 1", 'reject = ["x", "*.x"]', None),

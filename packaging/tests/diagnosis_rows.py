@@ -83,7 +83,7 @@ TOLD = [
      'a.conf:12: peer "nas1": nas_ipv6: "192.0.2.1" is no IPv6 address, as "2001:db8::1"\n'),
     ('"127.0.0.1:1813"',
      '"localhost:1813"',
-     'BadValue\na.conf:4: acct: "localhost:1813" is no address with a port of 1..65535, as "192.0.2.1:1812" or "[2001:db8::1]:1812"\n'),
+     'BadValue\na.conf:4: acct: "localhost:1813" is no address with a port of 1..65535, as "192.0.2.1:1812" or "[2001:db8::1]:1812", nor an array of 1..8 such\n'),
     ('"nas1"',
      '"a\\u001b\\"\\\\"',
      'BadValue\na.conf:8: peer "a\\u{1b}\\"\\\\": name: "a\\u{1b}\\"\\\\" is not 1..64 of ASCII letters, digits, . - and _\n'),
@@ -213,6 +213,28 @@ TOLD = [
      "NoWayOut\n"
      'a.conf:25: realm "a.example", server 1: auth: "198.51.100.1:1812" is IPv4, but out is IPv6\n'
      'a.conf:26: realm "a.example", server 1: acct: "198.51.100.1:1813" is IPv4, but out is IPv6\n'),
+    ('"127.0.0.1:2000"',
+     '["[2001:db8::10]:2000", "127.0.0.1:2000"]',
+     ""),
+    # More than one endpoint.
+    ('out = "127.0.0.1:2000"',
+     "out = []",
+     "BadValue\n"
+     'a.conf:16: realm "a.example": out: an array of 0 is no address with a port of 1..65535, as "192.0.2.1:1812" or "[2001:db8::1]:1812", nor an array of 1..16 such\n'),
+    ('auth = "127.0.0.1:1812"',
+     'auth = ["127.0.0.1:1812", 1645]',
+     "BadValue\n"
+     'a.conf:3: auth: 1645 is no address with a port of 1..65535, as "192.0.2.1:1812" or "[2001:db8::1]:1812", nor an array of 1..8 such\n'),
+    ('acct = "127.0.0.1:1813"',
+     'acct = ["127.0.0.1:1813", "127.0.0.1:1812"]',
+     'DuplicateEndpoint\na.conf:4: acct: "127.0.0.1:1812" stands also in line 3: auth\n'),
+    ('out = "127.0.0.1:2000"',
+     'out = ["127.0.0.1:2000", "127.0.0.1:2000"]',
+     'DuplicateEndpoint\na.conf:16: realm "a.example": out: "127.0.0.1:2000" stands also in line 16: realm "a.example": out\n'),
+    ('auth = "198.51.100.1:1812"',
+     'auth = ["198.51.100.1:1812"]',
+     "BadValue\n"
+     'a.conf:25: realm "a.example", server 1: auth: an array of 1 is no address with a port of 1..65535, as "192.0.2.1:1812" or "[2001:db8::1]:1812"\n'),
     # What is advised.
     ("shards = 1", "shards = 1", ""),
     ("0001", "0000", ""),

@@ -1,0 +1,193 @@
+#!/usr/bin/env python3
+"""try-places.py PROGRAM
+
+Serves on loopback with two `auth`, two `acct`, two `reverse` and eight `out`. Requests at each `auth` and `acct` are answered from
+there; one that comes at both is two. 2,000 Access-Requests wait at one time toward one home server, which answers each half a
+second after it came: all are answered, no `out` has more than 256 of them, and each reply goes back from where its request came.
+A reply at another `out` than its request left from is refused. A Disconnect at the second `reverse` is answered from there.
+
+It needs no root.
+"""
+
+import collections
+import hashlib
+import os
+import select
+import socket
+import sys
+import tempfile
+import threading
+import time
+
+from around import Around, packets
+
+HERE = "127.0.0.1"
+AUTH, ACCT, REVERSE, COA, HOME = (29511, 29521), (29512, 29522), (29530, 29531), 29532, (29541, 29542)
+OUT = tuple(range(29550, 29558))
+PEER, SERVER = b"a secret of the peer", b"a secret of the server"
+COUNT, NASES = 2000, 8
+CONF = f"""shards = 2
+auth = ["{HERE}:{AUTH[0]}", "{HERE}:{AUTH[1]}"]
+acct = ["{HERE}:{ACCT[0]}", "{HERE}:{ACCT[1]}"]
+
+[[peer]]
+name = "nas"
+ip = "{HERE}"
+secret = "{PEER.decode()}"
+coa = "{HERE}:{COA}"
+nas_id = "nas"
+
+[[realm]]
+name = "a.example"
+out = [{", ".join(f'"{HERE}:{port}"' for port in OUT)}]
+reverse = ["{HERE}:{REVERSE[0]}", "{HERE}:{REVERSE[1]}"]
+wait = 5000
+
+[[realm.server]]
+auth = "{HERE}:{HOME[0]}"
+acct = "{HERE}:{HOME[1]}"
+secret = "{SERVER.decode()}"
+"""
+
+
+def want(holds, what):
+    print(("ok    " if holds else "FAILS ") + what, flush=True)
+    if not holds:
+        sys.exit(1)
+
+
+def opened(port):
+    """A socket there, with room for what comes at one time."""
+    one = socket.socket(socket.AF_INET, socket.SOCK_DGRAM)
+    one.setsockopt(socket.SOL_SOCKET, socket.SO_RCVBUF, 1 << 22)
+    one.bind((HERE, port))
+    one.settimeout(5)
+    return one
+
+
+def received(at):
+    try:
+        octets, source = at.recvfrom(4096)
+    except TimeoutError:
+        return None, None
+    return packets.Packet(octets), source[1]
+
+
+def access(number, source):
+    """A request of an Identifier, told from others by its source's number."""
+    authenticator = hashlib.md5(b"%d %d" % (number, source)).digest()
+    attributes = [(1, b"u@a.example"), (2, packets.hidden(b"a password".ljust(16, b"\0"), PEER, authenticator)), (80, packets.ZEROS)]
+    code = packets.ACCESS_REQUEST
+    return packets.text(code, number, authenticator, packets.sealed(code, number, authenticator, attributes, PEER))
+
+
+def accounting(number, session):
+    attributes = [(1, b"u@a.example"), (32, b"nas"), (40, bytes([0, 0, 0, 1])), (44, session)]
+    return packets.signed(packets.ACCOUNTING_REQUEST, number, packets.ZEROS, attributes, PEER)
+
+
+def answer(asked, code):
+    """A reply with the request's Proxy-States; of an Access-Request a sealed one."""
+    attributes = [(33, it) for it in asked.values(33)]
+    if code == packets.ACCESS_ACCEPT:
+        attributes = packets.sealed(code, asked.id, asked.authenticator, [(80, packets.ZEROS)] + attributes, SERVER)
+    return packets.signed(code, asked.id, asked.authenticator, attributes, SERVER)
+
+
+class SlowServer:
+    """A home server that answers each request half a second after it came, and notes by which `out` how many waited."""
+
+    def __init__(self):
+        self.socket, self.waiting, self.most, self.is_over = opened(HOME[0]), collections.deque(), collections.Counter(), False
+        self.now = collections.Counter()
+        self.thread = threading.Thread(target=self.serve)
+        self.thread.start()
+
+    def serve(self):
+        while not self.is_over:
+            if select.select([self.socket], [], [], 0.005)[0]:
+                octets, source = self.socket.recvfrom(4096)
+                self.waiting.append((time.monotonic() + 0.5, packets.Packet(octets), source))
+                self.now[source[1]] += 1
+                self.most[source[1]] = max(self.most[source[1]], self.now[source[1]])
+            while self.waiting and self.waiting[0][0] <= time.monotonic():
+                _, asked, source = self.waiting.popleft()
+                self.now[source[1]] -= 1
+                self.socket.sendto(answer(asked, packets.ACCESS_ACCEPT), source)
+
+    def close(self):
+        self.is_over = True
+        self.thread.join()
+        self.socket.close()
+
+
+def many():
+    """All requests at one time, of so many access servers at each `auth` in turn."""
+    server = SlowServer()
+    nases = [opened(29600 + n) for n in range(NASES)]
+    for number in range(COUNT // NASES):
+        for n, nas in enumerate(nases):
+            nas.sendto(access(number, n), (HERE, AUTH[n % 2]))
+    back, end = set(), time.monotonic() + 20
+    while len(back) < COUNT and time.monotonic() < end:
+        for nas in select.select(nases, [], [], 0.1)[0]:
+            octets, source = nas.recvfrom(4096)
+            n = nases.index(nas)
+            if source[1] == AUTH[n % 2] and octets[0] == packets.ACCESS_ACCEPT:
+                back.add((n, octets[1]))
+    server.close()
+    print(f"      {len(back)} answered; waited by each out: {sorted(server.most.items())}")
+    want(len(back) == COUNT, f"{COUNT} requests that wait at one time are all answered, each from where it came")
+    want(sum(server.most.values()) > 1000 and set(server.most) <= set(OUT) and max(server.most.values()) <= 256, "by no out more than 256")
+
+
+def each_place():
+    """One request at each `auth` and `acct`, and a Disconnect at the second `reverse`."""
+    nas, homes, coa = opened(29601), [opened(port) for port in HOME], opened(COA)
+    for at, home, request, code in ((AUTH, homes[0], access(1, 1), packets.ACCESS_ACCEPT),
+                                    (ACCT, homes[1], accounting(2, b"0001"), packets.ACCOUNTING_RESPONSE)):
+        for port in at:
+            nas.sendto(request, (HERE, port))
+            asked, source = received(home)
+            want(asked is not None and source == OUT[0], f"a request at {port} is forwarded, though it came elsewhere before")
+            home.sendto(answer(asked, code), (HERE, OUT[1]))
+            nas.settimeout(0.5)
+            want(received(nas) == (None, None), "a reply at another out goes nowhere")
+            nas.settimeout(5)
+            home.sendto(answer(asked, code), (HERE, source))
+            reply, replied_from = received(nas)
+            want(reply is not None and (reply.code, replied_from) == (code, port), "its reply leaves from where it came")
+    names = [(1, b"u@a.example"), (32, b"nas"), (44, b"0001"), (55, int(time.time()).to_bytes(4, "big"))]
+    homes[0].sendto(packets.signed(packets.DISCONNECT_REQUEST, 3, packets.ZEROS, names, SERVER), (HERE, REVERSE[1]))
+    asked, source = received(coa)
+    want(asked is not None and source == OUT[0], "a Disconnect at the second reverse is forwarded")
+    states = [(33, it) for it in asked.values(33)]
+    coa.sendto(packets.signed(packets.DISCONNECT_ACK, asked.id, asked.authenticator, states, PEER), (HERE, source))
+    reply, replied_from = received(homes[0])
+    want(reply is not None and (reply.code, replied_from) == (packets.DISCONNECT_ACK, REVERSE[1]), "its ACK leaves from there")
+    for one in (nas, coa, *homes):
+        one.close()
+
+
+def main():
+    if len(sys.argv) > 2:
+        sys.exit(__doc__)
+    program = os.path.abspath(sys.argv[1]) if len(sys.argv) == 2 else None
+    with tempfile.TemporaryDirectory() as directory:
+        around = Around(directory)
+        around.broker(program, CONF, 120000)
+        time.sleep(3)
+        try:
+            each_place()
+            if program:
+                many()
+        except SystemExit:
+            around.tell()
+            raise
+        finally:
+            ended = around.close()
+    want(not ended, "it still serves")
+
+
+if __name__ == "__main__":
+    main()
