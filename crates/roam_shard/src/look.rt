@@ -89,8 +89,8 @@ impl<A: Allocator + Copy> Shard<'_, A> {
         let Some(numbers) = numbers_at(&self.numbers, realm) else {
             return None;
         };
-        let outs = RealmSettings::new(self.opening.config, realm).out_count();
-        Some(numbers.gauges(self.entries.len(realm), outs))
+        let settings = RealmSettings::new(self.opening.config, realm);
+        Some(numbers.gauges(self.entries.len(realm), settings.out_count()))
     }
 
     /// What goes of a realm where another configuration is followed, in which these peers have other tables; none

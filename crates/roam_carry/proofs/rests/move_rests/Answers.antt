@@ -10,6 +10,10 @@ loop-place-init g c =
 pub link_to_end-requires-clause-end : goal.link_to_end-requires-clause-end
 link_to_end-requires-clause-end g c = omega (arith, c.loop-place.invariant.count)
 
+-- a realm has an outgoing socket
+pub link_to_end-requires-clause-out : goal.link_to_end-requires-clause-out
+link_to_end-requires-clause-out g c = omega (arith, c.out_count-outs.ensures.some, c.out_count-outs.ensures.count)
+
 pub rest_then-requires-clause-link : goal.rest_then-requires-clause-link
 rest_then-requires-clause-link g c = c.link_to_end.ensures.link
 

@@ -16,8 +16,8 @@ returns-in_default-clause-there g c = λ own.
     c.deref.result.now c.deref.ensures.value c.self.invariant c.args.realm c.in_default.ensures.none own)
 
 -- the realm is configured
-pub new-requires : goal.new-requires
-new-requires g c =
+pub new-settings-requires : goal.new-settings-requires
+new-settings-requires g c =
     let i = c.self.inside in
     let lt = slice_get_within c.deref.result.now c.args.realm _ c.in-Some.ensures.some in
     let same = ap (λ (ns : List _). length ns) c.deref.ensures.value in
