@@ -1,6 +1,6 @@
 //! How many descriptors a server wants.
 
-ghost use Rattle.std.specs.Prelude.{◌≡◌, ◌≤◌, ◌^◌};
+ghost use Rattle.std.specs.Prelude.{◌≡◌, ◌≤◌, ◌^◌, ◌+◌, length};
 ghost use Rattle.roam_conf.specs.Shown.{shown};
 ghost use Rattle.roam_sockets.specs.Descriptors as spec;
 
@@ -11,15 +11,27 @@ use roam_port::socket_count;
 /// which connections are taken, 32 connections, and the file of its configuration while that is read.
 const BESIDE: u32 = 38;
 
-/// How many descriptors a configuration takes: its sockets, and two to wait with and one to be woken by for each
-/// worker and the timer.
+/// How many descriptors a configuration takes: its sockets, where they are spread one of each `auth` and `acct` for
+/// each worker more, and two to wait with and one to be woken by for each worker and the timer.
 fn descriptors_of(config: &Config) -> u32
     ensures value { result ≡ spec.descriptors_of (shown config.now) }
     ensures bound { result ≤ 2 ^ 20 }
 {
     let workers = u32::from(config.shards);
-    let more = if config.spread { 2 * (workers - 1) } else { 0 };
+    let more = if config.spread {
+        shared_places(config) * (workers - 1)
+    } else {
+        0
+    };
     socket_count(config) as u32 + more + 3 * (workers + 1)
+}
+
+/// How many places the workers share where they are spread.
+fn shared_places(config: &Config) -> u32
+    ensures value { result ≡ length (shown config.now).auth + length (shown config.now).acct }
+    ensures bound { result ≤ 16 }
+{
+    (config.auth.len() + config.acct.len()) as u32
 }
 
 /// How many descriptors a server wants in all that serves one configuration and changes to another: those of both, and
