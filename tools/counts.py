@@ -13,14 +13,19 @@ import sys
 ROOT = pathlib.Path(__file__).resolve().parent.parent
 
 
-def rows() -> list[str]:
-    """The text of each file of rows."""
-    return [path.read_text(encoding="utf-8") for path in (ROOT / "crates" / "test_rows" / "data").glob("r*/*")]
+def rows(folder: str = "r*") -> list[str]:
+    """The text of each file of rows, of both folders or of one."""
+    return [path.read_text(encoding="utf-8") for path in (ROOT / "crates" / "test_rows" / "data").glob(f"{folder}/*")]
 
 
 def lines_that_begin(*words: str) -> int:
     """How many lines of the rows begin so."""
     return sum(line.startswith(words) for text in rows() for line in text.split("\n"))
+
+
+def plays() -> int:
+    """How often rows are played: each over three brokers, and those of `rows/` through hubs too."""
+    return sum(text.count("#@ ") * 3 for text in rows()) + sum(text.count("#@ ") for text in rows("rows"))
 
 
 def signed_anew() -> int:
@@ -44,6 +49,7 @@ def crates() -> int:
 
 COUNTS = {
     r"([\d,]+) rows of\s+events": lambda: lines_that_begin("#@ "),
+    r"([\d,]+) plays\b": plays,
     r"([\d,]+) mutated\s+datagrams": lambda: lines_that_begin("# mutated"),
     r"([\d,]+) of (?:these|them are) sealed and signed anew": signed_anew,
     r"(\d+) mistakes(?= in a sample| \(`packaging)|(?<=Makes )(\d+) mistakes": diagnosed,

@@ -1,11 +1,11 @@
 #!/usr/bin/env python3
-"""Says which names on the pages aren't there: files, functions written as `Type::function`, names that link to a file, and laws.
+"""Says which names on the pages aren't there: files, sections, functions written as `Type::function`, names that link to a file, and laws.
 
     tools/names.py          prints each of them with its page and line; ends with 1 where there is one
 
-It looks at README.md and docs/*.md: at paths in backticks and in links, at `Type::function` and `crate::function` in
-backticks, which one crate has to have, and that one where it is named; at names whose link leads to a file of code, which has to
-have them; and at names behind "the law" or "the laws".
+It looks at README.md and docs/*.md: at paths in backticks and in links; at sections, in links and as `docs/PAGE.md`, "Section", or
+"Section", above or below; at `Type::function` and `crate::function` in backticks, which one crate has to have, and that one where
+it is named; at names whose link leads to a file of code, which has to have them; and at names behind "the law" or "the laws".
 """
 import pathlib
 import re
@@ -56,6 +56,27 @@ def missing_file(name: str, page: pathlib.Path) -> bool:
     return False
 
 
+def sections_of(page: pathlib.Path) -> tuple[set[str], list[str]]:
+    """The anchors of a page's headings, and what its headings and bold texts say."""
+    text = page.read_text(encoding="utf-8") if page.exists() else ""
+    heads = re.findall(r"^#+ (.*)$", text, re.M)
+    anchors = {re.sub(r"[^\w -]", "", it.lower()).replace(" ", "-") for it in heads}
+    return anchors, [re.sub(r"^\d+\. |`", "", it) for it in heads + re.findall(r"\*\*([^*]+)\*\*", text)]
+
+
+def missing_sections(page: pathlib.Path, text: str) -> list[str]:
+    """The sections that a page names, of itself or of another page, and that aren't there."""
+    found = [f"{link}#{anchor}" for link, anchor in re.findall(r"\]\(([^)#:]*)#([^)]+)\)", text)
+             if anchor not in sections_of(page.parent / link if link else page)[0]]
+    named = [(ROOT / link, title) for link, title in re.findall(r"`(docs/[A-Z]+\.md)`,\s+\"([^\"`]+)\"", text)]
+    named += [(page, title) for title in re.findall(r"\"([A-Z][^\"`]+)\",\s+(?:above|below)", text)]
+    for other, title in named:
+        title = re.sub(r"\s+", " ", title)
+        if not any(it.startswith(title) for it in sections_of(other)[1]):
+            found.append(f'"{title}" of {other.name}')
+    return found
+
+
 def faults_of(page: pathlib.Path, code, specs: set[str]) -> list[str]:
     """What a page names that isn't there."""
     functions = set().union(*(it for it, _ in code.values()))
@@ -90,6 +111,8 @@ def main() -> int:
     code, specs = names_of_code(), spec_names()
     pages = [ROOT / "README.md", *sorted((ROOT / "docs").glob("*.md"))]
     faults = [it for page in pages if page.name != "THEOREM.md" for it in faults_of(page, code, specs)]
+    faults += [f"{page.relative_to(ROOT)}: {it} isn't there" for page in pages if page.name != "THEOREM.md"
+               for it in missing_sections(page, page.read_text(encoding="utf-8"))]
     print("\n".join(faults) or "each name on the pages is there")
     return int(bool(faults))
 
