@@ -49,6 +49,10 @@ class Written:
             self.change(f"no address of this machine is named that is of {kind}: write it in place of {placeholder}, everywhere")
         return placeholder
 
+    def own_addresses(self, candidates, endpoints):
+        """One of this machine's addresses of each kind that one of the endpoints has, in their order."""
+        return [self.own_address(candidates, kind) for kind in dict.fromkeys(kind_of(it[0]) for it in endpoints)]
+
 
 def printable(text):
     return "".join(letter if letter.isprintable() else "?" for letter in text)

@@ -94,12 +94,12 @@ class Conversion:
         self.address = self.options.address or (found[0][0] if found else out.own_address([], "IPv4"))
         self.own = [self.address, *(it[0] for it in found)]
         places = self.endpoint_at(auth, 1812), self.endpoint_at(acct, 1813)
-        self.kind = kind_of(places[0][0])
         auths, accts = [places[0]], [places[1]]
         for these, others, kind, port in ((auths, accts, "auth", 1812), (accts, auths, "acct", 1813)):
             for place in (self.endpoint_at(it, port) for it in self.all_listening((kind, "auth+acct"))):
                 if place not in these + others and len(these) < PLACES:
                     these.append(place)
+        self.kinds = sorted({kind_of(it[0]) for it in auths})
         self.used |= {*auths, *accts}
         out.put(f"auth = {written_all(auths)}", f"acct = {written_all(accts)}")
         if self.security is None or self.security.says("status_server") is not False:
@@ -142,8 +142,8 @@ class Conversion:
         network = network_of(found[0] if found else text)
         if network is None:
             self.out.lose(f"client {section.name}: {text} is no address or prefix (names need --resolve)")
-        elif f"IPv{network.version}" != self.kind:
-            self.out.lose(f"client {section.name}: {text} is of IPv{network.version}, and `auth` of {self.kind}")
+        elif f"IPv{network.version}" not in self.kinds:
+            self.out.lose(f"client {section.name}: {text} is of IPv{network.version}, and `auth` of {self.kinds[0]}")
             return None
         return network
 
@@ -202,14 +202,7 @@ class Conversion:
         return [self.homes[it] for it in pool.all("home_server") if it in self.homes] if pool else []
 
     def servers_of(self, section):
-        return self.of_one_kind([it for it in self.members(section, "auth_pool") if self.fault_of_home(it) is None])
-
-    def of_one_kind(self, homes):
-        """Those at addresses of the first one's kind, as one socket sends to all of them."""
-        return [it for it in homes if self.kind_of_home(it) == self.kind_of_home(homes[0])]
-
-    def kind_of_home(self, home):
-        return kind_of(self.endpoint(home, 1812)[0])
+        return [it for it in self.members(section, "auth_pool") if self.fault_of_home(it) is None]
 
     def fault_of_home(self, home):
         """Why a home server can't be one of roam, or nothing."""
@@ -254,8 +247,6 @@ class Conversion:
         homes = []
         for home in self.members(section, "auth_pool"):
             fault = self.fault_of_home(home) or (f"roam takes {SERVERS}" if len(homes) == SERVERS else None)
-            if not fault and homes and self.kind_of_home(home) != self.kind_of_home(homes[0]):
-                fault = f"it is of {self.kind_of_home(home)}, and the realm's first one of {self.kind_of_home(homes[0])}"
             if fault:
                 out.lose(f"realm {section.name}: home_server {home.name}: {fault}")
             else:
@@ -278,20 +269,20 @@ class Conversion:
                        + ("; a login stays at the server that it began at (conversations)" if len(homes) > 1 else ""))
         if not any(key == "nostrip" for key, _ in section.settings):
             out.change(f"realm {section.name}: FreeRADIUS strips the realm of its names; roam never does")
-        kind = self.kind_of_home(homes[0])
-        partners = [it for it in self.members(section, "acct_pool")
-                    if self.fault_of_home(it) is None and (it.get("type") or "auth") != "auth" and self.kind_of_home(it) == kind]
+        partners = [it for it in self.members(section, "acct_pool") if self.fault_of_home(it) is None and (it.get("type") or "auth") != "auth"]
         out.put("[[realm]]", f"name = {toml(name)}", *(["also = [" + ", ".join(map(toml, also)) + "]"] if also else []))
         index, self.realms = self.realms, self.realms + 1
-        source = endpoint_of(homes[0].get("src_ipaddr") or "", 1, self.options)
-        source = out.own_address([*source[:1], *self.own] if source else self.own, kind)
-        out.put(f"out = {written(self.free_port(source, self.options.out + index))}")
+        first = {kind_of(self.endpoint(it, 1812)[0]): it for it in reversed(homes)}
+        stated = [it[0] for home in first.values() for it in [endpoint_of(home.get("src_ipaddr") or "", 1, self.options)] if it]
+        sources = out.own_addresses([*stated, *self.own], [self.endpoint(it, 1812) for it in homes])
+        out.put(f"out = {written_all(self.free_port(it, self.options.out + index) for it in sources)}")
         coa = self.listening(("coa",))
         if coa and coa.get("clients"):
             out.change(f"realm {section.name}: clients {coa.get('clients')} may send Disconnects; those that are no home servers are [[realm.coa_client]], if you write them")
         if coa or self.options.reverse:
             port = self.options.reverse or int(coa.get("port") or 3799)
-            out.put(f"reverse = {written(self.free_port(self.endpoint_at(coa, port)[0], port + index))}")
+            own = dict.fromkeys(self.endpoint_at(it, port)[0] for it in self.all_listening(("coa",)) or [None])
+            out.put(f"reverse = {written_all(self.free_port(it, port + index) for it in [*own][:PLACES])}")
         if not partners:
             out.change(f"realm {section.name}: FreeRADIUS handles its accounting itself; here it is answered, and kept nowhere")
             out.put('accounting = "answer"')

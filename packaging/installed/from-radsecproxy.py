@@ -106,7 +106,7 @@ class Conversion:
         auth = found[0] if found else (first or out.own_address([], "IPv4"), 1812)
         others = [it for it in found[1:] if kind_of(it[0]) == kind_of(auth[0])]
         acct = others[0] if others else (auth[0], 1813 if auth[1] != 1813 else 1814)
-        self.kind, self.own = kind_of(auth[0]), [*(it[0] for it in homes), auth[0], *named]
+        self.own = [*(it[0] for it in homes), auth[0], *named]
         auths, accts = [auth], [acct]
         for text in [text for text, endpoint in zip(udp, listen) if endpoint not in (auth, acct) and endpoint]:
             more = endpoint_of(text, 1812, self.options)
@@ -126,6 +126,7 @@ class Conversion:
             out.change("loopprevention compares names; loop_prevention, in the realms that it is for, compares addresses, and an"
                        " Access-Request gets an Access-Reject")
         out.lose_options(top, {"listenudp", "sourceudp", "loopprevention", "logfullusername", "logmac"})
+        self.kinds = sorted({kind_of(it[0]) for it in auths})
         self.used |= {*auths, *accts}
         out.put(f"auth = {written_all(auths)}", f"acct = {written_all(accts)}",
                 "# Status-Server is answered, and accounting without a User-Name (Accounting-On), as radsecproxy does.",
@@ -251,8 +252,8 @@ class Conversion:
         if network is None:
             why = "is no prefix" if "/" in host else f"is {self.unresolved('a name: write its address (or use --resolve)')}"
             self.out.lose(f"client {block.name}: {host} {why}")
-        elif f"IPv{network.version}" != self.kind:
-            self.out.lose(f"client {block.name}: {host} is of IPv{network.version}, and `auth` of {self.kind}")
+        elif f"IPv{network.version}" not in self.kinds:
+            self.out.lose(f"client {block.name}: {host} is of IPv{network.version}, and `auth` of {self.kinds[0]}")
             return None
         return network
 
@@ -391,10 +392,10 @@ class Conversion:
         if also:
             out.put("also = [" + ", ".join(map(toml, also)) + "]")
         index, self.realms = self.realms, self.realms + 1
-        source = out.own_address(self.own, kind_of(self.endpoint(first)[0]))
-        out.put(f"out = {written(self.free_port(source, self.options.out + index))}")
+        sources = out.own_addresses(self.own, [self.endpoint(it) for pair in pairs for it in pair if it])
+        out.put(f"out = {written_all(self.free_port(it, self.options.out + index) for it in sources)}")
         if self.options.reverse:
-            out.put(f"reverse = {written(self.free_port(source, self.options.reverse + index))}")
+            out.put(f"reverse = {written_all(self.free_port(it, self.options.reverse + index) for it in sources)}")
         if not is_forwarded:
             answered = block.is_on("accountingresponse")
             out.put(f'accounting = "{"answer" if answered else "drop"}"')
@@ -467,29 +468,22 @@ class Conversion:
             return block, f"it is {self.unresolved('no address (names need --resolve)')}"
         return block, secret_of(block)[1]
 
-    def server_of_kind(self, name, kind):
-        """The same, where it has to be of the kind of the realm's first server, as one socket sends to all of them."""
-        block, fault = self.server(name)
-        own = kind if fault else kind_of(self.endpoint(block)[0])
-        return block, fault or (f"it is of {own}, and the realm's first server of {kind}" if own != kind else None)
-
     def endpoint(self, block):
         host = (block.all("host") or [block.name])[0]
         return endpoint_of(host, int(block.get("port", "1812")), self.options)
 
     def pairs(self, block):
         """Each server of the realm, with the one for its accounting, if there is one."""
-        accounting, usable = [], self.usable(block)
-        kind = kind_of(self.endpoint(usable[0][0])[0]) if usable else None
+        accounting = []
         for name in block.all("accountingserver"):
-            server, fault = self.server_of_kind(name, kind)
+            server, fault = self.server(name)
             if fault:
                 self.out.lose(f"realm {block.name}: accountingserver {name}: {fault}")
             else:
                 accounting.append(server)
         pairs = []
         for name in block.all("server"):
-            server, fault = self.server_of_kind(name, kind)
+            server, fault = self.server(name)
             if fault is None and len(pairs) == SERVERS:
                 fault = f"roam takes {SERVERS}"
             if fault:

@@ -217,7 +217,7 @@ TOLD = [("Not carried over", what) for what in (
     "loglevel 3", "logdestination", "fticksreporting Full", "ftickskey:",
     "of-six: [2001:db8::1] is of IPv6, and `auth` of IPv4", "wired-1: 192.0.2.18 is in 192.0.2.16/30", "localhost is a name", "90 octets", "192.0.2.1 is a client before it",
     "lab.home.example is never reached", "accountingserver books",
-    "realm both.example: server of-six: it is of IPv6, and the realm's first server of IPv4", "spare-six: no TCP",
+    "spare-six: no TCP",
     "realm seven.example: none of its servers could be carried over. The realm of * takes",
     "realm /^[a-k].*@half\\.example$/: neither", "server spare: no realm")]
 TOLD += [("Changed", what) for what in (
@@ -349,6 +349,50 @@ DECIDED_TOLD = [("Not carried over", what) for what in (
 DECIDED_TOLD += [("Changed", what) for what in (
     "asks for a Chargeable-User-Identity in accounting too", "its servers differ in what is taken out of a request",
     "realm shut.a.example: it has no server. Its names get an Access-Reject, where radsecproxy keeps silent")]
+# Endpoints, clients and servers of both kinds.
+BOTH_KINDS = """ListenUDP 203.0.113.10:1812
+ListenUDP 203.0.113.10:1813
+ListenUDP [2001:db8:1::10]:1812
+ListenUDP [2001:db8:1::10]:1813
+client of-four {
+    host 192.0.2.1
+    type udp
+    secret of-four
+}
+client of-six {
+    host [2001:db8::]/48
+    type udp
+    secret of-six
+}
+server four {
+    host 198.51.100.17
+    type udp
+    secret of-home
+}
+server four-acct {
+    host 198.51.100.17
+    port 1813
+    type udp
+    secret of-home
+}
+server six {
+    host [2001:db8:2::17]
+    type udp
+    secret of-home
+}
+server six-acct {
+    host [2001:db8:2::17]
+    port 1813
+    type udp
+    secret of-home
+}
+realm a.example {
+    server four
+    server six
+    accountingServer four-acct
+    accountingServer six-acct
+}
+"""
 # Options of radsecproxy 1.11, which an older one doesn't know.
 NEWER = """ListenUDP 203.0.113.10:1812
 client one {
@@ -457,6 +501,12 @@ def is_endpoint(text):
     return ipaddress.IPv4Address(host) and in_range(int(port), 1, 65535)
 
 
+def all_of(table, key):
+    """The endpoints of a key, which may have one or an array."""
+    value = table.get(key, [])
+    return [value] if isinstance(value, str) else value
+
+
 def is_of_ipv6(endpoint):
     return endpoint.startswith("[")
 
@@ -482,7 +532,7 @@ def keeps_the_rules(conf):
         keeps_lists(peer)
         assert str(ipaddress.ip_network(peer["ip"])).removesuffix("/32").removesuffix("/128") == peer["ip"]
         assert re.fullmatch(r"[A-Za-z0-9._-]{1,64}", peer["name"]) and 1 <= len(peer["secret"].encode()) <= 64
-    names, endpoints = [], [conf["auth"], conf["acct"]]
+    names, endpoints = [], [*all_of(conf, "auth"), *all_of(conf, "acct")]
     for realm in conf["realm"]:
         assert set(realm) <= {"name", "also", "out", "reverse", "tries", "wait", "rest", "rest_after", "hold", "max_pending", "accounting",
                               "loop_prevention", "request_without", "reply_without", "conversations", "own_sessions", "server"}
@@ -490,12 +540,12 @@ def keeps_the_rules(conf):
         assert realm.get("own_sessions", False) == ("reverse" in realm and "accounting" not in realm)
         keeps_lists(realm)
         names += [realm["name"]] + realm.get("also", [])
-        endpoints += [realm[key] for key in ("out", "reverse") if key in realm]
+        endpoints += [it for key in ("out", "reverse") for it in all_of(realm, key)]
         assert realm.get("accounting") in (None, "answer", "drop")
         assert all(("acct" in server) == ("accounting" not in realm) for server in realm["server"])
         servers = [server[key] for server in realm["server"] for key in ("auth", "acct") if key in server]
         assert len(set(servers)) == len(servers) and all(map(is_endpoint, servers))
-        assert all(is_of_ipv6(it) == is_of_ipv6(realm["out"]) for it in servers)
+        assert set(map(is_of_ipv6, all_of(realm, "out"))) == set(map(is_of_ipv6, servers))
         assert 1 <= len(realm["server"]) <= 8 and len(realm.get("also", [])) <= 256
         assert in_range(realm.get("tries", 3), 1, 10) and in_range(realm.get("wait", 2000), 1, 60000)
         assert in_range(realm.get("rest", 30000), 0, 3600000) and in_range(realm.get("rest_after", 3), 1, 256) and in_range(realm.get("hold", 10000), 0, 60000)
@@ -667,12 +717,17 @@ def main():
     assert [(peer["name"], peer["ip"]) for peer in conf["peer"] if peer.get("request_without") == ["81"]] == [("wired", "192.0.2.16/30")]
     assert [peer["ip"] for peer in conf["peer"] if "/" in peer["ip"]] == ["192.0.2.16/30", "10.20.0.0/16"]
     assert conf["realm"][3]["out"].startswith("[::1]:") and conf["realm"][3]["server"][0]["auth"] == "[2001:db8::2]:1812"
-    assert [server["auth"] for server in conf["realm"][4]["server"]] == ["198.51.100.18:11812"]
+    assert [server["auth"] for server in conf["realm"][4]["server"]] == ["198.51.100.18:11812", "[2001:db8::2]:1812"]
+    assert [it.rpartition(":")[0] for it in conf["realm"][4]["out"]] == ["203.0.113.10", "[::1]"]
     assert [peer["secret"] for peer in conf["peer"]][:3] == ["a\\bcA d"] + ['it is "quoted"'] * 2
     last = conf["realm"][5]
     assert last["also"] == ["*"] and last["tries"] == 2 and last["wait"] == 3000 and last["loop_prevention"] and last["rest_after"] == 50
     assert [server["acct"] for server in conf["realm"][0]["server"]] == ["198.51.100.17:1813", "198.51.100.18:11813"]
     decided(look_over("decided.conf", DECIDED, 4, 4, DECIDED_TOLD, [], roam))
+    both = look_over("both-kinds.conf", BOTH_KINDS, 2, 1, [], [], roam)
+    assert both["auth"] == ["203.0.113.10:1812", "[2001:db8:1::10]:1812"] and both["acct"] == ["203.0.113.10:1813", "[2001:db8:1::10]:1813"]
+    assert both["realm"][0]["out"] == ["203.0.113.10:20001", "[2001:db8:1::10]:20001"]
+    assert [it["acct"] for it in both["realm"][0]["server"]] == ["198.51.100.17:1813", "[2001:db8:2::17]:1813"]
     newer = look_over("newer.conf", NEWER, 2, 1, [], [], roam, is_old=False)
     assert [(peer.get("require_seal"), peer.get("limit_proxy_state")) for peer in newer["peer"]] == [(None, True), (True, None)]
     assert newer["realm"][0]["accounting"] == "drop" and newer["realm"][0]["server"][0]["require_seal"]
