@@ -42,6 +42,7 @@ pages:
 	tools/mistakes.py
 	tools/sizes.py
 	tools/unused.py
+	tools/tests_only.py
 
 look:
 	tools/quick.py $(CRATE)

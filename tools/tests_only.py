@@ -1,0 +1,79 @@
+#!/usr/bin/env python3
+"""Says which public functions of the product nothing but tests calls, where the first line above them doesn't say so.
+
+    tools/tests_only.py     prints each with its file; ends with 1 where there is one
+
+A first line that begins with "For tests" says so, above the function or above its type. It goes by names alone: a function is called
+where its name stands before a parenthesis or behind `::` in a product crate's code, outside of contracts and imports. So one may
+be left out whose name another has. Laws (laws.rt, bounds.rt, and what has no body) aren't looked at. LEFT has what is to be taken out, or is to say so.
+"""
+import collections
+import pathlib
+import re
+import sys
+
+ROOT = pathlib.Path(__file__).resolve().parent.parent
+LEFT = {
+    "roam_address/src/prefix.rt length", "roam_address/src/prefix_index.rt look_ups", "roam_audit/src/report.rt audit",
+    "roam_audit/src/seat.rt tallies", "roam_carry/src/reload.rt carry_book_over", "roam_fwd/src/forwardable.rt can_be_forwarded",
+    "roam_fwd/src/forwarding.rt forward", "roam_ids/src/slot.rt tag", "roam_port/src/outbox.rt account",
+    "roam_tables/src/tables/round_search.rt round_looks", "roam_trace/src/traced.rt steps",
+}
+SKIPPED = re.compile(r"\s*(//|(pub(\(\w+\))? )?use\b|ghost\b|requires\b|ensures\b|preserved\b)")
+
+
+def sources() -> dict[str, list[str]]:
+    """The lines of each file of the product, but those of tests."""
+    paths = [it for it in sorted(ROOT.glob("crates/roam*/src/**/*.rt")) if it.stem != "tests"]
+    return {str(it.relative_to(ROOT / "crates")): it.read_text(encoding="utf-8").split("\n") for it in paths}
+
+
+def calls(files: dict[str, list[str]]) -> collections.Counter[str]:
+    """How often each name is called."""
+    found: collections.Counter[str] = collections.Counter()
+    for lines in files.values():
+        for line in lines:
+            if not SKIPPED.match(line):
+                line = re.sub(r"\bfn \w+", "fn", line)
+                found.update(re.findall(r"\b([a-z_]\w*)(?:\(|::<)", line) + re.findall(r"::([a-z_]\w*)\b(?!\(|::<)", line))
+    return found
+
+
+def first_line(lines: list[str], at: int) -> str:
+    """The first line of what stands above a line, between attributes too."""
+    said = ""
+    for line in reversed(lines[:at]):
+        if not re.match(r"\s*(///|#\[|#!\[)", line):
+            break
+        said = line.strip() if line.strip().startswith("///") else said
+    return said
+
+
+def main() -> int:
+    if sys.argv[1:]:
+        print(__doc__, file=sys.stderr)
+        return 2
+    files = sources()
+    called, types, unsaid = calls(files), set(), set()
+    for lines in files.values():
+        types |= {found.group(1) for at, line in enumerate(lines) if (found := re.match(r"pub struct (\w+)", line))
+                  and first_line(lines, at).startswith("/// For tests")}
+    for name, lines in files.items():
+        if name.endswith(("/laws.rt", "/bounds.rt")):
+            continue
+        own = ""
+        for at, line in enumerate(lines):
+            own = (found := re.match(r"impl(?:<.*?>)? (?:\w+ for )?(\w+)", line)) and found.group(1) or own
+            found = re.match(r"\s*pub (?:const )?fn (\w+)", line)
+            if not found or called[found.group(1)] or first_line(lines, at).startswith("/// For tests") or line[0] == " " and own in types:
+                continue
+            if next(it for it in lines[at:] if it.strip() in ("{", "{}") or it.endswith((" {", "{}"))).strip() != "{}":
+                unsaid.add(f"{name} {found.group(1)}")
+    faults = [f"crates/{it}: only tests call it, if any, and its first line doesn't say so" for it in sorted(unsaid - LEFT)]
+    faults += [f"crates/{it}: LEFT has it, and it is called, or says so" for it in sorted(LEFT - unsaid)]
+    print("\n".join(faults) or f"what only tests call says so ({len(LEFT)} left)")
+    return int(bool(faults))
+
+
+if __name__ == "__main__":
+    sys.exit(main())
