@@ -2,9 +2,10 @@
 """try-places.py PROGRAM
 
 Serves on loopback with two `auth`, two `acct`, two `reverse` and eight `out`. Requests at each `auth` and `acct` are answered from
-there; one that comes at both is two. 2,000 Access-Requests wait at one time toward one home server, which answers each half a
-second after it came: all are answered, no `out` has more than 256 of them, and each reply goes back from where its request came.
-A reply at another `out` than its request left from is refused. A Disconnect at the second `reverse` is answered from there.
+there; one that comes at both is two. 2,000 Access-Requests are sent toward one home server, which answers each half a second after
+it came; and 2,000 more, which it answers half a second after the last of them came, so that all wait at one time: all are answered, no
+`out` has more than 256 of them, and each reply goes back from where its request came. What isn't answered is sent again, as access
+servers do. A reply at another `out` than its request left from is refused. A Disconnect at the second `reverse` is answered from there.
 
 It needs no root.
 """
@@ -95,24 +96,36 @@ def answer(asked, code):
 
 
 class SlowServer:
-    """A home server that answers each request half a second after it came, and notes by which `out` how many waited."""
+    """A home server that answers each request half a second after it came, or after all came, and notes by which `out` how many waited."""
 
-    def __init__(self):
+    def __init__(self, waits_for_all):
         self.socket, self.waiting, self.most, self.is_over = opened(HOME[0]), collections.deque(), collections.Counter(), False
-        self.now = collections.Counter()
+        self.now, self.seen, self.waits_for_all = collections.Counter(), set(), waits_for_all
         self.thread = threading.Thread(target=self.serve)
         self.thread.start()
+
+    def take(self):
+        """A request that waits from now on; one that is sent again, too, and is counted once."""
+        octets, source = self.socket.recvfrom(4096)
+        is_new = (source[1], octets[:20]) not in self.seen
+        self.seen.add((source[1], octets[:20]))
+        self.waiting.append((time.monotonic(), packets.Packet(octets), source, is_new))
+        self.now[source[1]] += is_new
+        self.most[source[1]] = max(self.most[source[1]], self.now[source[1]])
+
+    def is_answered(self, came):
+        """Whether one that came then is answered now: all, where the last of all doesn't come."""
+        waits = 4 if self.waits_for_all and len(self.seen) < COUNT else 0.5
+        return came + waits <= time.monotonic()
 
     def serve(self):
         while not self.is_over:
             if select.select([self.socket], [], [], 0.005)[0]:
-                octets, source = self.socket.recvfrom(4096)
-                self.waiting.append((time.monotonic() + 0.5, packets.Packet(octets), source))
-                self.now[source[1]] += 1
-                self.most[source[1]] = max(self.most[source[1]], self.now[source[1]])
-            while self.waiting and self.waiting[0][0] <= time.monotonic():
-                _, asked, source = self.waiting.popleft()
-                self.now[source[1]] -= 1
+                self.take()
+            last = self.waiting[-1][0] if self.waiting and self.waits_for_all else 0
+            while self.waiting and self.is_answered(max(last, self.waiting[0][0])):
+                _, asked, source, is_new = self.waiting.popleft()
+                self.now[source[1]] -= is_new
                 self.socket.sendto(answer(asked, packets.ACCESS_ACCEPT), source)
 
     def close(self):
@@ -121,24 +134,44 @@ class SlowServer:
         self.socket.close()
 
 
-def many():
-    """All requests at one time, of so many access servers at each `auth` in turn."""
-    server = SlowServer()
-    nases = [opened(29600 + n) for n in range(NASES)]
+def send_all(nases, first, back):
+    """What isn't answered, of so many access servers at each `auth` in turn."""
     for number in range(COUNT // NASES):
         for n, nas in enumerate(nases):
-            nas.sendto(access(number, n), (HERE, AUTH[n % 2]))
-    back, end = set(), time.monotonic() + 20
+            if (n, number) not in back:
+                nas.sendto(access(number, first + n), (HERE, AUTH[n % 2]))
+
+
+def answered(nases, first):
+    """The requests that are answered from where they came, and how often what wasn't yet was sent again."""
+    back, times, again, end = set(), 0, time.monotonic() + 3, time.monotonic() + 20
     while len(back) < COUNT and time.monotonic() < end:
         for nas in select.select(nases, [], [], 0.1)[0]:
             octets, source = nas.recvfrom(4096)
             n = nases.index(nas)
             if source[1] == AUTH[n % 2] and octets[0] == packets.ACCESS_ACCEPT:
                 back.add((n, octets[1]))
+        if time.monotonic() > again:
+            send_all(nases, first, back)
+            times, again = times + 1, time.monotonic() + 3
+    return back, times
+
+
+def many(waits_for_all):
+    server, first = SlowServer(waits_for_all), 29610 if waits_for_all else 29602
+    nases, begin = [opened(first + n) for n in range(NASES)], time.monotonic()
+    send_all(nases, first, ())
+    sent = time.monotonic() - begin
+    back, times = answered(nases, first)
+    took = time.monotonic() - begin
     server.close()
-    print(f"      {len(back)} answered; waited by each out: {sorted(server.most.items())}")
-    want(len(back) == COUNT, f"{COUNT} requests that wait at one time are all answered, each from where it came")
-    want(sum(server.most.values()) > 1000 and set(server.most) <= set(OUT) and max(server.most.values()) <= 256, "by no out more than 256")
+    for nas in nases:
+        nas.close()
+    print(f"      {len(back)} answered in {took:.1f} s, sent in {sent:.1f} s, again {times} times; waited by each out: {sorted(server.most.items())}")
+    want(len(back) == COUNT, f"{COUNT} requests are all answered, each from where it came")
+    want(set(server.most) <= set(OUT) and max(server.most.values()) <= 256, "no more than 256 wait at one time by an out")
+    if waits_for_all:
+        want(sum(server.most.values()) == COUNT, f"all {COUNT} wait at one time")
 
 
 def each_place():
@@ -180,7 +213,8 @@ def main():
         try:
             each_place()
             if program:
-                many()
+                many(waits_for_all=False)
+                many(waits_for_all=True)
         except SystemExit:
             around.tell()
             raise
