@@ -8,6 +8,9 @@
   (crates/roam_conf_reader/src/tables.rt) compared with it; each stands in examples/two-realms.conf.
 - The refusals: the table of docs/REFUSALS.md. The manual page's are made of it, and the names in their order
   (crates/roam_wire/src/refusal.rt) compared with it.
+- The faults of a configuration: the table of docs/FILES.md. The manual page's are made of it, and the names in their order
+  (crates/roam_conf_reader/src/fault.rt) compared with it.
+- The usage: what docs/REFUSALS.md has of it is what the program prints (crates/roam_words/src/usage.rt).
 """
 import pathlib
 import re
@@ -88,10 +91,19 @@ def refusals_in_mdoc() -> str:
     return "\n".join(page + [".El"])
 
 
+def fault_names() -> list[str]:
+    return [name.strip("`") for name, _ in rows_of("FILES.md", "fault | when")]
+
+
+def faults_in_mdoc() -> str:
+    names = fault_names()
+    return "\n".join(f".Sy {it} {'.' if it == names[-1] else ','}" for it in names)
+
+
 def manual() -> str:
-    """The manual page with both lists made anew."""
+    """The manual page with its lists made anew."""
     page = MANUAL.read_text(encoding="utf-8")
-    for name, made in (("keys", keys_in_mdoc()), ("refusals", refusals_in_mdoc())):
+    for name, made in (("keys", keys_in_mdoc()), ("refusals", refusals_in_mdoc()), ("faults", faults_in_mdoc())):
         begin, end = f'.\\" {name}: made by tools/lists.py\n', f'.\\" {name}: end\n'
         if begin not in page or end not in page:
             raise SystemExit(f"packaging/installed/roam.8 has no place for the {name}")
@@ -128,6 +140,12 @@ def faults() -> list[str]:
         ROOT / "crates" / "roam_metrics" / "src" / "reply_families.rt").read_text(encoding="utf-8"))
     if counted != rows:
         said.append("the refusals that roam_metrics counts aren't those of roam_wire, in their order")
+    code = (ROOT / "crates" / "roam_conf_reader" / "src" / "fault.rt").read_text(encoding="utf-8").split("pub enum ConfFault {")[1].split("\n}")[0]
+    if [it for it in re.findall(r"^    ([A-Z]\w+),$", code, re.M) if it != "Memory"] != fault_names():
+        said.append("the faults of docs/FILES.md aren't those of roam_conf_reader, in their order")
+    usage = (ROOT / "crates" / "roam_words" / "src" / "usage.rt").read_text(encoding="utf-8").split('b"usage: ')[1].split('",')[0].replace("\\n", "\n")
+    if f"```text\nusage: {usage}```" not in (ROOT / "docs" / "REFUSALS.md").read_text(encoding="utf-8"):
+        said.append("the usage in docs/REFUSALS.md isn't the one that the program prints")
     if MANUAL.read_text(encoding="utf-8") != manual():
         said.append("packaging/installed/roam.8 isn't what the pages give: run tools/lists.py")
     return said
