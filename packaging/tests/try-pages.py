@@ -32,7 +32,7 @@ BROKER = "203.0.113.10"
 BEGINNINGS = ("systemctl", "journalctl", "ss", "nstat", "top", "sysctl", "ulimit", "tcpdump", "apt", "make", "mv", "rm")
 # What isn't run anywhere, and why.
 UNRUN = [
-    (r"\b(apt (remove|purge)|disable --now|uninstall|rm -r)\b", "it takes away what the next ones need; try-deb.sh runs it"),
+    (r"\b(apt (remove|purge)|disable --now|uninstall|rm -rf?)\b", "it takes away what the next ones need; try-deb.sh runs it"),
     (r"^tcpdump", "it runs until it is ended"),
     (r"^sysctl -w", "it changes the machine, and a container can't"),
     (r"^systemctl edit", "it asks a person"),
