@@ -11,6 +11,7 @@
 - The faults of a configuration: the table of docs/FILES.md. The manual page's are made of it, and the names in their order
   (crates/roam_conf_reader/src/fault.rt) compared with it.
 - The usage: what docs/REFUSALS.md has of it is what the program prints (crates/roam_words/src/usage.rt).
+- The texts of the program's faults: each of crates/roam_words/src/fault_text.rt has a row of docs/REFUSALS.md, and each row one of these.
 """
 import pathlib
 import re
@@ -28,6 +29,8 @@ HEADS = {
 }
 # What the manual page doesn't list: no datagram that a server received meets them, or nothing is logged of them.
 NOT_LOGGED = {11, 20, 22, 23}
+# Texts that begin as others do, and go on in crates/roam_words/src/reasons.rt.
+COMPOSED = {"roam: PATH: REASON", "roam: PATH:LINE: isn't UTF-8"}
 
 
 def rows_of(page: str, first: str) -> list[list[str]]:
@@ -120,6 +123,21 @@ def keys_of_the_reader() -> dict[str, set[str]]:
     return found
 
 
+def lost_texts() -> list[str]:
+    """The program's texts that have no row, and the rows whose text the program doesn't have."""
+    code = (ROOT / "crates" / "roam_words" / "src" / "fault_text.rt").read_text(encoding="utf-8")
+    stands_for = {"path": "PATH", "word": "WORD", "number": "N", "wanted": "N", "endpoint": "ENDPOINT", "fault": "NAME"}
+    texts = {re.sub(r"\{(\w+)\}", lambda it: stands_for.get(it.group(1), "REASON"), it).replace("error REASON", "REASON")
+             for it in re.findall(r'"(roam: [^"]*?)(?:\\n)?"', code)} | COMPOSED
+    page = (ROOT / "docs" / "REFUSALS.md").read_text(encoding="utf-8")
+    rows = set(re.findall(r"^\| `(roam: [^`]+)` \|", page, re.M)) | set(re.findall(r"behind `(roam: [^`]+)`", page))
+    # Of a text that is printed in parts the first one is found.
+    fronts = {it for it in texts if it.startswith("roam: cannot")}
+    texts = {next((row for row in rows if it in fronts and row.startswith(it)), it) for it in texts}
+    return ([f"docs/REFUSALS.md has no row of the text {it!r}" for it in sorted(texts - rows)]
+            + [f"the program has no text {it!r}, of which docs/REFUSALS.md has a row" for it in sorted(rows - texts)])
+
+
 def faults() -> list[str]:
     """What doesn't agree."""
     said, listed = [], {}
@@ -146,6 +164,7 @@ def faults() -> list[str]:
     usage = (ROOT / "crates" / "roam_words" / "src" / "usage.rt").read_text(encoding="utf-8").split('b"usage: ')[1].split('",')[0].replace("\\n", "\n")
     if f"```text\nusage: {usage}```" not in (ROOT / "docs" / "REFUSALS.md").read_text(encoding="utf-8"):
         said.append("the usage in docs/REFUSALS.md isn't the one that the program prints")
+    said += lost_texts()
     if MANUAL.read_text(encoding="utf-8") != manual():
         said.append("packaging/installed/roam.8 isn't what the pages give: run tools/lists.py")
     return said
