@@ -36,6 +36,7 @@ pages:
 	python3 tools/claims.py
 	tools/metrics.py
 	python3 tools/pictures.py
+	python3 packaging/installed/grafana.py check
 	tools/names.py
 	tools/counts.py
 	tools/lists.py --check

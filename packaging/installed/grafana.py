@@ -57,7 +57,7 @@ PANELS = [
        "{{server}}")]),
     ("Home servers that rest", "state-timeline", "none", 8, 8,
      [("max by (realm, server, service) (roam_server_rests{IR})", "{{server}} {{service}}")]),
-    ("Identifiers in use, of 256", "timeseries", "none", 8, 8,
+    ("Identifiers in use, of 256 for each out", "timeseries", "none", 8, 8,
      [("max by (server, service) (roam_server_identifiers_in_use{IR})", "{{server}} {{service}}")]),
     ("Requests that wait, of what a realm may hold", "timeseries", "percentunit", 8, 8,
      [("max by (realm) (roam_realm_waiting_requests{IR} / roam_realm_max_pending{IR})", "{{realm}}")]),
@@ -105,7 +105,7 @@ def panel(number: int) -> dict:
         defaults["custom"] = {"drawStyle": "line", "lineWidth": 2, "fillOpacity": 8, "showPoints": "never",
                               "spanNulls": False}
     if "of 256" in title:
-        defaults["max"] = 256
+        defaults["custom"]["axisSoftMax"] = 256
     return {
         "id": number + 1, "type": kind, "title": title, "datasource": SOURCE,
         "gridPos": {"x": x, "y": y, "w": wide, "h": high},
