@@ -4,8 +4,10 @@
     tools/counts.py     says each that isn't, with its page and line; ends with 1 where there is one
 
 COUNTS has what a page may count, as it is written, and how it is counted here. Other numbers of things that grow don't belong on pages.
+CONSTANTS has numbers of the program, as pages write them, and the constant of the code that each has to be.
 """
 import importlib.util
+import math
 import pathlib
 import re
 import sys
@@ -61,16 +63,41 @@ COUNTS = {
 }
 
 
+CONSTANTS = {
+    r"notices, a queue of ([\d,]+) for each": ("roam_telling/src/notices.rt", "NOTICES"),
+    r"through a queue of ([\d,]+) for each thread": ("roam_telling/src/exchanges.rt", "LINES"),
+    r"a tick ended more than ([\d,]+) at once": ("roam_telling/src/exchanges.rt", "MOST_AT_ONCE"),
+    r"up to (\d+) datagrams of one\b|at most (\d+) datagrams of a socket": ("roam_workers/src/worker.rt", "IN_A_ROUND"),
+    r"more than (\d+) entries are due|about (\d+) entries\b": ("roam_due/src/moment.rt", "MOST"),
+    r"go back,\s+by (\d+) ms at most|moves them, by (\d+) ms at most": ("roam_due/src/moment.rt", "LATE"),
+    r"(\d+) sessions in a hold of a lock": ("roam_hub/src/saving.rt", "SESSIONS_AT_ONCE"),
+    r"as may \((\d+); \d+ with 1,024 realms\)": ("roam_port/src/sharing.rt", "GREATEST_SHARE"),
+    r"as may \(\d+; (\d+) with 1,024 realms\)": ("roam_port/src/sharing.rt", "LEAST_SHARE"),
+    r"at most (\d+)\s+connections are open": ("roam_control/src/connections.rt", "CONNECTIONS"),
+    r"asks for ([\d,]+) octets a socket": ("roam_sockets/src/options.rt", "RECEIVE_BUFFER"),
+    r"and (\d+) beside them want": ("roam_sockets/src/descriptors.rt", "BESIDE"),
+}
+
+
+def constant(path: str, name: str) -> int:
+    """A constant of the code, which may be a product."""
+    found = re.search(rf"const {name}: \w+ = ([\d_* ]+);", (ROOT / "crates" / path).read_text(encoding="utf-8"))
+    factors = [int(it.replace("_", "")) for it in found.group(1).split("*")]
+    return math.prod(factors)
+
+
 def main() -> int:
     said, known = [], {}
+    counted = COUNTS | {pattern: lambda where=where: constant(*where) for pattern, where in CONSTANTS.items()}
     pages = [ROOT / "README.md", *sorted((ROOT / "docs").glob("*.md")), *ROOT.glob("*/README.md"), *ROOT.glob("packaging/**/try-*")]
     for page in pages:
         text = page.read_text(encoding="utf-8")
-        for pattern, count in COUNTS.items():
+        for pattern, count in counted.items():
             for found in re.finditer(pattern, text):
                 number = int(next(it for it in found.groups() if it).replace(",", ""))
                 if known.setdefault(pattern, count()) != number:
                     said.append(f"{page.relative_to(ROOT)}:{text.count(chr(10), 0, found.start()) + 1}: {found.group(0)!r}: there are {known[pattern]}")
+    said += [f"no page has {pattern!r} any more: take it out of CONSTANTS, or spell it as the page does" for pattern in CONSTANTS if pattern not in known]
     print("\n".join(said) or "the counts on the pages are those of the sources")
     return int(bool(said))
 
