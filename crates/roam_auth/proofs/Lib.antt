@@ -4,6 +4,8 @@ pub mod ValueLemmas
 pub mod SealLemmas
 pub mod StandardFacts
 pub mod SealingLemmas
+pub mod HashedLemmas
+pub mod SealPlaceLemmas
 pub mod DecidingLemmas
 pub mod DifferenceLemmas
 pub mod SignedLemmas

@@ -1,63 +1,14 @@
 -- Message-Authenticators, and packets that are well sealed.
-use Rattle.std.proofs.Common.{◌≡◌, ℕ, zero, suc, ◌+◌, ◌<◌, ◌/◌, ◌%◌, ◌↔◌, ◌⊎◌, inl, inr, List, [], ◌∷◌, ◌++◌, length, take, Some, refl, sym, ap, subst, ◌∙◌, arith, slice_index_or, append_assoc}
+use Rattle.std.proofs.Common.{◌≡◌, ℕ, zero, suc, ◌<◌, ◌↔◌, ◌⊎◌, inl, inr, List, [], ◌∷◌, Some, refl, sym, ap, subst, ◌∙◌, arith, slice_index_or}
 use Rattle.std.specs.Prelude.{Any}
-use Rattle.std.specs.List.{AllByRecursion}
-use Rattle.md5.specs.Md5.{Holds}
-use Rattle.md5.specs.declared.Md5.{Md5}
-use Rattle.roam_wire.specs.Packet.{Attribute, IsAttribute, Packet, attribute_text, packet_text, packet_length}
+use Rattle.roam_wire.specs.Packet.{Packet, packet_text}
 use Rattle.roam_wire.specs.Attributes.{first_value}
 use Rattle.roam_wire.specs.declared.attribute_type.TheConstants.{MESSAGE_AUTHENTICATOR}
 use Rattle.roam_auth.specs.Authenticators.{zero_octets, with_authenticator}
 use Rattle.roam_auth.specs.Hmac.{hmac_md5}
-use Rattle.roam_auth.specs.MessageAuthenticator.{HasOneMessageAuthenticator, HasAtMostOneMessageAuthenticator, attribute_with_value, with_value, zeroed_text, message_authenticator, with_message_authenticator, IsSealedOver, IsWellSealed}
+use Rattle.roam_auth.specs.MessageAuthenticator.{HasOneMessageAuthenticator, HasAtMostOneMessageAuthenticator, with_value, message_authenticator, with_message_authenticator, IsSealedOver, IsWellSealed}
 use Rattle.roam_auth.proofs.DigestLemmas.{length-message_authenticator}
-use Rattle.roam_auth.proofs.ValueLemmas.{packet_length-with_value, count_of-with_value, first_value-with_value, first_value-none, HasOne-with_value, with_value-again}
-
--- ---- the digest in pieces
-
--- what a hasher took in since it was `before`, of all the attributes but those that are left
-pub record HasTaken (before hasher : Md5) (all left : List Attribute) : Type 0 where
-  pub attributes : AllByRecursion IsAttribute left
-  pub held : (m : List ℕ) → Holds before m →
-      (n : List ℕ) × Holds hasher n × (n ++ zeroed_text left ≡ m ++ zeroed_text all)
-
--- an attribute's two octets before its Value, and the Value
-pub attribute_taken : (new : Md5) (m value : List ℕ) (a : Attribute) →
-    value ≡ (attribute_with_value zero_octets a).value →
-    Holds new (m ++ (a.kind ∷ (length value + 2) ∷ []) ++ value) →
-    Holds new (m ++ attribute_text (attribute_with_value zero_octets a))
-attribute_taken new m value a same held =
-    let text : m ++ (a.kind ∷ (length value + 2) ∷ []) ++ value
-    ≡ m ++ attribute_text (attribute_with_value zero_octets a) =
-    append_assoc m (a.kind ∷ (length value + 2) ∷ []) value
-    ∙ ap (λ (v : List ℕ). m ++ (a.kind ∷ (length v + 2) ∷ v)) same in
-    subst (Holds new) text held
-
--- the header with another Authenticator, and the attributes with zeros, are the packet that is
--- hashed
-pub hashed_packet : (a : List ℕ) (p : Packet) → HasAtMostOneMessageAuthenticator p →
-    take 4 (packet_text p) ++ a ++ zeroed_text p.attributes
-    ≡ packet_text (with_authenticator a (with_value zero_octets p))
-hashed_packet a p h =
-    let same : packet_length (with_value zero_octets p) ≡ packet_length p =
-    packet_length-with_value zero_octets p refl h in
-    let rest : List ℕ = a ++ zeroed_text p.attributes in
-    ap (λ (n : ℕ). p.code ∷ p.id ∷ (n / 256) ∷ (n % 256) ∷ rest) (sym same)
-
--- the pieces that a Message-Authenticator takes in, behind the padded key
-pub sealed_pieces : (key a before field octets : List ℕ) (all : List Attribute) (p : Packet) →
-    HasAtMostOneMessageAuthenticator p → octets ≡ packet_text p → before ≡ take 4 octets →
-    field ≡ a → all ≡ p.attributes →
-    key ++ before ++ field ++ zeroed_text all
-    ≡ key ++ packet_text (with_authenticator a (with_value zero_octets p))
-sealed_pieces key a before field octets all p h text front middle attributes =
-    let pieces : before ++ field ++ zeroed_text all
-    ≡ take 4 (packet_text p) ++ a ++ zeroed_text p.attributes =
-    rw (front, middle, attributes, text) refl in
-    append_assoc (key ++ before) field (zeroed_text all)
-    ∙ append_assoc key before (field ++ zeroed_text all)
-    ∙ ap (λ (t : List ℕ). key ++ t) (sym (append_assoc before field (zeroed_text all)) ∙ pieces
-    ∙ hashed_packet a p h)
+use Rattle.roam_auth.proofs.ValueLemmas.{count_of-with_value, first_value-with_value, first_value-none, HasOne-with_value, with_value-again}
 
 -- ---- the Message-Authenticator
 

@@ -66,11 +66,11 @@ first_value-no : (kind : ℕ) (a : Attribute) (all : List Attribute) → has_kin
     first_value kind (a ∷ all) ≡ first_value kind all
 first_value-no kind a all other = rw other refl
 
-first_seal-yes : (a : Attribute) (all : List Attribute) → is_seal a ≡ true →
+pub first_seal-yes : (a : Attribute) (all : List Attribute) → is_seal a ≡ true →
     first_seal (a ∷ all) ≡ Some a.value
 first_seal-yes = first_value-yes MESSAGE_AUTHENTICATOR
 
-first_seal-no : (a : Attribute) (all : List Attribute) → is_seal a ≡ false →
+pub first_seal-no : (a : Attribute) (all : List Attribute) → is_seal a ≡ false →
     first_seal (a ∷ all) ≡ first_seal all
 first_seal-no = first_value-no MESSAGE_AUTHENTICATOR
 

@@ -5,3 +5,5 @@ pub mod Laws
 pub mod Sealing
 pub mod Deciding
 pub mod DecidingLaws
+pub mod Midstates
+pub mod SealPlaces

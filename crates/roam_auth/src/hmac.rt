@@ -1,9 +1,8 @@
-//! HMAC-MD5 (RFC 2104), in two steps: the inner digest takes the message in pieces, the outer one
-//! the inner digest.
+//! The two blocks of a key that HMAC-MD5 (RFC 2104) takes in before it sees a message.
 
-ghost use Rattle.std.specs.Prelude.{◌≡◌, ◌≤◌, ◌++◌, length};
-ghost use Rattle.md5.specs.Md5.{Holds, md5};
-ghost use Rattle.roam_auth.specs.Hmac.{padded_key, key_with_pad, hmac_md5};
+ghost use Rattle.std.specs.Prelude.{◌≡◌, ◌≤◌, length};
+ghost use Rattle.md5.specs.Md5.{Holds};
+ghost use Rattle.roam_auth.specs.Hmac.{padded_key, key_with_pad};
 
 use md5::{Digest, Md5};
 
@@ -14,7 +13,7 @@ const INNER_PAD: u8 = 0x36;
 const OUTER_PAD: u8 = 0x5c;
 
 /// The key, and zeros behind it to the 64 octets of a block.
-fn padded_key(key: &[u8]) -> [u8; 64]
+pub fn padded_key(key: &[u8]) -> [u8; 64]
     requires { length key.now ≤ 64 }
     ensures { result ≡ padded_key key.now }
 {
@@ -45,24 +44,12 @@ pub fn inner_hasher(key: &[u8]) -> Md5
     hasher
 }
 
-/// The digest of the key and the inner digest.
-pub fn outer_digest(key: &[u8], inner: [u8; 16]) -> [u8; 16]
+/// A hasher that has taken the key, and takes the inner digest.
+pub fn outer_hasher(key: &[u8]) -> Md5
     requires { length key.now ≤ 64 }
-    ensures { result ≡ md5 (key_with_pad 0x5c key.now ++ inner) }
+    ensures { Holds result (key_with_pad 0x5c key.now) }
 {
     let mut hasher = Md5::new();
     hasher.update(key_with_pad(key, OUTER_PAD).as_slice());
-    hasher.update(inner.as_slice());
-    hasher.finalize()
-}
-
-/// HMAC-MD5 of a message (RFC 2104, section 2), for a key of at most 64 octets.
-#[tactic(auto, unfolding(crate::specs::Hmac::hmac_md5))]
-pub fn hmac_md5(key: &[u8], message: &[u8]) -> [u8; 16]
-    requires { length key.now ≤ 64 }
-    ensures { result ≡ hmac_md5 key.now message.now }
-{
-    let mut hasher = inner_hasher(key);
-    hasher.update(message);
-    outer_digest(key, hasher.finalize())
+    hasher
 }

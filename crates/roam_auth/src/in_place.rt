@@ -13,25 +13,10 @@ ghost use Rattle.roam_auth.specs.MessageAuthenticator.{with_message_authenticato
 ghost use Rattle.roam_auth.specs.Sealing.{IsValuePlace};
 
 use crate::message::message_auth;
+use crate::pieces::value_place;
 use crate::request::request_auth;
 use crate::response::response_auth;
 use roam_wire::View;
-use roam_wire::attribute_type::MESSAGE_AUTHENTICATOR;
-
-/// Where in a packet's octets the Value of its first Message-Authenticator begins, if it has one.
-pub fn value_place(view: &View<'_>) -> Option<usize>
-    ensures { MatchOption result (HasNoMessageAuthenticator view.now)
-        (λ at. IsValuePlace at view.now.attributes) }
-{
-    let mut at = 20;
-    for attribute in view.attributes() {
-        if attribute.kind == MESSAGE_AUTHENTICATOR {
-            return Some(at + 2);
-        }
-        at += 2 + attribute.value.len();
-    }
-    None
-}
 
 /// The same, in the packet's octets.
 fn place_in(octets: &[u8]) -> Option<usize>
@@ -54,7 +39,7 @@ fn digest_of(octets: &[u8], secret: &[u8], authenticator: [u8; 16]) -> Option<[u
 }
 
 /// Writes sixteen octets.
-fn put_sixteen(octets: &mut [u8], at: usize, sixteen: &[u8; 16])
+pub(crate) fn put_sixteen(octets: &mut [u8], at: usize, sixteen: &[u8; 16])
     requires { at + 16 ≤ length octets.old }
     ensures { octets.new ≡ take at octets.old ++ sixteen.now ++ drop (at + 16) octets.old }
 {

@@ -18,16 +18,20 @@
 mod comparing;
 mod hmac;
 mod in_place;
+mod keyed;
 mod laws;
 mod message;
 mod pieces;
 mod request;
 mod response;
+mod seal_place;
+mod secret;
 
-pub use hmac::hmac_md5;
-pub use in_place::{seal, seal_and_sign, sign_reply, sign_request, value_place};
+pub use in_place::{seal, seal_and_sign, sign_reply, sign_request};
+pub use keyed::{message_auth_by, message_ok_by, seal_and_sign_by, seal_by};
 pub use laws::{deciding, digests, sealing, signing, zeroing};
 pub use message::{has_one_message_authenticator, message_auth, message_ok};
-pub use pieces::ZERO_OCTETS;
+pub use pieces::{ZERO_OCTETS, value_place};
 pub use request::{request_auth, request_ok};
 pub use response::{response_auth, response_ok};
+pub use secret::{Secret, hmac_md5};

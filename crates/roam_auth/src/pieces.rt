@@ -1,6 +1,11 @@
 //! A packet's octets in pieces, as digests take them (RFC 2865, section 3).
 
-ghost use Rattle.std.specs.Prelude.{◌≡◌, ◌≤◌, length, take, drop};
+ghost use Rattle.std.specs.Prelude.{◌≡◌, ◌+◌, ◌≤◌, length, take, drop, MatchOption};
+ghost use Rattle.roam_auth.specs.MessageAuthenticator.{HasNoMessageAuthenticator};
+ghost use Rattle.roam_auth.specs.Sealing.{IsValuePlace};
+
+use roam_wire::View;
+use roam_wire::attribute_type::MESSAGE_AUTHENTICATOR;
 
 /// Sixteen zero octets, which stand for an Authenticator or a Message-Authenticator that isn't computed
 /// yet (RFC 2866, section 3; RFC 3579, section 3.2).
@@ -20,4 +25,36 @@ pub fn behind_authenticator(octets: &[u8]) -> &[u8]
     ensures { result.now ≡ drop 20 octets.now }
 {
     octets.split_at(20).1
+}
+
+/// What stands behind the Authenticator and before an octet.
+pub fn between_authenticator_and(octets: &[u8], at: usize) -> &[u8]
+    requires behind { 20 ≤ at }
+    requires within { at ≤ length octets.now }
+    ensures { result.now ≡ drop 20 (take at octets.now) }
+{
+    octets.split_at(at).0.split_at(20).1
+}
+
+/// What stands behind sixteen octets that begin at an octet.
+pub fn behind_sixteen(octets: &[u8], at: usize) -> &[u8]
+    requires { at + 16 ≤ length octets.now }
+    ensures { result.now ≡ drop (at + 16) octets.now }
+{
+    octets.split_at(at + 16).1
+}
+
+/// Where in a packet's octets the Value of its first Message-Authenticator begins, if it has one.
+pub fn value_place(view: &View<'_>) -> Option<usize>
+    ensures { MatchOption result (HasNoMessageAuthenticator view.now)
+        (λ at. IsValuePlace at view.now.attributes) }
+{
+    let mut at = 20;
+    for attribute in view.attributes() {
+        if attribute.kind == MESSAGE_AUTHENTICATOR {
+            return Some(at + 2);
+        }
+        at += 2 + attribute.value.len();
+    }
+    None
 }

@@ -3,12 +3,8 @@ use Rattle.std.proofs.Common.{◌≡◌, ℕ, ◌+◌, ◌%◌, ◌^◌, List, a
 use Rattle.std.specs.Int.{w32, to_le_bytes}
 use Rattle.std.proofs.Math.Nat.{mod-add-mod}
 use Rattle.rand_chacha.specs.ChaCha.{ChaCha, key_of, next_word, word_at}
+use Rattle.roam_random.specs.Private.Standing.{standing_at}
 use Rattle.roam_random.specs.RandomWords.{random_word, word_octets}
-
--- a generator of a seed and a stream, that stands at a position
-abbrev pub standing_at : List ℕ → ℕ → ℕ → ChaCha
-standing_at seed stream position =
-    record { key = key_of seed; stream = stream; word_pos = position % 2 ^ 68 }
 
 -- its next word is that of the position, and it then stands one word further
 word-standing_at : (seed : List ℕ) (stream position : ℕ)
@@ -36,6 +32,10 @@ draws seed stream position next word before after one_further at draw =
       word_is = ap (λ x. x.0) both;
       stands = ap (λ x. x.1) both ∙ ap (standing_at seed stream) one_further;
     }
+
+-- a draw leaves the key as it was
+pub key_stays : (word : ℕ) (before after : ChaCha) → (word, after) ≡ next_word 10 before → after.key ≡ before.key
+key_stays word before after draw = ap (λ x. x.1.key) draw
 
 -- the same word from positions that are equal modulo 2^68, and so some words further
 pub same-words : (seed : List ℕ) (stream one other further : ℕ)

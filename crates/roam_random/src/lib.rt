@@ -1,18 +1,20 @@
 //! The random words of a realm (RFC 2865, section 3: the Request Authenticator of an
 //! Access-Request).
 //!
-//! Nothing here keeps a generator: a word is a function of the seed, the stream's number and a
-//! position in the stream, so whoever draws words keeps that position, and nothing else.
+//! A word is a function of the seed, the stream's number and a position in the stream, so whoever
+//! draws words keeps that position. Words that are kept save work, and change no answer.
 //!
 //! # Proved
 //!
 //! - random words are those of ChaCha20 by seed, stream and position | `request_authenticator`,
-//!   `next_position`; laws
+//!   `KeptWords::request_authenticator`, `next_position`; laws
 #![tactic(auto)]
 
+mod kept_words;
 mod laws;
 mod words;
 
+pub use kept_words::KeptWords;
 pub use laws::{
     authenticators_have_16_octets, next_positions_are_in_the_stream,
     positions_count_modulo_the_stream,

@@ -5,7 +5,7 @@
 //! section 7.1.
 
 use md5::{Digest, Md5};
-use roam_auth::{hmac_md5, message_auth, message_ok, response_ok};
+use roam_auth::{Secret, hmac_md5, message_auth, message_ok, message_ok_by, response_ok};
 use roam_wire::View;
 use std::process::Abort;
 use test_fixtures::{octets, octets_mut};
@@ -201,7 +201,7 @@ fn seal_facts(text: &str, over: [u8; 16], seal: [u8; 16], place: usize, bit: u8)
     };
     [
         message_auth(&view, &SECRET, over) == Some(seal),
-        message_ok(&view, &SECRET, over) == (bit == 0),
+        message_ok_by(&view, &Secret::new(&SECRET), over) == (bit == 0),
         !message_ok(&view, b"xyzzy5462", over),
         !message_ok(&view, &SECRET, [1; 16]),
     ]

@@ -1,7 +1,7 @@
 //! Request Authenticators of a seed, a stream and a position: those that are published, and others
 //! that were computed apart, by a ChaCha20 written from the formulas of RFC 8439, with 64 bits for the
 //! counter and 64 for the stream's number (`oracle/vectors.py`).
-use roam_random::{next_position, request_authenticator};
+use roam_random::{KeptWords, next_position, request_authenticator};
 use std::process::Abort;
 
 const ZERO_SEED: [u8; 32] = [0; 32];
@@ -82,6 +82,14 @@ const AUTHENTICATORS: [([u8; 32], u64, u128, u128); 21] = [
 pub(crate) fn request_authenticators_are_words_of_the_stream<R: Abort + AllocGlobal>(rt: &R) {
     for &(seed, stream, position, expected) in &AUTHENTICATORS {
         let drawn = u128::from_be_bytes(request_authenticator(seed, stream, position));
+        assert!(rt; drawn == expected, "stream {stream} at {position}");
+    }
+}
+
+pub(crate) fn words_that_are_kept_are_the_same<R: Abort + AllocGlobal>(rt: &R) {
+    let mut kept = KeptWords::new();
+    for &(seed, stream, position, expected) in &AUTHENTICATORS {
+        let drawn = u128::from_be_bytes(kept.request_authenticator(seed, stream, position));
         assert!(rt; drawn == expected, "stream {stream} at {position}");
     }
 }

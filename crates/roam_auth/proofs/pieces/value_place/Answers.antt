@@ -1,7 +1,7 @@
 use Rattle.std.proofs.Common.{rules}
 use Rattle.roam_wire.specs.Shown.{shown}
 use Rattle.roam_auth.proofs.SealingLemmas.{IsAt-more, IsAt-next}
-use Rattle.roam_auth.proofs.in_place.value_place.Goals as goal
+use Rattle.roam_auth.proofs.pieces.value_place.Goals as goal
 
 -- the walk goes one attribute on
 pub loop-attribute-preserved : goal.loop-attribute-preserved

@@ -1,5 +1,5 @@
 use Rattle.roam_auth.proofs.SealingLemmas.{IsAt}
-use Rattle.roam_auth.proofs.in_place.value_place.Given as goal
+use Rattle.roam_auth.proofs.pieces.value_place.Given as goal
 
 -- the attributes that are left begin at `at`, and none before them is a Message-Authenticator
 abbrev pub invariant-loop-attribute : goal.invariant-loop-attribute
