@@ -66,7 +66,6 @@ COUNTS = {
 CONSTANTS = {
     r"notices, a queue of ([\d,]+) for each": ("roam_telling/src/notices.rt", "NOTICES"),
     r"through a queue of ([\d,]+) for each thread": ("roam_telling/src/exchanges.rt", "LINES"),
-    r"a tick ended more than ([\d,]+) at once": ("roam_telling/src/exchanges.rt", "MOST_AT_ONCE"),
     r"up to (\d+) datagrams of one\b|at most (\d+) datagrams of a socket": ("roam_workers/src/worker.rt", "IN_A_ROUND"),
     r"more than (\d+) entries are due|about (\d+) entries\b": ("roam_due/src/moment.rt", "MOST"),
     r"go back,\s+by (\d+) ms at most|moves them, by (\d+) ms at most": ("roam_due/src/moment.rt", "LATE"),

@@ -1,6 +1,7 @@
 -- What the code's receipts and reports are seen as.
 use Rattle.std.specs.Prelude.{ℕ, List, [], map, slice_index_or}
 use Rattle.std.specs.declared.vec.Vec.{Vec}
+use Rattle.roam_core.specs.Events.{PlainEvent}
 use Rattle.roam_core.specs.Shown.{shown_event}
 use Rattle.roam_trace.specs.Steps.{PlainStep, shown_answer}
 use Rattle.roam_history.specs.declared.opened.Opened.{Ghosts}
@@ -20,12 +21,12 @@ shown_receipt r = record { shard = r.shard; number = r.number; step = shown_step
 abbrev pub shown_receipts : {A N : Type 0} {g : Ghosts N} → List (Receipt A N g) → List PlainReceipt
 shown_receipts receipts = map shown_receipt receipts
 
--- the steps of one shard that are still stored
-abbrev pub items_of : {A : Type 0} → Vec PlainStep A → List PlainStep
+-- the events of the steps of one shard that are still stored
+abbrev pub items_of : {A : Type 0} → Vec PlainEvent A → List PlainEvent
 items_of steps = steps.items
 
 -- what a report still has of each shard
-abbrev pub stored : {A N : Type 0} {g : Ghosts N} → Report A N g → List (List PlainStep)
+abbrev pub stored : {A N : Type 0} {g : Ghosts N} → Report A N g → List (List PlainEvent)
 stored report = map items_of report.steps.items
 
 -- all steps of a shard, those that were let go of too

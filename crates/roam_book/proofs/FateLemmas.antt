@@ -21,7 +21,7 @@ use Rattle.roam_book.specs.declared.rules.due_action.DueAction.{DueAction}
 use Rattle.roam_book.specs.declared.rules.due_action.DueAction.TheVariants as fate
 use Rattle.roam_reverse.specs.Shown.{Ledger}
 use Rattle.roam_book.specs.declared.state.realm_numbers.RealmNumbers.{RealmNumbers}
-use Rattle.roam_book.specs.declared.packets.forwarding.PacketCopies.{PacketCopies}
+use Rattle.roam_route.specs.declared.datagram.Out.{Out}
 use Rattle.roam_book.specs.declared.state.service.Service.TheVariants as service
 use Rattle.roam_book.specs.RealmConfig.{RealmConfig, IsLink, link_place, later_targets}
 use Rattle.roam_book.specs.RealmState.{Target, with_entries, next_toward, chosen_target}
@@ -109,9 +109,9 @@ entry-again c n e d h = record {
 
 pub again :
     {A : Type 0} (c : RealmConfig) (now : ℕ) (es : List PlainEntry) (e : PlainEntry) (n : RealmNumbers A)
-    (l : Link) (id : ℕ) (forwarded : List ℕ) (sends_left deadline signs : ℕ) (sent : PacketCopies A)
+    (l : Link) (id : ℕ) (forwarded : List ℕ) (sends_left deadline signs : ℕ) (sent : Out A)
     → e.standing ≡ waiting l id forwarded sends_left deadline signs → 0 < sends_left
-    → shown_out sent.out ≡ packet_to_link c l forwarded → IsHeld c es e n
+    → shown_out sent ≡ packet_to_link c l forwarded → IsHeld c es e n
     → IsFate c now es e n (fate.SentAgain sent) (due_standing c now (state_of es n) e e.standing)
 again c now es e n l id forwarded sends_left deadline signs sent stands some is held =
     let d = now + c.realm.wait in
@@ -181,14 +181,14 @@ later-links c (link.Acct server out) = links-are c service.Accounting (server + 
 later-links c (link.Coa peer out) = tt
 
 -- the target that is chosen then
-abbrev next_target :
+abbrev pub next_target :
     {A : Type 0} → RealmConfig → ℕ → List PlainEntry → PlainEntry → RealmNumbers A → Link → ℕ → Option Target
 next_target c now es e n l signs =
     chosen_target c now (after_silence c now n.rests.items l signs) (cursors_of n.lanes.items)
     (without e.ticket es) (later_targets c l)
 
 -- it is found by the lanes and the rests
-target-is :
+pub target-is :
     {A : Type 0} (c : RealmConfig) (now : ℕ) (es : List PlainEntry) (e : PlainEntry) (n m : RealmNumbers A)
     (l : Link) (signs : ℕ)
     → IsHeld c es e n → IsFreed c now l signs (without e.ticket es) n m
@@ -200,11 +200,11 @@ target-is c now es e n m l signs held freed =
     rw (freed.cursors) at (ap (λ (rests : List Rest). option_map (λ t. t.link) (chosen_target c now rests
     (cursors_of m.lanes.items) (without e.ticket es) (later_targets c l))) (sym freed.rests) ∙ told)
 
-no_target : (o : Option Target) → option_map (λ t. t.link) o ≡ None → o ≡ None
+pub no_target : (o : Option Target) → option_map (λ t. t.link) o ≡ None → o ≡ None
 no_target None h = refl
 no_target (Some t) h = absurd (let k : Some t.link ≡ None = h in cc)
 
-a_target :
+pub a_target :
     (o : Option Target) (l : Link) → option_map (λ t. t.link) o ≡ Some l
     → (t : Target) × (o ≡ Some t) × (t.link ≡ l)
 a_target None l h = absurd (let k : None ≡ Some l = h in cc)
@@ -282,9 +282,9 @@ target_at l i = record { link = l; id = i }
 
 -- a request was forwarded to a link
 pub record IsSent {A : Type 0} (c : RealmConfig) (now : ℕ) (es : List PlainEntry) (q : PlainRequest)
-    (t : ℕ) (l : Link) (old new : RealmNumbers A) (o : PacketCopies A) (w : Waiting A) : Type 0 where
+    (t : ℕ) (l : Link) (old new : RealmNumbers A) (o : Out A) (w : Waiting A) : Type 0 where
   pub next : next_toward c (cursors_of old.lanes.items) es l ≡ Some w.id
-  pub out : shown_out o.out
+  pub out : shown_out o
       ≡ packet_to_link c l (forwarded_octets c q old.stream_position t (target_at l w.id))
   pub standing : shown_standing (standing.Waiting w)
       ≡ (forwarded_entry c now (signs_of c old.rests.items l) q old.stream_position t (target_at l w.id)).standing
@@ -314,7 +314,7 @@ stands-waiting {A} c q l w f s d signs is waits =
 -- a later target is chosen, by which its link's rest is put off: the request goes there under its ticket
 pub forwarded-freed :
     {A : Type 0} (c : RealmConfig) (now : ℕ) (es : List PlainEntry) (e : PlainEntry)
-    (n m p k : RealmNumbers A) (l to : Link) (signs : ℕ) (o : PacketCopies A) (w : Waiting A)
+    (n m p k : RealmNumbers A) (l to : Link) (signs : ℕ) (o : Out A) (w : Waiting A)
     → IsHeld c es e n → IsFreed c now l signs (without e.ticket es) n m
     → Some to ≡ chosen_link c now m.rests.items m.lanes.items None (later_targets c l)
     → RestsBecome (after_choice c now m.rests.items to) m p
@@ -341,7 +341,7 @@ forwarded-freed c now es e n m p k l to signs o w held freed some off sent =
     forwarded_entry c now (signs_of c rests to) e.request position e.ticket (target_at to w.id) in
     let new = entry_at (after_choice c now (after_silence c now n.rests.items l signs) to) n.stream_position in
     let same_entry : entry_at p.rests.items p.stream_position ≡ new = ap₂ entry_at chosen at in
-    let out : shown_out o.out
+    let out : shown_out o
     ≡ packet_to_link c to (forwarded_octets c e.request n.stream_position e.ticket (target_at to w.id)) =
     sent.out ∙ ap (λ (position : ℕ).
     packet_to_link c to (forwarded_octets c e.request position e.ticket (target_at to w.id))) at in

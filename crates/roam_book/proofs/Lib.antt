@@ -1,6 +1,7 @@
 pub mod AdmissionLemmas
 pub mod BookLemmas
 pub mod ClearLemmas
+pub mod BecameLemmas
 pub mod FateLemmas
 pub mod FateListLemmas
 pub mod HolderLemmas
@@ -35,3 +36,4 @@ pub mod WayLemmas
 pub mod WaysToLemmas
 pub mod SavingLemmas
 pub mod WrittenLemmas
+pub mod DoneDueLemmas

@@ -1,6 +1,5 @@
 -- The NAK of a reverse request.
-use Rattle.std.proofs.Common.{◌≡◌, ◌≢◌, ℕ, ◌+◌, ◌≤◌, true, false, List, [], ◌∷◌, ◌++◌, length, Option, Some, None, refl, ap, sym, ◌∙◌, inl, inr, ltb, arith}
-use Rattle.std.specs.Prelude.{IfSome}
+use Rattle.std.proofs.Common.{◌≡◌, ◌≢◌, ℕ, ◌+◌, ◌≤◌, true, false, List, [], ◌∷◌, ◌++◌, length, Option, None, refl, ap, sym, ◌∙◌, inl, inr, ltb, arith}
 use Rattle.std.specs.declared.vec.Vec.{Vec}
 use Rattle.std.proofs.lemmas.Bool.{cases_Bool, true≢false}
 use Rattle.roam_wire.specs.Packet.{Packet, packet_length, packet_text}
@@ -22,7 +21,7 @@ use Rattle.roam_reverse.specs.declared.error_cause.TheConstants.{OTHER_PROXY_PRO
 use Rattle.roam_route.specs.Admission.{PlainOut}
 use Rattle.roam_route.specs.Shown.{shown_out}
 use Rattle.roam_book.specs.declared.rules.due_action.DueAction.TheVariants as fate
-use Rattle.roam_book.specs.declared.packets.forwarding.PacketCopies.{PacketCopies}
+use Rattle.roam_route.specs.declared.datagram.Out.{Out}
 use Rattle.roam_book.specs.RealmConfig.{RealmConfig, requester_secret}
 use Rattle.roam_book.specs.RealmState.{RealmState, with_entries}
 use Rattle.roam_book.specs.OnRequest.{is_reverse, nak_octets, packet_to_requester}
@@ -80,15 +79,10 @@ nak-written c q why old new secret p written empty secret_is read =
 pub room-less : {A : Type 0} (n m : ℕ) (b : Vec ℕ A) → HasRoom m b → n ≤ m → HasRoom n b
 room-less n m b h le = record { empty = h.empty; length = h.length; room = omega (arith, le, h.room) }
 
-pub copy-less : {A : Type 0} (n m : ℕ) (o : Option (Vec ℕ A)) → IfSome o (λ b. HasRoom m b) → n ≤ m
-    → IfSome o (λ b. HasRoom n b)
-copy-less n m None h le = tt
-copy-less n m (Some b) h le = room-less n m b h le
-
 -- a reverse request that is given up
-pub gives-up : {A : Type 0} (c : RealmConfig) (now : ℕ) (e : PlainEntry) (sent : PacketCopies A)
+pub gives-up : {A : Type 0} (c : RealmConfig) (now : ℕ) (e : PlainEntry) (sent : Out A)
     (held : Option (Done A)) → is_reverse e.request ≡ true
-    → shown_out sent.out
+    → shown_out sent
     ≡ packet_to_requester c e.request.key (nak_octets c e.request OTHER_PROXY_PROCESSING_ERROR)
     → held ≡ held_for c now (nak_octets c e.request OTHER_PROXY_PROCESSING_ERROR)
     → GivesUp c now e (fate.Refused sent held)

@@ -1,6 +1,7 @@
 -- What comes of a reply: why it isn't taken, the turn that it is, and what its realm then keeps.
-use Rattle.std.proofs.Common.{◌≡◌, ℕ, ◌<◌, Bool, true, false, List, Option, Some, None, refl, sym, ◌∙◌, subst, arith, eqb, ltb, length}
+use Rattle.std.proofs.Common.{◌≡◌, ℕ, ◌<◌, Bool, true, false, List, Option, Some, None, refl, sym, ◌∙◌, subst, arith, eqb, ltb, length, inl, inr}
 use Rattle.std.specs.Prelude.{IsSomeAnd, ◌&&◌, if◌then◌else◌}
+use Rattle.std.proofs.lemmas.Bool.{cases_Bool}
 use Rattle.std.proofs.lemmas.Bool.Decides.{nat_tests}
 use Rattle.roam_wire.specs.Packet.{Packet}
 use Rattle.roam_wire.specs.Reading.{packet_of}
@@ -17,6 +18,8 @@ use Rattle.roam_book.specs.RealmState.{RealmState}
 use Rattle.roam_book.specs.Turn.{Turn, Answers, refuses, hears}
 use Rattle.roam_book.specs.OnReply.{counted_peer, faulted, once_heard_from, passing_to, return_reply, returned_octets, returning, shows_life}
 use Rattle.roam_book.specs.Sound.{AreOwnLanes, IsEntry, IsSound, LanesTell, StandsWell, marks_of}
+use Rattle.roam_book.specs.Happenings.{PlainHappening, PlainWaited, by_turn, refused, waited_at}
+use Rattle.roam_book.specs.HappeningsShown.{shown_happening}
 use Rattle.roam_book.specs.Private.Judged.{Judges, returns_octets}
 use Rattle.roam_book.specs.Private.ReplyPlans.{IsHeard, IsReplyPlan, once_heard_by}
 use Rattle.roam_book.specs.declared.rules.replies.Settled.{Settled}
@@ -153,25 +156,59 @@ faulted-only c s l why is = rw is refl
 
 -- where the reply isn't taken, or its entry is done, the answer's turn is that of the plan
 pub plan-none : {A : Type 0} (c : RealmConfig) (s : RealmState) (e : PlainEntry) (v : ReplyOutcome A)
-    (l : Link) (turn : Turn) → v.done ≡ None → IsLink c l → Judges c v e l s turn
-    → IsReplyPlan c s (record { answer = v.answer; heard = if v.heard then Some l else None; settled = None }) turn
-plan-none c s e v l turn is link h = record {
+    (l : Link) (turn : Turn) (happening : PlainHappening) → v.done ≡ None → IsLink c l → Judges c v e l s turn
+    → shown_happening v.happening ≡ happening
+    → IsReplyPlan c s (record {
+      turned = record { answer = v.answer; happening = v.happening };
+      heard = if v.heard then Some l else None;
+      settled = None;
+    }) turn happening
+plan-none c s e v l turn happening is link h happened = record {
   settles = tt;
   hears = link-heard c l v.heard link;
-  answers = subst (λ (t : RealmState). Answers v.answer s t turn) (heard-is c s l v.heard) (rw is at h.answers);
+  turned = record {
+    answers = subst (λ (t : RealmState). Answers v.answer s t turn) (heard-is c s l v.heard) (rw is at h.answers);
+    happened = happened;
+  };
   silent = λ none. refl;
 }
 
 pub plan-some : {A : Type 0} (c : RealmConfig) (s : RealmState) (e : PlainEntry) (v : ReplyOutcome A)
-    (turn : Turn) (d : Settled A) → v.done ≡ Some d.done → v.counted ≡ d.counted → IsLink c d.link
-    → d.ticket ≡ e.ticket
+    (turn : Turn) (happening : PlainHappening) (d : Settled A) → v.done ≡ Some d.done → v.counted ≡ d.counted
+    → IsLink c d.link → d.ticket ≡ e.ticket
     → find_ticket e.ticket s.entries ≡ Some e → waits_at d.link d.id e ≡ true
-    → Judges c v e d.link s turn
-    → IsReplyPlan c s (record { answer = v.answer; heard = if v.heard then Some d.link else None; settled = Some d })
-    turn
-plan-some c s e v turn d is counts link ticket found waits h = record {
+    → Judges c v e d.link s turn → shown_happening v.happening ≡ happening
+    → IsReplyPlan c s (record {
+      turned = record { answer = v.answer; happening = v.happening };
+      heard = if v.heard then Some d.link else None;
+      settled = Some d;
+    }) turn happening
+plan-some c s e v turn happening d is counts link ticket found waits h happened = record {
   settles = (link, rw (ticket, found) waits);
   hears = link-heard c d.link v.heard link;
-  answers = rw (ticket, found) (rw (is, counts) at h.answers);
+  turned = record {
+    answers = rw (ticket, found) (rw (is, counts) at h.answers);
+    happened = happened;
+  };
   silent = λ none. absurd (let k : Some d.done ≡ None = sym is ∙ h.silent none in cc);
 }
+
+-- What happened
+
+-- a reply that is refused, and may be a sign of life
+pub by-faulted : (c : RealmConfig) (s : RealmState) (l : Link) (why : Refusal) (sent : PlainHappening)
+    → by_turn (faulted c s l why) sent ≡ refused why
+by-faulted c s l why sent =
+    elim (cases_Bool (shows_life why)) [
+      | inl y ↦ rw y refl
+      | inr n ↦ rw n refl
+    ]
+
+-- the request for which one is returned is that of the entry, at its link
+pub answered-at : (e : PlainEntry) (octets : Option (List ℕ)) (w : PlainWaited) (l : Link) (id : ℕ) (f : List ℕ)
+    (n d signs : ℕ) → Some w ≡ waited_at e octets (waiting l id f n d signs)
+    → (w.link ≡ l) × (w.key ≡ e.request.key)
+answered-at e octets w l id f n d signs h = (
+  let k : Some w ≡ waited_at e octets (waiting l id f n d signs) = h in cc,
+  let k : Some w ≡ waited_at e octets (waiting l id f n d signs) = h in cc,
+)

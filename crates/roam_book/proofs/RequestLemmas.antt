@@ -135,6 +135,20 @@ at-open c now es n o q freed l bound sound list gone ne share same_freed found b
     ∙ sym bound_there in
     (new-request-is c now (state_of es n) mid q bound _ ne share bound_is target.0, target.1)
 
+-- the link that is found is the target's
+pub link-open :
+    {A : Type 0} (c : RealmConfig) (now : ℕ) (es : List PlainEntry) (n : RealmNumbers A)
+    (o : Option Replaced) (q : PlainRequest) (freed : Option Link) (l : Link) → IsSound c es n → IsEntryList es
+    → CountsAsGone o es → freed ≡ freed_link o
+    → Some l ≡ way_link c now n.rests.items n.lanes.items freed q es (targets c q)
+    → option_map (λ (t : Target). t.link)
+    (new_target c now (state_of es n) (besides (gone_ticket o) es) q (targets c q))
+    ≡ Some l
+link-open c now es n o q freed l sound list gone same_freed found =
+    targets-way c now es n o q sound list gone
+    ∙ subst (λ (x : Option Link). way_link c now n.rests.items n.lanes.items x q es (targets c q) ≡ Some l) same_freed
+    (sym found)
+
 pub at-none :
     {A : Type 0} (c : RealmConfig) (now : ℕ) (es : List PlainEntry) (n : RealmNumbers A)
     (o : Option Replaced) (q : PlainRequest) (freed : Option Link) → IsSound c es n → IsEntryList es
@@ -161,6 +175,12 @@ key-gone k e es g list at ticket place =
     let found = found-is (has_key k) es e list.in_order at in
     let here = subst (λ (t : ℕ). find_ticket t es ≡ Some e) (sym ticket) found in
     (e, record { found = here; place = place })
+
+pub found-gone :
+    (k : Key) (e : PlainEntry) (es : List PlainEntry) (g : Replaced) → IsEntryList es
+    → find_client k es ≡ Some e → g.ticket ≡ e.ticket → find_ticket g.ticket es ≡ Some e
+found-gone k e es g list at ticket =
+    subst (λ (t : ℕ). find_ticket t es ≡ Some e) (sym ticket) (found-is (has_key k) es e list.in_order at)
 
 pub rest-of :
     (k : Key) (e : PlainEntry) (es : List PlainEntry) (t : ℕ) → IsEntryList es

@@ -1,5 +1,6 @@
 -- The way that is chosen for a new request, and the plan that it makes.
-use Rattle.std.proofs.Common.{◌≡◌, ◌≢◌, ℕ, ◌≤◌, ◌^◌, Bool, false, List, [], Option, Some, None, Result, Ok, Err, refl, ap, ◌∙◌, arith, ltb, length}
+use Rattle.std.proofs.Common.{◌≡◌, ◌≢◌, ℕ, ◌≤◌, ◌^◌, Bool, false, List, [], Option, Some, None, Result, Ok, Err, refl, ap, sym, ◌∙◌, arith, ltb, length, option_map}
+use Rattle.std.specs.Prelude.{IfOk}
 use Rattle.std.proofs.lemmas.Bool.Decides.{nat_tests}
 use Rattle.roam_wire.specs.declared.refusal.Refusal.{Refusal}
 use Rattle.roam_wire.specs.declared.refusal.Refusal.TheVariants as refusal
@@ -7,18 +8,31 @@ use Rattle.roam_conf.specs.declared.place.Link.{Link}
 use Rattle.roam_route.specs.Admission.{PlainOut}
 use Rattle.roam_pending.specs.PlainEntry.{PlainEntry, PlainRequest}
 use Rattle.roam_pending.specs.EntryList.{find_client, first_done}
-use Rattle.roam_book.specs.Private.NewEntry.{Chooses, HasNext, IsChosen, IsWay, cleared, once_gone, straight_after, straight_to, target_at}
-use Rattle.roam_book.specs.OnRequest.{at_target, make_way}
+use Rattle.roam_book.specs.Private.NewEntry.{Chooses, HasNext, IsByTarget, IsChosen, IsWay, admits, admitted_by, cleared, gone_entry, new_happening, once_gone, straight_after, straight_to, target_at, target_link}
+use Rattle.roam_book.specs.OnRequest.{at_target, make_way, new_request, targets}
 use Rattle.roam_book.specs.RealmConfig.{RealmConfig, IsLink}
-use Rattle.roam_book.specs.Conversing.{rests_chosen}
+use Rattle.roam_book.specs.Conversing.{new_target, rests_chosen}
+use Rattle.roam_book.specs.Happenings.{PlainHappening, by_turn, forwarded, refused, replaced_by, to_target}
+use Rattle.roam_book.specs.HappeningsShown.{shown_happening}
+use Rattle.roam_book.specs.Turned.{IsTurned}
 use Rattle.roam_book.specs.RealmState.{RealmState, Target, with_rests}
 use Rattle.roam_book.specs.declared.state.rest.Rest.{Rest}
 use Rattle.roam_book.specs.Sound.{CountsAsGone, IsRequest}
-use Rattle.roam_book.specs.Turn.{Turn, Answers, refuses, sends, shown_outs}
-use Rattle.roam_book.specs.declared.packets.answer.Answer.{Answer}
+use Rattle.roam_book.specs.Turn.{Turn, refuses, sends, shown_outs}
+use Rattle.roam_book.specs.declared.packets.answer.Turned.{Turned}
 use Rattle.roam_book.specs.declared.rules.replaced.Replaced.{Replaced}
 use Rattle.roam_book.specs.declared.rules.admit_plan.AdmitPlan.{AdmitPlan}
 use Rattle.roam_book.proofs.RequestLemmas.{in-else}
+
+-- a target with this link
+to-link :
+    (ticket : ℕ) (gone : Option PlainEntry) (o : Option Target) (l : Link)
+    → option_map (λ (t : Target). t.link) o ≡ Some l
+    → to_target ticket gone o ≡ forwarded ticket l (replaced_by gone)
+to-link ticket gone None l h = absurd (let k : None ≡ Some l = h in cc)
+to-link ticket gone (Some t) l h =
+    let k : Some t.link ≡ Some l = h in
+    let is : t.link ≡ l = cc in ap (λ (x : Link). forwarded ticket x (replaced_by gone)) is
 
 -- The way of a new request
 
@@ -65,6 +79,15 @@ pub chosen-same :
 chosen-same c now s q (Ok way) turn other is h = record { way = h.way; does = is ∙ h.does }
 chosen-same c now s q (Err why) turn other is h = is ∙ h
 
+-- and goes to the target's link
+pub by-target :
+    (c : RealmConfig) (now : ℕ) (s : RealmState) (out : Option Replaced) (q : PlainRequest) (l : Link)
+    (r : Result AdmitPlan Refusal)
+    → target_link c now s (once_gone out s.entries) q ≡ Some l
+    → IfOk r (λ way. way.gone ≡ out) → IfOk r (λ way. way.link ≡ l) → IfOk r (IsByTarget c now s out q)
+by-target c now s out q l (Ok way) at goes to = record { gone = goes; link = at ∙ ap (λ (x : Link). Some x) (sym to) }
+by-target c now s out q l (Err why) at goes to = tt
+
 -- a link has a free Identifier for a request whose key is free once an entry is gone
 pub straight-way :
     (c : RealmConfig) (s : RealmState) (q : PlainRequest) (gone : Option Replaced) (l : Link) (bound : Bool)
@@ -97,15 +120,37 @@ way-chosen c s q way rests h = record {
 
 -- a refusal is a plan for the turn that is that refusal
 pub refusal-plan :
-    {A : Type 0} (a : Answer A) (s : RealmState) (why : Refusal) (turn : Turn)
-    → shown_outs a.outs.items ≡ [] → a.refusal ≡ Some why → turn ≡ refuses why → Answers a s s turn
-refusal-plan a s why turn outs refusal is =
-    rw is (record { packets = outs; refusal = refusal; state = refl })
+    {A : Type 0} (t : Turned A) (s : RealmState) (why : Refusal) (turn : Turn) (sent : PlainHappening)
+    → shown_outs t.answer.outs ≡ [] → t.answer.refusal ≡ Some why
+    → shown_happening t.happening ≡ refused why → turn ≡ refuses why
+    → IsTurned t s s turn (by_turn turn sent)
+refusal-plan t s why turn sent outs refusal happened is =
+    rw is (record {
+      answers = record { packets = outs; refusal = refusal; state = refl };
+      happened = happened;
+    })
 
 -- an answer of packets, while the state stays as it is
 pub held-plan :
-    {A : Type 0} (a : Answer A) (s : RealmState) (packets : List PlainOut) (turn : Turn)
-    → shown_outs a.outs.items ≡ packets → a.refusal ≡ None → turn ≡ sends packets s
-    → Answers a s s turn
-held-plan a s packets turn outs refusal is =
-    rw is (record { packets = outs; refusal = refusal; state = refl })
+    {A : Type 0} (t : Turned A) (s : RealmState) (packets : List PlainOut) (turn : Turn) (sent : PlainHappening)
+    → shown_outs t.answer.outs ≡ packets → t.answer.refusal ≡ None
+    → shown_happening t.happening ≡ sent → turn ≡ sends packets s
+    → IsTurned t s s turn (by_turn turn sent)
+held-plan t s packets turn sent outs refusal happened is =
+    rw is (record {
+      answers = record { packets = outs; refusal = refusal; state = refl };
+      happened = happened;
+    })
+
+-- what happens by an admission is that it is forwarded to the way's link
+pub admitted-plan :
+    (c : RealmConfig) (now : ℕ) (s : RealmState) (q : PlainRequest) (gone : Option Replaced) (way : AdmitPlan)
+    (turn : Turn) → turn ≡ new_request c now s (once_gone gone s.entries) q → IsChosen c now s q way turn
+    → IsByTarget c now s gone q way → admitted_by s way ≡ new_happening c now s gone q
+admitted-plan c now s q gone way turn new chosen by =
+    let sends_it : new_request c now s (once_gone gone s.entries) q ≡ admits c now s q way = sym new ∙ chosen.does in
+    let target = new_target c now s (once_gone gone s.entries) q (targets c q) in
+    let to : to_target s.ticket (gone_entry gone s.entries) target
+    ≡ forwarded s.ticket way.link (replaced_by (gone_entry gone s.entries)) =
+    to-link s.ticket (gone_entry gone s.entries) target way.link by.link in
+    rw (sends_it, by.gone) (sym to)

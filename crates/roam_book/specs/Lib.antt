@@ -10,6 +10,7 @@ pub mod OnRequest
 pub mod OnReply
 pub mod OnTick
 pub mod OneRealm
+pub mod Happenings
 pub mod LeastFirst
 pub mod RestLaws
 pub mod Silence
@@ -17,6 +18,8 @@ pub mod Silence
 pub mod BookView
 pub mod LostTicks
 pub mod RealmTurn
+pub mod HappeningsShown
+pub mod Turned
 pub mod Saving
 pub mod Written
 pub mod Rooms

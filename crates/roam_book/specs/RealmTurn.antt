@@ -1,15 +1,11 @@
 -- A realm that is borrowed for an event (ours): what it stands for, and what each of its rules
 -- keeps.
-use Rattle.std.specs.Prelude.{◌≡◌, ℕ, IsTrue, IsOk, List, [], Result, Ok, Err}
-use Rattle.roam_wire.specs.declared.refusal.NoMemory.{NoMemory}
+use Rattle.std.specs.Prelude.{◌≡◌, ℕ, IsTrue, List}
 use Rattle.roam_pending.specs.declared.entries.Entries.{Ghosts}
 use Rattle.roam_pending.specs.PlainEntry.{PlainEntry}
 use Rattle.roam_pending.specs.EntryList.{IsEntryList}
-use Rattle.roam_book.specs.declared.packets.answer.Answer.{Answer}
-use Rattle.roam_book.specs.declared.packets.answer.Twin.{Twin}
 use Rattle.roam_book.specs.declared.state.realm_broker.RealmBroker.{RealmBroker}
 use Rattle.roam_book.specs.RealmState.{RealmState}
-use Rattle.roam_book.specs.Turn.{Turn, Answers, Gives, packets_of}
 use Rattle.roam_book.specs.Sound.{IsSound, OthersStay, state_of}
 
 -- its entries, its state, and for how many more entries there is room without memory
@@ -24,11 +20,12 @@ room g r = g.room_for r.entries.now r.settings.now.index
 
 -- ## Rule of a realm
 -- A realm is borrowed for an event: its settings, its entries and its numbers. A rule gives the written turn of
--- its state, or is refused memory and nothing happened; needs none where nothing is sent; and keeps all other
--- realms' entries. Where the answer is wanted twice, each of the two is that turn's.
+-- its state and says what happened in it, or is refused memory and nothing happened; needs none where nothing is
+-- sent; and keeps all other realms' entries.
 -- Source: ours
--- Rules out: a rule that reaches another realm's entries; a copy that isn't equal
--- Stands in: `roam_book` `RealmTurn.antt`: `IsRealm`, `Keeps`, `Turns`, `TurnsTwice`; the methods of `RealmBroker`
+-- Rules out: a rule that reaches another realm's entries; one that says what didn't happen
+-- Stands in: `roam_book` `RealmTurn.antt`: `IsRealm`, `Keeps`; `Turned.antt`: `TurnsTelling`; the methods of
+-- `RealmBroker`
 --
 -- its entries are kept there, in order of ticket with distinct keys, and fit its numbers
 pub record IsRealm {A E : Type 0} (g : Ghosts E A) (r : RealmBroker A E) : Type 0 where
@@ -51,24 +48,3 @@ pub record Keeps {A E : Type 0} (g : Ghosts E A) (old new : RealmBroker A E) : T
   pub loans : KeepsLoans g old new
   pub others : OthersStay old.settings.now.index (g.entries_of old.entries.now)
       (g.entries_of new.entries.now)
-
--- a rule gives this turn of the old state, or wants memory and nothing happened; none is wanted
--- where nothing is sent; the rest is kept
-pub record Turns {A E : Type 0} (g : Ghosts E A) (old new : RealmBroker A E)
-    (result : Result (Answer A) NoMemory) (turn : RealmState → Turn) : Type 0 where
-  pub gives : Gives result (state g old) (state g new) (turn (state g old))
-  pub succeeds : packets_of (turn (state g old)) ≡ [] → IsOk result
-  pub rest : Keeps g old new
-
--- the same where the answer is wanted twice: each of the two is that turn's
-abbrev pub GivesTwice : {A : Type 0} → Result (Twin A) NoMemory → RealmState → RealmState → Turn
-    → Type 0
-GivesTwice (Ok twin) old new turn =
-    Answers twin.answer old new turn × Answers twin.copy old new turn
-GivesTwice (Err e) old new turn = new ≡ old
-
-pub record TurnsTwice {A E : Type 0} (g : Ghosts E A) (old new : RealmBroker A E)
-    (result : Result (Twin A) NoMemory) (turn : RealmState → Turn) : Type 0 where
-  pub gives : GivesTwice result (state g old) (state g new) (turn (state g old))
-  pub succeeds : packets_of (turn (state g old)) ≡ [] → IsOk result
-  pub rest : Keeps g old new

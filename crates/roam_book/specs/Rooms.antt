@@ -1,11 +1,14 @@
 -- The memory of a tick (ours): no definition of what the broker does rests on it.
-use Rattle.std.specs.Prelude.{◌≡◌, ℕ, ◌+◌, Bool, true, List, [], ◌∷◌, length, map, Option, Some, None, is_some}
+use Rattle.std.specs.Prelude.{◌≡◌, ℕ, ◌+◌, Bool, true, List, [], ◌∷◌, length, map, Option, Some, None}
 use Rattle.std.specs.List.{list_all}
 use Rattle.roam_pending.specs.declared.due.Due.{Due}
 use Rattle.roam_pending.specs.DueOrder.{due_list}
 use Rattle.roam_pending.specs.PlainEntry.{PlainEntry, is_done}
 use Rattle.roam_pending.specs.EntryList.{find_ticket}
-use Rattle.roam_book.specs.Private.Memory.{HasBuffers, IsOuts}
+use Rattle.roam_conf.specs.declared.exchange_lines.ExchangeLines.{ExchangeLines}
+use Rattle.roam_book.specs.Happenings.{keeps_given_up}
+use Rattle.roam_book.specs.Private.Dues.{HasRequestRoom}
+use Rattle.roam_book.specs.Private.Memory.{AreDues, HasBuffers, IsOuts}
 use Rattle.roam_book.specs.declared.packets.tick_memory.Room.{Room}
 use Rattle.roam_book.specs.declared.packets.tick_memory.TickSlot.{TickSlot}
 
@@ -19,21 +22,22 @@ abbrev pub size_of : Option PlainEntry → ℕ
 size_of None = 0
 size_of (Some e) = length e.request.octets + 304
 
--- each slot has buffers for its entry's packet, and for its copy where it is wanted twice
-abbrev pub EachHasBuffers : {A : Type 0} → Bool → List PlainEntry → List (TickSlot A) → Type 0
-EachHasBuffers twice entries [] = Unit {0}
-EachHasBuffers twice entries (slot ∷ slots) =
+-- each slot has buffers for its entry's packet, and where lines tell of those that are given up, one for its request
+abbrev pub EachHasBuffers : {A : Type 0} → ExchangeLines → List PlainEntry → List (TickSlot A) → Type 0
+EachHasBuffers lines entries [] = Unit {0}
+EachHasBuffers lines entries (slot ∷ slots) =
     HasBuffers (size_of (find_ticket slot.due.ticket entries)) slot.buffers
-    × (is_some slot.buffers.copy ≡ twice)
-    × EachHasBuffers twice entries slots
+    × HasRequestRoom (keeps_given_up lines) (size_of (find_ticket slot.due.ticket entries)) slot.request
+    × EachHasBuffers lines entries slots
 
 -- the room of a tick at this moment, for these entries: a slot for each entry that is due, in
--- order, and a place for a packet of each
+-- order, and a place for a packet of each and for what becomes of it
 pub record IsRoomFor {A : Type 0} (now : ℕ) (entries : List PlainEntry)
     (room : Room A) : Type 0 where
   pub dues : dues_of room.slots.items ≡ due_list now entries
-  pub buffers : EachHasBuffers room.outs.twice entries room.slots.items
-  pub outs : IsOuts (length room.slots.items) room.outs.twice [] room.outs
+  pub buffers : EachHasBuffers room.lines entries room.slots.items
+  pub outs : IsOuts (length room.slots.items) [] room.outs.sent
+  pub noted : AreDues (length room.slots.items) [] room.outs.dues
 
 -- an entry doesn't wait for a reply: it was answered, or isn't there
 abbrev pub done_or_gone : Option PlainEntry → Bool

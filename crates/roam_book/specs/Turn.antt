@@ -55,7 +55,7 @@ shown_outs outs = map shown_out outs
 
 -- an answer and the state after it are those of a turn
 pub record Answers {A : Type 0} (answer : Answer A) (old new : RealmState) (turn : Turn) : Type 0 where
-  pub packets : shown_outs answer.outs.items ≡ packets_of turn
+  pub packets : shown_outs answer.outs ≡ packets_of turn
   pub refusal : answer.refusal ≡ refusal_of turn
   pub state : new ≡ state_after old turn
 

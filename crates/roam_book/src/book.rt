@@ -15,7 +15,7 @@ ghost use Rattle.roam_book.specs.Sound.{IsRequest, shown_request};
 ghost use Rattle.roam_book.specs.Rooms.{IsRoomFor, only_done_due};
 ghost use Rattle.roam_book.specs.BookView.{IsTakenFrom, is_link, settings_of};
 
-use crate::packets::answer::{Answer, nothing, refused};
+use crate::packets::answer::{Answer, answer_of, nothing, refused};
 use crate::packets::forwarding::RequestRef;
 use crate::packets::tick_memory::{Room, room_for};
 use crate::rules::evict_done::only_done_due;
@@ -24,7 +24,7 @@ use crate::state::realm_broker::RealmBroker;
 use crate::state::realm_numbers::RealmNumbers;
 use crate::state::realm_settings::RealmSettings;
 use crate::state::start::Start;
-use roam_conf::{Config, Link};
+use roam_conf::{Config, ExchangeLines, Link};
 use roam_pending::{Key, Pending, Requester};
 use roam_route::{Job, Side};
 use roam_wire::{NoMemory, Refusal, View};
@@ -163,7 +163,7 @@ impl<'c, A: Allocator + Copy> Book<'c, A> {
             entries: &mut self.entries,
             numbers: &mut self.numbers,
         };
-        realm.on_request(now, asked)
+        answer_of(realm.on_request(now, asked))
     }
 
     /// A reply from a link of the realm, at a moment in milliseconds (RFC 2865, section 2.3): it is
@@ -190,7 +190,8 @@ impl<'c, A: Allocator + Copy> Book<'c, A> {
             entries: &mut self.entries,
             numbers: &mut self.numbers,
         };
-        realm.on_reply(now, link_of(job.side), octets)
+        let lines = ExchangeLines::OfNone;
+        answer_of(realm.on_reply(now, link_of(job.side), octets, lines))
     }
 
     /// All the memory of a tick at a moment in milliseconds. Where nothing is due no memory is wanted.
@@ -200,7 +201,8 @@ impl<'c, A: Allocator + Copy> Book<'c, A> {
         ensures few { IfOk result (λ room. length room.slots.items
             ≤ length self.now.state.entries) }
     {
-        room_for(self.numbers.alloc, self.realm, &self.entries, now, false)
+        let lines = ExchangeLines::OfNone;
+        room_for(self.numbers.alloc, self.realm, &self.entries, now, lines)
     }
 
     /// A tick, in the room that was made for this state and this moment: each entry that is due is
@@ -210,7 +212,7 @@ impl<'c, A: Allocator + Copy> Book<'c, A> {
         requires room { IsRoomFor now self.old.state.entries room }
         ensures turn { Answers result self.old.state self.new.state
             (on_tick (settings_of self.old) now self.old.state) }
-        ensures most { length result.outs.items ≤ length room.slots.items }
+        ensures most { length result.outs ≤ length room.slots.items }
         ensures config { self.new.config ≡ self.old.config }
         ensures realm { self.new.realm ≡ self.old.realm }
     {
@@ -220,7 +222,7 @@ impl<'c, A: Allocator + Copy> Book<'c, A> {
             entries: &mut self.entries,
             numbers: &mut self.numbers,
         };
-        realm.on_tick(now, room)
+        realm.on_tick(now, room).answer
     }
 
     /// A tick at a moment in milliseconds at which only done entries are due: they go, and nothing is

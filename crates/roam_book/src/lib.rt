@@ -28,8 +28,10 @@
 //!   server never rests | law `silent_servers`
 //! - the rules are those over whatever keeps the entries; the other realms' entries stay as they are |
 //!   `RealmBroker::on_request`, `on_reply`, `on_tick`
-//! - an answer can be had twice, each of that very turn: one to send, one to keep | `RealmBroker::on_request_twice`,
-//!   `on_reply_twice`, `on_tick_twice`
+//! - with its answer each event says what happened by it: of a request that it was refused, a duplicate, answered by a
+//!   NAK and by which cause, or forwarded, where to and in whose place; of a reply that it was returned, and for which
+//!   request; of a tick what became of each request that was due and waited, in order | `RealmBroker::on_request`,
+//!   `on_reply`, `on_tick`: `turn`, its `happening`
 //! - with its memory in hand a tick always answers | `tick_room`, `Book::tick_reserved`
 //! - a tick is the least due entry, taken until none is left, and then none is due (where `wait` is at least 1, as in
 //!   each configuration) | law `ticks_take_the_least_due_first`
@@ -40,20 +42,23 @@
 #![tactic(auto)]
 
 mod book;
+mod happening;
 mod laws;
 mod packets;
 mod rules;
 mod state;
 
 pub use book::{Book, request_of_job};
+pub use happening::{Became, DueHappening, Happening, Waited};
 pub use laws::{events, restored_is_saved, silent_servers, ticks_take_the_least_due_first};
-pub use packets::answer::{Answer, Twin, refused};
+pub use packets::answer::{Answer, Turned, nothing, one_packet, refused, refused_turn};
 pub use packets::forwarding::RequestRef;
+pub use packets::outs::Outs;
 pub use packets::tick_memory::{Room, room_for};
 pub use rules::evict_done::only_done_due;
 pub use rules::requests::LATEST;
 pub use rules::saving::save_realm;
-pub use state::gauges::{Gauges, SERVER_LINKS, waiting_at};
+pub use state::gauges::{Gauges, SERVER_LINKS};
 pub use state::hash_key::{HASH_STREAM, hash_key};
 pub use state::realm_broker::RealmBroker;
 pub use state::realm_numbers::{RealmNumbers, new_lanes, new_rests, tag_of};

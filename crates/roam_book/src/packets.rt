@@ -4,4 +4,5 @@ pub mod answer;
 pub mod answer_builder;
 pub mod buffers;
 pub mod forwarding;
+pub mod outs;
 pub mod tick_memory;

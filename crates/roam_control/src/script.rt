@@ -1,7 +1,7 @@
 //! Stored steps as a script, which `roam sim` plays.
 
 use roam_conf::{Endpoint, NthText, Place};
-use roam_trace::{Happened, Step};
+use roam_trace::{EventRef, Step};
 use std::alloc::{AllocError, Global};
 use std::fmt::Write;
 
@@ -61,14 +61,14 @@ pub fn script_of(
         push_missing(alloc, &mut script, missing)?;
     }
     for step in steps {
-        match step.happened() {
-            Happened::Arrived {
+        match step.event() {
+            EventRef::Arrived {
                 now,
                 at,
                 from,
                 octets,
             } => push_arrival(&mut script, words_of(alloc, now, at, from)?, octets)?,
-            Happened::Ticked { now, shard } => {
+            EventRef::Ticked { now, shard } => {
                 let line = format!(in alloc; "T {now} {shard}\n")?;
                 script.extend_from_slice(line.as_str().as_bytes())?;
             }

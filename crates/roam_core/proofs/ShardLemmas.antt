@@ -222,7 +222,7 @@ ticking-end {A = A} config now shard first states left realm sent is ticking =
 
 -- the broker's answer to a tick
 pub ticked : {A : Type 0} → (answer : Answer A) (config : ConfigView) (old new : List RealmState) (now shard : ℕ) →
-    shard < config.shards → now ≤ 2 ^ 62 → shown_outs answer.outs.items ≡ (tick_from config now shard 0 old).packets
+    shard < config.shards → now ≤ 2 ^ 62 → shown_outs answer.outs ≡ (tick_from config now shard 0 old).packets
     → answer.refusal ≡ None → new ≡ (tick_from config now shard 0 old).states →
     IsAnswer answer old new (to_tick config old now shard)
 ticked answer config old new now shard there in_time packets refusal states =

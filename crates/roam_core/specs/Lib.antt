@@ -14,6 +14,7 @@ pub mod Occasions
 pub mod LifeOrigins
 pub mod LifeLaws
 pub mod ManyRealms
+pub mod HappeningsTo
 pub mod Alone
 pub mod OwnPart
 pub mod Amplification

@@ -15,7 +15,7 @@ use Rattle.roam_core.specs.ManyRealms.{BrokerTurn, answer_to, packets_in_turn, r
 -- an answer and the states after it are those of a turn
 pub record IsAnswer {A : Type 0} (answer : Answer A) (old new : List RealmState)
     (turn : BrokerTurn) : Type 0 where
-  pub packets : shown_outs answer.outs.items ≡ packets_in_turn turn
+  pub packets : shown_outs answer.outs ≡ packets_in_turn turn
   pub refusal : answer.refusal ≡ refusal_given turn
   pub states : new ≡ states_after old turn
 

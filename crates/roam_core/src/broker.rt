@@ -1,11 +1,11 @@
 //! The broker over a list of books, one for each realm.
 
-ghost use Rattle.std.specs.Prelude.{◌≡◌, ◌+◌, ◌<◌, ◌≤◌, ◌^◌, ◌++◌, [], ◌∷◌, Some};
+ghost use Rattle.std.specs.Prelude.{◌≡◌, ◌+◌, ◌<◌, ◌≤◌, ◌^◌, ◌++◌, [], Some};
 ghost use Rattle.std.specs.Prelude.{None, false, true, length, slice_set, IfOk, IsErr, vec_len, vec_capacity};
 ghost use Rattle.roam_conf.specs.Shown.{shown};
 ghost use Rattle.roam_route.specs.Admission.{admitted, admission};
 ghost use Rattle.roam_route.specs.Events.{IsEvent};
-ghost use Rattle.roam_route.specs.Shown.{WantsMemory, shown_arrival, shown_job, shown_out};
+ghost use Rattle.roam_route.specs.Shown.{WantsMemory, shown_arrival, shown_job};
 ghost use Rattle.roam_book.specs.BookView.{settings_of};
 ghost use Rattle.roam_book.specs.OneRealm.{event_of, on_event};
 ghost use Rattle.roam_book.specs.Rooms.{only_done_due};
@@ -20,36 +20,12 @@ ghost use Rattle.roam_core.specs.ShardRooms.{wants_room};
 use crate::event::Event;
 use crate::shard_room::{ShardRoom, has_only_done, room_of_shard};
 use crate::stepper::Stepper;
-use roam_book::{Answer, Book, LATEST, Room, Start, refused};
+use roam_book::{Answer, Book, LATEST, Outs, Room, Start, nothing, one_packet, refused};
 use roam_conf::Config;
 use roam_route::{Datagram, Job, Out, Prepared, Side, prepare};
 use roam_wire::{NoMemory, Refusal};
 use std::alloc::Allocator;
 use std::marker::Model;
-
-/// Nothing is sent. Takes no memory.
-fn nothing<A: Allocator>(alloc: A) -> Answer<A>
-    ensures outs { shown_outs result.outs.items ≡ [] }
-    ensures refusal { result.refusal ≡ None }
-{
-    Answer {
-        outs: Vec::new(alloc),
-        refusal: None,
-    }
-}
-
-/// A local reject is sent.
-fn rejected<A: Allocator>(alloc: A, out: Out<A>) -> Result<Answer<A>, NoMemory>
-    ensures outs { IfOk result (λ a. shown_outs a.outs.items ≡ shown_out out ∷ []) }
-    ensures refusal { IfOk result (λ a. a.refusal ≡ None) }
-{
-    let mut outs = Vec::with_capacity(alloc, 1)?;
-    outs.push_reserved(out);
-    Ok(Answer {
-        outs,
-        refusal: None,
-    })
-}
 
 /// Gives a job to the book of its realm: what comes from a link is a reply, all else is a request.
 fn handle_job<A: Allocator + Copy>(
@@ -71,13 +47,13 @@ fn handle_job<A: Allocator + Copy>(
 }
 
 /// Appends packets for which there are places. Takes no memory.
-fn append_reserved<A: Allocator>(outs: &mut Vec<Out<A>, A>, mut more: Vec<Out<A>, A>)
-    requires { vec_len outs.old + length more.items ≤ vec_capacity outs.old }
-    ensures items { outs.new.items ≡ outs.old.items ++ more.items }
-    ensures len { vec_len outs.new ≡ vec_len outs.old + length more.items }
+fn append_reserved<A: Allocator>(outs: &mut Vec<Out<A>, A>, more: Outs<A>)
+    requires { vec_len outs.old + length more ≤ vec_capacity outs.old }
+    ensures items { outs.new.items ≡ outs.old.items ++ more }
+    ensures len { vec_len outs.new ≡ vec_len outs.old + length more }
     ensures capacity { vec_capacity outs.old ≤ vec_capacity outs.new }
 {
-    outs.append(&mut more).unwrap();
+    more.append_to(outs).unwrap();
 }
 
 /// For tests and rows: what shared tables are compared with.
@@ -148,7 +124,7 @@ impl<'c, A: Allocator + Copy> Broker<'c, A> {
     {
         match prepare(self.alloc, self.config, datagram) {
             Ok(Prepared::Job(job)) => self.give(now, &job),
-            Ok(Prepared::Reject(out)) => rejected(self.alloc, out),
+            Ok(Prepared::Reject(out)) => Ok(one_packet(self.alloc, out)),
             Err(Refusal::NoMemory) => Err(NoMemory),
             Err(why) => Ok(refused(self.alloc, why)),
         }
@@ -212,7 +188,7 @@ impl<'c, A: Allocator + Copy> Broker<'c, A> {
         requires empty { room.outs.items ≡ [] }
         requires len { vec_len room.outs ≡ 0 }
         requires places { most_of_all room.rooms.items ≤ vec_capacity room.outs }
-        ensures packets { shown_outs result.outs.items
+        ensures packets { shown_outs result.outs
             ≡ (tick_from self.old.config now shard 0 self.old.states).packets }
         ensures refusal { result.refusal ≡ None }
         ensures states { self.new.states
@@ -226,7 +202,7 @@ impl<'c, A: Allocator + Copy> Broker<'c, A> {
             realm += 1;
         }
         Answer {
-            outs,
+            outs: Outs::of_vec(outs),
             refusal: None,
         }
     }

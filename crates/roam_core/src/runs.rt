@@ -15,6 +15,7 @@ ghost use Rattle.roam_core.specs.Shown.{shown_events};
 
 use crate::event::Event;
 use crate::stepper::Stepper;
+use roam_book::Outs;
 use roam_route::Out;
 use roam_wire::NoMemory;
 use std::alloc::Allocator;
@@ -28,14 +29,10 @@ pub struct Outcome<A: Allocator> {
 }
 
 /// Appends the packets of one answer.
-fn append_all<A: Allocator>(
-    outs: &mut Vec<Out<A>, A>,
-    mut more: Vec<Out<A>, A>,
-) -> Result<(), NoMemory>
-    ensures { OnOk result (outs.new.items ≡ outs.old.items ++ more.items) }
+fn append_all<A: Allocator>(outs: &mut Vec<Out<A>, A>, more: Outs<A>) -> Result<(), NoMemory>
+    ensures { OnOk result (outs.new.items ≡ outs.old.items ++ more) }
 {
-    outs.append(&mut more)?;
-    Ok(())
+    more.append_to(outs)
 }
 
 /// Notes the place of an event that was lost.

@@ -4,6 +4,7 @@ pub mod Datagrams
 pub mod Delays
 pub mod Ends
 pub mod Events
+pub mod Increments
 pub mod Kinds
 pub mod Process
 pub mod Turns

@@ -4,8 +4,9 @@
 //!
 //! # Proved
 //!
-//! - what an arrival, an answer and a tick's packet are counted as, and of whom: who sent it, and who is at the
-//!   other end | `CountedTurn::arrival`, `outcome`, `sender`; `tick_event`, `end_at`, `Process::received`
+//! - what an arrival is counted as, and of whom | `CountedTurn::arrival`, `sender`; `end_at`, `Process::received`
+//! - which counts rise by what happened, of whom and by how much: by a packet for a realm, by what became of each request
+//!   in a tick, by an answer of the broker's own | `job_increments`, `due_increments`, `local_increments`
 //! - each datagram that was received is one that was taken, answered, refused or dropped, or one that failed: so many
 //!   together as were received, also of several threads | `Datagrams`: `balanced`; `Datagrams::after`, `and`
 //! - two counts stand at one place of one list only where they are one: of the same realm, home server or peer and of
@@ -15,8 +16,11 @@
 mod cell;
 mod datagrams;
 mod delay;
+mod dues;
 mod end;
 mod event;
+mod event_of_code;
+mod increments;
 mod kinds;
 pub mod laws;
 mod process;
@@ -25,8 +29,10 @@ mod turn;
 pub use cell::{Holder, Subject};
 pub use datagrams::{DatagramCounts, Datagrams, Handling};
 pub use delay::Delay;
+pub use dues::due_increments;
 pub use end::{end_at, source_of, subject_of};
 pub use event::{CountedEvent, EVENTS};
+pub use increments::{Increment, Increments, job_increments, local_increments};
 pub use kinds::{NakCause, ReplyKind, RequestKind};
 pub use process::Process;
-pub use turn::{CountedTurn, tick_event};
+pub use turn::CountedTurn;

@@ -3,7 +3,7 @@
 -- each at a moment at which a part of it is due.
 use Rattle.std.specs.Prelude.{◌≡◌, ◌⊎◌, ℕ, ◌-◌, ◌<◌, ◌≤◌, List}
 use Rattle.roam_book.specs.RealmState.{RealmState}
-use Rattle.roam_shard.specs.Twins.{NothingDue}
+use Rattle.roam_shard.specs.Turns.{NothingDue}
 use Rattle.roam_shard.specs.DueCount.{due_count}
 
 -- at most 64 entries are due at it; or no moment before it has any, for entries of one millisecond can't be parted;

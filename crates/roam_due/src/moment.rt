@@ -1,7 +1,7 @@
 //! At which moment a shard is ticked, so that one tick has few entries to work off.
 
 ghost use Rattle.std.specs.Prelude.{◌≡◌, ◌+◌, ◌-◌, ◌<◌, ◌≤◌, IfNone, IfSome};
-ghost use Rattle.roam_shard.specs.Twins.{NothingDue};
+ghost use Rattle.roam_shard.specs.Turns.{NothingDue};
 ghost use Rattle.roam_due.specs.Moments.{AreMoments, IsTickMoment};
 
 use roam_shard::Shard;

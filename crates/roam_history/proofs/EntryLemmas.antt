@@ -2,7 +2,8 @@
 use Rattle.std.proofs.Common.{◌≡◌, true, false, Some, None, ◌+◌, ◌≤◌, List, [], ◌∷◌, ◌++◌, length, refl, ap, sym, subst, ◌∙◌, arith, append_assoc}
 use Rattle.std.proofs.lemmas.List.{append-nil, length-append}
 use mathlib.Core.List.{IsPrefix}
-use Rattle.roam_trace.specs.Steps.{PlainStep}
+use Rattle.roam_core.specs.Events.{PlainEvent}
+use Rattle.roam_trace.specs.Steps.{PlainAnswer, PlainStep}
 use Rattle.roam_history.specs.Entries.{ClosesLast, HistoryEntry, IsOpen, IsWhole, closed_entry, gone_after, gone_of, last_of, let_go_entry, step_entry, steps_in, stored_after, stored_of, times_let_go}
 
 pub steps-append : (xs ys : List HistoryEntry) → steps_in (xs ++ ys) ≡ steps_in xs ++ steps_in ys
@@ -142,23 +143,24 @@ whole_has_all whole other all is last begins also =
     let same : all ≡ whole = sym begins.1 ∙ (ap (λ (l : List HistoryEntry). whole ++ l) none ∙ append-nil whole) in
     subst (λ (l : List HistoryEntry). IsPrefix other l) same also
 
--- the last of some steps
-pub last-push : (ss : List PlainStep) (s : PlainStep) → last_of (ss ++ s ∷ []) ≡ step_entry s
-last-push [] s = refl
-last-push (a ∷ []) s = refl
-last-push (a ∷ b ∷ ss) s = last-push (b ∷ ss) s
+-- the last of some events
+pub last-push : (es : List PlainEvent) (e : PlainEvent) (answer : PlainAnswer)
+    → last_of (es ++ e ∷ []) answer ≡ step_entry (record { event = e; answer = answer })
+last-push [] e answer = refl
+last-push (a ∷ []) e answer = refl
+last-push (a ∷ b ∷ es) e answer = last-push (b ∷ es) e answer
 
 -- a front with one step more
-pub counts_step : (es : List HistoryEntry) (ss : List PlainStep) (s : PlainStep) → last_of ss ≡ step_entry s
-    → length (steps_in (es ++ last_of ss ∷ [])) ≡ length (steps_in es) + 1
-counts_step es ss s is =
+pub counts_step : (es : List HistoryEntry) (last : HistoryEntry) (s : PlainStep) → last ≡ step_entry s
+    → length (steps_in (es ++ last ∷ [])) ≡ length (steps_in es) + 1
+counts_step es last s is =
     ap (λ (e : HistoryEntry). length (steps_in (es ++ e ∷ []))) is
     ∙ (ap length (one-step es s) ∙ length-append (steps_in es) (s ∷ []))
 
 -- which says of no letting go
-pub keeps_times : (es : List HistoryEntry) (ss : List PlainStep) (s : PlainStep) → last_of ss ≡ step_entry s
-    → times_let_go (es ++ last_of ss ∷ []) ≡ times_let_go es
-keeps_times es ss s is =
+pub keeps_times : (es : List HistoryEntry) (last : HistoryEntry) (s : PlainStep) → last ≡ step_entry s
+    → times_let_go (es ++ last ∷ []) ≡ times_let_go es
+keeps_times es last s is =
     let more : times_let_go (es ++ step_entry s ∷ []) ≡ times_let_go es + 0 = times-append es (step_entry s ∷ []) in
     ap (λ (e : HistoryEntry). times_let_go (es ++ e ∷ [])) is ∙ omega (arith, more)
 

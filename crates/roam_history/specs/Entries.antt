@@ -1,7 +1,8 @@
 -- What is written in the one history of a shard (ours): its steps, where the stored ones were let go of, and that it is
 -- closed.
 use Rattle.std.specs.Prelude.{◌≡◌, ◌+◌, ℕ, Bool, true, false, List, [], ◌∷◌, ◌++◌, Option, Some, None}
-use Rattle.roam_trace.specs.Steps.{PlainStep}
+use Rattle.roam_core.specs.Events.{PlainEvent}
+use Rattle.roam_trace.specs.Steps.{PlainAnswer, PlainStep}
 
 -- ## One history of a shard
 -- Entries from the hub's opening on, each a step, or the mark that the stored ones were let go of. What is
@@ -63,11 +64,11 @@ gone_after gone stored (None ∷ es) = gone_after gone stored es
 abbrev pub gone_of : List HistoryEntry → List PlainStep
 gone_of es = gone_after [] [] es
 
--- the entry of the last of some steps; where there is none, one that is no step's
-abbrev pub last_of : List PlainStep → HistoryEntry
-last_of [] = let_go_entry
-last_of (s ∷ []) = step_entry s
-last_of (s ∷ t ∷ ts) = last_of (t ∷ ts)
+-- the entry of the last of some events, with this answer; where there is none, one that is no step's
+abbrev pub last_of : List PlainEvent → PlainAnswer → HistoryEntry
+last_of [] answer = let_go_entry
+last_of (e ∷ []) answer = step_entry (record { event = e; answer = answer })
+last_of (e ∷ f ∷ es) answer = last_of (f ∷ es) answer
 
 -- no entry says that the history is closed
 abbrev pub IsOpen : List HistoryEntry → Type 0

@@ -3,12 +3,13 @@
 ghost use Rattle.std.specs.Prelude.{◌≡◌, ◌-◌, ◌<◌, ◌^◌, ◌++◌, ◌∷◌, ◌↔◌, [], None, false, length, true, IfSome};
 ghost use mathlib.Core.List.{IsPrefix};
 ghost use Rattle.roam_history.specs.Entries.{IsOpen, IsWhole, closed_entry, last_of, let_go_entry, step_entry, steps_in, times_let_go};
-ghost use Rattle.roam_trace.specs.Steps.{PlainStep};
+ghost use Rattle.roam_trace.specs.Steps.{PlainStep, shown_answer};
 
 use crate::head::Head;
 use crate::opened::Opened;
-use crate::rule::{Add, Close, HistoryEntry, LetGo, Nothing, OneHistory};
+use crate::rule::{Add, Close, HistoryEntry, LastStep, LetGo, Nothing, OneHistory};
 use logbook::{Offer, Plain, Seen};
+use roam_book::Answer;
 use roam_trace::Traced;
 use std::alloc::Allocator;
 use std::marker::{Model, PhantomData};
@@ -155,23 +156,25 @@ impl<N: Opened> Front<N> {
         both.learn(&whole.seen);
     }
 
-    /// Adds the last step of a trace to all that was seen here, where no more was ever added: what is
-    /// seen then. None where more was: nothing is added then. Takes no memory.
+    /// Adds the last step of a trace, with this answer, to all that was seen here, where no more was ever added: what
+    /// is seen then. None where more was: nothing is added then. Takes no memory.
     pub fn with_step<A: Allocator>(
         &self,
         head: &Head<N>,
         traced: &Traced<'_, A>,
+        answer: &Answer<A>,
     ) -> Option<Front<N>>
         requires shard { head.now.shard ≡ self.now.shard }
         requires room { length self.now.entries < 2 ^ 64 - 1 }
         requires is_open { IsOpen self.now.entries }
-        requires step { (s : PlainStep) × (last_of traced.now.steps ≡ step_entry s) }
+        requires step { (s : PlainStep) × (last_of traced.now.events (shown_answer answer.now) ≡ step_entry s) }
         ensures { IfSome result (λ f. f ≡ record {
           shard = self.now.shard;
-          entries = self.now.entries ++ last_of traced.now.steps ∷ [];
+          entries = self.now.entries ++ last_of traced.now.events (shown_answer answer.now) ∷ [];
         }) }
     {
-        let seen = added::<N, Traced<'_, A>, Add>(head, &self.seen, self.entries, traced)?;
+        let last = LastStep { traced, answer };
+        let seen = added::<N, LastStep<'_, '_, A>, Add>(head, &self.seen, self.entries, &last)?;
         Some(Front {
             shard: self.shard,
             entries: self.entries + 1,

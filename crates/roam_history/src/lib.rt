@@ -12,6 +12,7 @@
 //!   `Front::with_step`, `without_steps`, `begins`; its rule
 #![tactic(auto)]
 
+mod answered_step;
 mod blank;
 mod blanks;
 mod front;

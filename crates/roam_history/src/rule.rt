@@ -1,12 +1,21 @@
 //! What threads may do to a history: add an entry at its end, until it is closed, and nothing else.
 
+use crate::answered_step::AnsweredStep;
 use logbook::{Gain, Plain, Play, Rule};
-use roam_trace::{Step, Traced};
-use std::alloc::{Allocator, Global};
+use roam_book::Answer;
+use roam_trace::Traced;
+use std::alloc::Allocator;
 
 /// An entry of a history, in proofs alone: none, where it is closed; else a step, or none, where the stored steps were
 /// let go of.
-pub(crate) type HistoryEntry = Option<Option<Step<Global>>>;
+pub(crate) type HistoryEntry = Option<Option<AnsweredStep>>;
+
+/// The last step of a trace, with its answer, which isn't stored.
+#[derive(Clone, Copy)]
+pub(crate) struct LastStep<'a, 'c, A: Allocator> {
+    pub traced: &'a Traced<'c, A>,
+    pub answer: &'a Answer<A>,
+}
 
 /// The rule of a history.
 pub(crate) struct OneHistory;
@@ -48,11 +57,12 @@ impl Play<HistoryEntry, u64> for Add {
 }
 
 /// The last step of a trace is added.
-impl<A: Allocator> Plain<Traced<'_, A>, HistoryEntry, u64> for Add {
+impl<A: Allocator> Plain<LastStep<'_, '_, A>, HistoryEntry, u64> for Add {
     ghost use Rattle.std.specs.Prelude.{None};
     ghost use Rattle.roam_history.specs.Entries.{last_of};
+    ghost use Rattle.roam_trace.specs.Steps.{shown_answer};
 
-    ghost ask = { λ t. last_of t.steps };
+    ghost ask = { λ l. last_of l.traced.now.events (shown_answer l.answer.now) };
 
     ghost state = { λ _. None };
 }

@@ -2,10 +2,15 @@
 use Rattle.std.proofs.Common.{◌≡◌, ◌↔◌, Bool, false, ℕ, ◌+◌, ◌<◌, ◌-◌, ◌^◌, List, [], ◌∷◌, ◌++◌, length, Some, slice_get, slice_index_or, slice_set, refl, ap, sym, subst, ◌∙◌, arith}
 use Rattle.std.proofs.lemmas.List.{length-append, get_or-set_same, get_or-set_other}
 use mathlib.Core.List.{IsPrefix}
-use Rattle.roam_trace.specs.History.{Beginning, Ends, GoesOn, IsHistory, begun, TraceView, end_of, with_step, without_steps}
-use Rattle.roam_shard.specs.Twins.{NothingDue}
+use Rattle.roam_conf.specs.declared.exchange_lines.ExchangeLines.{ExchangeLines}
+use Rattle.roam_book.specs.Happenings.{PlainHappening}
+use Rattle.roam_core.specs.Events.{PlainEvent}
+use Rattle.roam_core.specs.HappeningsTo.{happening_to}
+use Rattle.roam_trace.specs.History.{Beginning, Ends, GoesOn, IsHistory, begun, TraceView, end_of, step_at, stored_steps, with_event, without_steps}
+use Rattle.roam_shard.specs.Turns.{NothingDue}
 use Rattle.roam_due.specs.Moments.{IsTickMoment}
-use Rattle.roam_trace.specs.Steps.{PlainStep}
+use Rattle.roam_trace.specs.Steps.{PlainStep, events_of}
+use Rattle.roam_trace.proofs.HistoryLemmas.{stored_events, stored_length, stored_more}
 use Rattle.roam_history.specs.Entries.{HistoryEntry, gone_of, last_of, let_go_entry, step_entry, steps_in, stored_of, closed_entry}
 use Rattle.roam_history.specs.Fronts.{FrontView}
 use Rattle.roam_history.specs.HubOpening.{HubOpening, opening_at}
@@ -13,7 +18,7 @@ use Rattle.roam_history.proofs.EntryLemmas.{all-gone, all-steps, closed-steps, l
 use Rattle.roam_history.proofs.Prefixes.{prefix_length, prefix_trans}
 use Rattle.roam_audit.specs.Seats.{SeatView, after_call, after_letting_go, front_of, having_seen}
 use Rattle.roam_audit.proofs.PrefixLemmas.{steps_begin}
-use Rattle.roam_hub.specs.Calls.{AreGone, IsCall, IsDueCall, IsFull, IsLook, Sees}
+use Rattle.roam_hub.specs.Calls.{AreGone, HasHappened, IsCall, IsDueCall, IsFull, IsLook, Sees}
 use Rattle.roam_hub.specs.Keeping.{IsKept, KeptView}
 
 -- a seat that has seen all entries of a shard
@@ -45,59 +50,75 @@ begins : (o : HubOpening) (k : KeptView) → IsKept o k →
     begun k.trace (o.states k.front.shard) ≡ opening_at o k.front.shard
 begins o k kept = λ j. record { shard = kept.shard j; config = kept.config j; states = o.states k.front.shard }
 
+-- the steps that are stored of it
+abbrev stored_at : HubOpening → KeptView → List PlainStep
+stored_at o k = stored_steps k.trace (o.states k.front.shard) (gone_of k.front.entries)
+
+-- the events of those are what it stores
+pub events_kept : (o : HubOpening) (k : KeptView) → IsKept o k → k.trace.events ≡ events_of (stored_of k.front.entries)
+events_kept o k kept =
+    sym (stored_events k.trace (o.states k.front.shard) (gone_of k.front.entries))
+    ∙ ap (λ (l : List PlainStep). events_of l) kept.stored
+
 -- the whole history of a shard is one from the hub's opening, and where it ends the shard stands
 pub whole_history : (o : HubOpening) (k : KeptView) → IsKept o k →
     IsHistory (opening_at o k.front.shard) (steps_in k.front.entries)
 whole_history o k kept =
-    let all : gone_of k.front.entries ++ k.trace.steps ≡ steps_in k.front.entries =
+    let all : gone_of k.front.entries ++ stored_at o k ≡ steps_in k.front.entries =
     ap (λ (l : List PlainStep). gone_of k.front.entries ++ l) kept.stored ∙ all-steps k.front.entries in
     subst (λ (l : List PlainStep). IsHistory (opening_at o k.front.shard) l) all
-    (subst (λ (p : Beginning). IsHistory p (gone_of k.front.entries ++ k.trace.steps)) (begins o k kept)
+    (subst (λ (p : Beginning). IsHistory p (gone_of k.front.entries ++ stored_at o k)) (begins o k kept)
     kept.ends.history)
 
 pub whole_end : (o : HubOpening) (k : KeptView) → IsKept o k →
     k.trace.states ≡ end_of (opening_at o k.front.shard) (steps_in k.front.entries)
 whole_end o k kept =
-    let all : gone_of k.front.entries ++ k.trace.steps ≡ steps_in k.front.entries =
+    let all : gone_of k.front.entries ++ stored_at o k ≡ steps_in k.front.entries =
     ap (λ (l : List PlainStep). gone_of k.front.entries ++ l) kept.stored ∙ all-steps k.front.entries in
     kept.ends.stands
-    ∙ (ap (λ (p : Beginning). end_of p (gone_of k.front.entries ++ k.trace.steps)) (begins o k kept)
+    ∙ (ap (λ (p : Beginning). end_of p (gone_of k.front.entries ++ stored_at o k)) (begins o k kept)
     ∙ ap (λ (l : List PlainStep). end_of (opening_at o k.front.shard) l) all)
 
 -- a shard with no steps yet
 pub kept_new : (o : HubOpening) (t : TraceView) (f : FrontView)
     → t.opening.shard ≡ f.shard → t.opening.config ≡ o.config → t.states ≡ o.states f.shard → t.gone ≡ 0 →
-    t.steps ≡ [] → t.limit ≡ o.config.trace_limit
+    t.events ≡ [] → t.limit ≡ o.config.trace_limit
     → f.entries ≡ [] → IsKept o (record { trace = t; front = f })
-kept_new o t f shard config stands gone steps limit none = record {
+kept_new o t f shard config stands gone events limit none = record {
   shard = shard;
   config = config;
   limit = limit;
-  ends = rw (steps, none) (record { history = tt; stands = stands });
-  stored = rw none steps;
+  ends = rw (events, none) (record { history = tt; stands = stands });
+  stored = rw (events, none) refl;
   gone = rw none gone;
   is_open = rw none tt;
   room = (let n = ap length none in omega (arith, n));
 }
 
--- with one step more
+-- with one step more, which has the written answer
 kept_step : (o : HubOpening) (k : KeptView) (s : PlainStep) → IsKept o k → length k.front.entries + 1 < 2 ^ 64 - 1 →
-    GoesOn k.trace (with_step k.trace s)
+    GoesOn k.trace (with_event k.trace s.event) → s ≡ step_at k.trace s.event
     → IsKept o (record {
-      trace = with_step k.trace s;
+      trace = with_event k.trace s.event;
       front =
           record { shard = k.front.shard; entries = k.front.entries ++ step_entry s ∷ [] };
     })
-kept_step o k s kept room more =
+kept_step o k s kept room more says =
     let es = k.front.entries in
+    let states = o.states k.front.shard in
     let gone : gone_of (es ++ step_entry s ∷ []) ≡ gone_of es = same-gone es s in
     record {
       shard = kept.shard;
       config = kept.config;
       limit = kept.limit;
-      ends = subst (λ (l : List PlainStep). Ends (with_step k.trace s) (o.states k.front.shard) l) (sym gone)
-          (more (o.states k.front.shard) (gone_of es) kept.ends);
-      stored = ap (λ (l : List PlainStep). l ++ s ∷ []) kept.stored ∙ sym (one-stored es s);
+      ends = subst (λ (l : List PlainStep). Ends (with_event k.trace s.event) states l) (sym gone)
+          (more states (gone_of es) kept.ends);
+      stored =
+          ap (λ (l : List PlainStep). stored_steps (with_event k.trace s.event) states l) gone
+          ∙ stored_more k.trace states (gone_of es) s.event kept.ends
+          ∙ ap (λ (x : PlainStep). stored_at o k ++ x ∷ []) (sym says)
+          ∙ ap (λ (l : List PlainStep). l ++ s ∷ []) kept.stored
+          ∙ sym (one-stored es s);
       gone = kept.gone ∙ ap length (sym gone);
       is_open = open-step es s kept.is_open;
       room = (let more = length-append es (step_entry s ∷ []) in omega (arith, more, room));
@@ -105,7 +126,7 @@ kept_step o k s kept room more =
 
 -- where the stored steps were let go of
 pub kept_gone : (o : HubOpening) (k : KeptView) → IsKept o k → length k.front.entries + 1 < 2 ^ 64 - 1 →
-    Ends (without_steps k.trace) (o.states k.front.shard) (gone_of k.front.entries ++ k.trace.steps)
+    Ends (without_steps k.trace) (o.states k.front.shard) (gone_of k.front.entries ++ stored_at o k)
     → IsKept o (record {
       trace = without_steps k.trace;
       front =
@@ -113,7 +134,7 @@ pub kept_gone : (o : HubOpening) (k : KeptView) → IsKept o k → length k.fron
     })
 kept_gone o k kept room ends =
     let es = k.front.entries in
-    let gone : gone_of es ++ k.trace.steps ≡ gone_of (es ++ let_go_entry ∷ []) =
+    let gone : gone_of es ++ stored_at o k ≡ gone_of (es ++ let_go_entry ∷ []) =
     ap (λ (l : List PlainStep). gone_of es ++ l) kept.stored ∙ sym (all-gone es) in
     record {
       shard = kept.shard;
@@ -121,9 +142,9 @@ kept_gone o k kept room ends =
       limit = kept.limit;
       ends = subst (λ (l : List PlainStep). Ends (without_steps k.trace) (o.states k.front.shard) l) gone ends;
       stored = sym (none-stored es);
-      gone =
-          ap (λ (n : ℕ). n + length k.trace.steps) kept.gone
-          ∙ (sym (length-append (gone_of es) k.trace.steps) ∙ ap length gone);
+      gone = (let len = length-append (gone_of es) (stored_at o k) in
+          let many = stored_length k.trace (o.states k.front.shard) (gone_of es) in
+          let all = ap length gone in omega (arith, len, many, all, kept.gone));
       is_open = open-gone es kept.is_open;
       room = (let more = length-append es (let_go_entry ∷ []) in omega (arith, more, room));
     }
@@ -139,14 +160,15 @@ pub record Recorded (o : HubOpening) (k : KeptView) (shard : ℕ) (old new : Sea
   pub call : IsCall o shard old new number s
   pub sees : Sees shard old new
   pub front : front_of new shard ≡ k.front.entries
-  pub last : last_of k.trace.steps ≡ step_entry s
+  pub last : last_of k.trace.events s.answer ≡ step_entry s
 
 -- what is known where it was
 pub record Recording (k : KeptView) (t : TraceView) (f : FrontView) (s : PlainStep) (shard number : ℕ)
     (old new : SeatView) : Type 0 where
-  pub trace : t ≡ with_step k.trace s
+  pub trace : t ≡ with_event k.trace s.event
+  pub says : s ≡ step_at k.trace s.event
   pub more : GoesOn k.trace t
-  pub front : f ≡ record { shard = k.front.shard; entries = k.front.entries ++ last_of t.steps ∷ [] }
+  pub front : f ≡ record { shard = k.front.shard; entries = k.front.entries ++ last_of t.events s.answer ∷ [] }
   pub here : k.front.shard ≡ shard
   pub there : shard < length old.fronts
   pub begins : IsPrefix (front_of old shard) k.front.entries
@@ -155,24 +177,25 @@ pub record Recording (k : KeptView) (t : TraceView) (f : FrontView) (s : PlainSt
   pub noted : new ≡ after_call old shard number f.entries
 
 recorded-one : (o : HubOpening) (k : KeptView) (s : PlainStep) (shard number : ℕ) (old new : SeatView) → IsKept o k
-    → GoesOn k.trace (with_step k.trace s) → k.front.shard ≡ shard → shard < length old.fronts →
+    → GoesOn k.trace (with_event k.trace s.event) → s ≡ step_at k.trace s.event
+    → k.front.shard ≡ shard → shard < length old.fronts →
     IsPrefix (front_of old shard) k.front.entries
     → length k.front.entries + 1 < 2 ^ 64 - 1 → number ≡ length (steps_in k.front.entries) →
     new ≡ after_call old shard number (k.front.entries ++ step_entry s ∷ [])
     → Recorded o (record {
-      trace = with_step k.trace s;
+      trace = with_event k.trace s.event;
       front =
           record { shard = k.front.shard; entries = k.front.entries ++ step_entry s ∷ [] };
     }) shard old new number s
-recorded-one o k s shard number old new kept more here there begins room number_is noted =
+recorded-one o k s shard number old new kept more says here there begins room number_is noted =
     let es = k.front.entries in
     let whole = es ++ step_entry s ∷ [] in
     let after : KeptView = record {
-      trace = with_step k.trace s;
+      trace = with_event k.trace s.event;
       front =
           record { shard = k.front.shard; entries = whole };
     } in
-    let keeps : IsKept o after = kept_step o k s kept room more in
+    let keeps : IsKept o after = kept_step o k s kept room more says in
     let fronts = ap (λ (x : SeatView). x.fronts) noted in
     let front : front_of new shard ≡ whole =
     ap (λ (fs : List (List HistoryEntry)). slice_index_or fs shard []) fronts
@@ -199,7 +222,7 @@ recorded-one o k s shard number old new kept more here there begins room number_
       sees = sees_set shard old new whole fronts there
           (prefix_trans (front_of old shard) es whole begins (step_entry s ∷ [], refl));
       front = front;
-      last = last-push k.trace.steps s;
+      last = last-push k.trace.events s.event s.answer;
     }
 
 pub recorded : (o : HubOpening) (k : KeptView) (t : TraceView) (f : FrontView) (s : PlainStep) (shard number : ℕ)
@@ -207,13 +230,14 @@ pub recorded : (o : HubOpening) (k : KeptView) (t : TraceView) (f : FrontView) (
     → IsKept o k → Recording k t f s shard number old new →
     Recorded o (record { trace = t; front = f }) shard old new number s
 recorded o k t f s shard number old new kept r =
-    let last : last_of t.steps ≡ step_entry s = ap (λ (v : TraceView). last_of v.steps) r.trace
-    ∙ last-push k.trace.steps s in
+    let last : last_of t.events s.answer ≡ step_entry s =
+    ap (λ (v : TraceView). last_of v.events s.answer) r.trace ∙ last-push k.trace.events s.event s.answer in
     let front : f ≡ record { shard = k.front.shard; entries = k.front.entries ++ step_entry s ∷ [] } =
     r.front ∙ ap (λ (e : HistoryEntry). record { shard = k.front.shard; entries = k.front.entries ++ e ∷ [] }) last in
     let noted = r.noted ∙ ap (λ (g : FrontView). after_call old shard number g.entries) front in
     let more = subst (λ (v : TraceView). GoesOn k.trace v) r.trace r.more in
-    let one = recorded-one o k s shard number old new kept more r.here r.there r.begins r.room r.number_is noted in
+    let one = recorded-one o k s shard number old new kept more r.says r.here r.there r.begins r.room
+    r.number_is noted in
     subst (λ (g : FrontView). Recorded o (record { trace = t; front = g }) shard old new number s) (sym front)
     (subst (λ (v : TraceView). Recorded o
     (record {
@@ -226,12 +250,12 @@ recorded o k t f s shard number old new kept r =
     }) shard old new number s) (sym r.trace) one)
 
 -- the stored steps of a shard were let go of
-pub gone_of_shard : (o : HubOpening) (k : KeptView) (shard : ℕ) (old new : SeatView) (steps : List PlainStep) →
+pub gone_of_shard : (o : HubOpening) (k : KeptView) (shard : ℕ) (old new : SeatView) (events : List PlainEvent) →
     IsKept o k
     → k.front.shard ≡ shard → shard < length old.fronts → IsPrefix (front_of old shard) k.front.entries
-    → steps ≡ k.trace.steps → new ≡ after_letting_go old shard (k.front.entries ++ let_go_entry ∷ [])
-    → AreGone o shard old new steps × Sees shard old new
-gone_of_shard o k shard old new steps kept here there begins are seen =
+    → events ≡ k.trace.events → new ≡ after_letting_go old shard (k.front.entries ++ let_go_entry ∷ [])
+    → AreGone o shard old new events × Sees shard old new
+gone_of_shard o k shard old new events kept here there begins are seen =
     let es = k.front.entries in
     let whole = es ++ let_go_entry ∷ [] in
     let both = sees_whole shard old new whole (ap (λ (x : SeatView). x.fronts) seen) there
@@ -241,7 +265,7 @@ gone_of_shard o k shard old new steps kept here there begins are seen =
       record {
         before = es;
         entries = both.0;
-        steps_are = are ∙ kept.stored;
+        events_are = are ∙ events_kept o k kept;
         history = subst (λ (l : List PlainStep). IsHistory (opening_at o shard) l)
             (sym (ap (λ (l : List HistoryEntry). steps_in l) both.0 ∙ same-steps es)) history;
         tallies = ap (λ (x : SeatView). x.tallies) seen;
@@ -296,13 +320,30 @@ due_call o k shard now moment old new number s kept here begins due part call mo
 -- as many steps are stored as the trace can hold
 pub full : (o : HubOpening) (k : KeptView) (shard : ℕ) (old new : SeatView) → IsKept o k
     → k.front.shard ≡ shard → shard < length old.fronts → IsPrefix (front_of old shard) k.front.entries
-    → new ≡ having_seen old shard k.front.entries → length k.trace.steps ≡ k.trace.limit → IsFull o shard new
+    → new ≡ having_seen old shard k.front.entries → length k.trace.events ≡ k.trace.limit → IsFull o shard new
 full o k shard old new kept here there begins seen all =
     let both = sees_whole shard old new k.front.entries (ap (λ (x : SeatView). x.fronts) seen) there begins in
-    ap (λ (l : List HistoryEntry). length (stored_of l)) both.0 ∙ (ap length (sym kept.stored) ∙ (all ∙ kept.limit))
+    ap (λ (l : List HistoryEntry). length (stored_of l)) both.0 ∙
+    (ap length (sym kept.stored) ∙ (stored_length k.trace (o.states k.front.shard) (gone_of k.front.entries)
+    ∙ (all ∙ kept.limit)))
 
 -- the entry that closes a history is no step
 pub whole_steps : (f whole : FrontView) →
     whole ≡ record { shard = f.shard; entries = f.entries ++ closed_entry ∷ [] } →
     steps_in f.entries ≡ steps_in whole.entries
 whole_steps f whole is = sym (ap (λ (w : FrontView). steps_in w.entries) is ∙ closed-steps f.entries)
+
+-- what happened by the call whose step is the last
+pub has_happened : (o : HubOpening) (lines : ExchangeLines) (k : KeptView) (shard : ℕ) (new : SeatView)
+    (s : PlainStep) (event : PlainEvent) (happening : PlainHappening)
+    → IsKept o k → k.front.shard ≡ shard → front_of new shard ≡ k.front.entries ++ step_entry s ∷ []
+    → happening ≡ happening_to lines k.trace.opening.config k.trace.states event
+    → HasHappened o lines shard new event happening
+has_happened o lines k shard new s event happening kept here front is =
+    let end = whole_end o k kept ∙ ap (λ (n : ℕ). end_of (opening_at o n) (steps_in k.front.entries)) here in
+    record {
+      before = k.front.entries;
+      step = s;
+      entries = front;
+      happened = is ∙ (λ j. happening_to lines (kept.config j) (end j) event);
+    }

@@ -6,3 +6,4 @@ pub mod BoundLemmas
 pub mod LifeOverLemmas
 pub mod TicketOverLemmas
 pub mod EndLemmas
+pub mod RefusedLemmas

@@ -6,11 +6,16 @@ use mathlib.Core.List.{IsPrefix}
 use Rattle.roam_route.specs.Admission.{PlainJob}
 use Rattle.roam_route.specs.Events.{arrival_of}
 use Rattle.roam_route.specs.Shown.{shown_job}
+use Rattle.roam_conf.specs.declared.exchange_lines.ExchangeLines.{ExchangeLines}
+use Rattle.roam_book.specs.Happenings.{PlainHappening}
+use Rattle.roam_book.specs.HappeningsShown.{shown_happening}
+use Rattle.roam_book.specs.RealmState.{RealmState}
+use Rattle.roam_core.specs.HappeningsTo.{happening_to}
 use Rattle.roam_core.specs.Events.{PlainEvent, arrives, ticks}
-use Rattle.roam_shard.specs.Twins.{NothingDue}
+use Rattle.roam_shard.specs.Turns.{NothingDue}
 use Rattle.roam_due.specs.Moments.{IsTickMoment}
 use Rattle.roam_trace.specs.History.{IsHistory, end_of}
-use Rattle.roam_trace.specs.Steps.{PlainStep, octets_in, shown_answer}
+use Rattle.roam_trace.specs.Steps.{PlainStep, events_of, octets_in, shown_answer}
 use Rattle.roam_history.specs.Entries.{HistoryEntry, let_go_entry, step_entry, steps_in, stored_of}
 use Rattle.roam_history.specs.HubOpening.{HubOpening, opening_at}
 use Rattle.roam_audit.specs.Seats.{SeatView, front_of, noted, once_more}
@@ -19,6 +24,10 @@ use Rattle.roam_hub.specs.declared.answered.Refused.{Refused}
 use Rattle.roam_hub.specs.declared.answered.Ticked.{Ticked}
 use Rattle.roam_hub.specs.declared.fault.HubFault.{HubFault}
 use Rattle.roam_hub.specs.declared.fault.HubFault.TheVariants as hub
+
+-- where the history of a shard stands at the end of what was seen of it
+abbrev pub states_seen : HubOpening → ℕ → List HistoryEntry → List RealmState
+states_seen o shard entries = end_of (opening_at o shard) (steps_in entries)
 
 -- whatever a call of a shard gives: all that the seat had seen of that shard begins what it has then seen.
 -- Of other shards it has seen what it had
@@ -39,7 +48,7 @@ HasHistory o shard seat = IsHistory (opening_at o shard) (steps_in (front_of sea
 -- Rules out: a receipt for an answer that no broker gives there; a number of another place; a call that is
 -- counted and not recorded; one that lets go of steps beside
 -- Stands in: `roam_hub` `Calls.antt`: `IsCall`, `Sees`, `HasHistory`; all of it in one, `Calls`; `Hub::answer`,
--- `answer_noting`, `submit`, `tick`, `tick_if_due`
+-- `submit`, `tick`, `tick_if_due`
 --
 -- a call was recorded under a number, as this step: the seat counts it, and its step stands at that number
 -- in the shard's one history, as the last that the seat has seen. Before the call it had seen no more
@@ -94,16 +103,30 @@ pub record IsLook (o : HubOpening) (shard now : ℕ) (old new : SeatView) (due :
 -- Rules out: a step that is lost, or let go of twice; a letting go that nobody counts
 -- Stands in: `roam_hub` `Calls.antt`: `AreGone`; `Hub::let_go`
 --
--- the stored steps of a shard were let go of, and are these ones: the seat counts it, and has seen the history up to
--- there
-pub record AreGone (o : HubOpening) (shard : ℕ) (old new : SeatView) (steps : List PlainStep)
+-- the stored steps of a shard were let go of, and these are their events: the seat counts it, and has seen the history
+-- up to there
+pub record AreGone (o : HubOpening) (shard : ℕ) (old new : SeatView) (events : List PlainEvent)
     : Type 0 where
   pub before : List HistoryEntry
   pub entries : front_of new shard ≡ before ++ let_go_entry ∷ []
-  pub steps_are : steps ≡ stored_of before
+  pub events_are : events ≡ events_of (stored_of before)
   pub history : HasHistory o shard new
   pub tallies : new.tallies ≡ old.tallies
   pub times : new.times ≡ once_more old.times shard
+
+-- ## What a call says that happened
+-- It is what happens by the call's event where the steps before its own end: as the rules say, of the history's states.
+-- Source: ours
+-- Rules out: a count or a line of what no history has
+-- Stands in: `roam_hub` `Calls.antt`: `HasHappened`; `Hub::answer`, `tick_if_due`
+--
+-- this happened by an event, whose step is the last that a seat has seen
+pub record HasHappened (o : HubOpening) (lines : ExchangeLines) (shard : ℕ) (new : SeatView) (event : PlainEvent)
+    (happening : PlainHappening) : Type 0 where
+  pub before : List HistoryEntry
+  pub step : PlainStep
+  pub entries : front_of new shard ≡ before ++ step_entry step ∷ []
+  pub happened : happening ≡ happening_to lines o.config (states_seen o shard before) event
 
 module _ {A : Type 0} where
   -- the step of an event that was answered so
@@ -111,7 +134,9 @@ module _ {A : Type 0} where
   answered_step event a = record { event = event; answer = shown_answer a.answer }
 
   -- a tick was recorded where something was due, and whether anything is due after it
-  pub record IsTicked (o : HubOpening) (shard now : ℕ) (old new : SeatView) (t : Ticked A) : Type 0 where
+  pub record IsTicked (o : HubOpening) (lines : ExchangeLines) (shard now : ℕ) (old new : SeatView) (t : Ticked A)
+      : Type 0 where
+    pub happened : HasHappened o lines shard new (ticks t.moment shard) (shown_happening t.answered.happening)
     pub call : IsDueCall o shard now t.moment old new t.answered.number
         (answered_step (ticks t.moment shard) t.answered)
     pub more : t.is_more ≡ false ↔ NothingDue now (end_of (opening_at o shard) (steps_in (front_of new shard)))
@@ -123,25 +148,27 @@ module _ {A : Type 0} where
   -- Source: ours
   -- Rules out: a due entry that is passed over; a broker at rest that stores ticks
   -- Stands in: `roam_hub` `Calls.antt`: `IsTick`, `IsTicked`, `IsDueCall`; with what an error leaves, `TicksIfDue`;
-  -- `Hub::tick_if_due`, `tick_noting`
+  -- `Hub::tick_if_due`
   --
   -- that, or nothing was due and nothing recorded
-  abbrev pub IsTick : HubOpening → ℕ → ℕ → SeatView → SeatView → Option (Ticked A) → Type 0
-  IsTick o shard now old new (Some t) = IsTicked o shard now old new t
-  IsTick o shard now old new None = IsLook o shard now old new false
+  abbrev pub IsTick : HubOpening → ExchangeLines → ℕ → ℕ → SeatView → SeatView → Option (Ticked A) → Type 0
+  IsTick o lines shard now old new (Some t) = IsTicked o lines shard now old new t
+  IsTick o lines shard now old new None = IsLook o shard now old new false
 
   -- what a call with a job does. Where it was recorded, its step stands in the history of its shard with the answer
   -- that is returned, and the octets are those of the steps that are then stored. Whatever it gives, of that shard's
   -- history alone the seat has seen more. Where it wasn't recorded the seat counts nothing and the job comes back; it
   -- is full only where as many steps are stored as the trace can hold, and its shard is there. It never lets go of
   -- stored steps
-  pub record Calls (o : HubOpening) (shard now : ℕ) (job : PlainJob) (old new : SeatView)
+  pub record Calls (o : HubOpening) (lines : ExchangeLines) (shard now : ℕ) (job : PlainJob) (old new : SeatView)
       (result : Result (Answered A) (Refused A)) : Type 0 where
     pub call : IfOk result
         (λ a. IsCall o a.shard old new a.number (answered_step (arrives now (arrival_of job)) a))
+    pub happened : IfOk result
+        (λ a. HasHappened o lines shard new (arrives now (arrival_of job)) (shown_happening a.happening))
     pub shard_is : IfOk result (λ a. a.shard ≡ shard)
     pub octets : IfOk result
-        (λ a. a.octets ≡ min (octets_in (stored_of (front_of new a.shard))) (2 ^ 64 - 1))
+        (λ a. a.octets ≡ min (octets_in (events_of (stored_of (front_of new a.shard)))) (2 ^ 64 - 1))
     pub seen : Sees shard old new
     pub times : new.times ≡ old.times
     pub err : OnErr result (new.tallies ≡ old.tallies)
@@ -152,9 +179,9 @@ module _ {A : Type 0} where
   -- what a tick does where something is due, and else a look. Whatever it gives, of that shard's history alone the seat
   -- has seen more, and it lets go of no stored steps. With an error the seat counts nothing, and it is full only where
   -- as many steps are stored as the trace can hold
-  pub record TicksIfDue (o : HubOpening) (shard now : ℕ) (old new : SeatView)
+  pub record TicksIfDue (o : HubOpening) (lines : ExchangeLines) (shard now : ℕ) (old new : SeatView)
       (result : Result (Option (Ticked A)) HubFault) : Type 0 where
-    pub tick : IfOk result (IsTick o shard now old new)
+    pub tick : IfOk result (IsTick o lines shard now old new)
     pub seen : Sees shard old new
     pub times : new.times ≡ old.times
     pub err : OnErr result (new.tallies ≡ old.tallies)

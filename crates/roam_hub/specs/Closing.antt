@@ -3,7 +3,9 @@ use Rattle.std.specs.Prelude.{◌≡◌, ℕ, ◌≤◌, List, [], Some, length,
 use Rattle.std.specs.declared.vec.Vec.{Vec}
 use Rattle.roam_shard.specs.ShardView.{ShardView}
 use Rattle.roam_trace.specs.History.{IsHistory, end_of}
-use Rattle.roam_trace.specs.Steps.{PlainStep}
+use Rattle.roam_core.specs.Events.{PlainEvent}
+use Rattle.roam_trace.specs.Steps.{PlainStep, events_of}
+use Rattle.roam_history.specs.Entries.{HistoryEntry, stored_of}
 use Rattle.roam_history.specs.Fronts.{FrontView}
 use Rattle.roam_history.specs.HubOpening.{HubOpening, opening_at}
 use Rattle.roam_audit.specs.Shown.{all_in, items_of}
@@ -13,9 +15,13 @@ pub record HasRoom {X A : Type 0} (count : ℕ) (v : Vec X A) : Type 0 where
   pub empty : v.items ≡ []
   pub room : count ≤ vec_capacity v
 
--- the steps of each shard that are still stored, and all of them
-abbrev pub stored_steps : {A : Type 0} → List (Vec PlainStep A) → List (List PlainStep)
-stored_steps steps = map items_of steps
+-- the events of the steps of each shard that are still stored, and all steps
+abbrev pub stored_events : {A : Type 0} → List (Vec PlainEvent A) → List (List PlainEvent)
+stored_events steps = map items_of steps
+
+-- those that are stored where a history ends
+abbrev pub stored_in : List HistoryEntry → List PlainEvent
+stored_in entries = events_of (stored_of entries)
 
 abbrev pub all_steps : List FrontView → List (List PlainStep)
 all_steps fronts = map all_in fronts

@@ -1,6 +1,6 @@
 -- What lies under a shard's lock: words of private functions alone (ours).
 use Rattle.std.specs.Prelude.{◌≡◌, ◌<◌, ◌-◌, ◌^◌, length}
-use Rattle.roam_trace.specs.History.{Ends, TraceView}
+use Rattle.roam_trace.specs.History.{Ends, TraceView, stored_steps}
 use Rattle.roam_history.specs.Entries.{IsOpen, gone_of, stored_of}
 use Rattle.roam_history.specs.Fronts.{FrontView}
 use Rattle.roam_history.specs.HubOpening.{HubOpening}
@@ -16,7 +16,7 @@ pub record IsKept (o : HubOpening) (k : KeptView) : Type 0 where
   pub config : k.trace.opening.config ≡ o.config
   pub limit : k.trace.limit ≡ o.config.trace_limit
   pub ends : Ends k.trace (o.states k.front.shard) (gone_of k.front.entries)
-  pub stored : k.trace.steps ≡ stored_of k.front.entries
+  pub stored : stored_steps k.trace (o.states k.front.shard) (gone_of k.front.entries) ≡ stored_of k.front.entries
   pub gone : k.trace.gone ≡ length (gone_of k.front.entries)
   pub is_open : IsOpen k.front.entries
   pub room : length k.front.entries < 2 ^ 64 - 1

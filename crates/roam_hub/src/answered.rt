@@ -1,7 +1,7 @@
 //! What a caller gets of a call that is recorded without a receipt.
 
 use crate::fault::HubFault;
-use roam_book::Answer;
+use roam_book::{Answer, Happening};
 use roam_route::Job;
 use std::alloc::Allocator;
 
@@ -12,8 +12,10 @@ pub struct Answered<A: Allocator> {
     /// How many calls of that shard were recorded before this one.
     pub number: u64,
     pub answer: Answer<A>,
-    /// How many octets the datagrams and packets of the steps have that are stored of that shard, with this
-    /// one; as many as 64 bits hold.
+    /// What happened by it.
+    pub happening: Happening<A>,
+    /// How many octets the datagrams of the steps have that are stored of that shard, with this one; as many as 64
+    /// bits hold.
     pub octets: u64,
 }
 

@@ -1,6 +1,9 @@
 //! How a caller calls a hub.
 
-/// Call: how a call of a hub waits for a lock, what is called while it holds it, and its moment.
+use roam_conf::ExchangeLines;
+
+/// Call: how a call of a hub waits for a lock, what is called while it holds it, its moment, and of which exchanges
+/// lines tell.
 #[derive(Drop)]
 pub struct Call<'t, R, G> {
     /// What waits.
@@ -9,4 +12,6 @@ pub struct Call<'t, R, G> {
     pub gate: &'t G,
     /// In milliseconds.
     pub moment: u64,
+    /// The octets of a request are kept in what happened where these lines tell of it.
+    pub lines: ExchangeLines,
 }

@@ -3,10 +3,9 @@
 ghost use Rattle.std.specs.Prelude.{◌≡◌, ◌⊎◌, ◌+◌, ◌<◌, ◌^◌, [], map, vec_len, IfErr, IfOk};
 ghost use Rattle.roam_conf.specs.Shown.{shown};
 ghost use Rattle.roam_shard.specs.ShardView.{AreStarts};
-ghost use Rattle.roam_history.specs.Entries.{stored_of};
 ghost use Rattle.roam_history.specs.Fronts.{AreOfShards, AreWhole, entries_of};
 ghost use Rattle.roam_audit.specs.Shown.{recorded, stored};
-ghost use Rattle.roam_hub.specs.Closing.{AreClosed, HasRoom, all_steps, stored_steps};
+ghost use Rattle.roam_hub.specs.Closing.{AreClosed, HasRoom, all_steps, stored_events, stored_in};
 ghost use Rattle.roam_hub.specs.Histories.{AreHistories, starts_at_end};
 
 use crate::fault::HubFault;
@@ -45,8 +44,8 @@ pub(crate) fn taken_apart<'c, R: Wait, A: Allocator + Copy, N: Opened>(
     requires fronts { HasRoom (vec_len locks) fronts }
     ensures closed { IfOk result (λ c.
         AreClosed N.opening (vec_len locks.entry) c.shards.items (all_steps c.fronts.items)) }
-    ensures stored { IfOk result (λ c. stored_steps c.steps.items
-        ≡ map stored_of (entries_of c.fronts.items)) }
+    ensures stored { IfOk result (λ c. stored_events c.steps.items
+        ≡ map stored_in (entries_of c.fronts.items)) }
     ensures of_shards { IfOk result (λ c. AreOfShards c.fronts.items) }
     ensures whole { IfOk result (λ c. AreWhole c.fronts.items) }
     ensures few { IfOk result (λ c. vec_len c.fronts ≡ vec_len locks.entry) }
@@ -99,7 +98,7 @@ impl<'c, A: Allocator + Copy, N: Opened> Hub<'c, A, N> {
     pub fn close<R: Wait>(self, rt: &R) -> Result<Report<A, N>, HubFault>
         ensures histories { IfOk result (λ r. AreHistories N.opening (recorded r)) }
         ensures whole { IfOk result (λ r. AreWhole r.fronts.items) }
-        ensures stored { IfOk result (λ r. stored r ≡ map stored_of (entries_of r.fronts.items)) }
+        ensures stored { IfOk result (λ r. stored r ≡ map stored_in (entries_of r.fronts.items)) }
         ensures starts { IfOk result (λ r. r.starts.items ≡ starts_at_end N.opening (recorded r)) }
         ensures good { IfOk result (λ r. AreStarts N.opening.config r.starts.items) }
         ensures causes { IfErr result (λ f. (f ≡ HubFault.Misplaced) ⊎ (f ≡ HubFault.NoMemory)) }

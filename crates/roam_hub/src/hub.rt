@@ -18,9 +18,8 @@ use crate::fault::HubFault;
 use crate::gate::Gate;
 use crate::locked_trace::LockedTrace;
 use crate::locking::wait_for;
-use crate::notes::Notes;
 use roam_audit::{Receipt, Seat};
-use roam_conf::Config;
+use roam_conf::{Config, ExchangeLines};
 use roam_core::Event;
 use roam_history::Opened;
 use roam_route::Job;
@@ -40,10 +39,9 @@ pub struct Hub<'c, A: Allocator, N: Opened> {
 }
 
 impl<'c, A: Allocator + Copy, N: Opened> Hub<'c, A, N> {
-    /// For tests and rows; the server calls `answer_noting`.
-    ///
     /// Gives a job to the shard of its realm, at the call's moment, and waits for that shard's lock. The job's
-    /// octets go into the stored step, so nothing is copied but what is answered. The seat counts the call.
+    /// octets go into the stored step, so nothing is copied but what is answered. With the answer comes what happened
+    /// by the job. The seat counts the call.
     ///
     /// # Errors
     ///
@@ -56,8 +54,8 @@ impl<'c, A: Allocator + Copy, N: Opened> Hub<'c, A, N> {
         job: Job<A>,
     ) -> Result<Answered<A>, Refused<A>>
         requires { IsEvent N.opening.config (shown_job job) }
-        ensures { Calls N.opening (job.realm % N.opening.config.shards) call.entry.moment (shown_job job)
-            seat.old seat.new result }
+        ensures { Calls N.opening call.entry.lines (job.realm % N.opening.config.shards) call.entry.moment
+            (shown_job job) seat.old seat.new result }
     {
         let shard = self.config.shard_of(job.realm);
         let mut kept = wait_for(call.rt, &self.locks[usize::from(shard)]);
@@ -101,6 +99,7 @@ impl<'c, A: Allocator + Copy, N: Opened> Hub<'c, A, N> {
             rt,
             gate,
             moment: now,
+            lines: ExchangeLines::OfNone,
         };
         match self.answer(call, seat, copy) {
             Ok(answered) => Ok(receipt_of(seat, event, answered)),
@@ -143,15 +142,15 @@ impl<'c, A: Allocator + Copy, N: Opened> Hub<'c, A, N> {
             rt,
             gate,
             moment: now,
+            lines: ExchangeLines::OfNone,
         };
         let answered = kept.tick(call, seat, shard)?;
         Ok(receipt_of(seat, Event::Tick { now, shard }, answered))
     }
 
-    /// For tests and rows; the server calls `tick_noting`.
-    ///
     /// A tick of a shard where something is due in it at the call's moment, and no receipt. None where nothing is
-    /// due: nothing is stored then, and no memory is wanted.
+    /// due: nothing is stored then, and no memory is wanted. With the answer comes what became of each request that was
+    /// due and waited, in order.
     ///
     /// Where many entries are due, the tick's moment is an earlier one, at which few were, or the first at which any
     /// was; only what has been due for long is worked off at once. The caller asks again until no more is due: between
@@ -166,10 +165,15 @@ impl<'c, A: Allocator + Copy, N: Opened> Hub<'c, A, N> {
         seat: &mut Seat<A, N>,
         shard: u16,
     ) -> Result<Option<Ticked<A>>, HubFault>
-        ensures tick { TicksIfDue N.opening shard call.entry.moment seat.old seat.new result }
+        ensures tick { TicksIfDue N.opening call.entry.lines shard call.entry.moment seat.old seat.new result }
         ensures no_shard { IsErrOf result HubFault.NoShard ↔ N.opening.config.shards ≤ shard }
     {
-        self.tick_noting(call, seat, shard, &mut Notes::none(self.alloc))
+        if usize::from(shard) >= self.locks.len() {
+            return Err(HubFault::NoShard);
+        }
+        let mut kept = wait_for(call.rt, &self.locks[usize::from(shard)]);
+        call.gate.inside(shard);
+        kept.tick_if_due(call, seat, shard)
     }
 
     /// Whether anything of a shard is due at a moment in milliseconds, as it stands. Waits for the shard's

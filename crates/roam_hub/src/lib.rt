@@ -50,17 +50,16 @@
 //! - in a history that begins in any states each realm is isolated too, and ends where its own written broker
 //!   does | law `realms_from_any_states`
 //! - a look at a realm gives numbers of its entries and sessions where a history of its own shard ends, no
-//!   earlier than the seat has seen; a call that notes what may end by it does to its seat and its answer what
-//!   the call without does. Of Identifiers in use and rests in a look, and of the notes, no contract says more,
-//!   nor that a look tells of each realm: that is its code, and tested (`packaging/tests/try-control.py`,
-//!   `try-exchanges.py`) | `Hub::look`, `answer_noting`, `tick_noting`
+//!   earlier than the seat has seen; of Identifiers in use and rests in a look no contract says more, nor that a look
+//!   tells of each realm: that is its code, and tested (`packaging/tests/try-control.py`) | `Hub::look`
+//! - with each answer comes what happened by its event, which is what the rules say of the states where the steps before
+//!   it end | `Hub::answer`: `Calls`, its `happened`; `tick_if_due`: `IsTicked`, its `happened`
 #![tactic(auto)]
 
 mod answered;
 mod bounds;
 mod call;
 mod closing;
-mod ended;
 mod fault;
 mod gate;
 mod hub;
@@ -68,7 +67,6 @@ mod laws;
 mod locked_trace;
 mod locking;
 mod look;
-mod notes;
 mod opening;
 mod pause_room;
 mod pausing;
@@ -85,14 +83,13 @@ pub use laws::{
     draws_apart_over_changes, lives_over_changes, provenance_in_histories, provenance_over_changes,
     realms_from_any_states, realms_in_histories, realms_over_changes, tickets_over_changes,
 };
-pub use notes::{Notes, Past, Stood};
 pub use pause_room::PauseRoom;
 pub use pausing::PausedHub;
 pub use roam_audit::{AuditFault, Audited, Receipt, Report, Seat, split};
-pub use roam_book::{Gauges, Rest, SERVER_LINKS};
+pub use roam_book::{Became, DueHappening, Gauges, Happening, Rest, SERVER_LINKS, Waited};
 pub use roam_due::{LATE, MOST};
 pub use roam_follow::follow;
 pub use roam_history::{Blanks, Front, Opened};
-pub use roam_pending::Requester;
+pub use roam_pending::{Key, Requester};
 pub use roam_shard::Paused;
 pub use saving::SESSIONS_AT_ONCE;

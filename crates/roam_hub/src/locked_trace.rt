@@ -10,11 +10,12 @@ ghost use Rattle.roam_route.specs.Shown.{shown_job};
 ghost use Rattle.roam_route.specs.Events.{arrival_of};
 ghost use Rattle.roam_core.specs.Events.{arrives, is_in_shard, ticks};
 ghost use Rattle.roam_trace.specs.History.{IsHistory, end_of};
-ghost use Rattle.roam_trace.specs.Steps.{octets_in};
+ghost use Rattle.roam_trace.specs.Steps.{events_of, octets_in};
+ghost use Rattle.roam_book.specs.HappeningsShown.{shown_happening};
 ghost use Rattle.roam_history.specs.Entries.{IsWhole, step_entry, steps_in, stored_of};
 ghost use Rattle.roam_history.specs.HubOpening.{opening_at};
 ghost use Rattle.roam_audit.specs.Seats.{front_of};
-ghost use Rattle.roam_hub.specs.Calls.{AreGone, Calls, IsCall, IsFull, Sees, answered_step};
+ghost use Rattle.roam_hub.specs.Calls.{AreGone, Calls, HasHappened, IsCall, IsFull, Sees, answered_step};
 ghost use Rattle.roam_hub.specs.Looks.{LosesIn, StandsIn};
 
 mod due;
@@ -25,7 +26,7 @@ use crate::call::Call;
 use crate::fault::HubFault;
 use crate::writing::{closed, recorded, without_steps};
 use roam_audit::Seat;
-use roam_book::Gauges;
+use roam_book::{Gauges, Turned};
 use roam_carry::Loss;
 use roam_conf::Config;
 use roam_history::{Front, Head, Opened};
@@ -69,7 +70,7 @@ impl<'c, A: Allocator + Copy, N: Opened> LockedTrace<'c, A, N> {
         requires config { traced.opening.config ≡ N.opening.config }
         requires states { traced.states ≡ N.opening.states front.shard }
         requires gone { traced.gone ≡ 0 }
-        requires steps { traced.steps ≡ [] }
+        requires events { traced.events ≡ [] }
         requires limit { traced.limit ≡ N.opening.config.trace_limit }
         requires empty { front.entries ≡ [] }
         requires head { head.shard ≡ front.shard }
@@ -131,21 +132,25 @@ impl<'c, A: Allocator + Copy, N: Opened> LockedTrace<'c, A, N> {
         requires shard { shard < N.opening.config.shards }
         requires event { IsEvent N.opening.config (shown_job job) }
         requires own { is_in_shard N.opening.config shard job.realm ≡ true }
-        ensures calls { Calls N.opening shard call.entry.moment (shown_job job) seat.old seat.new result }
+        ensures calls { Calls N.opening call.entry.lines shard call.entry.moment (shown_job job) seat.old seat.new
+            result }
         ensures one { IfOk result (λ a. self.new.front.entries ≡ self.old.front.entries
             ++ step_entry (answered_step (arrives call.entry.moment (arrival_of (shown_job job))) a) ∷ []) }
     {
         if let Err(fault) = self.check(seat, shard) {
             return Err(Refused { fault, job });
         }
-        match self.traced.take(call.moment, job) {
-            Ok(answer) => {
+        match self.traced.take(call.moment, job, call.lines) {
+            Ok(turned) => {
+                let Turned { answer, happening } = turned;
                 let octets = self.traced.octets();
-                let number = recorded(call.rt, seat, &self.head, &mut self.front, &self.traced);
+                let (front, traced) = (&mut self.front, &self.traced);
+                let number = recorded(call.rt, seat, &self.head, front, traced, &answer);
                 Ok(Answered {
                     shard,
                     number,
                     answer,
+                    happening,
                     octets,
                 })
             }
@@ -177,9 +182,11 @@ impl<'c, A: Allocator + Copy, N: Opened> LockedTrace<'c, A, N> {
         ensures all { OnOk result (front_of seat.new shard ≡ self.new.front.entries) }
         ensures ends { OnOk result (self.new.trace.states
             ≡ end_of (opening_at N.opening shard) (steps_in self.new.front.entries)) }
+        ensures happened { IfOk result (λ a. HasHappened N.opening call.entry.lines shard seat.new
+            (ticks call.entry.moment shard) (shown_happening a.happening)) }
         ensures shard { IfOk result (λ a. a.shard ≡ shard) }
         ensures octets { IfOk result (λ a. a.octets
-            ≡ min (octets_in (stored_of (front_of seat.new shard))) (2 ^ 64 - 1)) }
+            ≡ min (octets_in (events_of (stored_of (front_of seat.new shard)))) (2 ^ 64 - 1)) }
         ensures seen { Sees shard seat.old seat.new }
         ensures times { seat.new.times ≡ seat.old.times }
         ensures err { OnErr result (seat.new.tallies ≡ seat.old.tallies) }
@@ -187,14 +194,17 @@ impl<'c, A: Allocator + Copy, N: Opened> LockedTrace<'c, A, N> {
         ensures no_shard { IfErr result (λ f. f ≢ HubFault.NoShard) }
     {
         self.check(seat, shard)?;
-        match self.traced.tick(call.moment) {
-            Ok(answer) => {
+        match self.traced.tick(call.moment, call.lines) {
+            Ok(turned) => {
+                let Turned { answer, happening } = turned;
                 let octets = self.traced.octets();
-                let number = recorded(call.rt, seat, &self.head, &mut self.front, &self.traced);
+                let (front, traced) = (&mut self.front, &self.traced);
+                let number = recorded(call.rt, seat, &self.head, front, traced, &answer);
                 Ok(Answered {
                     shard,
                     number,
                     answer,
+                    happening,
                     octets,
                 })
             }
@@ -269,7 +279,7 @@ impl<'c, A: Allocator + Copy, N: Opened> LockedTrace<'c, A, N> {
             ≡ end_of (opening_at N.opening shard) (steps_in r.2.entries)) }
         ensures history { IfOk result (λ r. IsHistory (opening_at N.opening shard)
             (steps_in r.2.entries)) }
-        ensures steps { IfOk result (λ r. r.1.items ≡ stored_of r.2.entries) }
+        ensures steps { IfOk result (λ r. r.1.items ≡ events_of (stored_of r.2.entries)) }
         ensures shard { IfOk result (λ r. r.2.shard ≡ shard) }
         ensures whole { IfOk result (λ r. IsWhole r.2.entries) }
         ensures err { IfErr result (λ f. (f ≡ HubFault.Misplaced)

@@ -4,11 +4,10 @@ ghost use Rattle.std.specs.Prelude.{◌≡◌, [], map, vec_len, IfErr, IfOk};
 ghost use Rattle.roam_conf.specs.Shown.{shown};
 ghost use Rattle.roam_shard.specs.ShardView.{AreStarts};
 ghost use Rattle.roam_history.specs.Books.{books_of, count_of};
-ghost use Rattle.roam_history.specs.Entries.{stored_of};
 ghost use Rattle.roam_history.specs.Fronts.{AreWhole, entries_of};
 ghost use Rattle.roam_audit.specs.Seats.{new_seat};
 ghost use Rattle.roam_audit.specs.Shown.{recorded, stored};
-ghost use Rattle.roam_hub.specs.Closing.{HasRoom};
+ghost use Rattle.roam_hub.specs.Closing.{HasRoom, stored_in};
 ghost use Rattle.roam_hub.specs.Histories.{AreHistories, starts_at_end};
 ghost use Rattle.roam_hub.specs.Pausing.{ArePaused, ArePausedShards, IsPaused, StandAtEnd, opening_over};
 ghost use Rattle.roam_shard.specs.Pausing.{states_under};
@@ -85,7 +84,7 @@ impl<'c, A: Allocator + Copy, N: Opened> Hub<'c, A, N> {
         ensures histories { IfOk result (λ p. AreHistories N.opening (recorded p.report)) }
         ensures whole { IfOk result (λ p. AreWhole p.report.fronts.items) }
         ensures stored { IfOk result (λ p.
-            stored p.report ≡ map stored_of (entries_of p.report.fronts.items)) }
+            stored p.report ≡ map stored_in (entries_of p.report.fronts.items)) }
         ensures starts { IfOk result (λ p.
             p.report.starts.items ≡ starts_at_end N.opening (recorded p.report)) }
         ensures good { IfOk result (λ p. AreStarts N.opening.config p.report.starts.items) }

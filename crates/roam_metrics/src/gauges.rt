@@ -23,7 +23,7 @@ pub enum Gauge {
     AuthUnanswered(u16, u8),
     /// The same of its `acct` endpoint.
     AcctUnanswered(u16, u8),
-    /// How many octets the datagrams and packets of all stored steps have.
+    /// How many octets the datagrams of all stored steps have.
     HistoryOctets,
 }
 

@@ -227,7 +227,7 @@ fn push_history<C: Counts>(page: &mut Vec<u8>, counts: &C) -> Result<(), AllocEr
     push_header(
         page,
         name,
-        "Octets of the datagrams and packets of all stored steps.",
+        "Octets of the datagrams of all stored steps.",
         MetricKind::Gauge,
     )?;
     push_sample(page, name, &[], octets)

@@ -1,5 +1,6 @@
 pub mod Details
 pub mod Dropped
+pub mod EndedExchanges
 pub mod Exchanges
 pub mod Folded
 pub mod Lines
@@ -9,6 +10,7 @@ pub mod Printable
 pub mod Quoted
 pub mod Reloads
 pub mod Repeats
+pub mod Said
 pub mod Senders
 pub mod Tallies
 pub mod TurnedAway

@@ -11,6 +11,8 @@
 //! - tallies are taken out as they lie, by number, and in the order in which they began; the name in a line is
 //!   that of the place's realm, and the line's text has it, the number, the name, the place, the source and the
 //!   count, and nothing else | `Repeats::take_first`, `RefusedText::new`, what its `Display` writes
+//! - the line of an exchange that ended is of the request that waited: its realm, who asked, the home server, how often it
+//!   was sent there, and what its own octets say | `exchange_of`
 //! - the line of an exchange has its words, numbers and endpoints, and its values between quotation marks; what
 //!   is written of a value is printable in ASCII, and reads back as that value, whatever octets it has |
 //!   `push_exchange`; laws `values_are_printable`, `values_read_back`
@@ -18,6 +20,7 @@
 
 mod details;
 mod dropped_text;
+mod ended_exchange;
 mod exchange;
 mod exchange_line;
 mod folded;
@@ -26,6 +29,7 @@ mod origin;
 mod reload_text;
 mod repeats;
 mod row;
+mod said;
 mod sender;
 mod station_text;
 mod tally;
@@ -34,6 +38,7 @@ mod turned_away;
 
 pub use details::Details;
 pub use dropped_text::{DropCause, DroppedText};
+pub use ended_exchange::{exchange_of, server_endpoint};
 pub use exchange::{Exchange, ExchangeEnd, RejectCause, RequestWord, Value};
 pub use exchange_line::push_exchange;
 pub use folded::FoldedLines;
@@ -41,6 +46,7 @@ pub use origin::{Origin, OriginKind};
 pub use reload_text::{ReloadEnd, ReloadText};
 pub use repeats::Repeats;
 pub use row::{KINDS, Row};
+pub use said::said_by;
 pub use sender::Sender;
 pub use tally::RefusalCount;
 pub use text::RefusedText;

@@ -1,5 +1,5 @@
 -- What is heard at a socket, and how many of its receives failed in a row (ours).
-use Rattle.std.specs.Prelude.{◌≡◌, ◌⊎◌, ◌==◌, ℕ, ◌+◌, min, List, Option, None, if◌then◌else◌}
+use Rattle.std.specs.Prelude.{◌≡◌, ◌==◌, ℕ, ◌+◌, min, List, Option, None, if◌then◌else◌}
 use Rattle.roam_conf.specs.declared.place.Place.{Place}
 use Rattle.roam_route.specs.Admission.{Arrival}
 use Rattle.roam_route.specs.Shown.{shown_arrival}
@@ -13,24 +13,20 @@ pub data PlainHeard : Type 0 where
   datagram : Arrival → PlainHeard
   nothing : PlainHeard
   give_up : PlainHeard
-  no_memory : PlainHeard
 
 abbrev pub shown_heard : {A : Type 0} → Heard A → PlainHeard
 shown_heard (heard.Datagram d) = datagram (shown_arrival d)
 shown_heard heard.Nothing = nothing
 shown_heard heard.GiveUp = give_up
-shown_heard heard.NoMemory = no_memory
 
 -- how many receives failed in a row after one more, up to the last that counts
 abbrev pub faults_after_fault : ℕ → ℕ
 faults_after_fault faults = min FAULTS_TO_GIVE_UP (faults + 1)
 
--- what a receive leaves of that count, and what is heard by it; a datagram is lost for want of
--- memory alone
+-- what a receive leaves of that count, and what is heard by it: a datagram that came is never lost
 abbrev pub IsHeard : PortCall → Place → ℕ → ℕ → PlainHeard → Type 0
 IsHeard (came octets from) at old new h =
-    (new ≡ 0)
-    × ((h ≡ datagram (record { at = at; from = from; octets = octets; seconds = None })) ⊎ (h ≡ no_memory))
+    (new ≡ 0) × (h ≡ datagram (record { at = at; from = from; octets = octets; seconds = None }))
 IsHeard nothing_came at old new h = (new ≡ 0) × (h ≡ nothing)
 IsHeard receive_failed at old new h =
     (new ≡ faults_after_fault old)
@@ -40,12 +36,11 @@ IsHeard (send_failed why place to octets) at old new h = ⊥
 
 -- ## Receiving with a count of faults
 -- One receive. What came is heard as an arrival with its octets, its source and the socket's place (the wall clock's
--- seconds come to it later), or is lost, out of memory; the count of receives that failed in a row is 0 again, also
--- where nothing came. Where the receive failed the count rises by one, up to 100; at 100 the answer is that the socket
--- is to be given up.
+-- seconds come to it later); the count of receives that failed in a row is 0 again, also where nothing came. Where the
+-- receive failed the count rises by one, up to 100; at 100 the answer is that the socket is to be given up.
 -- Source: ours
--- Rules out: octets behind the datagram; a socket that fails for ever; one that is given up for faults far
--- apart
+-- Rules out: octets behind the datagram; a datagram that is lost for want of memory; a socket that fails for ever; one
+-- that is given up for faults far apart
 -- Stands in: `roam_port` `Listening.antt`: `Listens`, `IsHeard`, `faults_after_fault`; `listen`
 --
 -- one receive was made, and no other call; and that is what was heard by it

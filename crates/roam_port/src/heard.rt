@@ -15,6 +15,4 @@ pub enum Heard<A: Allocator> {
     Nothing,
     /// The receive failed, as the ninety-nine before it did.
     GiveUp,
-    /// A datagram arrived and is lost, since there was no memory for it.
-    NoMemory,
 }

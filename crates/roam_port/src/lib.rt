@@ -3,7 +3,7 @@
 //!
 //! Nothing here opens a socket, waits or starts a thread: the calls are generic over a [`Port`]. Who puts a packet
 //! into an outbox never waits: one that finds its socket's share full is lost, and counted. Memory is taken when an
-//! outbox is made, and by [`listen`] for a datagram.
+//! outbox is made, and at no other time.
 //!
 //! # Proved
 //!
@@ -16,8 +16,8 @@
 //! - a port's packets are handed to it in order, each once, until it has no room: what waits for it then stands
 //!   aside, and no other port's packet meets it; no port for which packets wait is forgotten |
 //!   `Outbox::send_all`, `put_sending`, `try_again`
-//! - to listen is one receive, and gives the datagram that came, at its place, from its source; or it is lost,
-//!   out of memory | `listen`
+//! - to listen is one receive, and gives the datagram that came, at its place, from its source; none is lost for want
+//!   of memory | `listen`
 //! - a receive that doesn't fail sets the count of faults to 0; at 100 in a row the answer is that the socket
 //!   is to be given up | `listen`
 //! - a packet is handed to the port of its place, once, and to no other: of any port that keeps account of its

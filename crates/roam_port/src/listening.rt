@@ -10,15 +10,17 @@ use roam_conf::Place;
 use roam_route::Datagram;
 use roam_wire::Octets;
 use std::alloc::Allocator;
+use std::mem;
 
 /// Receives once at the socket of a place, and counts the receives that failed in a row.
 ///
-/// A receive that doesn't fail sets the count to 0. Want of memory loses the datagram.
-pub fn listen<P: Port, A: Allocator + Copy>(
+/// A receive that doesn't fail sets the count to 0. What comes stays where it was received: the datagram takes the
+/// buffer's block along, and the buffer is empty until it is given one again. Takes no memory.
+pub fn listen<P: Port, A: Allocator>(
     alloc: A,
     port: &mut P,
     at: Place,
-    buffer: &mut [u8],
+    buffer: &mut Vec<u8, A>,
     faults: &mut u32,
 ) -> Heard<A>
     requires { faults.old ≤ FAULTS_TO_GIVE_UP }
@@ -26,7 +28,7 @@ pub fn listen<P: Port, A: Allocator + Copy>(
     ensures listens { Listens (P.calls port.old) (P.calls port.new) at
         faults.old faults.new result }
 {
-    match port.receive(buffer) {
+    match port.receive(buffer.as_mut_slice()) {
         Err(_) => after_fault(faults),
         Ok(None) => {
             *faults = 0;
@@ -34,15 +36,14 @@ pub fn listen<P: Port, A: Allocator + Copy>(
         }
         Ok(Some((size, from))) => {
             *faults = 0;
-            match Octets::copy_of(alloc, &buffer[..size]) {
-                Ok(octets) => Heard::Datagram(Datagram {
-                    at,
-                    from,
-                    octets,
-                    seconds: None,
-                }),
-                Err(_) => Heard::NoMemory,
-            }
+            let mut octets = mem::replace(buffer, Vec::new(alloc));
+            octets.truncate(size);
+            Heard::Datagram(Datagram {
+                at,
+                from,
+                octets: Octets::from_vec(octets),
+                seconds: None,
+            })
         }
     }
 }

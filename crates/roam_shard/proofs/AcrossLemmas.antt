@@ -16,8 +16,9 @@ use Rattle.roam_book.specs.RealmConfig.{realm_config}
 use Rattle.roam_book.specs.RealmState.{RealmState}
 use Rattle.roam_book.specs.Rooms.{only_done_due}
 use Rattle.roam_book.specs.Turn.{Turn, sends, packets_of, refusal_of, state_after}
+use Rattle.roam_book.specs.Happenings.{PlainHappening}
 use Rattle.roam_book.specs.declared.packets.answer.Answer.{Answer}
-use Rattle.roam_book.specs.declared.packets.answer.Twin.{Twin}
+use Rattle.roam_book.specs.declared.packets.answer.Turned.{Turned}
 use Rattle.roam_book.specs.declared.state.start.Start.{Start}
 use Rattle.roam_core.specs.BrokerView.{BrokerView}
 use Rattle.roam_core.specs.Events.{is_in_shard, ticks}
@@ -30,8 +31,8 @@ use Rattle.roam_core.proofs.TickLemmas.{tick_from-length, tick_states}
 use Rattle.roam_tables.proofs.RealmLemmas.{get-set_other, get-set_same}
 use Rattle.roam_shard.specs.Across.{IsSharded, IsShardOf, all_states, no_shard, own_state, states_across}
 use Rattle.roam_shard.specs.ShardView.{OpeningView, ShardView}
-use Rattle.roam_shard.specs.Private.Lost.{IsFirst}
-use Rattle.roam_shard.specs.Twins.{GivesTwin}
+use Rattle.roam_shard.specs.Private.Lost.{IsAnswerOf}
+use Rattle.roam_shard.specs.Turns.{GivesTurn}
 use Rattle.roam_shard.proofs.TurnLemmas.{packets_one, states_one, refusal_one}
 
 -- lists with the same state at each place are the same
@@ -101,31 +102,34 @@ own-elsewhere config shards r k s ne =
     same (x ∷ xs) (suc i) (suc q) ne = same xs i q (λ is. ne (ap suc is))
 
 -- there are as many states after a turn
-twin_length : {A : Type 0}
-    → (result : Result (Twin A) NoMemory) (old new : List RealmState) (turn : BrokerTurn)
-    → GivesTwin result old new turn → length (states_after old turn) ≡ length old
+turned_length : {A : Type 0}
+    → (result : Result (Turned A) NoMemory) (old new : List RealmState) (turn : BrokerTurn)
+    (happening : PlainHappening)
+    → GivesTurn result old new turn happening → length (states_after old turn) ≡ length old
     → length new ≡ length old
-twin_length (Ok twin) old new turn gives many =
-    ap (λ (l : List RealmState). length l) gives.0.states ∙ many
-twin_length (Err e) old new turn gives many = ap (λ (l : List RealmState). length l) gives
+turned_length (Ok turned) old new turn happening gives many =
+    ap (λ (l : List RealmState). length l) gives.answer.states ∙ many
+turned_length (Err e) old new turn happening gives many = ap (λ (l : List RealmState). length l) gives
 
 pub job_length : {A : Type 0}
-    → (result : Result (Twin A) NoMemory) (config : ConfigView) (old new : List RealmState)
-    (now : ℕ) (job : PlainJob) → GivesTwin result old new (to_arrival config old now (admitted job))
+    → (result : Result (Turned A) NoMemory) (config : ConfigView) (old new : List RealmState)
+    (now : ℕ) (job : PlainJob) (happening : PlainHappening)
+    → GivesTurn result old new (to_arrival config old now (admitted job)) happening
     → length new ≡ length old
-job_length result config old new now job gives =
+job_length result config old new now job happening gives =
     let turn =
     on_event (realm_config config job.realm) (state_at old job.realm) (event_of now job) in
-    twin_length result old new (turn_of_one old job.realm turn) gives
+    turned_length result old new (turn_of_one old job.realm turn) happening gives
     (ap (λ (l : List RealmState). length l) (states_one old job.realm turn)
     ∙ length-set old job.realm (state_after (state_at old job.realm) turn))
 
 pub tick_length : {A : Type 0}
-    → (result : Result (Twin A) NoMemory) (config : ConfigView) (old new : List RealmState)
-    (now shard : ℕ) → GivesTwin result old new (to_tick config old now shard)
+    → (result : Result (Turned A) NoMemory) (config : ConfigView) (old new : List RealmState)
+    (now shard : ℕ) (happening : PlainHappening)
+    → GivesTurn result old new (to_tick config old now shard) happening
     → length new ≡ length old
-tick_length result config old new now shard gives =
-    twin_length result old new (to_tick config old now shard) gives
+tick_length result config old new now shard happening gives =
+    turned_length result old new (to_tick config old now shard) happening gives
     (event-length config old (ticks now shard))
 
 -- one shard's states become these
@@ -231,22 +235,22 @@ module _ (config : ConfigView) (shards : List ShardView) (k : ℕ) (s t : ShardV
       }
 
   pub gives_across : {A : Type 0}
-      → (result : Result (Twin A) NoMemory) (out : Result (Answer A) NoMemory) (now : ℕ)
+      → (result : Result (Turned A) NoMemory) (out : Result (Answer A) NoMemory) (now : ℕ)
       (job : PlainJob) → job.realm < length config.realms → job.realm % config.shards ≡ k
       → length s.states ≡ length config.realms
-      → IsFirst result out → GivesTwin result s.states t.states
-      (to_arrival config s.states now (admitted job))
+      → (happening : PlainHappening) → IsAnswerOf result out → GivesTurn result s.states t.states
+      (to_arrival config s.states now (admitted job)) happening
       → GivesAnswer out (all_states config shards) (all_states config (set shards k t))
       (to_arrival config (all_states config shards) now (admitted job))
-  gives_across (Ok twin) (Ok answer) now job within is whole first told =
-      let one = answer_across twin.answer job.realm
+  gives_across (Ok turned) (Ok answer) now job within is whole happening first told =
+      let one = answer_across turned.answer job.realm
       (λ (x : RealmState). on_event (realm_config config job.realm) x (event_of now job)) within
-      is whole told.0 in
+      is whole told.answer in
       subst (λ a. IsAnswer a (all_states config shards) (all_states config (set shards k t))
       (to_arrival config (all_states config shards) now (admitted job))) first one
-  gives_across (Ok twin) (Err e) now job within is whole first told = absurd first
-  gives_across (Err e) (Ok answer) now job within is whole first told = absurd first
-  gives_across (Err e) (Err f) now job within is whole first told = none_changed told
+  gives_across (Ok turned) (Err e) now job within is whole happening first told = absurd first
+  gives_across (Err e) (Ok answer) now job within is whole happening first told = absurd first
+  gives_across (Err e) (Err f) now job within is whole happening first told = none_changed told
 
   -- a tick of the shard
   tick_elsewhere : (now q : ℕ) (x : RealmState) → q % config.shards ≢ k
@@ -388,18 +392,19 @@ module _ (config : ConfigView) (shards : List ShardView) (k : ℕ) (s t : ShardV
       }
 
   pub ticks_across : {A : Type 0}
-      → (result : Result (Twin A) NoMemory) (out : Result (Answer A) NoMemory) (now : ℕ)
+      → (result : Result (Turned A) NoMemory) (out : Result (Answer A) NoMemory) (now : ℕ)
       → length s.states ≡ length config.realms
-      → IsFirst result out → GivesTwin result s.states t.states (to_tick config s.states now k)
+      → (happening : PlainHappening) → IsAnswerOf result out
+      → GivesTurn result s.states t.states (to_tick config s.states now k) happening
       → GivesAnswer out (all_states config shards) (all_states config (set shards k t))
       (to_tick config (all_states config shards) now k)
-  ticks_across (Ok twin) (Ok answer) now whole first told =
+  ticks_across (Ok turned) (Ok answer) now whole happening first told =
       subst (λ a. IsAnswer a (all_states config shards) (all_states config (set shards k t))
       (to_tick config (all_states config shards) now k)) first
-      (tick_across twin.answer now whole told.0)
-  ticks_across (Ok twin) (Err e) now whole first told = absurd first
-  ticks_across (Err e) (Ok answer) now whole first told = absurd first
-  ticks_across (Err e) (Err f) now whole first told = none_changed told
+      (tick_across turned.answer now whole told.answer)
+  ticks_across (Ok turned) (Err e) now whole happening first told = absurd first
+  ticks_across (Err e) (Ok answer) now whole happening first told = absurd first
+  ticks_across (Err e) (Err f) now whole happening first told = none_changed told
 
   -- what is kept of the shards
   pub still_sharded : IsSharded config shards → t.opening ≡ s.opening
@@ -456,10 +461,10 @@ whole_across config shards view is =
 
 -- want of memory is handed on, and comes from the shard alone
 pub first_fails : {A : Type 0}
-    → (result : Result (Twin A) NoMemory) (out : Result (Answer A) NoMemory) → IsFirst result out
+    → (result : Result (Turned A) NoMemory) (out : Result (Answer A) NoMemory) → IsAnswerOf result out
     → IsErr out → IsOk result → ⊥
-first_fails (Ok twin) (Ok answer) first err ok = absurd (cc err)
-first_fails (Ok twin) (Err e) first err ok = absurd first
+first_fails (Ok turned) (Ok answer) first err ok = absurd (cc err)
+first_fails (Ok turned) (Err e) first err ok = absurd first
 first_fails (Err e) (Ok answer) first err ok = absurd first
 first_fails (Err e) (Err f) first err ok = absurd (cc ok)
 

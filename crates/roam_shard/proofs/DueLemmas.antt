@@ -15,7 +15,7 @@ use Rattle.roam_book.specs.declared.state.realm_numbers.RealmNumbers.{RealmNumbe
 use Rattle.roam_core.specs.Events.{is_in_shard}
 use Rattle.roam_core.specs.ManyRealms.{tick_from, tick_of}
 use Rattle.roam_shard.specs.ShardView.{OpeningView, states_from}
-use Rattle.roam_shard.specs.Twins.{NothingDue}
+use Rattle.roam_shard.specs.Turns.{NothingDue}
 
 none_found : (ds : List Due) → find (is_after None) ds ≡ None → ds ≡ []
 none_found [] h = refl

@@ -16,3 +16,4 @@ pub mod LostLemmas
 pub mod FewLemmas
 pub mod TakenUpLemmas
 pub mod ItemLemmas
+pub mod QuietLemmas

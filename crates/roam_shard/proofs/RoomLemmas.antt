@@ -3,6 +3,7 @@ use Rattle.std.proofs.Common.{◌≡◌, ℕ, zero, suc, ◌+◌, ◌<◌, ◌&&
 use Rattle.std.specs.Prelude.{not, slice_get}
 use Rattle.std.proofs.lemmas.List.{length-append, take_more}
 use Rattle.roam_conf.specs.Config.{ConfigView}
+use Rattle.roam_conf.specs.declared.exchange_lines.ExchangeLines.{ExchangeLines}
 use Rattle.roam_pending.specs.PlainEntry.{PlainEntry}
 use Rattle.roam_book.specs.RealmState.{RealmState}
 use Rattle.roam_book.specs.Rooms.{only_done_due}
@@ -11,7 +12,7 @@ use Rattle.roam_book.specs.declared.packets.tick_memory.Room.{Room}
 use Rattle.roam_core.specs.Events.{is_in_shard}
 use Rattle.roam_core.specs.ManyRealms.{no_state, state_at}
 use Rattle.roam_core.specs.ShardRooms.{most_of, most_of_all, IsRealmRoom, AreRooms, wants_room}
-use Rattle.roam_shard.specs.Private.Rooms.{AllTwice, IsTwice}
+use Rattle.roam_shard.specs.Private.Rooms.{AllForLines, IsForLines}
 use Rattle.roam_shard.specs.ShardView.{OpeningView, state_seen, states_from}
 use Rattle.roam_shard.proofs.ShardLemmas.{state-seen}
 
@@ -34,33 +35,34 @@ most-push : {A : Type 0} → (rooms : List (Option (Room A))) (room : Option (Ro
 most-push [] room = omega arith
 most-push (r ∷ rs) room = omega (arith, most-push rs room)
 
-twice-push : {A : Type 0} → (rooms : List (Option (Room A))) (room : Option (Room A))
-    → AllTwice rooms → IsTwice room → AllTwice (rooms ++ room ∷ [])
-twice-push [] room all one = (one, tt)
-twice-push (r ∷ rs) room all one = (all.0, twice-push rs room all.1 one)
+lines-push : {A : Type 0} → (lines : ExchangeLines) (rooms : List (Option (Room A))) (room : Option (Room A))
+    → AllForLines lines rooms → IsForLines lines room → AllForLines lines (rooms ++ room ∷ [])
+lines-push lines [] room all one = (one, tt)
+lines-push lines (r ∷ rs) room all one = (all.0, lines-push lines rs room all.1 one)
 
 -- the rooms of the first realms
-pub record AreGathered {A : Type 0} (config : ConfigView) (now shard count : ℕ)
+pub record AreGathered {A : Type 0} (told : ExchangeLines) (config : ConfigView) (now shard count : ℕ)
     (states : List RealmState) (rooms : List (Option (Room A))) (most : ℕ) : Type 0 where
   pub each : AreRooms config now shard 0 (take count states) rooms
-  pub twice : AllTwice rooms
+  pub lines : AllForLines told rooms
   pub number : length (take count states) ≡ count
   pub packets : most ≡ most_of_all rooms
 
-pub none-gathered : {A : Type 0} → (config : ConfigView) (now shard : ℕ) (states : List RealmState)
-    → AreGathered {A = A} config now shard 0 states [] 0
-none-gathered config now shard states =
-    record { each = tt; twice = tt; number = refl; packets = refl }
+pub none-gathered : {A : Type 0} → (told : ExchangeLines) (config : ConfigView) (now shard : ℕ)
+    (states : List RealmState)
+    → AreGathered {A = A} told config now shard 0 states [] 0
+none-gathered told config now shard states =
+    record { each = tt; lines = tt; number = refl; packets = refl }
 
 pub one-more-gathered : {A : Type 0}
-    → (config : ConfigView) (now shard count : ℕ) (states : List RealmState)
+    → (told : ExchangeLines) (config : ConfigView) (now shard count : ℕ) (states : List RealmState)
     (rooms : List (Option (Room A))) (most more : ℕ) (room : Option (Room A))
-    → AreGathered config now shard count states rooms most → count < length states
+    → AreGathered told config now shard count states rooms most → count < length states
     → IsRealmRoom now (wants_room config now shard count (state_at states count).entries)
     (state_at states count).entries room
-    → IsTwice room → more ≡ most + most_of room
-    → AreGathered config now shard (count + 1) states (rooms ++ room ∷ []) more
-one-more-gathered config now shard count states rooms most more room are within own twice sum =
+    → IsForLines told room → more ≡ most + most_of room
+    → AreGathered told config now shard (count + 1) states (rooms ++ room ∷ []) more
+one-more-gathered told config now shard count states rooms most more room are within own lines sum =
     let front : take (count + 1) states ≡ take count states ++ state_at states count ∷ [] =
     take_more states count no_state within in
     record {
@@ -69,7 +71,7 @@ one-more-gathered config now shard count states rooms most more room are within 
           (sym front)
           (rooms-push config now shard count 0 (take count states) rooms (state_at states count)
           room are.each (omega (arith, are.number)) own);
-      twice = twice-push rooms room are.twice twice;
+      lines = lines-push told rooms room are.lines lines;
       number =
           ap (λ (l : List RealmState). length l) front
           ∙ omega (
@@ -81,11 +83,11 @@ one-more-gathered config now shard count states rooms most more room are within 
     }
 
 pub all-gathered : {A : Type 0}
-    → (config : ConfigView) (now shard count : ℕ) (states : List RealmState)
+    → (told : ExchangeLines) (config : ConfigView) (now shard count : ℕ) (states : List RealmState)
     (rooms : List (Option (Room A))) (most : ℕ)
-    → AreGathered config now shard count states rooms most → length states ≡ count
+    → AreGathered told config now shard count states rooms most → length states ≡ count
     → AreRooms config now shard 0 states rooms
-all-gathered config now shard count states rooms most are all =
+all-gathered told config now shard count states rooms most are all =
     subst (λ (l : List RealmState). AreRooms config now shard 0 l rooms)
     (take_whole states count all) are.each
   where

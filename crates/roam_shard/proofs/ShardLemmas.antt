@@ -10,19 +10,22 @@ use Rattle.roam_pending.specs.EntryList.{IsEntryList}
 use Rattle.roam_pending.specs.PlainEntry.{PlainEntry}
 use Rattle.roam_tables.specs.Stands.{RealmView, entries_in, keeps_in}
 use Rattle.roam_tables.proofs.RealmLemmas.{get-set_other, get-set_same}
+use Rattle.roam_conf.specs.declared.exchange_lines.ExchangeLines.{ExchangeLines}
+use Rattle.roam_book.specs.Happenings.{PlainHappening, tick_happening}
+use Rattle.roam_book.specs.HappeningsShown.{shown_happening}
 use Rattle.roam_book.specs.OnTick.{on_tick}
 use Rattle.roam_book.specs.RealmConfig.{RealmConfig, realm_config}
 use Rattle.roam_book.specs.RealmState.{RealmState}
-use Rattle.roam_book.specs.RealmTurn.{GivesTwice}
 use Rattle.roam_book.specs.Sound.{IsSound, OthersStay, state_of}
 use Rattle.roam_book.specs.Turn.{Turn, sends, packets_of, shown_outs, state_after}
-use Rattle.roam_book.specs.declared.packets.answer.Twin.{Twin}
+use Rattle.roam_book.specs.Turned.{GivesTurned}
+use Rattle.roam_book.specs.declared.packets.answer.Turned.{Turned}
 use Rattle.roam_book.specs.declared.state.realm_numbers.RealmNumbers.{RealmNumbers}
 use Rattle.roam_core.specs.Events.{is_in_shard}
 use Rattle.roam_core.specs.ManyRealms.{no_state, state_at, turn_of_one}
 use Rattle.roam_shard.specs.ShardView.{IsShard, OpeningView, ShardView, state_seen, states_from, states_in}
-use Rattle.roam_shard.specs.Twins.{GivesTwin}
-use Rattle.roam_shard.proofs.TurnLemmas.{packets_one, states_one, twin_one}
+use Rattle.roam_shard.specs.Turns.{GivesTurn}
+use Rattle.roam_shard.proofs.TurnLemmas.{packets_one, states_one, turned_one}
 
 -- tables that keep the same realms keep as many
 less_same : (a b : ℕ) → ((r : ℕ) → nat_lt r a ≡ nat_lt r b) → b ≤ a
@@ -158,12 +161,12 @@ module _ {A : Type 0} where
         ∙ ap (λ (v : ShardView). f (realm_config v.opening.config j) (state_at v.states j)) is
 
     -- what a realm's tick leaves to be seen
-    pub record TickSeen (now : ℕ) (twin : Twin A) (view : ShardView) (new : List RealmState) : Type
-        0 where
-      pub packets : shown_outs twin.answer.outs.items
+    pub record TickSeen (now : ℕ) (lines : ExchangeLines) (turned : Turned A) (view : ShardView)
+        (new : List RealmState) : Type 0 where
+      pub packets : shown_outs turned.answer.outs
           ≡ packets_of (on_tick (realm_config view.opening.config k) now (state_at view.states k))
-      pub copies : shown_outs twin.copy.outs.items
-          ≡ packets_of (on_tick (realm_config view.opening.config k) now (state_at view.states k))
+      pub happened : shown_happening turned.happening
+          ≡ tick_happening lines (realm_config view.opening.config k) now (state_at view.states k)
       pub states : new ≡ set view.states k
           (state_after (state_at view.states k)
           (on_tick (realm_config view.opening.config k) now (state_at view.states k)))
@@ -242,88 +245,103 @@ module _ {A : Type 0} where
       states_after_turn = states-set o (entries_in tables) (entries_in tables2) k ns n2 own_others
 
       -- the turn of one realm is the shard's
-      shard_gives : (f : RealmConfig → RealmState → Turn) (result : Result (Twin A) NoMemory)
-          → GivesTwice result (state_of (entries_in tables c.index) n)
+      shard_gives : (f : RealmConfig → RealmState → Turn) (h : RealmConfig → RealmState → PlainHappening)
+          (result : Result (Turned A) NoMemory)
+          → GivesTurned result (state_of (entries_in tables c.index) n)
           (state_of (entries_in tables2 c2.index) n2)
-          (f c (state_of (entries_in tables c.index) n))
-          → GivesTwin result (states_in o tables ns) (states_in o tables2 (set ns k (Some n2)))
+          (f c (state_of (entries_in tables c.index) n)) (h c (state_of (entries_in tables c.index) n))
+          → GivesTurn result (states_in o tables ns) (states_in o tables2 (set ns k (Some n2)))
           (turn_of_one (states_in o tables ns) k
           (f (realm_config o.config k) (state_at (states_in o tables ns) k)))
-      shard_gives f result gives =
-          let here : GivesTwice result (state_of (entries_in tables k) n)
+          (h (realm_config o.config k) (state_at (states_in o tables ns) k))
+      shard_gives f h result gives =
+          let here : GivesTurned result (state_of (entries_in tables k) n)
           (state_of (entries_in tables2 k) n2)
-          (f (realm_config o.config k) (state_of (entries_in tables k) n)) =
+          (f (realm_config o.config k) (state_of (entries_in tables k) n))
+          (h (realm_config o.config k) (state_of (entries_in tables k) n)) =
           subst (λ (x : RealmConfig).
-          GivesTwice result (state_of (entries_in tables k) n)
+          GivesTurned result (state_of (entries_in tables k) n)
           (state_of (entries_in tables2 x.index) n2)
-          (f (realm_config o.config k) (state_of (entries_in tables k) n))) is_own
+          (f (realm_config o.config k) (state_of (entries_in tables k) n))
+          (h (realm_config o.config k) (state_of (entries_in tables k) n))) is_own
           (subst (λ (x : RealmConfig).
-          GivesTwice result (state_of (entries_in tables x.index) n)
+          GivesTurned result (state_of (entries_in tables x.index) n)
           (state_of (entries_in tables2 c2.index) n2)
-          (f x (state_of (entries_in tables x.index) n))) own gives) in
+          (f x (state_of (entries_in tables x.index) n))
+          (h x (state_of (entries_in tables x.index) n))) own gives) in
           let there = subst (λ (s : RealmState).
-          GivesTwice result s (state_of (entries_in tables2 k) n2)
-          (f (realm_config o.config k) s))
+          GivesTurned result s (state_of (entries_in tables2 k) n2)
+          (f (realm_config o.config k) s) (h (realm_config o.config k) s))
           (sym (state-seen o (entries_in tables) k ns (Some n) at)) here in
           subst (λ (l : List RealmState).
-          GivesTwin result (states_in o tables ns) l
-          (turn_of_one (states_in o tables ns) k
-          (f (realm_config o.config k) (state_at (states_in o tables ns) k))))
-          (sym states_after_turn)
-          (twin_one result (states_in o tables ns) k (state_of (entries_in tables2 k) n2)
-          (f (realm_config o.config k) (state_at (states_in o tables ns) k)) there)
-
-      shard_gives_written : (f : RealmConfig → RealmState → Turn)
-          (result : Result (Twin A) NoMemory) (m : Option (RealmNumbers A)) → m ≡ Some n2
-          → GivesTwice result (state_of (entries_in tables c.index) n)
-          (state_of (entries_in tables2 c2.index) n2)
-          (f c (state_of (entries_in tables c.index) n))
-          → GivesTwin result (states_in o tables ns) (states_in o tables2 (set ns k m))
+          GivesTurn result (states_in o tables ns) l
           (turn_of_one (states_in o tables ns) k
           (f (realm_config o.config k) (state_at (states_in o tables ns) k)))
-      shard_gives_written f result m same gives =
-          subst (λ (z : Option (RealmNumbers A)).
-          GivesTwin result (states_in o tables ns) (states_in o tables2 (set ns k z))
+          (h (realm_config o.config k) (state_at (states_in o tables ns) k)))
+          (sym states_after_turn)
+          (turned_one result (states_in o tables ns) k (state_of (entries_in tables2 k) n2)
+          (f (realm_config o.config k) (state_at (states_in o tables ns) k))
+          (h (realm_config o.config k) (state_at (states_in o tables ns) k)) there)
+
+      shard_gives_written : (f : RealmConfig → RealmState → Turn) (h : RealmConfig → RealmState → PlainHappening)
+          (result : Result (Turned A) NoMemory) (m : Option (RealmNumbers A)) → m ≡ Some n2
+          → GivesTurned result (state_of (entries_in tables c.index) n)
+          (state_of (entries_in tables2 c2.index) n2)
+          (f c (state_of (entries_in tables c.index) n)) (h c (state_of (entries_in tables c.index) n))
+          → GivesTurn result (states_in o tables ns) (states_in o tables2 (set ns k m))
           (turn_of_one (states_in o tables ns) k
-          (f (realm_config o.config k) (state_at (states_in o tables ns) k)))) (sym same)
-          (shard_gives f result gives)
+          (f (realm_config o.config k) (state_at (states_in o tables ns) k)))
+          (h (realm_config o.config k) (state_at (states_in o tables ns) k))
+      shard_gives_written f h result m same gives =
+          subst (λ (z : Option (RealmNumbers A)).
+          GivesTurn result (states_in o tables ns) (states_in o tables2 (set ns k z))
+          (turn_of_one (states_in o tables ns) k
+          (f (realm_config o.config k) (state_at (states_in o tables ns) k)))
+          (h (realm_config o.config k) (state_at (states_in o tables ns) k))) (sym same)
+          (shard_gives f h result gives)
 
       -- the same, as it is seen
-      pub shard_seen : (f : RealmConfig → RealmState → Turn) (result : Result (Twin A) NoMemory)
+      pub shard_seen : (f : RealmConfig → RealmState → Turn) (h : RealmConfig → RealmState → PlainHappening)
+          (result : Result (Turned A) NoMemory)
           (view : ShardView) → record { opening = o; states = states_in o tables ns } ≡ view
           → (j : ℕ) → k ≡ j → (m : Option (RealmNumbers A)) → m ≡ Some n2
-          → GivesTwice result (state_of (entries_in tables c.index) n)
+          → GivesTurned result (state_of (entries_in tables c.index) n)
           (state_of (entries_in tables2 c2.index) n2)
-          (f c (state_of (entries_in tables c.index) n))
-          → GivesTwin result view.states (states_in o tables2 (set ns k m))
+          (f c (state_of (entries_in tables c.index) n)) (h c (state_of (entries_in tables c.index) n))
+          → GivesTurn result view.states (states_in o tables2 (set ns k m))
           (turn_of_one view.states j
           (f (realm_config view.opening.config j) (state_at view.states j)))
-      shard_seen f result view is j here m same gives =
-          let given = shard_gives_written f result m same gives in
+          (h (realm_config view.opening.config j) (state_at view.states j))
+      shard_seen f h result view is j here m same gives =
+          let given = shard_gives_written f h result m same gives in
           let there = subst (λ (q : ℕ).
-          GivesTwin result (states_in o tables ns) (states_in o tables2 (set ns k m))
+          GivesTurn result (states_in o tables ns) (states_in o tables2 (set ns k m))
           (turn_of_one (states_in o tables ns) q
-          (f (realm_config o.config q) (state_at (states_in o tables ns) q)))) here given in
-          subst (λ (w : ShardView). GivesTwin result w.states (states_in o tables2 (set ns k m))
-          (turn_of_one w.states j (f (realm_config w.opening.config j) (state_at w.states j))))
+          (f (realm_config o.config q) (state_at (states_in o tables ns) q)))
+          (h (realm_config o.config q) (state_at (states_in o tables ns) q))) here given in
+          subst (λ (w : ShardView). GivesTurn result w.states (states_in o tables2 (set ns k m))
+          (turn_of_one w.states j (f (realm_config w.opening.config j) (state_at w.states j)))
+          (h (realm_config w.opening.config j) (state_at w.states j)))
           is there
 
-      -- what a tick sends for it, twice, and how all states then stand
-      pub ticks_seen : (now : ℕ) (twin : Twin A) (view : ShardView)
+      -- what a tick sends for it, what happened by it, and how all states then stand
+      pub ticks_seen : (now : ℕ) (lines : ExchangeLines) (turned : Turned A) (view : ShardView)
           → record { opening = o; states = states_in o tables ns } ≡ view → (m : Option (RealmNumbers A))
           → m ≡ Some n2
-          → GivesTwice (Ok twin) (state_of (entries_in tables c.index) n)
+          → GivesTurned (Ok turned) (state_of (entries_in tables c.index) n)
           (state_of (entries_in tables2 c2.index) n2)
           (on_tick c now (state_of (entries_in tables c.index) n))
-          → TickSeen now twin view (states_in o tables2 (set ns k m))
-      ticks_seen now twin view is m same gives =
-          let seen = shard_seen (λ x s. on_tick x now s) (Ok twin) view is k refl m same gives in
+          (tick_happening lines c now (state_of (entries_in tables c.index) n))
+          → TickSeen now lines turned view (states_in o tables2 (set ns k m))
+      ticks_seen now lines turned view is m same gives =
+          let seen = shard_seen (λ x s. on_tick x now s) (λ x s. tick_happening lines x now s) (Ok turned) view is
+          k refl m same gives in
           let turn : Turn =
           on_tick (realm_config view.opening.config k) now (state_at view.states k) in
           record {
-            packets = seen.0.packets ∙ packets_one view.states k turn;
-            copies = seen.1.packets ∙ packets_one view.states k turn;
-            states = seen.0.states ∙ states_one view.states k turn;
+            packets = seen.answer.packets ∙ packets_one view.states k turn;
+            happened = seen.happened;
+            states = seen.answer.states ∙ states_one view.states k turn;
           }
 
       -- its part of a tick that lets done entries go

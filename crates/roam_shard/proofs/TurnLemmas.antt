@@ -2,14 +2,15 @@
 use Rattle.std.proofs.Common.{◌≡◌, ℕ, List, set, Result, Ok, Err, refl, ap, sym, ◌∙◌}
 use Rattle.std.proofs.lemmas.List.{set-get_or}
 use Rattle.roam_wire.specs.declared.refusal.NoMemory.{NoMemory}
+use Rattle.roam_book.specs.Happenings.{PlainHappening}
 use Rattle.roam_book.specs.RealmState.{RealmState}
-use Rattle.roam_book.specs.RealmTurn.{GivesTwice}
+use Rattle.roam_book.specs.Turned.{GivesTurned}
 use Rattle.roam_book.specs.Turn.{Turn, hears, refuses, sends, packets_of, state_after, Answers, refusal_of}
 use Rattle.roam_book.specs.declared.packets.answer.Answer.{Answer}
-use Rattle.roam_book.specs.declared.packets.answer.Twin.{Twin}
+use Rattle.roam_book.specs.declared.packets.answer.Turned.{Turned}
 use Rattle.roam_core.specs.ManyRealms.{no_state, packets_in_turn, state_at, states_after, turn_of_one, refusal_given}
 use Rattle.roam_core.specs.Steps.{IsAnswer}
-use Rattle.roam_shard.specs.Twins.{GivesTwin}
+use Rattle.roam_shard.specs.Turns.{GivesTurn}
 
 -- what is sent, and the states that follow, where one realm has its turn
 pub packets_one : (ss : List RealmState) (k : ℕ) (turn : Turn)
@@ -45,16 +46,16 @@ answer_one answer states k new (sends packets state) gives = record {
   states = ap (λ (s : RealmState). set states k s) gives.state;
 }
 
-pub twin_one : {A : Type 0} → (result : Result (Twin A) NoMemory) (states : List RealmState) (k : ℕ)
-    (new : RealmState) (turn : Turn) → GivesTwice result (state_at states k) new turn
-    → GivesTwin result states (set states k new) (turn_of_one states k turn)
-twin_one (Err e) states k new turn same =
+pub turned_one : {A : Type 0} → (result : Result (Turned A) NoMemory) (states : List RealmState) (k : ℕ)
+    (new : RealmState) (turn : Turn) (happening : PlainHappening)
+    → GivesTurned result (state_at states k) new turn happening
+    → GivesTurn result states (set states k new) (turn_of_one states k turn) happening
+turned_one (Err e) states k new turn happening same =
     ap (λ (s : RealmState). set states k s) same ∙ set-get_or states k no_state
-twin_one (Ok twin) states k new turn gives = (
-  answer_one twin.answer states k new turn gives.0,
-  answer_one twin.copy states k new turn
-      gives.1,
-)
+turned_one (Ok turned) states k new turn happening gives = record {
+  answer = answer_one turned.answer states k new turn gives.answers;
+  happened = gives.happened;
+}
 
 -- what is refused
 pub refusal_one : (ss : List RealmState) (k : ℕ) (turn : Turn)

@@ -6,7 +6,7 @@ ghost use Rattle.roam_tables.specs.Stands.{entries_in};
 ghost use Rattle.roam_book.specs.Rooms.{only_done_due};
 ghost use Rattle.roam_core.specs.ShardRooms.{only_done_from};
 ghost use Rattle.roam_shard.specs.ShardView.{HaveNumbers, OpeningView, state_seen, states_in};
-ghost use Rattle.roam_shard.specs.Twins.{NothingDue};
+ghost use Rattle.roam_shard.specs.Turns.{NothingDue};
 
 use roam_book::{RealmNumbers, only_done_due};
 use roam_pending::Entries;

@@ -4,7 +4,7 @@ ghost use Rattle.std.specs.Prelude.{◌≡◌, ◌≢◌, ◌≤◌, [], false, 
 ghost use Rattle.roam_pending.specs.DueOrder.{due_list};
 ghost use Rattle.roam_tables.specs.Stands.{entries_in};
 ghost use Rattle.roam_shard.specs.ShardView.{OpeningView, state_seen, states_in};
-ghost use Rattle.roam_shard.specs.Twins.{NothingDue};
+ghost use Rattle.roam_shard.specs.Turns.{NothingDue};
 ghost use Rattle.roam_shard.specs.DueCount.{due_count};
 
 use crate::shard::Shard;

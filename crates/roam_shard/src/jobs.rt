@@ -4,9 +4,12 @@ ghost use Rattle.std.specs.Prelude.{◌≡◌};
 ghost use Rattle.roam_route.specs.Shown.{shown_job};
 ghost use Rattle.roam_book.specs.BookView.{IsTakenFrom};
 ghost use Rattle.roam_book.specs.OneRealm.{event_of, on_event};
-ghost use Rattle.roam_book.specs.RealmTurn.{IsRealm, TurnsTwice};
+ghost use Rattle.roam_book.specs.Happenings.{event_happening};
+ghost use Rattle.roam_book.specs.RealmTurn.{IsRealm};
+ghost use Rattle.roam_book.specs.Turned.{TurnsTelling};
 
-use roam_book::{RealmBroker, Twin, request_of_job};
+use roam_book::{RealmBroker, Turned, request_of_job};
+use roam_conf::ExchangeLines;
 use roam_pending::Entries;
 use roam_route::{Job, Side};
 use roam_wire::NoMemory;
@@ -18,18 +21,20 @@ pub(crate) fn handle_job<A: Allocator + Copy, E: Entries<A>>(
     now: u64,
     job: &Job<A>,
     octets: &[u8],
-) -> Result<Twin<A>, NoMemory>
+    lines: ExchangeLines,
+) -> Result<Turned<A>, NoMemory>
     requires realm { IsRealm E.Entries realm.old }
     requires octets { octets.now ≡ job.now.octets }
     requires taken { IsTakenFrom realm.old.settings.now (shown_job job.now) job.now.side }
-    ensures turn { TurnsTwice E.Entries realm.old realm.new result
-        (λ s. on_event realm.old.settings.now s (event_of now (shown_job job.now))) }
+    ensures turn { TurnsTelling E.Entries realm.old realm.new result
+        (λ s. on_event realm.old.settings.now s (event_of now (shown_job job.now)))
+        (λ s. event_happening lines realm.old.settings.now s (event_of now (shown_job job.now))) }
 {
     match job.side {
-        Side::Link(link) => realm.on_reply_twice(now, link, octets),
+        Side::Link(link) => realm.on_reply(now, link, octets, lines),
         Side::Peer(_) | Side::Home(_) => {
             let asked = request_of_job(realm.settings, job, octets);
-            realm.on_request_twice(now, asked)
+            realm.on_request(now, asked)
         }
     }
 }

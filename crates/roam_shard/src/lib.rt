@@ -5,8 +5,8 @@
 //!
 //! # Proved
 //!
-//! - a shard answers each job and tick twice, once to send and once to keep, and both are the written answer; or
-//!   memory is refused, and it is unchanged | `Shard::step`, `tick`: `turn`
+//! - a shard answers each job and tick with the written answer, and says what happened by it; or memory is refused, and
+//!   it is unchanged | `Shard::step`, `tick`: `turn`
 //! - no memory is wanted where a job sends no packet, where nothing is due, where each entry that is due was
 //!   answered, so that they only go, or where a tick is refused; whether something is due, it says, and whether at
 //!   most so many entries are | `Shard::step`: `succeeds`; `tick`: `nothing_due`, `only_done`, `too_late`; `is_due`,
@@ -24,18 +24,16 @@
 //!   `follow`
 //! - a paused shard takes up what a file of ledgers has of its own realms, by their names, and nothing else of it changes |
 //!   `Paused::restore`: `stands`, `states`
-//! - what is looked at of a shard, for the log and the counts, is what stands there: the entry that waits on a link
-//!   with an Identifier, that of a key and that of a ticket, the next one that is due, and of how many entries and
-//!   sessions, of each realm that is its own. That the threads note the one that ends, and log of it what it was, is
-//!   their code, and tested | `Shard::waiting_at`, `entry_of`, `entry_with`, `due_after`, `gauges`
+//! - what is looked at of a shard is what stands there: how many entries and sessions, of each realm that is its own |
+//!   `Shard::gauges`
 #![tactic(auto)]
 
-mod answer_pair;
 mod answers;
 mod any_due;
 mod done_tick;
 mod few_due;
 mod following;
+mod gathered;
 mod jobs;
 mod look;
 mod opening;

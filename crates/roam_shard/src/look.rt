@@ -1,19 +1,16 @@
 //! What of a shard is looked at, beside its events. Nothing changes by it, and nothing takes memory.
 
 ghost use Rattle.std.specs.Prelude.{◌≡◌, Some, slice_get, IfNone, IfSome, IsSome};
-ghost use Rattle.roam_pending.specs.DueOrder.{due_after};
-ghost use Rattle.roam_pending.specs.EntryList.{find_client, find_link, find_ticket};
-ghost use Rattle.roam_pending.specs.Shown.{seen};
 ghost use Rattle.roam_core.specs.ManyRealms.{state_at};
 ghost use Rattle.roam_conf.specs.Shown.{shown};
 ghost use Rattle.roam_carry.specs.Carrying.{AreChanged};
 ghost use Rattle.roam_shard.specs.Looks.{IsLoss, IsOwn, NoneThere, StandsAs};
 
 use crate::shard::Shard;
-use roam_book::{Gauges, RealmNumbers, RealmSettings, waiting_at};
+use roam_book::{Gauges, RealmNumbers, RealmSettings};
 use roam_carry::{Loss, all_of, losses_of};
-use roam_conf::{Config, Link};
-use roam_pending::{Due, Entries, Entry, Key};
+use roam_conf::Config;
+use roam_pending::Entries;
 use roam_reload::is_carried;
 use std::alloc::Allocator;
 
@@ -35,52 +32,6 @@ pub(crate) fn numbers_at<A: Allocator>(
 }
 
 impl<A: Allocator + Copy> Shard<'_, A> {
-    /// The entry of a realm that waits on a link with an Identifier; none where the realm isn't one of the shard's own.
-    pub fn waiting_at(&self, realm: u16, link: Link, id: u8) -> Option<&Entry<A>>
-        ensures { IsOwn self.now.opening realm
-            → seen result ≡ find_link link id (state_at self.now.states realm).entries }
-    {
-        let Some(numbers) = numbers_at(&self.numbers, realm) else {
-            return None;
-        };
-        let settings = RealmSettings::new(self.opening.config, realm);
-        waiting_at(&settings, &self.entries, numbers, link, id)
-    }
-
-    /// The entry of a realm that has a key; none where the realm isn't one of the shard's own.
-    pub fn entry_of(&self, realm: u16, key: &Key) -> Option<&Entry<A>>
-        ensures { IsOwn self.now.opening realm
-            → seen result ≡ find_client key.now (state_at self.now.states realm).entries }
-    {
-        let Some(_numbers) = numbers_at(&self.numbers, realm) else {
-            return None;
-        };
-        self.entries.find_client(realm, key)
-    }
-
-    /// The entry of a realm that has a ticket; none where the realm isn't one of the shard's own.
-    pub fn entry_with(&self, realm: u16, ticket: u64) -> Option<&Entry<A>>
-        ensures { IsOwn self.now.opening realm
-            → seen result ≡ find_ticket ticket (state_at self.now.states realm).entries }
-    {
-        let Some(_numbers) = numbers_at(&self.numbers, realm) else {
-            return None;
-        };
-        self.entries.find_ticket(realm, ticket)
-    }
-
-    /// Of a realm's entries that are due at a moment in milliseconds, the first, or where `last` is one of them, the
-    /// next one after it; none where the realm isn't one of the shard's own.
-    pub fn due_after(&self, realm: u16, now: u64, last: Option<Due>) -> Option<Due>
-        ensures { IsOwn self.now.opening realm
-            → result ≡ due_after now last (state_at self.now.states realm).entries }
-    {
-        let Some(_numbers) = numbers_at(&self.numbers, realm) else {
-            return None;
-        };
-        self.entries.due_after(realm, now, last)
-    }
-
     /// How a realm stands; none where it isn't one of the shard's own.
     pub fn gauges(&self, realm: u16) -> Option<Gauges>
         ensures stands { IfSome result (StandsAs (state_at self.now.states realm)) }

@@ -16,19 +16,24 @@ ghost use Rattle.roam_core.specs.ManyRealms.{state_at, tick_from, tick_of, to_ar
 ghost use Rattle.roam_core.specs.Openings.{openings};
 ghost use Rattle.roam_core.specs.ShardRooms.{AreRooms, IsRealmRoom, most_of, most_of_all, only_done_from};
 ghost use Rattle.roam_core.specs.ShardRooms.{wants_room};
-ghost use Rattle.roam_shard.specs.Private.Rooms.{AllTwice, HasPlaces, IsTwice};
+ghost use Rattle.roam_conf.specs.declared.exchange_lines.ExchangeLines.{ExchangeLines};
+ghost use Rattle.roam_book.specs.Happenings.{tick_happening, ticked};
+ghost use Rattle.roam_book.specs.HappeningsShown.{dues_in, shown_dues, shown_happening};
+ghost use Rattle.roam_core.specs.HappeningsTo.{dues_at, dues_from, job_happening, shard_happening};
+ghost use Rattle.roam_shard.specs.Private.Rooms.{AllForLines, HasPlaces, IsForLines};
 ghost use Rattle.roam_shard.specs.ShardView.{AreStarts, IsStart, shown_opening};
-ghost use Rattle.roam_shard.specs.Twins.{GivesTwin, NothingDue};
+ghost use Rattle.roam_shard.specs.Turns.{GivesTurn, NothingDue};
 
-use crate::answer_pair::AnswerPair;
-use crate::answers::refused_twice;
 use crate::any_due::{all_done, any_due};
+use crate::gathered::Gathered;
 use crate::jobs::handle_job;
 use crate::opening::Opening;
 use crate::realm_numbers::opened_numbers;
 use crate::rooms::{TickRooms, room_of_shard};
-use roam_book::{LATEST, RealmBroker, RealmNumbers, RealmSettings, Room, Start, Twin, hash_key};
-use roam_conf::Config;
+use roam_book::{
+    LATEST, RealmBroker, RealmNumbers, RealmSettings, Room, Start, Turned, hash_key, refused_turn,
+};
+use roam_conf::{Config, ExchangeLines};
 use roam_route::Job;
 use roam_tables::Tables;
 use roam_wire::{NoMemory, Refusal};
@@ -121,14 +126,21 @@ impl<'c, A: Allocator + Copy> Shard<'c, A> {
         any_due(&self.entries, &self.numbers, now)
     }
 
-    /// Gives a job to its realm, at a moment in milliseconds: the answer twice, one to send and one to
-    /// keep. See `Book::request` and `Book::reply` for the refusals. `NoMemory` comes where a growth
-    /// was refused, and the shard is then as it was; where no packet is sent no memory is wanted.
-    pub fn step(&mut self, now: u64, job: &Job<A>) -> Result<Twin<A>, NoMemory>
+    /// Gives a job to its realm, at a moment in milliseconds: the answer, and what happened by it, with the
+    /// octets of a request where these lines tell of it. See `Book::request` and `Book::reply` for the
+    /// refusals. `NoMemory` comes where a growth was refused, and the shard is then as it was; where no packet
+    /// is sent no memory is wanted.
+    pub fn step(
+        &mut self,
+        now: u64,
+        job: &Job<A>,
+        lines: ExchangeLines,
+    ) -> Result<Turned<A>, NoMemory>
         requires event { IsEvent self.old.opening.config (shown_job job.now) }
         requires own { is_in_shard self.old.opening.config self.old.opening.shard job.now.realm ≡ true }
-        ensures turn { GivesTwin result self.old.states self.new.states
-            (to_arrival self.old.opening.config self.old.states now (admitted (shown_job job.now))) }
+        ensures turn { GivesTurn result self.old.states self.new.states
+            (to_arrival self.old.opening.config self.old.states now (admitted (shown_job job.now)))
+            (job_happening lines self.old.opening.config self.old.states now (shown_job job.now)) }
         ensures succeeds { packets_of (on_event (realm_config self.old.opening.config job.now.realm)
             (state_at self.old.states job.now.realm) (event_of now (shown_job job.now))) ≡ []
             → IsOk result }
@@ -144,24 +156,24 @@ impl<'c, A: Allocator + Copy> Shard<'c, A> {
             entries: &mut self.entries,
             numbers,
         };
-        handle_job(&mut realm, now, job, octets)
+        handle_job(&mut realm, now, job, octets, lines)
     }
 
     /// A tick of one realm, in the room that was made for it. Takes no memory.
-    fn tick_realm(&mut self, now: u64, realm: usize, room: Room<A>) -> Twin<A>
+    fn tick_realm(&mut self, now: u64, realm: usize, room: Room<A>) -> Turned<A>
         requires there { realm < length self.old.states }
         requires own { is_in_shard self.old.opening.config self.old.opening.shard realm ≡ true }
         requires room { IsRoomFor now (state_at self.old.states realm).entries room }
-        requires twice { room.outs.twice ≡ true }
-        ensures packets { shown_outs result.answer.outs.items ≡ packets_of
+        ensures packets { shown_outs result.answer.outs ≡ packets_of
             (on_tick (realm_config self.old.opening.config realm) now (state_at self.old.states realm)) }
-        ensures copies { shown_outs result.copy.outs.items ≡ packets_of
-            (on_tick (realm_config self.old.opening.config realm) now (state_at self.old.states realm)) }
+        ensures happening { shown_happening result.happening ≡ tick_happening room.lines
+            (realm_config self.old.opening.config realm) now (state_at self.old.states realm) }
         ensures states { self.new.states ≡ slice_set self.old.states realm
             (state_after (state_at self.old.states realm)
             (on_tick (realm_config self.old.opening.config realm) now (state_at self.old.states realm))) }
         ensures opening { self.new.opening ≡ self.old.opening }
-        ensures most { length result.answer.outs.items ≤ length room.slots.items }
+        ensures most { length result.answer.outs ≤ length room.slots.items }
+        ensures few { dues_in result.happening ≤ length room.slots.items }
     {
         let settings = RealmSettings::new(self.opening.config, realm as u16);
         let Some(numbers) = &mut self.numbers[realm] else {
@@ -172,74 +184,84 @@ impl<'c, A: Allocator + Copy> Shard<'c, A> {
             entries: &mut self.entries,
             numbers,
         };
-        one.on_tick_twice(now, room)
+        one.on_tick(now, room)
     }
 
     /// A realm's part of a tick, in the room that was made for it. Without one only done entries are due, if the
     /// realm takes part: they go. Takes no memory.
-    fn tick_one(&mut self, now: u64, realm: usize, room: Option<Room<A>>, both: &mut AnswerPair<A>)
+    fn tick_one(
+        &mut self,
+        now: u64,
+        realm: usize,
+        room: Option<Room<A>>,
+        gathered: &mut Gathered<A>,
+    )
         requires there { realm < length self.old.states }
         requires moment { now ≤ 2 ^ 62 }
         requires room { IsRealmRoom now (wants_room self.old.opening.config now self.old.opening.shard realm
             (state_at self.old.states realm).entries) (state_at self.old.states realm).entries room }
-        requires twice { IsTwice room }
-        requires places { HasPlaces (most_of room) both.old }
-        ensures packets { shown_outs both.new.sent.items ≡ shown_outs both.old.sent.items ++ packets_of
+        requires places { HasPlaces (most_of room) gathered.old }
+        ensures packets { shown_outs gathered.new.sent.items ≡ shown_outs gathered.old.sent.items ++ packets_of
             (tick_of self.old.opening.config now self.old.opening.shard realm (state_at self.old.states realm)) }
-        ensures copies { shown_outs both.new.copies.items ≡ shown_outs both.old.copies.items ++ packets_of
-            (tick_of self.old.opening.config now self.old.opening.shard realm (state_at self.old.states realm)) }
+        ensures dues { (lines : ExchangeLines) → IsForLines lines room → shown_dues gathered.new.dues.items
+            ≡ shown_dues gathered.old.dues.items ++ dues_at lines self.old.opening.config now
+            self.old.opening.shard realm (state_at self.old.states realm) }
         ensures states { self.new.states ≡ slice_set self.old.states realm
             (state_after (state_at self.old.states realm)
             (tick_of self.old.opening.config now self.old.opening.shard realm (state_at self.old.states realm))) }
         ensures opening { self.new.opening ≡ self.old.opening }
-        ensures places { (n : ℕ) → HasPlaces (most_of room + n) both.old → HasPlaces n both.new }
+        ensures places { (n : ℕ) → HasPlaces (most_of room + n) gathered.old → HasPlaces n gathered.new }
     {
         let Some(room) = room else {
             self.let_one_go(now, realm);
             return;
         };
-        let twin = self.tick_realm(now, realm, room);
-        both.append(twin);
+        let turned = self.tick_realm(now, realm, room);
+        gathered.append(turned);
     }
 
     /// A tick, for which there is room: the realms in rising index. Takes no memory.
-    fn tick_in(&mut self, now: u64, room: TickRooms<A>) -> Twin<A>
+    fn tick_in(&mut self, now: u64, room: TickRooms<A>) -> Turned<A>
         requires moment { now ≤ 2 ^ 62 }
         requires rooms { AreRooms self.old.opening.config now self.old.opening.shard 0 self.old.states
             room.rooms.items }
-        requires twice { AllTwice room.rooms.items }
-        requires sent { room.both.sent.items ≡ [] }
-        requires copies { room.both.copies.items ≡ [] }
-        requires places { HasPlaces (most_of_all room.rooms.items) room.both }
-        ensures packets { shown_outs result.answer.outs.items
+        requires sent { room.gathered.sent.items ≡ [] }
+        requires dues { room.gathered.dues.items ≡ [] }
+        requires places { HasPlaces (most_of_all room.rooms.items) room.gathered }
+        ensures packets { shown_outs result.answer.outs
             ≡ (tick_from self.old.opening.config now self.old.opening.shard 0 self.old.states).packets }
-        ensures copies { shown_outs result.copy.outs.items
-            ≡ (tick_from self.old.opening.config now self.old.opening.shard 0 self.old.states).packets }
+        ensures happening { (lines : ExchangeLines) → AllForLines lines room.rooms.items
+            → shown_happening result.happening ≡ ticked (dues_from lines self.old.opening.config now
+            self.old.opening.shard 0 self.old.states) }
         ensures refusal { result.answer.refusal ≡ None }
-        ensures copy_refusal { result.copy.refusal ≡ None }
         ensures states { self.new.states
             ≡ (tick_from self.old.opening.config now self.old.opening.shard 0 self.old.states).states }
         ensures opening { self.new.opening ≡ self.old.opening }
     {
-        let TickRooms { rooms, mut both } = room;
+        let TickRooms {
+            rooms,
+            mut gathered,
+        } = room;
         let mut realm = 0;
         for room in rooms {
-            self.tick_one(now, realm, room, &mut both);
+            self.tick_one(now, realm, room, &mut gathered);
             realm += 1;
         }
-        both.into_twin()
+        gathered.into_turned()
     }
 
     /// A tick of the shard, at a moment in milliseconds: its realms in rising index, each of whose due
-    /// entries is taken once, in order of deadline and ticket. The answer is given twice. Refused
-    /// where the moment is above 2^62 milliseconds (`Moment`).
+    /// entries is taken once, in order of deadline and ticket. With the answer comes what became of each request that
+    /// waited, with its octets where these lines tell of it. Refused where the moment is above 2^62 milliseconds
+    /// (`Moment`).
     ///
     /// Its memory is taken before anything changes, realm by realm, for those that have an entry that is due
     /// and waits: `NoMemory` comes where a growth was refused, and the shard is then as it was. Where each
     /// that is due was answered, so that they only go, no memory is wanted.
-    pub fn tick(&mut self, now: u64) -> Result<Twin<A>, NoMemory>
-        ensures turn { GivesTwin result self.old.states self.new.states
-            (to_tick self.old.opening.config self.old.states now self.old.opening.shard) }
+    pub fn tick(&mut self, now: u64, lines: ExchangeLines) -> Result<Turned<A>, NoMemory>
+        ensures turn { GivesTurn result self.old.states self.new.states
+            (to_tick self.old.opening.config self.old.states now self.old.opening.shard)
+            (shard_happening lines self.old.opening.config self.old.states now self.old.opening.shard) }
         ensures nothing_due { NothingDue now self.old.states → IsOk result }
         ensures only_done { only_done_from self.old.opening.config now self.old.opening.shard 0
             self.old.states ≡ true → IsOk result }
@@ -247,16 +269,17 @@ impl<'c, A: Allocator + Copy> Shard<'c, A> {
         ensures opening { self.new.opening ≡ self.old.opening }
     {
         if now > LATEST {
-            return Ok(refused_twice(self.alloc, Refusal::Moment));
+            return Ok(refused_turn(self.alloc, Refusal::Moment));
         }
         if !any_due(&self.entries, &self.numbers, now) {
-            return Ok(AnswerPair::none(self.alloc).into_twin());
+            return Ok(Gathered::none(self.alloc).into_turned());
         }
         if all_done(&self.entries, &self.numbers, now) {
             self.let_go(now);
-            return Ok(AnswerPair::none(self.alloc).into_twin());
+            return Ok(Gathered::none(self.alloc).into_turned());
         }
-        let room = room_of_shard(self.alloc, &self.opening, &self.entries, &self.numbers, now)?;
+        let (entries, numbers) = (&self.entries, &self.numbers);
+        let room = room_of_shard(self.alloc, &self.opening, entries, numbers, now, lines)?;
         Ok(self.tick_in(now, room))
     }
 }

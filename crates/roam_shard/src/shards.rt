@@ -12,11 +12,11 @@ ghost use Rattle.roam_core.specs.Steps.{GivesAnswer, StepsTo};
 ghost use Rattle.roam_shard.specs.Across.{IsSharded};
 ghost use Rattle.roam_shard.specs.ShardView.{AreStarts};
 
-use crate::answers::{first, lost_or_refused, rejected};
+use crate::answers::{answer_of, lost_or_refused};
 use crate::opening::first_starts;
 use crate::shard::Shard;
-use roam_book::{Answer, LATEST, Start, refused};
-use roam_conf::Config;
+use roam_book::{Answer, LATEST, Start, one_packet, refused};
+use roam_conf::{Config, ExchangeLines};
 use roam_core::{Event, Stepper};
 use roam_route::{Datagram, Job, Prepared, prepare};
 use roam_wire::{NoMemory, Refusal};
@@ -85,7 +85,7 @@ impl<'c, A: Allocator + Copy> Shards<'c, A> {
         ensures config { self.new.config ≡ self.old.config }
     {
         let shard = self.config.shard_of(job.realm);
-        first(self.shards[usize::from(shard)].step(now, job))
+        answer_of(self.shards[usize::from(shard)].step(now, job, ExchangeLines::OfNone))
     }
 
     /// Answers an arrival.
@@ -101,7 +101,7 @@ impl<'c, A: Allocator + Copy> Shards<'c, A> {
     {
         match prepare(self.alloc, self.config, datagram) {
             Ok(Prepared::Job(job)) => self.give(now, &job),
-            Ok(Prepared::Reject(out)) => rejected(self.alloc, out),
+            Ok(Prepared::Reject(out)) => Ok(one_packet(self.alloc, out)),
             Err(why) => lost_or_refused(self.alloc, why),
         }
     }
@@ -116,7 +116,7 @@ impl<'c, A: Allocator + Copy> Shards<'c, A> {
         ensures waits { IsErr result
             → only_done_from self.old.config now shard 0 self.old.states ≡ false }
     {
-        first(self.shards[usize::from(shard)].tick(now))
+        answer_of(self.shards[usize::from(shard)].tick(now, ExchangeLines::OfNone))
     }
 
     /// Answers a shard's tick.

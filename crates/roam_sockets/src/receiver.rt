@@ -54,8 +54,9 @@ impl<'s> Receiver<'s> {
             }
     }
 
-    /// Receives once. After a fault it is tried again, whether there is word of it or not.
-    pub fn receive(&mut self, alloc: Global, buffer: &mut [u8]) -> Heard<Global>
+    /// Receives once: a datagram takes the buffer's block along. After a fault it is tried again, whether there is word
+    /// of it or not.
+    pub fn receive(&mut self, alloc: Global, buffer: &mut Vec<u8>) -> Heard<Global>
         ensures nothing { (result ≡ Heard.Nothing)
             → (IsTrue self.new.is_ready ↔ (0 < self.new.faults)) }
         ensures other { ¬ (result ≡ Heard.Nothing) → self.new.is_ready ≡ self.old.is_ready }

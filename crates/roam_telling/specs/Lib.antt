@@ -1,5 +1,4 @@
 pub mod Causes
 pub mod Notices
 pub mod Packets
-pub mod Said
 pub mod SaidLately

@@ -1,17 +1,13 @@
 //! What a thread counts of what it does.
 
-use crate::counted::{code_of, is_taken_over, next_failed_over, requester_of, taken_over};
 use crate::counters::ThreadCounts;
-use crate::ended::cause_of;
-use roam_book::Answer;
-use roam_conf::{Config, Endpoint, Link, Place};
+use roam_conf::{Config, Endpoint, Place};
 use roam_counters::{
-    CountedEvent, CountedTurn, Delay, Handling, NakCause, Process, ReplyKind, Subject, end_at,
-    subject_of, tick_event,
+    CountedEvent, CountedTurn, Handling, Increments, Process, Subject, due_increments, end_at,
+    job_increments, local_increments,
 };
-use roam_hub::{Past, Requester, Stood};
+use roam_hub::Happening;
 use roam_port::Account;
-use roam_route::Out;
 use roam_wire::Refusal;
 use std::alloc::Global;
 
@@ -59,29 +55,30 @@ impl Counting<'_> {
         }
     }
 
-    /// What came of a packet: it is counted of the realm, of who sent it and, where a packet leaves to another one, of
-    /// that one.
-    pub fn gave(&self, turn: CountedTurn, answer: &Answer<Global>) {
+    /// Counts what rises by what happened.
+    fn add(&self, increments: Increments) {
         let Some(counts) = &self.counts else {
             return;
         };
-        let sender = Some(turn.sender());
-        let realm = Some(Subject::Realm(turn.realm));
-        match answer.outs.first() {
-            Some(out) => {
-                let other = end_at(self.config, out.from, out.to);
-                let other = if other == sender { None } else { other };
-                let packet = Some((out.from, code_of(out.bytes.as_slice())));
-                let event = turn.outcome(answer.refusal, packet);
-                counts.event_of(&[realm, sender, other], event);
-            }
-            None => {
-                counts.event_of(&[realm, sender], turn.outcome(answer.refusal, None));
+        for increment in &increments {
+            if let Some(one) = increment {
+                counts.more(one.subject, one.event, one.count);
             }
         }
-        if let Some(refusal) = answer.refusal {
-            counts.event(Subject::All, CountedEvent::Refused(refusal));
+    }
+
+    /// How long a request of a realm waits for a server, in milliseconds.
+    fn wait_of(&self, realm: u16) -> u32 {
+        match self.config.realms.get(usize::from(realm)) {
+            Some(realm) => realm.wait,
+            None => 0,
         }
+    }
+
+    /// What happened by a packet that was given to a realm at this moment.
+    pub fn gave(&self, turn: CountedTurn, happening: &Happening<Global>, now: u64) {
+        let wait = self.wait_of(turn.realm);
+        self.add(job_increments(turn, happening, now, wait));
     }
 
     /// A call for a packet isn't recorded.
@@ -118,119 +115,22 @@ impl Counting<'_> {
         }
     }
 
-    /// The broker answered by itself.
-    pub fn answered(&self, out: &Out<Global>) {
-        if let Some(counts) = &self.counts {
-            let event = match ReplyKind::of(code_of(out.bytes.as_slice())) {
-                Some(kind) => Some(CountedEvent::Answered(kind)),
-                None => None,
-            };
-            counts.event_of(&[end_at(self.config, out.from, out.to)], event);
-        }
+    /// The broker answered somebody by itself, with a packet of this code.
+    pub fn answered(&self, place: Place, to: Endpoint, code: u8) {
+        let sender = end_at(self.config, place, to);
+        self.add(local_increments(sender, code));
     }
 
-    /// A tick sent packets: each again to its server, but for those of requests of which another server is asked, which
-    /// stand in the same order among those that were noted.
-    pub fn ticked(&self, answer: &Answer<Global>, pasts: &[Past]) {
-        let Some(counts) = &self.counts else {
-            return;
-        };
-        let mut at = next_failed_over(pasts, 0);
-        for out in &answer.outs {
-            let realm = match out.realm {
-                Some(realm) => Some(Subject::Realm(realm)),
-                None => None,
-            };
-            let other = end_at(self.config, out.from, out.to);
-            let code = code_of(out.bytes.as_slice());
-            if is_taken_over(self.config, out, pasts.get(at)) {
-                at = next_failed_over(pasts, at.saturating_add(1));
-                counts.event_of(&[realm, other], taken_over(code));
-            } else {
-                counts.event_of(&[realm, other], tick_event(out.from, code));
+    /// What happened by a tick: it was refused, or something became of each request that was due and waited.
+    pub fn ticked(&self, happening: &Happening<Global>) {
+        match happening {
+            Happening::Ticked(dues) => {
+                for due in dues {
+                    self.add(due_increments(due));
+                }
             }
-        }
-        if let Some(refusal) = answer.refusal {
-            counts.event(Subject::All, CountedEvent::Refused(refusal));
-        }
-    }
-
-    /// Something became of a request that waited: it is counted of its realm, of where it waited and of who sent it.
-    pub fn ended(&self, past: Past, event: CountedEvent) {
-        let Some(counts) = &self.counts else {
-            return;
-        };
-        let Stood::Waiting { link, .. } = past.stood else {
-            return;
-        };
-        let subjects = [
-            Some(Subject::Realm(past.realm)),
-            Some(subject_of(past.realm, link)),
-            Some(requester_of(past)),
-        ];
-        counts.event_of(&subjects, Some(event));
-    }
-
-    /// A reverse request that no access server answered was answered by a NAK.
-    pub fn unanswered(&self, past: Past) {
-        let Some(counts) = &self.counts else {
-            return;
-        };
-        if let Requester::Home(_) = past.requester {
-            let subjects = [Some(Subject::Realm(past.realm)), Some(requester_of(past))];
-            let event = CountedEvent::Nak(NakCause::OtherProxyProcessingError);
-            counts.event_of(&subjects, Some(event));
-        }
-    }
-
-    /// A request that waited was answered at this moment.
-    pub fn replied(&self, past: Past, now: u64) {
-        let Some(counts) = &self.counts else {
-            return;
-        };
-        let Stood::Waiting { link, deadline, .. } = past.stood else {
-            return;
-        };
-        let Some(realm) = self.config.realms.get(usize::from(past.realm)) else {
-            return;
-        };
-        if let Link::Auth(_, _) | Link::Acct(_, _) = link {
-            let sent = deadline.saturating_sub(u64::from(realm.wait));
-            let time = now.saturating_sub(sent);
-            let server = subject_of(past.realm, link);
-            counts.event(server, CountedEvent::AnswerWithin(Delay::of(time)));
-            counts.more(server, CountedEvent::AnswerTime, time);
-        }
-    }
-
-    /// A request that was answered came again, and its reply was sent once more.
-    pub fn answered_again(&self, turn: CountedTurn) {
-        if let Some(counts) = &self.counts {
-            let subjects = [Some(Subject::Realm(turn.realm)), Some(turn.sender())];
-            counts.event_of(&subjects, Some(CountedEvent::AnsweredAgain));
-        }
-    }
-
-    /// A reverse request was answered by a NAK at once.
-    pub fn denied(&self, turn: CountedTurn, answer: &Answer<Global>) {
-        let Some(counts) = &self.counts else {
-            return;
-        };
-        let cause = match answer.outs.first() {
-            Some(out) => cause_of(out.bytes.as_slice()),
-            None => None,
-        };
-        if let Some(cause) = cause {
-            let subjects = [Some(Subject::Realm(turn.realm)), Some(turn.sender())];
-            counts.event_of(&subjects, Some(CountedEvent::Nak(cause)));
-        }
-    }
-
-    /// The broker rejected a request by itself that came from here.
-    pub fn rejected(&self, place: Place, from: Endpoint) {
-        if let Some(counts) = &self.counts {
-            let sender = end_at(self.config, place, from);
-            counts.event_of(&[sender], Some(CountedEvent::LocalReject));
+            Happening::Refused(why) => self.refused_here(*why),
+            _ => {}
         }
     }
 
@@ -245,13 +145,6 @@ impl Counting<'_> {
     pub fn lines_dropped(&self, count: u64) {
         if let Some(counts) = &self.counts {
             counts.process(Process::LineDropped, count);
-        }
-    }
-
-    /// So many requests found no room to be noted.
-    pub fn missed(&self, count: u64) {
-        if let Some(counts) = &self.counts {
-            counts.process(Process::NoteMissed, count);
         }
     }
 

@@ -1,121 +1,19 @@
-//! What is told of an exchange that ends, and by what it ends.
+//! What is told of a request that is answered before it waits, and of refusals where they were.
 
-ghost use Rattle.std.specs.Prelude.{◌≡◌, IfSome};
+ghost use Rattle.std.specs.Prelude.{◌≡◌};
 ghost use Rattle.roam_conf.specs.Shown.{shown};
-ghost use Rattle.roam_notices.specs.Values.{octets_if, shown_value};
+ghost use Rattle.roam_notices.specs.Values.{shown_value};
 ghost use Rattle.roam_route.specs.LocalReject.{has_too_many_hops};
 ghost use Rattle.roam_telling.specs.Causes as causes;
-ghost use Rattle.roam_telling.specs.Said as said;
+ghost use Rattle.roam_notices.specs.Said as said;
 ghost use Rattle.roam_wire.specs.Reading.{reading};
 
-use crate::notice::server_endpoint;
-use crate::said::{charged_by, said_by};
-use roam_book::Answer;
-use roam_conf::{Config, Endpoint, Link, Place};
-use roam_counters::NakCause;
-use roam_hub::{Notes, Past, Requester, Stood};
-use roam_notices::{Exchange, ExchangeEnd, Origin, RejectCause};
-use roam_route::{Datagram, Side, realm_of, realm_part};
-use roam_wire::attribute_type::{ERROR_CAUSE, MESSAGE_AUTHENTICATOR, PROXY_STATE, USER_NAME};
+use roam_conf::Config;
+use roam_notices::{Exchange, ExchangeEnd, Origin, RejectCause, said_by};
+use roam_route::{Datagram, realm_of, realm_part};
+use roam_wire::attribute_type::{MESSAGE_AUTHENTICATOR, PROXY_STATE, USER_NAME};
 use roam_wire::{Refusal, View};
 use std::alloc::Global;
-
-/// What ends by an arrival that is taken.
-#[derive(Clone, Copy)]
-pub enum End {
-    /// The request that waited for this reply.
-    Replied(Past),
-    /// A request that waited: this one took its place.
-    Replaced(Past),
-    /// Nothing: it is a duplicate, to which the reply that is held was sent.
-    AnsweredAgain,
-    /// This reverse request, which was answered by a NAK.
-    Nak,
-    /// Nothing.
-    Nothing,
-}
-
-/// Whether the request waited.
-fn has_waited(past: Past) -> bool {
-    match past.stood {
-        Stood::Waiting { .. } => true,
-        Stood::Held | Stood::Gone => false,
-    }
-}
-
-/// What ends by a request for which a packet leaves from this place.
-fn end_by_request(past: Option<Past>, from: Place) -> End {
-    match (from, past) {
-        (Place::Out(_, _), Some(past)) if has_waited(past) => End::Replaced(past),
-        (Place::Out(_, _), _) => End::Nothing,
-        (_, Some(past)) if past.is_same => End::AnsweredAgain,
-        _ => End::Nak,
-    }
-}
-
-/// What ends by an arrival of this side that gives this answer, where this request was noted before.
-pub fn end_of(side: Side, past: Option<Past>, answer: &Answer<Global>) -> End {
-    let Some(out) = answer.outs.first() else {
-        return End::Nothing;
-    };
-    match (side, past) {
-        (Side::Link(_), Some(past)) => End::Replied(past),
-        (Side::Link(_), None) => End::Nothing,
-        (Side::Peer(_) | Side::Home(_), past) => end_by_request(past, out.from),
-    }
-}
-
-/// The endpoint of a home server's link; none where the link is a peer's.
-fn server_at(config: &Config, realm: u16, link: Link) -> Option<Endpoint> {
-    server_endpoint(config.realms.get(usize::from(realm))?, link)
-}
-
-/// How often a request of a realm was sent to its link that may be sent there so often again.
-fn tries_of(config: &Config, realm: u16, sends_left: u8) -> u8 {
-    match config.realms.get(usize::from(realm)) {
-        Some(realm) => realm.tries.saturating_sub(sends_left),
-        None => 0,
-    }
-}
-
-/// What is told of a request that was noted, and whose exchange ended so at this moment, with this reply, or with none,
-/// which has no octets; nothing where its octets found no room, or where it didn't wait.
-pub fn exchange_of(
-    config: &Config,
-    notes: &Notes<Global>,
-    past: Past,
-    outcome: ExchangeEnd,
-    reply: &[u8],
-    now: u64,
-) -> Option<Exchange>
-    ensures outcome { IfSome result (λ exchange. exchange.outcome ≡ outcome) }
-    ensures charged { IfSome result (λ exchange.
-        octets_if exchange.details.charged ≡ said.charged_by (reading reply.now)) }
-{
-    let Stood::Waiting {
-        link,
-        sends_left,
-        ..
-    } = past.stood
-    else {
-        return None;
-    };
-    let mut exchange = said_by(notes.octets_of(&past)?, outcome);
-    exchange.realm = Some(past.realm);
-    exchange.milliseconds = now.saturating_sub(past.came);
-    exchange.tries = tries_of(config, past.realm, sends_left);
-    exchange.server = server_at(config, past.realm, link);
-    exchange.details.charged = charged_by(reply);
-    match (past.requester, link) {
-        (Requester::Peer(peer), _) => exchange.peer = Some(peer),
-        (Requester::Home(_), Link::Coa(peer, _)) => {
-            exchange.peer = Some(peer);
-            exchange.server = Some(past.key.from);
-        }
-        (Requester::Home(_), _) => exchange.server = Some(past.key.from),
-    }
-    Some(exchange)
-}
 
 /// What is told of a reverse request that is answered by a NAK at once.
 pub fn nak_of(datagram: &Datagram<Global>, realm: u16) -> Exchange
@@ -235,16 +133,5 @@ pub fn origin_of(datagram: &Datagram<Global>, refusal: Option<Refusal>) -> Origi
     match refusal {
         Some(Refusal::BadReplyMessageAuthenticator) => seal_origin(datagram),
         _ => Origin::Datagram(datagram.at, datagram.from),
-    }
-}
-
-/// The Error-Cause of a NAK (RFC 5176, section 3.5).
-pub fn cause_of(octets: &[u8]) -> Option<NakCause> {
-    let Ok(view) = View::read(octets) else {
-        return None;
-    };
-    match view.first(ERROR_CAUSE)? {
-        [a, b, c, d] => NakCause::of(u32::from_be_bytes([*a, *b, *c, *d])),
-        _ => None,
     }
 }

@@ -1,4 +1,4 @@
-//! A thread's end of its queue of lines of exchanges, and what it notes before a call that may end some.
+//! A thread's end of its queue of lines of exchanges.
 
 ghost use Rattle.std.specs.Prelude.{◌≡◌, ◌+◌, ◌-◌, ◌^◌, ◌<◌, ◌≤◌, [], Some, None, IfSome, min, unwrap_or};
 ghost use Rattle.std.specs.Option.{ForSome};
@@ -6,23 +6,13 @@ ghost use Rattle.roam_notices.specs.Exchanges.{is_told};
 ghost use Rattle.roam_notices.specs.Folded.{IsCounted};
 
 use crate::notices::SECOND;
-use roam_conf::{Config, ExchangeLines};
-use roam_hub::Notes;
+use roam_conf::ExchangeLines;
 use roam_notices::{Exchange, ExchangeEnd, FoldedLines};
 use rtrb::{Consumer, Producer, RingBuffer};
 use std::alloc::{AllocError, Global};
 
 /// How many lines of one thread wait to be told. What finds the queue full is dropped, and counted.
 pub const LINES: usize = 2048;
-
-/// How many octets of a request a worker notes: those of the longest one.
-const OF_ONE: usize = 4096;
-
-/// How many requests the timer notes at most, of which no server is left or another one is asked in one tick.
-const MOST_AT_ONCE: usize = 65_536;
-
-/// How many octets of requests it notes.
-const OCTETS_AT_ONCE: usize = 1_048_576;
 
 /// A thread's end of its queue of lines. What finds it full is dropped, and counted.
 #[derive(Drop)]
@@ -63,9 +53,8 @@ impl LineQueue {
     }
 }
 
-/// A thread's end of its queue of lines, and what it notes.
+/// A thread's end of its queue of lines.
 pub struct Exchanges {
-    pub notes: Notes<Global>,
     queue: LineQueue,
     /// Of which exchanges lines tell.
     told: ExchangeLines,
@@ -83,7 +72,6 @@ pub struct Exchanges {
 impl Drop for Exchanges {
     fn drop(self) {
         let Self {
-            notes,
             queue,
             told: _,
             rejected,
@@ -91,37 +79,16 @@ impl Drop for Exchanges {
             folded_due: _,
             waits_since: _,
         } = self;
-        drop(notes);
         drop(queue);
         drop(rejected);
         drop(replaced);
     }
 }
 
-/// How many requests may wait in all realms together, up to `MOST_AT_ONCE`.
-fn most_pending(config: &Config) -> usize {
-    let mut most = 0usize;
-    for realm in &config.realms {
-        most = most.saturating_add(usize::from(realm.max_pending));
-    }
-    most.min(MOST_AT_ONCE)
-}
-
-/// What a worker notes: the one request that a packet is about.
-pub fn notes_of_worker(alloc: Global) -> Result<Notes<Global>, AllocError> {
-    Notes::new(alloc, 1, OF_ONE)
-}
-
-/// What the timer notes: the requests of a tick.
-pub fn notes_of_timer(alloc: Global, config: &Config) -> Result<Notes<Global>, AllocError> {
-    Notes::new(alloc, most_pending(config), OCTETS_AT_ONCE)
-}
-
 /// A queue of lines, of exchanges of which these tell: the end of the thread that has them, and that of the one who
 /// tells them.
 pub fn queue_of_lines(
     alloc: Global,
-    notes: Notes<Global>,
     told: ExchangeLines,
 ) -> Result<(Exchanges, Option<Consumer<Exchange>>), AllocError> {
     let (lines, consumer) = if matches!(told, ExchangeLines::OfNone) {
@@ -131,7 +98,6 @@ pub fn queue_of_lines(
         (Some(lines), Some(consumer))
     };
     let exchanges = Exchanges {
-        notes,
         queue: LineQueue {
             lines,
             dropped: 0,

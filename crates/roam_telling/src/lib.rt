@@ -21,19 +21,16 @@ mod exchanges;
 mod notice;
 mod notices;
 mod reload_lines;
-mod said;
 mod said_lately;
 mod sheet;
 mod state_lines;
 
-pub use counted::turn_of;
+pub use counted::{code_of, turn_of};
 pub use counters::{Counters, ThreadCounts};
 pub use counting::Counting;
-pub use ended::{
-    End, cause_of, end_of, exchange_of, local_reject_of, local_response_of, nak_of, origin_of,
-};
-pub use exchanges::{Exchanges, notes_of_timer, notes_of_worker, queue_of_lines};
-pub use notice::{Notice, notices_in, server_endpoint, serving, tell};
+pub use ended::{local_reject_of, local_response_of, nak_of, origin_of};
+pub use exchanges::{Exchanges, queue_of_lines};
+pub use notice::{Notice, notices_in, serving, tell};
 pub use notices::{Notices, queue_of_notices};
 pub use reload_lines::{tell_dropped, tell_reload};
 pub use state_lines::{

@@ -4,8 +4,8 @@ ghost use Rattle.std.specs.Prelude.{◌≡◌};
 ghost use Rattle.roam_telling.specs.Notices.{notices_in};
 
 use log::{Log, info, warn};
-use roam_conf::{Address, Config, Endpoint, Link, Realm};
-use roam_notices::{RefusalCount, RefusedText, TurnedAway, TurnedAwayText};
+use roam_conf::{Address, Config, Endpoint, Link};
+use roam_notices::{RefusalCount, RefusedText, TurnedAway, TurnedAwayText, server_endpoint};
 use roam_port::LossCause;
 use roam_sockets::Reason;
 use std::fmt::Display;
@@ -65,25 +65,16 @@ const NOWHERE: Endpoint = Endpoint {
 };
 
 /// The endpoint of a link of a realm, and the realm's name.
-fn link_text(config: &Config, realm: u16, link: Link) -> LinkText<'_> {
-    match config.realms.get(usize::from(realm)) {
+fn link_text(config: &Config, number: u16, link: Link) -> LinkText<'_> {
+    match config.realms.get(usize::from(number)) {
         Some(realm) => LinkText {
-            at: server_endpoint(realm, link).unwrap_or(NOWHERE),
+            at: server_endpoint(config, number, link).unwrap_or(NOWHERE),
             realm: realm.name.as_str(),
         },
         None => LinkText {
             at: NOWHERE,
             realm: "",
         },
-    }
-}
-
-/// The endpoint of a home server's link; none where the link is a peer's.
-pub fn server_endpoint(realm: &Realm, link: Link) -> Option<Endpoint> {
-    match link {
-        Link::Auth(server, _) => Some(realm.servers.get(usize::from(server))?.auth),
-        Link::Acct(server, _) => realm.servers.get(usize::from(server))?.acct,
-        Link::Coa(_, _) => None,
     }
 }
 

@@ -7,13 +7,10 @@ ghost use Rattle.roam_sockets.specs.Faults.{IsAfterBinding};
 use crate::dealing::register;
 use mio::{Events, Waker};
 use roam_conf::{Config, ExchangeLines};
-use roam_hub::Notes;
 use roam_notices::Exchange;
 use roam_port::Outbox;
 use roam_sockets::{BoundSocket, Polls, ServeFault, make_polls, make_wakers};
-use roam_telling::{
-    Exchanges, Notice, Notices, notes_of_timer, notes_of_worker, queue_of_lines, queue_of_notices,
-};
+use roam_telling::{Exchanges, Notice, Notices, queue_of_lines, queue_of_notices};
 use roam_workers::{RECEIVED, ROOM_EVENTS};
 use rtrb::Consumer;
 use std::alloc::Global;
@@ -88,14 +85,13 @@ impl Kits {
 fn make_kit(
     alloc: Global,
     polls: Polls,
-    notes: Notes<Global>,
     told: ExchangeLines,
     room: usize,
 ) -> Result<Kit, ServeFault>
     ensures { IfErr result IsAfterBinding }
 {
     let (notices, queue) = queue_of_notices(alloc)?;
-    let (exchanges, lines) = queue_of_lines(alloc, notes, told)?;
+    let (exchanges, lines) = queue_of_lines(alloc, told)?;
     Ok(Kit {
         polls,
         notices,
@@ -121,8 +117,7 @@ fn make_worker_kit(
         return Err(ServeFault::Memory);
     };
     register(&polls.arrivals, sockets, usize::from(worker))?;
-    let notes = notes_of_worker(alloc)?;
-    make_kit(alloc, polls, notes, told, RECEIVED)
+    make_kit(alloc, polls, told, RECEIVED)
 }
 
 /// What so many workers are made of, each of the last polls that are left.
@@ -146,7 +141,6 @@ fn make_worker_kits(
 fn make_timer_kit(
     alloc: Global,
     polls: Option<Polls>,
-    config: &Config,
     told: ExchangeLines,
 ) -> Result<Kit, ServeFault>
     ensures { IfErr result IsAfterBinding }
@@ -154,8 +148,7 @@ fn make_timer_kit(
     let Some(polls) = polls else {
         return Err(ServeFault::Memory);
     };
-    let notes = notes_of_timer(alloc, config)?;
-    make_kit(alloc, polls, notes, told, 0)
+    make_kit(alloc, polls, told, 0)
 }
 
 /// What the threads of a configuration are made of: a worker for each shard, which waits for what comes to the sockets
@@ -173,7 +166,7 @@ pub fn make_kits<R: Net>(
     let mut polls = make_polls(rt, alloc, config.shards.saturating_add(1), wanted)?;
     let wakers = make_wakers(alloc, polls.as_slice(), wanted)?;
     let workers = make_worker_kits(alloc, &mut polls, sockets, config.shards, told)?;
-    let timer = make_timer_kit(alloc, polls.pop(), config, told)?;
+    let timer = make_timer_kit(alloc, polls.pop(), told)?;
     Ok(Kits {
         wakers,
         threads: ThreadKits { timer, workers },

@@ -1,4 +1,2 @@
-pub mod ListLemmas
-pub mod SentLemmas
 pub mod OctetLemmas
 pub mod HistoryLemmas

@@ -4,11 +4,10 @@ use Rattle.std.specs.Prelude.{Result, IfOk, OnErr, OnOk}
 use Rattle.roam_conf.specs.Config.{ConfigView}
 use Rattle.roam_route.specs.Admission.{PlainJob, admission, admitted}
 use Rattle.roam_book.specs.RealmState.{RealmState}
-use Rattle.roam_book.specs.declared.packets.answer.Answer.{Answer}
 use Rattle.roam_core.specs.Events.{PlainEvent, arrives, ticks, is_in_shard}
 use Rattle.roam_core.specs.ManyRealms.{BrokerTurn, answer_to, packets_in_turn, refusal_given, states_after}
 use Rattle.roam_shard.specs.ShardView.{OpeningView, opened}
-use Rattle.roam_trace.specs.Steps.{PlainAnswer, PlainStep, shown_answer}
+use Rattle.roam_trace.specs.Steps.{PlainAnswer, PlainStep}
 
 -- what is answered, as a turn of the broker says
 abbrev pub answer_in : BrokerTurn → PlainAnswer
@@ -63,46 +62,58 @@ IsHistory b steps = AreSteps b.config b.shard b.states steps
 abbrev pub end_of : Beginning → List PlainStep → List RealmState
 end_of b steps = states_then b.config b.states steps
 
--- a trace: how its shard began and stands, how many of its steps were let go of, the stored ones, and
+-- the steps of events, one after the other from these states: each with the written answer
+abbrev pub steps_from : ConfigView → List RealmState → List PlainEvent → List PlainStep
+steps_from config states [] = []
+steps_from config states (e ∷ es) =
+    record { event = e; answer = answer_in (answer_to config states e) }
+    ∷ steps_from config (states_next config states e) es
+
+-- a trace: how its shard began and stands, how many of its steps were let go of, the events of the stored ones, and
 -- how many of these it can hold
 pub record TraceView : Type 0 where
   pub opening : OpeningView
   pub states : List RealmState
   pub gone : ℕ
-  pub steps : List PlainStep
+  pub events : List PlainEvent
   pub limit : ℕ
 
 -- a trace with one step more: its shard stands where the written broker does after that step's event
-abbrev pub with_step : TraceView → PlainStep → TraceView
-with_step t s = record t {
-  states = states_next t.opening.config t.states s.event;
-  steps = t.steps ++ s ∷ [];
+abbrev pub with_event : TraceView → PlainEvent → TraceView
+with_event t e = record t {
+  states = states_next t.opening.config t.states e;
+  events = t.events ++ e ∷ [];
 }
 
 -- a trace whose stored steps were let go of: all else stays
 abbrev pub without_steps : TraceView → TraceView
-without_steps t = record t { gone = t.gone + length t.steps; steps = [] }
+without_steps t = record t { gone = t.gone + length t.events; events = [] }
 
 -- where a trace's shard began, if its realms had these states there
 abbrev pub begun : TraceView → List RealmState → Beginning
 begun t states = record { shard = t.opening.shard; config = t.opening.config; states = states }
 
+-- the stored steps of a trace, where these ones were before, from these states: their answers follow from that
+abbrev pub stored_steps : TraceView → List RealmState → List PlainStep → List PlainStep
+stored_steps t states before = steps_from t.opening.config (end_of (begun t states) before) t.events
+
 -- these steps, and then the stored ones, are a history of a trace's shard, from these states; and where
 -- it ends the shard stands
 pub record Ends (t : TraceView) (states : List RealmState) (before : List PlainStep) : Type 0 where
-  pub history : IsHistory (begun t states) (before ++ t.steps)
-  pub stands : t.states ≡ end_of (begun t states) (before ++ t.steps)
+  pub history : IsHistory (begun t states) (before ++ stored_steps t states before)
+  pub stands : t.states ≡ end_of (begun t states) (before ++ stored_steps t states before)
 
 -- ## Trace
--- A shard with its stored steps: with those that were let go of before them they are a history from some
--- states, the shard stands where they end, and they are at most as many as the limit. A new one has no steps,
--- and begins where its shard stands. A call adds the step of its event and of the answer that it gives, or
--- changes nothing; it is refused as full exactly when as many steps are stored as the limit. To let go takes
--- the stored steps out, and changes nothing else.
+-- A shard with the events of its stored steps: with the steps that were let go of before them they are a history from
+-- some states, the shard stands where that ends, and they are at most as many as the limit. Their answers aren't
+-- stored: each is the written one after the steps before it, so the history says which. A new one has no steps, and
+-- begins where its shard stands. A call adds its event and gives the written answer to it, or changes nothing; it is
+-- refused as full exactly when as many events are stored as the limit. To let go takes the stored ones out, and
+-- changes nothing else.
 -- Source: ours
 -- Rules out: a step that was answered and not stored, or stored and not answered; a full trace that drops a
 -- state with its steps
--- Stands in: `roam_trace` `History.antt`: `IsTrace`, `Ends`, `Stores`, `with_step`; the invariant of `Traced`,
+-- Stands in: `roam_trace` `History.antt`: `IsTrace`, `Ends`, `Stores`, `with_event`; the invariant of `Traced`,
 -- `Traced::step`, `take`, `tick`, `let_go`
 --
 -- what a trace keeps: there are states in which it began, and steps, as many as were let go of, such that these and
@@ -113,21 +124,26 @@ pub record IsTrace (t : TraceView) : Type 0 where
   pub before : List PlainStep
   pub count : length before ≡ t.gone
   pub ends : Ends t first before
-  pub fits : length t.steps ≤ t.limit
+  pub fits : length t.events ≤ t.limit
   pub size : t.limit < 2 ^ 64
-  pub all : t.gone + length t.steps < 2 ^ 64
+  pub all : t.gone + length t.events < 2 ^ 64
 
 -- whatever history a trace ends, it then ends that history with these steps more
 abbrev pub GoesOn : TraceView → TraceView → Type 0
 GoesOn old new =
     (states : List RealmState) (before : List PlainStep) → Ends old states before → Ends new states before
 
--- what a call does to a trace: the step of this event is stored with the answer that is returned, and the trace goes
+-- the step of an event at a trace: with the written answer
+abbrev pub step_at : TraceView → PlainEvent → PlainStep
+step_at t e = record { event = e; answer = answer_in (answer_to t.opening.config t.states e) }
+
+-- what a call does to a trace: this event is stored, what it gives says the written answer, and the trace goes
 -- on; with an error it is as it was. The call says that the trace is full just where as many steps as the limit were
 -- stored
-pub record Stores {A E : Type 0} (old new : TraceView) (event : PlainEvent) (result : Result (Answer A) E)
-    (says_full : Type 0) : Type 0 where
-  pub ok : IfOk result (λ a. new ≡ with_step old (record { event = event; answer = shown_answer a }))
+pub record Stores {X E : Type 0} (old new : TraceView) (event : PlainEvent) (result : Result X E)
+    (says : X → PlainAnswer) (says_full : Type 0) : Type 0 where
+  pub ok : OnOk result (new ≡ with_event old event)
+  pub answer : IfOk result (λ x. record { event = event; answer = says x } ≡ step_at old event)
   pub err : OnErr result (new ≡ old)
-  pub full : says_full ↔ (length old.steps ≡ old.limit)
+  pub full : says_full ↔ (length old.events ≡ old.limit)
   pub history : OnOk result (GoesOn old new)

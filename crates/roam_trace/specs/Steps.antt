@@ -1,5 +1,5 @@
 -- Steps of a history: what happened, and what it was answered with (ours).
-use Rattle.std.specs.Prelude.{ℕ, ◌+◌, List, Option, length, sum_by}
+use Rattle.std.specs.Prelude.{ℕ, List, Option, length, map, sum_by}
 use Rattle.roam_wire.specs.declared.refusal.Refusal.{Refusal}
 use Rattle.roam_route.specs.Admission.{PlainOut}
 use Rattle.roam_book.specs.Turn.{shown_outs}
@@ -28,16 +28,17 @@ pub record PlainStep : Type 0 where
 
 -- what the code's answers are seen as
 abbrev pub shown_answer : {A : Type 0} → Answer A → PlainAnswer
-shown_answer a = record { packets = shown_outs a.outs.items; refusal = a.refusal }
+shown_answer a = record { packets = shown_outs a.outs; refusal = a.refusal }
 
--- the octets of a step: those of its datagram, and of its packets
+-- the events of some steps
+abbrev pub events_of : List PlainStep → List PlainEvent
+events_of steps = map (λ s. s.event) steps
+
+-- the octets of an event: those of its datagram
 abbrev pub octets_came : PlainEvent → ℕ
 octets_came (arrives now a) = length a.octets
 octets_came (ticks now shard) = 0
 
-abbrev pub octets_of : PlainStep → ℕ
-octets_of s = octets_came s.event + sum_by (λ out. length out.bytes) s.answer.packets
-
--- those of some steps
-abbrev pub octets_in : List PlainStep → ℕ
-octets_in steps = sum_by octets_of steps
+-- those of some events
+abbrev pub octets_in : List PlainEvent → ℕ
+octets_in events = sum_by octets_came events

@@ -1,7 +1,7 @@
-//! The shard of a history and what happened in its steps, to be looked at.
+//! The shard of a history and the events of its steps, to be looked at.
 
 ghost use Rattle.std.specs.Prelude.{◌≡◌};
-ghost use Rattle.roam_trace.specs.Happened.{shown_happened};
+ghost use Rattle.roam_trace.specs.EventsSeen.{shown_event_ref};
 
 use crate::step::Step;
 use crate::stored_event::StoredEvent;
@@ -20,9 +20,9 @@ impl<'c, A: Allocator + Copy> Traced<'c, A> {
     }
 }
 
-/// What happened in a step.
+/// The event of a step.
 #[derive(Clone, Copy)]
-pub enum Happened<'s> {
+pub enum EventRef<'s> {
     /// A datagram arrived.
     Arrived {
         /// In milliseconds.
@@ -40,23 +40,23 @@ pub enum Happened<'s> {
 }
 
 impl<A: Allocator> Step<A> {
-    /// What happened. Takes no memory.
-    pub fn happened(&self) -> Happened<'_>
-        ensures { shown_happened result ≡ self.now.event }
+    /// Its event. Takes no memory.
+    pub fn event(&self) -> EventRef<'_>
+        ensures { shown_event_ref result ≡ self.now }
     {
-        match &self.came {
+        match &self.event {
             StoredEvent::Arrived {
                 at,
                 from,
                 now,
                 octets,
-            } => Happened::Arrived {
+            } => EventRef::Arrived {
                 now: *now,
                 at: *at,
                 from: *from,
                 octets: octets.as_slice(),
             },
-            StoredEvent::Ticked { shard, now } => Happened::Ticked {
+            StoredEvent::Ticked { shard, now } => EventRef::Ticked {
                 now: *now,
                 shard: *shard,
             },

@@ -2,7 +2,7 @@
 
 ghost use Rattle.std.specs.Prelude.{◌≡◌, ◌↔◌, IsTrue};
 ghost use Rattle.roam_core.specs.Shown.{shown_event};
-ghost use Rattle.roam_trace.specs.Stored.{HasNoClock, shown_came};
+ghost use Rattle.roam_trace.specs.Stored.{HasNoClock, shown_stored};
 
 use roam_conf::{Endpoint, Place};
 use roam_core::Event;
@@ -34,7 +34,7 @@ impl<A: Allocator> StoredEvent<A> {
     /// The same event, of an arrival without the wall clock's seconds. Takes no memory.
     pub(crate) fn new(event: Event<A>) -> StoredEvent<A>
         requires { HasNoClock (shown_event event) }
-        ensures { shown_came result ≡ shown_event event }
+        ensures { shown_stored result ≡ shown_event event }
     {
         match event {
             Event::Arrive { now, datagram } => {
@@ -57,7 +57,7 @@ impl<A: Allocator> StoredEvent<A> {
 
     /// Whether it is this event. Takes no memory.
     pub(crate) fn is(&self, event: &Event<A>) -> bool
-        ensures { IsTrue result ↔ (shown_came self.now ≡ shown_event event.now) }
+        ensures { IsTrue result ↔ (shown_stored self.now ≡ shown_event event.now) }
     {
         match (self, event) {
             (

@@ -1,23 +1,27 @@
 //! A shard with its history, of which the last steps are stored.
 
 ghost use Rattle.std.specs.Prelude.{List, ◌≡◌, ◌↔◌, ◌+◌, ◌-◌, ◌<◌, ◌≤◌, ◌/◌, ◌^◌, ◌++◌, [], ◌∷◌, false, true};
-ghost use Rattle.std.specs.Prelude.{length, max, min, vec_capacity, vec_len, IfErr, IsErrAnd, IsErrOf, IsOk, OnOk};
+ghost use Rattle.std.specs.Prelude.{length, max, min, vec_capacity, vec_len, IfErr, IfOk};
+ghost use Rattle.std.specs.Prelude.{IsErrAnd, IsErrOf, IsOk, OnOk};
 ghost use Rattle.roam_route.specs.Events.{IsEvent, arrival_of};
 ghost use Rattle.roam_route.specs.Shown.{shown_job};
 ghost use Rattle.roam_core.specs.Events.{arrives, is_in_shard, ticks};
 ghost use Rattle.roam_core.specs.Shown.{shown_event};
 ghost use Rattle.roam_book.specs.RealmState.{RealmState};
 ghost use Rattle.roam_shard.specs.ShardView.{shown_opening};
-ghost use Rattle.roam_shard.specs.Twins.{NothingDue};
-ghost use Rattle.roam_trace.specs.History.{Ends, Stores, TraceView, without_steps};
+ghost use Rattle.roam_shard.specs.Turns.{NothingDue};
+ghost use Rattle.roam_book.specs.HappeningsShown.{shown_happening};
+ghost use Rattle.roam_core.specs.HappeningsTo.{happening_to};
+ghost use Rattle.roam_trace.specs.History.{Ends, Stores, TraceView, stored_steps, without_steps};
 ghost use Rattle.roam_trace.specs.Stored.{HasNoClock};
-ghost use Rattle.roam_trace.specs.Steps.{PlainStep, octets_in, octets_of, shown_answer};
+ghost use Rattle.roam_trace.specs.Steps.{PlainStep, octets_came, octets_in, shown_answer};
 
 use crate::event::{copy_of, event_of};
 use crate::fault::TraceFault;
 use crate::octets::octets_of;
 use crate::step::Step;
-use roam_book::{Answer, Twin};
+use roam_book::{Answer, Turned};
+use roam_conf::ExchangeLines;
 use roam_core::Event;
 use roam_route::Job;
 use roam_shard::{Opening, Shard};
@@ -27,10 +31,10 @@ use std::marker::Model;
 use std::mem;
 
 /// A shard with its history, of which the last steps are stored: those before were let go of. Contracts
-/// see how it was opened and how its realms stand, how many steps were let go of, the stored ones, and how
-/// many of these it can hold. There are states in which its realms began, and steps, as many as were let go
-/// of, which together with the stored ones, in this order, are a history of the shard from there; where it
-/// ends the shard stands.
+/// see how it was opened and how its realms stand, how many steps were let go of, the events of the stored ones, and
+/// how many of these it can hold. There are states in which its realms began, and steps, as many as were let go of,
+/// which together with the stored ones, in this order, are a history of the shard from there; where it ends the shard
+/// stands.
 #[derive(Drop)]
 pub struct Traced<'c, A: Allocator> {
     alloc: A,
@@ -39,7 +43,7 @@ pub struct Traced<'c, A: Allocator> {
     gone: u64,
     steps: Vec<Step<A>, A>,
     limit: usize,
-    /// How many octets the datagrams and packets of the stored steps have; as many as 64 bits hold.
+    /// How many octets the datagrams of the stored steps have; as many as 64 bits hold.
     octets: u64,
 }
 
@@ -54,7 +58,7 @@ impl<'c, A: Allocator> Model for Traced<'c, A> {
       opening = t.shard.opening;
       states = t.shard.states;
       gone = t.gone;
-      steps = t.steps.items;
+      events = t.steps.items;
       limit = t.limit;
     } };
 
@@ -62,7 +66,7 @@ impl<'c, A: Allocator> Model for Traced<'c, A> {
       opening = t.shard.opening;
       states = t.shard.states;
       gone = t.gone;
-      steps = t.steps.items;
+      events = t.steps.items;
       limit = t.limit;
     }) × (t.octets ≡ min (octets_in t.steps.items) (2 ^ 64 - 1)) };
 }
@@ -87,29 +91,15 @@ fn reserve_one<A: Allocator>(steps: &mut Vec<Step<A>, A>, limit: usize) -> Resul
     Ok(())
 }
 
-/// Stores a step for which there is room, with its octets, and hands out the answer. Takes no memory.
-fn store<A: Allocator>(
-    steps: &mut Vec<Step<A>, A>,
-    octets: &mut u64,
-    event: Event<A>,
-    twin: Twin<A>,
-) -> Answer<A>
+/// Stores the step of an event for which there is room, with its octets. Takes no memory.
+fn store<A: Allocator>(steps: &mut Vec<Step<A>, A>, octets: &mut u64, event: Event<A>)
     requires room { vec_len steps.old < vec_capacity steps.old }
     requires clock { HasNoClock (shown_event event) }
-    ensures items { steps.new.items ≡ steps.old.items ++ record {
-      event = shown_event event;
-      answer = shown_answer twin.copy;
-    } ∷ [] }
-    ensures octets { octets.new ≡ min (octets.old + min (octets_of (record {
-      event = shown_event event;
-      answer = shown_answer twin.copy;
-    })) (2 ^ 64 - 1)) (2 ^ 64 - 1) }
-    ensures answer { result ≡ twin.answer }
+    ensures items { steps.new.items ≡ steps.old.items ++ shown_event event ∷ [] }
+    ensures octets { octets.new ≡ min (octets.old + octets_came (shown_event event)) (2 ^ 64 - 1) }
 {
-    let Twin { answer, copy } = twin;
-    *octets = octets.saturating_add(octets_of(&event, &copy));
-    steps.push_reserved(Step::new(event, copy));
-    answer
+    *octets = octets.saturating_add(octets_of(&event));
+    steps.push_reserved(Step::new(event));
 }
 
 impl<'c, A: Allocator + Copy> Traced<'c, A> {
@@ -119,7 +109,7 @@ impl<'c, A: Allocator + Copy> Traced<'c, A> {
           opening = shard.entry.opening;
           states = shard.entry.states;
           gone = 0;
-          steps = [];
+          events = [];
           limit = limit;
         } }
     {
@@ -135,24 +125,24 @@ impl<'c, A: Allocator + Copy> Traced<'c, A> {
 
     /// How many steps there were: those that were let go of, and the stored ones. Takes no memory.
     pub fn len(&self) -> u64
-        ensures value { result ≡ self.now.gone + length self.now.steps }
-        ensures fits { length self.now.steps ≤ self.now.limit }
+        ensures value { result ≡ self.now.gone + length self.now.events }
+        ensures fits { length self.now.events ≤ self.now.limit }
         ensures limit { self.now.limit < 2 ^ 64 }
     {
         self.gone + self.steps.len() as u64
     }
 
-    /// The stored steps. Takes no memory.
+    /// The stored steps, of which contracts see the events. Takes no memory.
     pub fn steps(&self) -> &[Step<A>]
-        ensures { result.now ≡ self.now.steps }
+        ensures { result.now ≡ self.now.events }
     {
         self.steps.as_slice()
     }
 
-    /// How many octets the datagrams and packets of the stored steps have; as many as 64 bits hold.
+    /// How many octets the datagrams of the stored steps have; as many as 64 bits hold.
     /// Takes no memory.
     pub fn octets(&self) -> u64
-        ensures { result ≡ min (octets_in self.now.steps) (2 ^ 64 - 1) }
+        ensures { result ≡ min (octets_in self.now.events) (2 ^ 64 - 1) }
     {
         self.octets
     }
@@ -173,7 +163,7 @@ impl<'c, A: Allocator + Copy> Traced<'c, A> {
 
     /// Whether no step more can be stored.
     fn is_full(&self) -> bool
-        ensures { result ≡ true ↔ length self.now.steps ≡ self.now.limit }
+        ensures { result ≡ true ↔ length self.now.events ≡ self.now.limit }
     {
         self.steps.len() >= self.limit
     }
@@ -181,9 +171,9 @@ impl<'c, A: Allocator + Copy> Traced<'c, A> {
     /// Whether one step more may be stored.
     fn check(&self) -> Result<(), TraceFault>
         ensures full { IsErrOf result TraceFault.TraceFull
-            ↔ (length self.now.steps ≡ self.now.limit) }
-        ensures below { OnOk result (length self.now.steps < self.now.limit) }
-        ensures number { OnOk result (self.now.gone + length self.now.steps < 2 ^ 64 - 1) }
+            ↔ (length self.now.events ≡ self.now.limit) }
+        ensures below { OnOk result (length self.now.events < self.now.limit) }
+        ensures number { OnOk result (self.now.gone + length self.now.events < 2 ^ 64 - 1) }
     {
         if self.is_full() {
             return Err(TraceFault::TraceFull);
@@ -195,7 +185,7 @@ impl<'c, A: Allocator + Copy> Traced<'c, A> {
     }
 
     /// Gives a job of the shard to its realm, at a moment in milliseconds, and stores the step: what is
-    /// returned is what is stored.
+    /// returned is the written answer to what is stored.
     ///
     /// # Errors
     ///
@@ -205,24 +195,32 @@ impl<'c, A: Allocator + Copy> Traced<'c, A> {
         requires event { IsEvent self.old.opening.config (shown_job job.now) }
         requires own { is_in_shard self.old.opening.config self.old.opening.shard job.now.realm ≡ true }
         ensures { Stores self.old self.new (arrives now (arrival_of (shown_job job.now)))
-            result (IsErrOf result TraceFault.TraceFull) }
+            result shown_answer (IsErrOf result TraceFault.TraceFull) }
     {
         if self.is_full() {
             return Err(TraceFault::TraceFull);
         }
-        match self.take(now, copy_of(self.alloc, job)?) {
-            Ok(answer) => Ok(answer),
+        match self.take(now, copy_of(self.alloc, job)?, ExchangeLines::OfNone) {
+            Ok(turned) => Ok(turned.answer),
             Err((fault, _)) => Err(fault),
         }
     }
 
     /// The same, of a job that is handed in: its octets go into the stored step, and nothing is copied
-    /// but what is answered. A job whose step isn't stored comes back as it was.
-    pub fn take(&mut self, now: u64, job: Job<A>) -> Result<Answer<A>, (TraceFault, Job<A>)>
+    /// but what is answered. With the answer comes what happened, with the octets of a request where these lines tell
+    /// of it. A job whose step isn't stored comes back as it was.
+    pub fn take(
+        &mut self,
+        now: u64,
+        job: Job<A>,
+        lines: ExchangeLines,
+    ) -> Result<Turned<A>, (TraceFault, Job<A>)>
         requires event { IsEvent self.old.opening.config (shown_job job) }
         requires own { is_in_shard self.old.opening.config self.old.opening.shard job.realm ≡ true }
         ensures stores { Stores self.old self.new (arrives now (arrival_of (shown_job job)))
-            result (IsErrAnd result (λ e. e.0 ≡ TraceFault.TraceFull)) }
+            result (λ t. shown_answer t.answer) (IsErrAnd result (λ e. e.0 ≡ TraceFault.TraceFull)) }
+        ensures happening { IfOk result (λ t. shown_happening t.happening ≡ happening_to lines
+            self.old.opening.config self.old.states (arrives now (arrival_of (shown_job job)))) }
         ensures back { IfErr result (λ e. shown_job e.1 ≡ shown_job job) }
     {
         if let Err(fault) = self.check() {
@@ -231,11 +229,11 @@ impl<'c, A: Allocator + Copy> Traced<'c, A> {
         if reserve_one(&mut self.steps, self.limit).is_err() {
             return Err((TraceFault::NoMemory, job));
         }
-        let Ok(twin) = self.shard.step(now, &job) else {
+        let Ok(turned) = self.shard.step(now, &job, lines) else {
             return Err((TraceFault::NoMemory, job));
         };
-        let event = event_of(now, job);
-        Ok(store(&mut self.steps, &mut self.octets, event, twin))
+        store(&mut self.steps, &mut self.octets, event_of(now, job));
+        Ok(turned)
     }
 
     /// A tick of the shard, at a moment in milliseconds, whose step is stored.
@@ -243,25 +241,32 @@ impl<'c, A: Allocator + Copy> Traced<'c, A> {
     /// # Errors
     ///
     /// As `step`.
-    pub fn tick(&mut self, now: u64) -> Result<Answer<A>, TraceFault>
-        ensures { Stores self.old self.new (ticks now self.old.opening.shard)
-            result (IsErrOf result TraceFault.TraceFull) }
+    pub fn tick(&mut self, now: u64, lines: ExchangeLines) -> Result<Turned<A>, TraceFault>
+        ensures stores { Stores self.old self.new (ticks now self.old.opening.shard)
+            result (λ t. shown_answer t.answer) (IsErrOf result TraceFault.TraceFull) }
+        ensures happening { IfOk result (λ t. shown_happening t.happening ≡ happening_to lines
+            self.old.opening.config self.old.states (ticks now self.old.opening.shard)) }
     {
         self.check()?;
         reserve_one(&mut self.steps, self.limit)?;
         let shard = self.shard.opening().shard;
-        let twin = self.shard.tick(now)?;
-        let event = Event::Tick { now, shard };
-        Ok(store(&mut self.steps, &mut self.octets, event, twin))
+        let turned = self.shard.tick(now, lines)?;
+        store(
+            &mut self.steps,
+            &mut self.octets,
+            Event::Tick { now, shard },
+        );
+        Ok(turned)
     }
 
     /// Lets go of the stored steps: takes them out, and gives them back. All else of the shard stays as
     /// it is. Takes no memory, and a time that doesn't grow with the steps.
     pub fn let_go(&mut self) -> Vec<Step<A>, A>
-        ensures steps { result.items ≡ self.old.steps }
+        ensures steps { result.items ≡ self.old.events }
         ensures gone { self.new ≡ without_steps self.old }
         ensures history { (states : List RealmState) (before : List PlainStep)
-            → Ends self.old states before → Ends self.new states (before ++ self.old.steps) }
+            → Ends self.old states before
+            → Ends self.new states (before ++ stored_steps self.old states before) }
     {
         self.gone = self.len();
         self.octets = 0;
@@ -272,7 +277,7 @@ impl<'c, A: Allocator + Copy> Traced<'c, A> {
     pub fn cut(self) -> (Shard<'c, A>, Vec<Step<A>, A>)
         ensures opening { result.0.opening ≡ self.entry.opening }
         ensures states { result.0.states ≡ self.entry.states }
-        ensures steps { result.1.items ≡ self.entry.steps }
+        ensures steps { result.1.items ≡ self.entry.events }
         ensures history { (states : List RealmState) × ((before : List PlainStep)
             × Ends self.entry states before × (length before ≡ self.entry.gone)) }
     {

@@ -13,7 +13,7 @@ use roam_counters::Handling;
 use roam_hub::{Answered, Call, Gate, Opened, Refused};
 use roam_notices::Origin;
 use roam_route::{Datagram, Job, Prepared, prepare};
-use roam_telling::{origin_of, turn_of};
+use roam_telling::{code_of, origin_of, turn_of};
 use roam_wire::Refusal;
 use std::alloc::Global;
 use std::sync::Wait;
@@ -53,8 +53,9 @@ impl<G: Gate, N: Opened> WorkerContext<'_, '_, G, N> {
         match prepare(alloc, self.shared.config, datagram) {
             Ok(Prepared::Job(job)) => self.take(rt, job, datagram),
             Ok(Prepared::Reject(out)) => {
-                self.counting.answered(&out);
-                self.tell_local(datagram, out.bytes.as_slice());
+                let code = code_of(out.bytes.as_slice());
+                self.counting.answered(out.from, out.to, code);
+                self.tell_local(datagram, code);
                 self.outgoing.put(out);
                 Handling::Answered
             }
@@ -80,8 +81,8 @@ impl<G: Gate, N: Opened> WorkerContext<'_, '_, G, N> {
         match self.answer(rt, job) {
             Ok(answered) => {
                 self.shared.rest.wake();
-                self.counting.gave(turn, &answered.answer);
-                self.end_by(turn, datagram, &answered.answer);
+                self.counting.gave(turn, &answered.happening, self.now);
+                self.end_by(turn.realm, datagram, &answered);
                 let origin = origin_of(datagram, answered.answer.refusal);
                 self.finish(rt, answered, origin);
                 Handling::Taken
@@ -108,13 +109,13 @@ impl<G: Gate, N: Opened> WorkerContext<'_, '_, G, N> {
         let mut job = job;
         let mut is_second = false;
         for _ in rt.forever() {
-            let notes = &mut self.exchanges.notes;
             let call = Call {
                 rt,
                 gate: shared.gate,
                 moment: self.now,
+                lines: shared.told_exchanges,
             };
-            match shared.hub.answer_noting(call, &mut self.seat, job, notes) {
+            match shared.hub.answer(call, &mut self.seat, job) {
                 Ok(answered) => return Ok(answered),
                 Err(Refused { fault, job: same }) => {
                     if !self.remedy(rt, shard, fault, is_second) {

@@ -72,13 +72,13 @@ impl<G: Gate, N: Opened> WorkerContext<'_, '_, G, N> {
         let shared = self.shared;
         let mut is_second = false;
         for _ in rt.forever() {
-            let notes = &mut self.exchanges.notes;
             let call = Call {
                 rt,
                 gate: shared.gate,
                 moment: self.now,
+                lines: shared.told_exchanges,
             };
-            match shared.hub.tick_noting(call, &mut self.seat, shard, notes) {
+            match shared.hub.tick_if_due(call, &mut self.seat, shard) {
                 Ok(
                     Some(
                         Ticked {
@@ -88,7 +88,8 @@ impl<G: Gate, N: Opened> WorkerContext<'_, '_, G, N> {
                         },
                     ),
                 ) => {
-                    self.end_by_tick(&answered.answer);
+                    self.counting.ticked(&answered.happening);
+                    self.end_by_tick(&answered.happening);
                     let goes_on = is_more && answered.answer.refusal.is_none();
                     self.finish(rt, answered, Origin::Tick(shard));
                     return goes_on;

@@ -7,6 +7,7 @@ ghost use Rattle.roam_port.specs.Outbox.{account_of, port_count, told_of};
 use crate::losses::SharedLosses;
 use mio::unix::SourceFd;
 use mio::{Events, Interest, Poll, Token};
+use roam_book::Outs;
 use roam_port::{Outbox, Sent, Standing};
 use roam_route::Out;
 use roam_sockets::{PlaceSockets, Polls};
@@ -93,8 +94,12 @@ impl<'s> Outgoing<'s> {
     }
 
     /// Puts packets behind those that wait. Where there is no more room for one, what waits is sent first.
-    pub fn put_all(&mut self, outs: Vec<Out<Global>>) {
-        for out in outs {
+    pub fn put_all(&mut self, outs: Outs<Global>) {
+        let (one, others) = outs.into_parts();
+        if let Some(out) = one {
+            self.put(out);
+        }
+        for out in others {
             self.put(out);
         }
     }

@@ -4,10 +4,9 @@ use crate::context::WorkerContext;
 use crate::ending::{Ending, WorkerEnd};
 use mio::{Events, Poll, Token};
 use roam_hub::{Gate, Opened};
-use roam_notices::Origin;
 use roam_port::Heard;
+use roam_route::Datagram;
 use roam_sockets::{Receiver, WAIT_AFTER_FAULT};
-use roam_wire::Refusal;
 use std::alloc::Global;
 use std::sync::Wait;
 use std::thread;
@@ -22,8 +21,12 @@ pub const LINES_WITHIN: u64 = 10;
 /// How many datagrams a worker takes of one socket in a round.
 pub const IN_A_ROUND: u32 = 32;
 
-/// How many octets a datagram may have.
-pub const RECEIVED: usize = 65535;
+/// How many octets of a datagram are received. A packet has as many at most, and what is behind it is padding
+/// (RFC 2865, section 3): so those left out of a longer one change nothing.
+pub const RECEIVED: usize = 4096;
+
+/// What the buffer of a datagram is filled up with, in one go.
+static FILLING: [u8; RECEIVED] = [0; RECEIVED];
 
 /// The worker that receives from sockets.
 #[derive(Drop)]
@@ -35,6 +38,7 @@ pub struct Worker<'s, 'c, G, N: Opened> {
     /// The sockets are registered with it, each by its place among the receivers.
     pub poll: Poll,
     pub events: Events<Global>,
+    /// Where datagrams are received: `RECEIVED` octets.
     pub buffer: Vec<u8>,
 }
 
@@ -104,6 +108,16 @@ fn wait<R: Clock, G, N: Opened>(rt: &R, worker: &mut Worker<'_, '_, G, N>) {
     worker.context.outgoing.send_again();
 }
 
+/// Gives a buffer the block again in which a datagram was received, as long as it was. The block has room for that, so
+/// no memory is taken.
+fn give_back(buffer: &mut Vec<u8>, datagram: Datagram<Global>) {
+    let mut block = datagram.octets.into_vec();
+    if let Some(rest) = FILLING.get(block.len()..) {
+        let _is_whole = block.extend_from_slice(rest).is_ok();
+    }
+    *buffer = block;
+}
+
 /// Takes what arrived at one socket, up to `IN_A_ROUND` datagrams, and sends what that gives: why the worker
 /// ends with it, if it does. Once all are to end it takes no other one: what is there waits for whoever serves next.
 fn receive_portion<R: Wait + Clock, G: Gate, N: Opened>(
@@ -111,9 +125,8 @@ fn receive_portion<R: Wait + Clock, G: Gate, N: Opened>(
     alloc: Global,
     context: &mut WorkerContext<'_, '_, G, N>,
     receiver: &mut Receiver<'_>,
-    buffer: &mut [u8],
+    buffer: &mut Vec<u8>,
 ) -> Option<Ending> {
-    let place = receiver.place;
     let mut ending = None;
     for _ in 0..IN_A_ROUND {
         if context.shared.is_over() {
@@ -125,10 +138,7 @@ fn receive_portion<R: Wait + Clock, G: Gate, N: Opened>(
                 let mut datagram = datagram;
                 datagram.seconds = context.seconds;
                 context.arrive(rt, alloc, &datagram);
-            }
-            Heard::NoMemory => {
-                context.counting.refused_here(Refusal::NoMemory);
-                context.refuse(Refusal::NoMemory, Origin::Place(place));
+                give_back(buffer, datagram);
             }
             Heard::Nothing => break,
             Heard::GiveUp => {
@@ -157,7 +167,7 @@ fn receive_all<R: Wait + Clock, G: Gate, N: Opened>(
         };
         if receiver.is_due(worker.context.now) {
             worker.context.look_at_clock(rt);
-            let buffer = worker.buffer.as_mut_slice();
+            let buffer = &mut worker.buffer;
             let ending = receive_portion(rt, alloc, &mut worker.context, receiver, buffer);
             if ending.is_some() {
                 return ending;

@@ -1,6 +1,6 @@
 //! Answers as lines, and the first line in which two texts differ.
 
-use roam_book::Answer;
+use roam_book::{Answer, Outs};
 use roam_hub::HubFault;
 use roam_route::Out;
 use roam_sim::print_packet;
@@ -47,9 +47,19 @@ pub fn print_packets<A: Allocator>(text: &mut Vec<u8>, packets: &[Out<A>]) -> io
     Ok(())
 }
 
+/// Prints the packets of an answer, a line for each.
+pub fn print_outs<A: Allocator>(text: &mut Vec<u8>, outs: &Outs<A>) -> io::Result<()> {
+    let (one, others) = outs.as_parts();
+    if let Some(packet) = one {
+        let octets = packet.bytes.as_slice();
+        print_packet(text, packet.realm, packet.from, packet.to, octets)?;
+    }
+    print_packets(text, others)
+}
+
 /// Prints an answer: a line for each packet, and one for its refusal.
 pub fn print_answer<A: Allocator>(text: &mut Vec<u8>, answer: &Answer<A>) -> io::Result<()> {
-    print_packets(text, &answer.outs)?;
+    print_outs(text, &answer.outs)?;
     match answer.refusal {
         Some(refusal) => {
             let number = refusal.number();

@@ -5,8 +5,8 @@ ghost use Rattle.roam_conf.specs.Shown.{shown};
 ghost use Rattle.roam_route.specs.Events.{IsEvent};
 ghost use Rattle.roam_route.specs.Shown.{shown_job};
 
-use crate::early::{lost_or_refused, rejected};
-use roam_book::Answer;
+use crate::early::lost_or_refused;
+use roam_book::{Answer, one_packet};
 use roam_conf::Config;
 use roam_core::Event;
 use roam_hub::{Hub, HubFault, Open, Opened, Receipt, Seat};
@@ -71,7 +71,7 @@ impl<'h, 'c, A: Allocator + Copy, N: Opened> Caller<'h, 'c, A, N> {
     ) -> Result<Given<A, N>, HubFault> {
         match prepare(self.alloc, self.config, datagram) {
             Ok(Prepared::Job(job)) => Ok(Given::Recorded(self.submit(rt, now, &job)?)),
-            Ok(Prepared::Reject(out)) => Ok(Given::Unrecorded(rejected(self.alloc, out)?)),
+            Ok(Prepared::Reject(out)) => Ok(Given::Unrecorded(one_packet(self.alloc, out))),
             Err(why) => Ok(Given::Unrecorded(lost_or_refused(self.alloc, why)?)),
         }
     }
@@ -101,7 +101,7 @@ impl<'h, 'c, A: Allocator + Copy, N: Opened> Caller<'h, 'c, A, N> {
         match self.hub.let_go(rt, &mut self.seat, receipt.shard) {
             Ok(steps) => match steps.as_slice() {
                 [] => !is_new,
-                [step] => is_new && step.is_of(&receipt.event, &receipt.answer),
+                [step] => is_new && step.is_of(&receipt.event),
                 _ => false,
             },
             Err(_) => false,

@@ -2,19 +2,8 @@
 
 use roam_book::{Answer, refused};
 use roam_hub::HubFault;
-use roam_route::Out;
-use roam_wire::{NoMemory, Refusal};
+use roam_wire::Refusal;
 use std::alloc::Allocator;
-
-/// A local reject is sent.
-pub fn rejected<A: Allocator>(alloc: A, out: Out<A>) -> Result<Answer<A>, NoMemory> {
-    let mut outs = Vec::new(alloc);
-    outs.push(out)?;
-    Ok(Answer {
-        outs,
-        refusal: None,
-    })
-}
 
 /// What an arrival is answered with that wasn't prepared: its refusal, or it is lost for want of memory.
 pub fn lost_or_refused<A: Allocator>(alloc: A, why: Refusal) -> Result<Answer<A>, HubFault> {

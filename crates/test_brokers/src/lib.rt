@@ -6,6 +6,8 @@ mod caller;
 mod early;
 mod traces;
 
-pub use answers::{WANTING, first_difference, is_taken, print_answer, print_fault, print_packets};
+pub use answers::{
+    WANTING, first_difference, is_taken, print_answer, print_fault, print_outs, print_packets,
+};
 pub use caller::{Caller, Given};
 pub use traces::Traces;

@@ -11,9 +11,9 @@ ghost use Rattle.roam_route.specs.Shown.{shown_job};
 ghost use Rattle.roam_core.specs.Events.{is_in_shard};
 ghost use Rattle.roam_shard.specs.ShardView.{AreStarts};
 
-use crate::early::{lost_or_refused, rejected};
-use roam_book::{Answer, Start, refused};
-use roam_conf::Config;
+use crate::early::lost_or_refused;
+use roam_book::{Answer, Start, one_packet, refused};
+use roam_conf::{Config, ExchangeLines};
 use roam_core::{Event, Outcome};
 use roam_hub::HubFault;
 use roam_route::{Datagram, Job, Prepared, prepare};
@@ -123,7 +123,7 @@ impl<'c, A: Allocator + Copy> Traces<'c, A> {
     fn arrive(&mut self, now: u64, datagram: &Datagram<A>) -> Result<Answer<A>, HubFault> {
         match prepare(self.alloc, self.config, datagram) {
             Ok(Prepared::Job(job)) => self.give(now, &job),
-            Ok(Prepared::Reject(out)) => Ok(rejected(self.alloc, out)?),
+            Ok(Prepared::Reject(out)) => Ok(one_packet(self.alloc, out)),
             Err(why) => lost_or_refused(self.alloc, why),
         }
     }
@@ -131,7 +131,7 @@ impl<'c, A: Allocator + Copy> Traces<'c, A> {
     /// Answers a shard's tick.
     fn tick(&mut self, now: u64, shard: u16) -> Result<Answer<A>, HubFault> {
         match self.traces.get_mut(usize::from(shard)) {
-            Some(traced) => Ok(traced.tick(now)?),
+            Some(traced) => Ok(traced.tick(now, ExchangeLines::OfNone)?.answer),
             None => Ok(refused(self.alloc, Refusal::NoShard)),
         }
     }
@@ -153,7 +153,7 @@ impl<'c, A: Allocator + Copy> Traces<'c, A> {
         };
         for place in 0..events.len() {
             match self.step(&events[place]) {
-                Ok(mut answer) => outcome.outs.append(&mut answer.outs)?,
+                Ok(answer) => answer.outs.append_to(&mut outcome.outs)?,
                 Err(_) => outcome.lost.push(place)?,
             }
         }

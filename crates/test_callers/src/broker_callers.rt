@@ -15,7 +15,7 @@ ghost use Rattle.roam_pending.specs.Shown.{shown as shown_entry};
 ghost use Rattle.test_callers.specs.Admitted.{IsAdmittedFor};
 
 use roam_back::check_reply;
-use roam_book::Book;
+use roam_book::{Book, Outs};
 use roam_conf::Config;
 use roam_fwd::forward;
 use roam_pending::{Entry, Pending};
@@ -40,13 +40,20 @@ pub fn realm_of_arrival<A: Allocator + Copy>(
     }
 }
 
-/// How many packets a realm sends at a tick that finds nothing pending there.
+/// 1 where there are any packets.
+fn one_if_any<A: Allocator>(outs: &Outs<A>) -> usize
+    ensures { outs.now ≡ [] → result ≡ 0 }
+{
+    if outs.is_empty() { 0 } else { 1 }
+}
+
+/// How many packets a realm sends at a tick that finds nothing pending there: 1 stands for some.
 pub fn sent_by_idle_tick<A: Allocator + Copy>(book: &mut Book<'_, A>, now: u64) -> usize
     requires { book.old.state.entries ≡ [] }
     ensures { result ≡ 0 }
 {
     match book.tick(now) {
-        Ok(answer) => answer.outs.len(),
+        Ok(answer) => one_if_any(&answer.outs),
         Err(_) => 1,
     }
 }

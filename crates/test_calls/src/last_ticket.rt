@@ -55,7 +55,8 @@ pub(crate) type Last<'c, 'r> = Realm<'c, &'r Refusing<Global>>;
 
 /// Prints an answer as the script has it: a line for each packet, and one for its refusal.
 pub(crate) fn print_answer<A: Allocator>(text: &mut Vec<u8>, answer: &Answer<A>) -> io::Result<()> {
-    for out in answer.outs.iter() {
+    let (one, others) = answer.outs.as_parts();
+    for out in one.into_iter().chain(others.iter()) {
         text.write_all(b"#> ")?;
         print_packet(text, out.realm, out.from, out.to, out.bytes.as_slice())?;
     }

@@ -31,7 +31,9 @@ fn ticks_in_room<'r>(
     let answer = realm.book.tick_reserved(now, room);
     let growths = over.growths();
     over.refuse_nth(0);
-    [most as u64, answer.outs.len() as u64, growths]
+    let (one, others) = answer.outs.as_parts();
+    let sent = (others.len() as u64).saturating_add(u64::from(one.is_some()));
+    [most as u64, sent, growths]
 }
 
 /// Two ticks behind the events.

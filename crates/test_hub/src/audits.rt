@@ -5,7 +5,7 @@ ghost use Rattle.std.specs.Prelude.{◌≡◌};
 ghost use Rattle.roam_conf.specs.Shown.{shown};
 
 use crate::at_once::{Ended, called_at_once};
-use roam_book::Answer;
+use roam_book::{Answer, Outs};
 use roam_conf::Config;
 use roam_core::Event;
 use roam_hub::{AuditFault, Hub, Opened, Receipt, Report, Seat, split};
@@ -42,7 +42,7 @@ fn equal<N: Opened>(
             },
         },
         answer: Answer {
-            outs: Vec::new(alloc),
+            outs: Outs::none(alloc),
             refusal: receipt.answer.refusal,
         },
         front: receipt.front.again(),

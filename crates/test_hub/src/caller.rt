@@ -117,8 +117,8 @@ pub(crate) fn sends<A: Allocator + Copy>(
     octets: &str,
 ) -> bool {
     let octets = hex::decode(alloc, octets).expect(rt, "octets");
-    match answer.outs.as_slice() {
-        [out] => out.bytes.as_slice() == octets.as_slice(),
+    match answer.outs.as_parts() {
+        (Some(out), []) | (None, [out]) => out.bytes.as_slice() == octets.as_slice(),
         _ => false,
     }
 }

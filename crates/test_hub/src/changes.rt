@@ -11,7 +11,7 @@ ghost use Rattle.roam_hub.specs.Pausing.{ArePaused, opening_over};
 use crate::caller::{OTHER_FIRST, OTHER_REQUEST_7, datagram, nas, sends};
 use crate::configuration::config_of;
 use roam_book::Start;
-use roam_conf::{Address, Config, Endpoint, Place};
+use roam_conf::{Address, Config, Endpoint, ExchangeLines, Place};
 use roam_hub::{Blanks, Call, Hub, Open, Opened, Paused, PausedHub, Seat};
 use roam_reload::hindrance_of;
 use roam_route::{Prepared, prepare};
@@ -164,6 +164,7 @@ pub(crate) fn are_answered<A: Allocator + Copy, N: Opened, R: Abort + Wait>(
             rt,
             gate: &Open,
             moment: 0,
+            lines: ExchangeLines::OfNone,
         };
         let Ok(answered) = hub.answer(call, seat, job) else {
             return false;

@@ -1,4 +1,4 @@
-//! The steps that a broker over traces stored: those of the events that were taken, with their answers.
+//! The steps that a broker over traces stored: those of the events that were taken. Their answers are those of the calls.
 
 use crate::brokers::Playing;
 use crate::player::{Over, Player};
@@ -20,11 +20,11 @@ struct Looking<'s, 'r> {
 }
 
 impl<'s, 'r> Looking<'s, 'r> {
-    /// Whether an event and its answer are the next step of some shard, which is then found.
-    fn finds(&mut self, event: &Event<Over<'r>>, answer: &Answer<Over<'r>>) -> bool {
+    /// Whether an event is that of the next step of some shard, which is then found.
+    fn finds(&mut self, event: &Event<Over<'r>>) -> bool {
         for (found, steps) in self.found.iter_mut().zip(self.steps.iter()) {
             if let Some(step) = steps.get(*found) {
-                if step.is_of(event, answer) {
+                if step.is_of(event) {
                     *found = found.saturating_add(1);
                     return true;
                 }
@@ -98,14 +98,14 @@ fn is_stored<A: Allocator, N: Opened>(report: &Report<A, N>, receipt: &Receipt<A
     let gone = front.len().saturating_sub(steps.len() as u64);
     match receipt.number.checked_sub(gone) {
         Some(place) => match steps.get(place as usize) {
-            Some(step) => step.is_of(&receipt.event, &receipt.answer),
+            Some(step) => step.is_of(&receipt.event),
             None => false,
         },
         None => true,
     }
 }
 
-/// Whether the stored steps are those of the events that were taken, with these answers.
+/// Whether the stored steps are those of the events that were taken, each of which was answered.
 fn are_those_of<'r>(
     over: Over<'r>,
     events: &[Step<Over<'r>>],
@@ -118,10 +118,10 @@ fn are_those_of<'r>(
     };
     for (step, answer) in events.iter().zip(answers.iter()) {
         if is_taken(step.answer.as_bytes()) {
-            let (Some(event), Some(answer)) = (without_padding(over, &step.event), answer) else {
+            let (Some(event), Some(_)) = (without_padding(over, &step.event), answer) else {
                 return false;
             };
-            if !looking.finds(&event, answer) {
+            if !looking.finds(&event) {
                 return false;
             }
         }

@@ -6,7 +6,7 @@ use std::test::Fail;
 #[test]
 fn all_examples(rt: HostRuntime) -> Result<(), Fail> {
     listening_tests::hundred_faults_in_a_row_give_up(&rt)?;
-    listening_tests::datagram_without_memory_is_lost(&rt)?;
+    listening_tests::datagram_takes_no_memory(&rt)?;
     listening_tests::silence_ends_a_row_of_faults(&rt)?;
     sending_tests::packet_whose_send_fails_is_lost_and_counted(&rt)?;
     sending_tests::packets_whose_socket_has_no_room_stand_aside_in_order(&rt)?;

@@ -6,7 +6,7 @@ use roam_core::{Event, Outcome};
 use roam_sim::simulate;
 use roam_wire::NoMemory;
 use std::io;
-use test_brokers::print_packets;
+use test_brokers::{print_outs, print_packets};
 use test_playing::{Kept, Over, Player, Playing, Row};
 
 /// What no run writes.
@@ -59,7 +59,7 @@ fn packets_without<'r>(
     for step in row.steps.iter() {
         if step.place != place {
             if let Ok(answer) = broker.step(&step.event) {
-                print_packets(&mut packets, &answer.outs)?;
+                print_outs(&mut packets, &answer.outs)?;
             }
         }
     }

@@ -1,5 +1,5 @@
 -- What becomes of a due entry: words of private functions alone.
-use Rattle.std.specs.Prelude.{◌≡◌, ℕ, ◌+◌, Bool, List, [], ◌∷◌, Option, Some, None, nat_lt, if◌then◌else◌}
+use Rattle.std.specs.Prelude.{◌≡◌, ℕ, ◌+◌, List, [], ◌∷◌, Option, Some, None, nat_lt, if◌then◌else◌}
 use Rattle.roam_pending.specs.declared.entry.Standing.TheVariants as standing
 use Rattle.roam_pending.specs.declared.entry.Done.{Done}
 use Rattle.roam_pending.specs.PlainEntry.{PlainEntry, done}
@@ -14,22 +14,14 @@ use Rattle.roam_book.specs.declared.state.realm_numbers.RealmNumbers.{RealmNumbe
 use Rattle.roam_book.specs.RealmConfig.{RealmConfig}
 use Rattle.roam_book.specs.RealmState.{RealmState, with_entries}
 use Rattle.roam_book.specs.OnTick.{Progress, given_up}
-use Rattle.roam_book.specs.Private.Memory.{IsCopied}
 use Rattle.roam_book.specs.Sound.{IsSound, state_of}
 
 -- what is sent for it
 abbrev pub fate_packets : {A : Type 0} → DueAction A → List PlainOut
 fate_packets fate.Expired = []
-fate_packets (fate.SentAgain sent) = shown_out sent.out ∷ []
-fate_packets (fate.Forwarded sent w) = shown_out sent.out ∷ []
-fate_packets (fate.Refused sent d) = shown_out sent.out ∷ []
-
--- which has an equal one beside it just where it is wanted twice
-abbrev pub IsFateCopied : {A : Type 0} → Bool → DueAction A → Type 0
-IsFateCopied twice fate.Expired = Unit {0}
-IsFateCopied twice (fate.SentAgain sent) = IsCopied twice sent
-IsFateCopied twice (fate.Forwarded sent w) = IsCopied twice sent
-IsFateCopied twice (fate.Refused sent d) = IsCopied twice sent
+fate_packets (fate.SentAgain sent) = shown_out sent ∷ []
+fate_packets (fate.Forwarded sent w) = shown_out sent ∷ []
+fate_packets (fate.Refused sent d) = shown_out sent ∷ []
 
 -- the entries that follow: where a NAK is held its entry is done, else it is gone
 abbrev pub once_held : {A : Type 0} → PlainEntry → List PlainEntry → Option (Done A) → List PlainEntry

@@ -1,17 +1,15 @@
 -- The memory that a rule takes before anything changes, and what is made of it: words of private
 -- functions alone (ours).
-use Rattle.std.specs.Prelude.{◌≡◌, ℕ, ◌+◌, ◌<◌, ◌≤◌, Bool, true, List, [], IfSome, is_some, vec_len, vec_capacity}
+use Rattle.std.specs.Prelude.{◌≡◌, ℕ, ◌+◌, ◌<◌, ◌≤◌, List, [], vec_len, vec_capacity}
 use Rattle.std.specs.declared.vec.Vec.{Vec}
 use Rattle.roam_route.specs.Admission.{PlainOut}
-use Rattle.roam_route.specs.Shown.{shown_out}
-use Rattle.roam_book.specs.declared.packets.answer.Answer.{Answer}
-use Rattle.roam_book.specs.declared.packets.answer.AnswerCopies.{AnswerCopies}
-use Rattle.roam_book.specs.declared.packets.answer.Twin.{Twin}
+use Rattle.roam_route.specs.declared.datagram.Out.{Out}
+use Rattle.roam_book.specs.declared.happening.DueHappening.{DueHappening}
 use Rattle.roam_book.specs.declared.packets.buffers.Buffers.{Buffers}
 use Rattle.roam_book.specs.declared.packets.answer_builder.AnswerBuilder.{AnswerBuilder}
-use Rattle.roam_book.specs.declared.packets.forwarding.PacketCopies.{PacketCopies}
-use Rattle.roam_book.specs.RealmState.{RealmState}
-use Rattle.roam_book.specs.Turn.{Turn, Answers, shown_outs}
+use Rattle.roam_book.specs.Happenings.{PlainDue}
+use Rattle.roam_book.specs.HappeningsShown.{shown_dues}
+use Rattle.roam_book.specs.Turn.{shown_outs}
 
 -- an empty buffer with room for so many octets
 pub record HasRoom {A : Type 0} (size : ℕ) (b : Vec ℕ A) : Type 0 where
@@ -23,36 +21,18 @@ pub record HasRoom {A : Type 0} (size : ℕ) (b : Vec ℕ A) : Type 0 where
 pub record HasBuffers {A : Type 0} (size : ℕ) (b : Buffers A) : Type 0 where
   pub sent : HasRoom size b.sent
   pub kept : HasRoom size b.kept
-  pub copy : IfSome b.copy (λ v. HasRoom size v)
 
--- a packet that is sent has an equal one beside it just where it is wanted twice
-pub record IsCopied {A : Type 0} (twice : Bool) (s : PacketCopies A) : Type 0 where
-  pub wanted : is_some s.copy ≡ twice
-  pub same : IfSome s.copy (λ o. shown_out o ≡ shown_out s.out)
+-- these packets, with places for so many more
+pub record IsOuts {A : Type 0} (spare : ℕ) (packets : List PlainOut) (outs : Vec (Out A) A) : Type 0 where
+  pub sent : shown_outs outs.items ≡ packets
+  pub places : vec_len outs + spare ≤ vec_capacity outs
 
--- there is a place for one packet more, and for its copy where it is wanted twice
+-- what became of these requests, with places for so many more
+pub record AreDues {A : Type 0} (spare : ℕ) (dues : List PlainDue) (v : Vec (DueHappening A) A) : Type 0 where
+  pub noted : shown_dues v.items ≡ dues
+  pub places : vec_len v + spare ≤ vec_capacity v
+
+-- there is a place for one packet more, and for what became of one request more
 pub record HasPlace {A : Type 0} (o : AnswerBuilder A) : Type 0 where
   pub sent : vec_len o.sent < vec_capacity o.sent
-  pub copies : o.twice ≡ true → vec_len o.copies < vec_capacity o.copies
-
--- these packets, and where they are wanted twice their copies, with places for so many more
-pub record IsOuts {A : Type 0} (places : ℕ) (twice : Bool) (packets : List PlainOut)
-    (o : AnswerBuilder A) : Type 0 where
-  pub sent : shown_outs o.sent.items ≡ packets
-  pub sent_places : vec_len o.sent + places ≤ vec_capacity o.sent
-  pub wanted : o.twice ≡ twice
-  pub copies : twice ≡ true → shown_outs o.copies.items ≡ packets
-  pub copies_places : twice ≡ true → vec_len o.copies + places ≤ vec_capacity o.copies
-
--- the answer is that turn's, and so is its copy, which is there just where it is wanted
-pub record Tells {A : Type 0} (twice : Bool) (told : AnswerCopies A) (old new : RealmState)
-    (turn : Turn) : Type 0 where
-  pub answers : Answers told.answer old new turn
-  pub wanted : is_some told.copy ≡ twice
-  pub copy : IfSome told.copy (λ a. Answers a old new turn)
-
--- the first of the two is that answer, and the other shows the same
-pub record IsTwin {A : Type 0} (twin : Twin A) (a : Answer A) : Type 0 where
-  pub first : twin.answer ≡ a
-  pub packets : shown_outs twin.copy.outs.items ≡ shown_outs a.outs.items
-  pub refusal : twin.copy.refusal ≡ a.refusal
+  pub dues : vec_len o.dues < vec_capacity o.dues

@@ -1,20 +1,22 @@
 -- How a new request is admitted, in steps: words of private functions alone (ours).
-use Rattle.std.specs.Prelude.{◌≡◌, ℕ, ◌<◌, ◌^◌, Bool, List, [], Option, Some, None, Result, Ok, Err, length, option_map, unwrap_or, is_some, true, if◌then◌else◌}
+use Rattle.std.specs.Prelude.{◌≡◌, ℕ, ◌<◌, ◌^◌, Bool, List, Option, Some, None, Result, Ok, Err, length, option_map, unwrap_or, is_some, true, if◌then◌else◌}
 use Rattle.roam_wire.specs.declared.refusal.Refusal.{Refusal}
 use Rattle.roam_conf.specs.declared.place.Link.{Link}
 use Rattle.roam_pending.specs.PlainEntry.{PlainEntry, PlainRequest}
-use Rattle.roam_pending.specs.EntryList.{besides, find_client, first_done}
+use Rattle.roam_pending.specs.EntryList.{besides, find_client, find_ticket, first_done}
 use Rattle.roam_book.specs.RealmConfig.{RealmConfig, IsLink, links_from, peer_ways}
 use Rattle.std.specs.List.{find}
 use Rattle.std.specs.Option.{option_and_then, option_or}
 use Rattle.roam_ids.specs.LaneState.{LaneState}
-use Rattle.roam_book.specs.Conversing.{asked_state, bound_link, rests_chosen}
+use Rattle.roam_book.specs.Conversing.{asked_state, bound_link, new_target, rests_chosen}
+use Rattle.roam_book.specs.Happenings.{PlainHappening, by_turn, forwarded, replaced_by, to_target}
 use Rattle.roam_book.specs.RealmState.{RealmState, Target, next_toward, with_rests}
 use Rattle.roam_book.specs.Shapings.{forwarded_size}
-use Rattle.roam_book.specs.Turn.{Turn, Answers, refuses}
-use Rattle.roam_book.specs.OnRequest.{admit, targets}
+use Rattle.roam_book.specs.Turn.{Turn, refuses}
+use Rattle.roam_book.specs.Turned.{IsTurned}
+use Rattle.roam_book.specs.OnRequest.{admit, new_request, targets}
 use Rattle.roam_book.specs.Sound.{CountsAsGone, IsRequest, chosen_link, gone_ticket, is_sought}
-use Rattle.roam_book.specs.Private.Memory.{HasBuffers, IsOuts}
+use Rattle.roam_book.specs.Private.Memory.{HasBuffers}
 use Rattle.roam_book.specs.declared.state.link_rests.Wanted.TheVariants as wanted
 use Rattle.roam_book.specs.declared.state.rest.Rest.{Rest}
 use Rattle.roam_book.specs.declared.rules.admit.Supplies.{Supplies}
@@ -138,16 +140,41 @@ abbrev pub Chooses :
 Chooses c now s q (Ok way) turn = IsChosen c now s q way turn
 Chooses c now s q (Err why) turn = turn ≡ refuses why
 
--- what a request is to do: it is answered, and nothing changes, or it is admitted on a way
+-- the entry that counts as gone
+abbrev pub gone_entry : Option Replaced → List PlainEntry → Option PlainEntry
+gone_entry None entries = None
+gone_entry (Some g) entries = find_ticket g.ticket entries
+
+-- what happened where a new request goes this way
+abbrev pub admitted_by : RealmState → AdmitPlan → PlainHappening
+admitted_by s way = forwarded s.ticket way.link (replaced_by (gone_entry way.gone s.entries))
+
+-- the link of the target of a new request beside these entries
+abbrev pub target_link : RealmConfig → ℕ → RealmState → List PlainEntry → PlainRequest → Option Link
+target_link c now s entries q = option_map (λ (t : Target). t.link) (new_target c now s entries q (targets c q))
+
+-- what happened by a new request, while an entry counts as gone
+abbrev pub new_happening : RealmConfig → ℕ → RealmState → Option Replaced → PlainRequest → PlainHappening
+new_happening c now s gone q =
+    by_turn (new_request c now s (once_gone gone s.entries) q)
+    (to_target s.ticket (gone_entry gone s.entries)
+    (new_target c now s (once_gone gone s.entries) q (targets c q)))
+
+-- a way that was chosen while an entry counts as gone: that goes, and the link is the target's
+pub record IsByTarget (c : RealmConfig) (now : ℕ) (s : RealmState) (out : Option Replaced) (q : PlainRequest)
+    (way : AdmitPlan) : Type 0 where
+  pub gone : way.gone ≡ out
+  pub link : target_link c now s (once_gone out s.entries) q ≡ Some way.link
+
+-- what a request is to do: it is answered, and nothing changes, or it is admitted on a way; and what happened then
 abbrev pub IsRequestPlan :
-    {A : Type 0} → RealmConfig → ℕ → RealmState → PlainRequest → RequestPlan A → Turn → Type 0
-IsRequestPlan c now s q (plan.Answered answer) turn = Answers answer s s turn
-IsRequestPlan c now s q (plan.Admitted way) turn = IsChosen c now s q way turn
+    {A : Type 0} → RealmConfig → ℕ → RealmState → PlainRequest → RequestPlan A → Turn → PlainHappening → Type 0
+IsRequestPlan c now s q (plan.Answered turned) turn happening = IsTurned turned s s turn happening
+IsRequestPlan c now s q (plan.Admitted way) turn happening =
+    IsChosen c now s q way turn × (admitted_by s way ≡ happening)
 
 -- all the memory of a new request toward a link, besides its place among the entries: buffers of the size of the
 -- packet that is forwarded for it
 pub record AreSupplies {A : Type 0} (c : RealmConfig) (q : PlainRequest) (l : Link) (s : Supplies A) : Type 0 where
   pub octets : s.octets ≡ q.octets
   pub buffers : HasBuffers (forwarded_size c q l) s.buffers
-  pub copy : is_some s.buffers.copy ≡ s.outs.twice
-  pub outs : IsOuts 1 s.outs.twice [] s.outs

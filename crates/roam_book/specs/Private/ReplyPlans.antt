@@ -9,7 +9,9 @@ use Rattle.roam_conf.specs.declared.place.Link.{Link}
 use Rattle.roam_book.specs.RealmConfig.{RealmConfig, IsLink}
 use Rattle.roam_book.specs.Rests.{after_sign}
 use Rattle.roam_book.specs.RealmState.{RealmState}
-use Rattle.roam_book.specs.Turn.{Turn, Answers, packets_of}
+use Rattle.roam_book.specs.Happenings.{PlainHappening}
+use Rattle.roam_book.specs.Turn.{Turn, packets_of}
+use Rattle.roam_book.specs.Turned.{IsTurned}
 use Rattle.roam_book.specs.OnReply.{counted, once_heard_from}
 use Rattle.roam_book.specs.declared.rules.replies.Settled.{Settled}
 use Rattle.roam_book.specs.declared.rules.replies.ReplyPlan.{ReplyPlan}
@@ -52,11 +54,11 @@ IsPrepared ledger None sessions = sessions ≡ ledger.sessions
 IsPrepared ledger (Some change) sessions =
     HasRoomFor change ledger × (sessions ≡ changed ledger.limit change ledger.sessions)
 
--- to answer so, to note that sign of life, and to settle that entry, is to do this turn; where nothing is sent no entry
--- is settled
+-- to answer so, to note that sign of life, and to settle that entry, is to do this turn, by which this happened; where
+-- nothing is sent no entry is settled
 pub record IsReplyPlan {A : Type 0} (c : RealmConfig) (s : RealmState) (p : ReplyPlan A)
-    (turn : Turn) : Type 0 where
+    (turn : Turn) (happening : PlainHappening) : Type 0 where
   pub settles : CanSettle c s.entries p.settled
   pub hears : IsHeard c p.heard
-  pub answers : Answers p.answer s (once_settled c s p.heard p.settled) turn
+  pub turned : IsTurned p.turned s (once_settled c s p.heard p.settled) turn happening
   pub silent : packets_of turn ≡ [] → p.settled ≡ None

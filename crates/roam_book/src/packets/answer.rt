@@ -1,122 +1,88 @@
 //! What an event of a realm is answered with.
 
-ghost use Rattle.std.specs.Prelude.{◌≡◌, [], ◌∷◌, true, Some, None, IfOk, IsOk, is_some};
-ghost use Rattle.roam_book.specs.Turn.{shown_outs};
-ghost use Rattle.roam_book.specs.Private.Memory.{IsTwin};
+ghost use Rattle.std.specs.Prelude.{◌≡◌, [], ◌∷◌, Some, None, IsOk};
+ghost use Rattle.roam_book.specs.Happenings as happenings;
+ghost use Rattle.roam_book.specs.HappeningsShown.{shown_happening};
+ghost use Rattle.roam_book.specs.RealmState.{RealmState};
+ghost use Rattle.roam_book.specs.Turn.{Gives, Turn, shown_outs};
+ghost use Rattle.roam_book.specs.Turned.{GivesTurned};
 ghost use Rattle.roam_route.specs.Shown.{shown_out};
 
+use crate::happening::Happening;
+use crate::packets::outs::Outs;
 use roam_route::Out;
-use roam_wire::{NoMemory, Octets, Refusal};
+use roam_wire::{NoMemory, Refusal};
 use std::alloc::Allocator;
 
 /// What is sent for an event, or why it is refused. A refusal sends nothing.
 #[derive(Drop)]
 pub struct Answer<A: Allocator> {
-    pub outs: Vec<Out<A>, A>,
+    pub outs: Outs<A>,
     pub refusal: Option<Refusal>,
 }
 
-/// An answer twice: one to send, and an equal one to keep.
+/// What came of an event: its answer, and what happened.
 #[derive(Drop)]
-pub struct Twin<A: Allocator> {
+pub struct Turned<A: Allocator> {
     pub answer: Answer<A>,
-    pub copy: Answer<A>,
-}
-
-/// An answer, and an equal one where it is wanted twice.
-#[derive(Drop)]
-pub(crate) struct AnswerCopies<A: Allocator> {
-    pub answer: Answer<A>,
-    pub copy: Option<Answer<A>>,
-}
-
-impl<A: Allocator> AnswerCopies<A> {
-    /// The two answers, where two were wanted.
-    pub(crate) fn into_twin(self) -> Twin<A>
-        requires { is_some self.copy ≡ true }
-        ensures answer { result.answer ≡ self.answer }
-        ensures copy { Some result.copy ≡ self.copy }
-    {
-        let AnswerCopies { answer, copy } = self;
-        let Some(copy) = copy else {
-            unreachable!();
-        };
-        Twin { answer, copy }
-    }
-}
-
-/// An equal packet.
-fn copy_of<A: Allocator + Copy>(alloc: A, out: &Out<A>) -> Result<Out<A>, NoMemory>
-    ensures { IfOk result (λ o. shown_out o ≡ shown_out out.now) }
-{
-    let bytes = Octets::copy_of(alloc, out.bytes.as_slice())?;
-    Ok(Out {
-        realm: out.realm,
-        from: out.from,
-        to: out.to,
-        bytes,
-    })
-}
-
-impl<A: Allocator + Copy> Answer<A> {
-    /// An equal answer. No memory is wanted where nothing is sent.
-    pub(crate) fn copy(&self, alloc: A) -> Result<Answer<A>, NoMemory>
-        ensures packets { IfOk result (λ a. shown_outs a.outs.items
-            ≡ shown_outs self.now.outs.items) }
-        ensures refusal { IfOk result (λ a. a.refusal ≡ self.now.refusal) }
-        ensures succeeds { shown_outs self.now.outs.items ≡ [] → IsOk result }
-    {
-        let mut outs = Vec::new(alloc);
-        for out in &self.outs {
-            outs.push(copy_of(alloc, out)?)?;
-        }
-        Ok(Answer {
-            outs,
-            refusal: self.refusal,
-        })
-    }
-
-    /// This answer, and an equal one. No memory is wanted where nothing is sent.
-    pub(crate) fn twice(self, alloc: A) -> Result<Twin<A>, NoMemory>
-        ensures twin { IfOk result (λ t. IsTwin t self) }
-        ensures succeeds { shown_outs self.outs.items ≡ [] → IsOk result }
-    {
-        let copy = self.copy(alloc)?;
-        Ok(Twin { answer: self, copy })
-    }
+    pub happening: Happening<A>,
 }
 
 /// A refusal. Takes no memory.
 pub fn refused<A: Allocator>(alloc: A, why: Refusal) -> Answer<A>
-    ensures outs { shown_outs result.outs.items ≡ [] }
+    ensures outs { shown_outs result.outs ≡ [] }
     ensures refusal { result.refusal ≡ Some why }
 {
     Answer {
-        outs: Vec::new(alloc),
+        outs: Outs::none(alloc),
         refusal: Some(why),
     }
 }
 
+/// A refusal, which is all that happened. Takes no memory.
+pub fn refused_turn<A: Allocator>(alloc: A, why: Refusal) -> Turned<A>
+    ensures outs { shown_outs result.answer.outs ≡ [] }
+    ensures refusal { result.answer.refusal ≡ Some why }
+    ensures happening { shown_happening result.happening ≡ happenings.refused why }
+{
+    Turned {
+        answer: refused(alloc, why),
+        happening: Happening::Refused(why),
+    }
+}
+
+/// The answer alone. Takes no memory.
+pub(crate) fn answer_of<A: Allocator>(
+    turned: Result<Turned<A>, NoMemory>,
+) -> Result<Answer<A>, NoMemory>
+    ensures gives { (old new : RealmState) (turn : Turn) (happening : happenings.PlainHappening)
+        → GivesTurned turned old new turn happening → Gives result old new turn }
+    ensures ok { IsOk turned → IsOk result }
+{
+    match turned {
+        Ok(turned) => Ok(turned.answer),
+        Err(_) => Err(NoMemory),
+    }
+}
+
 /// Nothing is sent, and nothing is refused. Takes no memory.
-pub(crate) fn nothing<A: Allocator>(alloc: A) -> Answer<A>
-    ensures outs { shown_outs result.outs.items ≡ [] }
+pub fn nothing<A: Allocator>(alloc: A) -> Answer<A>
+    ensures outs { shown_outs result.outs ≡ [] }
     ensures refusal { result.refusal ≡ None }
 {
     Answer {
-        outs: Vec::new(alloc),
+        outs: Outs::none(alloc),
         refusal: None,
     }
 }
 
-/// One packet is sent.
-pub(crate) fn one_packet<A: Allocator>(alloc: A, out: Out<A>) -> Result<Answer<A>, NoMemory>
-    ensures outs { IfOk result (λ a. shown_outs a.outs.items ≡ shown_out out ∷ []) }
-    ensures refusal { IfOk result (λ a. a.refusal ≡ None) }
+/// One packet is sent. Takes no memory.
+pub fn one_packet<A: Allocator>(alloc: A, out: Out<A>) -> Answer<A>
+    ensures outs { shown_outs result.outs ≡ shown_out out ∷ [] }
+    ensures refusal { result.refusal ≡ None }
 {
-    let mut outs = Vec::with_capacity(alloc, 1).map_err(|_| NoMemory)?;
-    outs.push_reserved(out);
-    Ok(Answer {
-        outs,
+    Answer {
+        outs: Outs::one(alloc, out),
         refusal: None,
-    })
+    }
 }

@@ -1,101 +1,88 @@
-//! The packets of an answer, while they are gathered.
+//! The packets of a tick and what became of its requests, while they are gathered.
 
-ghost use Rattle.std.specs.Prelude.{◌≡◌, ℕ, ◌+◌, ◌++◌, ◌∷◌, Bool, List, [], None, Some, IfOk};
-ghost use Rattle.std.specs.Prelude.{IfSome, IsOk, is_some, length};
+ghost use Rattle.std.specs.Prelude.{◌≡◌, ℕ, ◌+◌, ◌++◌, ◌<◌, ◌≤◌, ◌∷◌, List, [], None, Some, IfOk, IsOk, length};
+ghost use Rattle.std.specs.Prelude.{vec_capacity, vec_len};
 ghost use Rattle.roam_route.specs.Admission.{PlainOut};
 ghost use Rattle.roam_route.specs.Shown.{shown_out};
+ghost use Rattle.roam_book.specs.Happenings as happenings;
+ghost use Rattle.roam_book.specs.Happenings.{PlainDue};
+ghost use Rattle.roam_book.specs.HappeningsShown.{shown_dues, shown_happening};
 ghost use Rattle.roam_book.specs.Turn.{shown_outs};
-ghost use Rattle.roam_book.specs.Private.Memory.{HasPlace, IsCopied, IsOuts};
+ghost use Rattle.roam_book.specs.Private.Dues.{noted_of};
+ghost use Rattle.roam_book.specs.Private.Memory.{AreDues, IsOuts};
 
-use crate::packets::answer::{Answer, AnswerCopies, refused};
-use crate::packets::forwarding::PacketCopies;
+use crate::happening::{DueHappening, Happening};
+use crate::packets::answer::{Answer, Turned, refused_turn};
+use crate::packets::outs::Outs;
 use roam_route::Out;
 use roam_wire::{NoMemory, Refusal};
 use std::alloc::Allocator;
 
-/// The packets of an answer, while they are gathered, and where the answer is wanted twice, their
-/// copies.
+/// The packets of a tick and what became of its requests, while they are gathered.
 #[derive(Drop)]
 pub(crate) struct AnswerBuilder<A: Allocator> {
     pub sent: Vec<Out<A>, A>,
-    pub copies: Vec<Out<A>, A>,
-    pub twice: bool,
+    pub dues: Vec<DueHappening<A>, A>,
 }
 
 impl<A: Allocator + Copy> AnswerBuilder<A> {
-    /// No packets, and places for so many.
-    pub(crate) fn new(alloc: A, places: usize, twice: bool) -> Result<AnswerBuilder<A>, NoMemory>
-        ensures outs { IfOk result (λ o. IsOuts places twice [] o) }
+    /// None of either, and places for so many of each.
+    pub(crate) fn new(alloc: A, places: usize) -> Result<AnswerBuilder<A>, NoMemory>
+        ensures outs { IfOk result (λ o. IsOuts places [] o.sent) }
+        ensures dues { IfOk result (λ o. AreDues places [] o.dues) }
         ensures succeeds { places ≡ 0 → IsOk result }
     {
         let sent = Vec::with_capacity(alloc, places)?;
-        let copies = Vec::with_capacity(alloc, if twice { places } else { 0 })?;
-        Ok(AnswerBuilder {
-            sent,
-            copies,
-            twice,
-        })
+        let dues = Vec::with_capacity(alloc, places)?;
+        Ok(AnswerBuilder { sent, dues })
     }
 
     /// One packet more, where there is a place for it. Takes no memory.
-    pub(crate) fn push(&mut self, sent: PacketCopies<A>)
-        requires place { HasPlace self.old }
-        requires copied { IsCopied self.old.twice sent }
-        ensures outs { (places : ℕ) (twice : Bool) (packets : List PlainOut)
-            → IsOuts (places + 1) twice packets self.old
-            → IsOuts places twice (packets ++ shown_out sent.out ∷ []) self.new }
+    pub(crate) fn push(&mut self, out: Out<A>)
+        requires place { vec_len self.old.sent < vec_capacity self.old.sent }
+        ensures outs { (places : ℕ) (packets : List PlainOut) → IsOuts (places + 1) packets self.old.sent
+            → IsOuts places (packets ++ shown_out out ∷ []) self.new.sent }
         ensures count { length self.new.sent.items ≡ length self.old.sent.items + 1 }
+        ensures dues { self.new.dues ≡ self.old.dues }
     {
-        self.sent.push_reserved(sent.out);
-        if let Some(copy) = sent.copy {
-            self.copies.push_reserved(copy);
+        self.sent.push_reserved(out);
+    }
+
+    /// What became of one request more, if anything is noted of it, where there is a place for that. Takes no memory.
+    pub(crate) fn note(&mut self, due: Option<DueHappening<A>>)
+        requires place { vec_len self.old.dues < vec_capacity self.old.dues }
+        ensures dues { (places : ℕ) (dues : List PlainDue) → AreDues (places + 1) dues self.old.dues
+            → AreDues places (dues ++ noted_of due) self.new.dues }
+        ensures count { length self.new.dues.items ≤ length self.old.dues.items + 1 }
+        ensures outs { self.new.sent ≡ self.old.sent }
+    {
+        if let Some(due) = due {
+            self.dues.push_reserved(due);
         }
     }
 
-    /// The answer, and its copy where it is wanted. Takes no memory.
-    pub(crate) fn finish(self) -> AnswerCopies<A>
-        ensures packets { result.answer.outs.items ≡ self.sent.items }
+    /// The tick's answer, and what happened. Takes no memory.
+    pub(crate) fn finish(self) -> Turned<A>
+        ensures packets { result.answer.outs ≡ self.sent.items }
         ensures refusal { result.answer.refusal ≡ None }
-        ensures wanted { is_some result.copy ≡ self.twice }
-        ensures copies { IfSome result.copy (λ a. a.outs.items ≡ self.copies.items) }
-        ensures copied_refusal { IfSome result.copy (λ a. a.refusal ≡ None) }
+        ensures happening { shown_happening result.happening ≡ happenings.ticked (shown_dues self.dues.items) }
     {
-        let AnswerBuilder {
-            sent,
-            copies,
-            twice,
-        } = self;
-        let copy = if twice {
-            Some(Answer {
-                outs: copies,
+        let AnswerBuilder { sent, dues } = self;
+        Turned {
+            answer: Answer {
+                outs: Outs::of_vec(sent),
                 refusal: None,
-            })
-        } else {
-            None
-        };
-        let answer = Answer {
-            outs: sent,
-            refusal: None,
-        };
-        AnswerCopies { answer, copy }
+            },
+            happening: Happening::Ticked(dues),
+        }
     }
 
-    /// A refusal in place of all packets. Takes no memory.
-    pub(crate) fn refused(self, alloc: A, why: Refusal) -> AnswerCopies<A>
-        ensures packets { shown_outs result.answer.outs.items ≡ [] }
+    /// A refusal in place of all. Takes no memory.
+    pub(crate) fn refused(self, alloc: A, why: Refusal) -> Turned<A>
+        ensures packets { shown_outs result.answer.outs ≡ [] }
         ensures refusal { result.answer.refusal ≡ Some why }
-        ensures wanted { is_some result.copy ≡ self.twice }
-        ensures copies { IfSome result.copy (λ a. shown_outs a.outs.items ≡ []) }
-        ensures copied_refusal { IfSome result.copy (λ a. a.refusal ≡ Some why) }
+        ensures happening { shown_happening result.happening ≡ happenings.refused why }
     {
-        let copy = if self.twice {
-            Some(refused(alloc, why))
-        } else {
-            None
-        };
-        AnswerCopies {
-            answer: refused(alloc, why),
-            copy,
-        }
+        refused_turn(alloc, why)
     }
 }

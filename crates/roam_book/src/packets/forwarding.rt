@@ -1,7 +1,7 @@
 //! A request as it is forwarded (RFC 2865, section 2.3).
 
 ghost use Rattle.std.specs.Prelude.{◌≡◌, ◌<◌, ◌≤◌, ◌==◌, ◌+◌, ◌%◌, ◌^◌};
-ghost use Rattle.std.specs.Prelude.{List, [], Some, None, true, IfSome, is_some, length, slice_set};
+ghost use Rattle.std.specs.Prelude.{List, Some, None, true, length, slice_set};
 ghost use Rattle.roam_wire.specs.Reading.{IsPacketText, packet_of};
 ghost use Rattle.roam_wire.specs.declared.code.TheConstants.{ACCESS_REQUEST};
 ghost use Rattle.roam_pending.specs.PlainEntry.{PlainEntry};
@@ -16,7 +16,7 @@ ghost use Rattle.roam_book.specs.Shapings.{forwarded_size};
 ghost use Rattle.roam_book.specs.OnRequest.{packet_to_link, packet_to_requester, drawn_at, position_after};
 ghost use Rattle.roam_book.specs.OnRequest.{forwarded_octets};
 ghost use Rattle.roam_book.specs.OnRequest.{forwarded_entry};
-ghost use Rattle.roam_book.specs.Private.Memory.{HasBuffers, HasRoom, IsCopied};
+ghost use Rattle.roam_book.specs.Private.Memory.{HasBuffers, HasRoom};
 ghost use Rattle.roam_book.specs.Sound.{shown_request, IsRequest, LanesTell, IsWaiting, lane_of, cursors_of, has_free};
 ghost use Rattle.roam_book.specs.Sound.{marks_of};
 
@@ -51,13 +51,6 @@ pub(crate) struct Hop<'a> {
     pub link: Link,
 }
 
-/// A packet that is sent, and an equal one where it is wanted twice.
-#[derive(Drop)]
-pub(crate) struct PacketCopies<A: Allocator> {
-    pub out: Out<A>,
-    pub copy: Option<Out<A>>,
-}
-
 /// A packet of the realm toward a link.
 pub(crate) fn packet_to_link<A: Allocator>(
     settings: &RealmSettings<'_>,
@@ -88,28 +81,6 @@ pub(crate) fn packet_to_requester<A: Allocator>(
         from: key.place,
         to: key.from,
         bytes,
-    }
-}
-
-impl<A: Allocator> PacketCopies<A> {
-    /// A packet, and its copy where there is a buffer for one.
-    pub(crate) fn new(out: Out<A>, copy: Option<Vec<u8, A>>) -> PacketCopies<A>
-        requires copy { IfSome copy (λ v. HasRoom (length out.bytes) v) }
-        ensures out { result.out ≡ out }
-        ensures copied { IsCopied (is_some copy) result }
-    {
-        let copy = match copy {
-            None => None,
-            Some(buffer) => {
-                Some(Out {
-                    realm: out.realm,
-                    from: out.from,
-                    to: out.to,
-                    bytes: copied_into(buffer, out.bytes.as_slice()),
-                })
-            }
-        };
-        PacketCopies { out, copy }
     }
 }
 
@@ -196,7 +167,7 @@ pub(crate) fn send_new<A: Allocator + Copy>(
     now: u64,
     hop: Hop<'_>,
     buffers: Buffers<A>,
-) -> (PacketCopies<A>, Waiting<A>)
+) -> (Out<A>, Waiting<A>)
     requires moment { now ≤ 2 ^ 62 }
     requires request { IsRequest settings.now (shown_request hop.asked) }
     requires link { IsLink settings.now hop.link }
@@ -207,11 +178,10 @@ pub(crate) fn send_new<A: Allocator + Copy>(
     ensures next { (es : List PlainEntry) → IsEntryList es
         → LanesTell settings.now es numbers.old.lanes.items
         → next_toward settings.now (cursors_of numbers.old.lanes.items) es hop.entry.link ≡ Some result.1.id }
-    ensures out { shown_out result.0.out ≡ packet_to_link settings.now hop.entry.link
+    ensures out { shown_out result.0 ≡ packet_to_link settings.now hop.entry.link
         (forwarded_octets settings.now
         (shown_request hop.entry.asked) numbers.old.stream_position hop.entry.ticket
         (record { link = hop.entry.link; id = result.1.id })) }
-    ensures copied { IsCopied (is_some buffers.copy) result.0 }
     ensures standing { shown_standing (standing.Waiting result.1)
         ≡ (forwarded_entry settings.now now (signs_of settings.now numbers.old.rests.items hop.entry.link)
         (shown_request hop.entry.asked)
@@ -242,11 +212,7 @@ pub(crate) fn send_new<A: Allocator + Copy>(
     let Some(id) = numbers.take_next(settings, hop.link, hop.ticket) else {
         unreachable!();
     };
-    let Buffers {
-        mut sent,
-        kept,
-        copy,
-    } = buffers;
+    let Buffers { mut sent, kept } = buffers;
     let position = numbers.stream_position;
     forward_into(settings, hop, position, id, &mut sent);
     numbers.stream_position = position_after(hop.asked, position);
@@ -260,5 +226,5 @@ pub(crate) fn send_new<A: Allocator + Copy>(
         signs,
     };
     let out = packet_to_link(settings, hop.link, Octets::from_vec(sent));
-    (PacketCopies::new(out, copy), waiting)
+    (out, waiting)
 }

@@ -2,32 +2,36 @@
 //! request is forwarded.
 
 ghost use Rattle.std.specs.Prelude.{◌≡◌, ℕ, ◌+◌, ◌<◌, ◌≤◌, ◌^◌, ◌∷◌, [], false, true, IfErr};
-ghost use Rattle.std.specs.Prelude.{IfOk, OnOk, is_some};
+ghost use Rattle.std.specs.Prelude.{IfOk, OnOk};
 ghost use Rattle.roam_pending.specs.PlainEntry.{PlainRequest};
 ghost use Rattle.roam_pending.specs.EntryList.{besides};
 ghost use Rattle.roam_route.specs.Shown.{shown_out};
-ghost use Rattle.roam_book.specs.Private.Memory.{HasBuffers, IsCopied, Tells};
+ghost use Rattle.roam_book.specs.Happenings.{replaced_by};
+ghost use Rattle.roam_book.specs.HappeningsShown.{shown_happening, shown_replaced};
+ghost use Rattle.roam_book.specs.Private.Memory.{HasBuffers};
 ghost use Rattle.roam_book.specs.RealmConfig.{IsLink};
 ghost use Rattle.roam_book.specs.Shapings.{forwarded_size};
-ghost use Rattle.roam_book.specs.Private.NewEntry.{AreSupplies, IsWay, MakesWay, admits, cleared, forwards};
+ghost use Rattle.roam_book.specs.Private.NewEntry.{AreSupplies, IsWay, MakesWay, admits, admitted_by, cleared, forwards, gone_entry};
 ghost use Rattle.roam_book.specs.Private.NewEntry.{straight_to};
 ghost use Rattle.roam_book.specs.Conversing.{rests_chosen};
 ghost use Rattle.roam_book.specs.RealmState.{with_rests};
 ghost use Rattle.roam_book.specs.RealmTurn.{IsRealm, Keeps, entries, room, state};
 ghost use Rattle.roam_book.specs.Sound.{CountsAsGone, IsRequest, IsSameButSlots, gone_ticket, lane_of, marks_of, shown_request};
-ghost use Rattle.roam_book.specs.Turn.{packets_of, state_after};
+ghost use Rattle.roam_book.specs.Turn.{Answers, packets_of, state_after};
 
-use crate::packets::answer::AnswerCopies;
-use crate::packets::answer_builder::AnswerBuilder;
+use crate::happening::{Happening, Waited};
+use crate::packets::answer::{Turned, one_packet};
 use crate::packets::buffers::Buffers;
-use crate::packets::forwarding::{Hop, PacketCopies, RequestRef, send_new};
+use crate::packets::forwarding::{Hop, RequestRef, send_new};
 use crate::rules::admit_plan::AdmitPlan;
+use crate::rules::kept_request::waited_in;
 use crate::rules::replaced::Replaced;
 use crate::state::realm_broker::RealmBroker;
 use crate::state::realm_settings::RealmSettings;
 use roam_conf::Link;
 use roam_fwd::forwarded_shaped_len;
 use roam_pending::{Entries, Entry, Request, Standing, insert_entry};
+use roam_route::Out;
 use roam_wire::{NoMemory, Octets, View};
 use std::alloc::Allocator;
 
@@ -36,7 +40,6 @@ use std::alloc::Allocator;
 pub(crate) struct Supplies<A: Allocator> {
     pub octets: Octets<A>,
     pub buffers: Buffers<A>,
-    pub outs: AnswerBuilder<A>,
 }
 
 impl<A: Allocator + Copy> Supplies<A> {
@@ -47,45 +50,44 @@ impl<A: Allocator + Copy> Supplies<A> {
         settings: &RealmSettings<'_>,
         asked: RequestRef<'_>,
         link: Link,
-        twice: bool,
     ) -> Result<Supplies<A>, NoMemory>
         requires request { IsRequest settings.now (shown_request asked) }
         requires link { IsLink settings.now link }
-        ensures supplies { IfOk result (λ s. AreSupplies settings.now (shown_request asked.entry) link s) }
-        ensures twice { IfOk result (λ s. s.outs.twice ≡ twice) }
+        ensures { IfOk result (λ s. AreSupplies settings.now (shown_request asked.entry) link s) }
     {
         let request = View::of_packet(asked.octets);
         let shaping = settings.shaping_of(asked.requester, request.code(), link);
         let size = forwarded_shaped_len(&request, &shaping);
-        let buffers = Buffers::new(alloc, size, twice)?;
-        let outs = AnswerBuilder::new(alloc, 1, twice)?;
+        let buffers = Buffers::new(alloc, size)?;
         let octets = Octets::copy_of(alloc, asked.octets)?;
-        Ok(Supplies {
-            octets,
-            buffers,
-            outs,
-        })
+        Ok(Supplies { octets, buffers })
     }
 }
 
 impl<A: Allocator + Copy, E: Entries<A>> RealmBroker<'_, '_, '_, '_, A, E> {
-    /// Takes away the entry that counts as gone: the Identifier with which it waits is free again.
-    fn take_away_gone(&mut self, gone: Option<Replaced>)
+    /// Takes away the entry that counts as gone: the Identifier with which it waits is free again. Gives the request
+    /// that waited, if it did.
+    fn take_away_gone(&mut self, gone: Option<Replaced>) -> Option<Waited<A>>
         requires realm { IsRealm E.Entries self.old }
         requires gone { CountsAsGone gone (entries E.Entries self.old) }
         ensures entries { entries E.Entries self.new
             ≡ besides (gone_ticket gone) (entries E.Entries self.old) }
+        ensures replaced { shown_replaced result
+            ≡ replaced_by (gone_entry gone (entries E.Entries self.old)) }
         ensures numbers { IsSameButSlots self.old.numbers.now self.new.numbers.now }
         ensures room { room E.Entries self.old ≤ room E.Entries self.new }
         ensures keeps { Keeps E.Entries self.old self.new }
     {
         let Some(gone) = gone else {
-            return;
+            return None;
         };
-        let _gone = self.entries.remove(self.settings.index(), gone.ticket);
+        let removed = self.entries.remove(self.settings.index(), gone.ticket);
+        let waited = waited_in(removed);
         if let Some((link, id)) = gone.waits_at {
             self.numbers.give_back(self.settings, link, id);
+            return waited;
         }
+        waited
     }
 
     /// Takes away the done entry that makes way, if one does: it holds no Identifier.
@@ -103,8 +105,8 @@ impl<A: Allocator + Copy, E: Entries<A>> RealmBroker<'_, '_, '_, '_, A, E> {
     }
 
     /// Makes way for a new request: the entry that counts as gone goes, and the done one that makes
-    /// way, where there are such.
-    fn make_way(&mut self, way: AdmitPlan)
+    /// way, where there are such. Gives the request that waited until then, if one did.
+    fn make_way(&mut self, way: AdmitPlan) -> Option<Waited<A>>
         requires realm { IsRealm E.Entries self.old }
         requires gone { CountsAsGone way.gone (entries E.Entries self.old) }
         requires done { MakesWay way.done
@@ -116,13 +118,17 @@ impl<A: Allocator + Copy, E: Entries<A>> RealmBroker<'_, '_, '_, '_, A, E> {
             → IsWay self.old.settings.now (state E.Entries self.old) q way
             → admits self.old.settings.now now (state E.Entries self.new) q (cleared way)
             ≡ admits self.old.settings.now now (state E.Entries self.old) q way }
+        ensures replaced { shown_replaced result
+            ≡ replaced_by (gone_entry way.gone (entries E.Entries self.old)) }
+        ensures ticket { self.new.numbers.now.ticket ≡ self.old.numbers.now.ticket }
         ensures marks { marks_of self.new.numbers.now.lanes.items
             ≡ marks_of self.old.numbers.now.lanes.items }
         ensures room { room E.Entries self.old ≤ room E.Entries self.new }
         ensures keeps { Keeps E.Entries self.old self.new }
     {
-        self.take_away_gone(way.gone);
+        let replaced = self.take_away_gone(way.gone);
         self.take_away_done(way.done);
+        replaced
     }
 
     /// Takes the memory of a link's lane, where that isn't there. The realm is as it was.
@@ -161,7 +167,7 @@ impl<A: Allocator + Copy, E: Entries<A>> RealmBroker<'_, '_, '_, '_, A, E> {
         link: Link,
         octets: Octets<A>,
         buffers: Buffers<A>,
-    ) -> PacketCopies<A>
+    ) -> Out<A>
         requires realm { IsRealm E.Entries self.old }
         requires moment { now ≤ 2 ^ 62 }
         requires way { IsWay self.old.settings.now (state E.Entries self.old) (shown_request asked)
@@ -171,9 +177,8 @@ impl<A: Allocator + Copy, E: Entries<A>> RealmBroker<'_, '_, '_, '_, A, E> {
         requires room { 0 < room E.Entries self.old }
         requires octets { octets ≡ asked.octets.now }
         requires buffers { HasBuffers (forwarded_size self.old.settings.now (shown_request asked) link) buffers }
-        ensures out { shown_out result.out ∷ [] ≡ packets_of (forwards self.old.settings.now now
+        ensures out { shown_out result ∷ [] ≡ packets_of (forwards self.old.settings.now now
             (state E.Entries self.old) (shown_request asked.entry) link) }
-        ensures copied { IsCopied (is_some buffers.copy) result }
         ensures state { state E.Entries self.new ≡ state_after (state E.Entries self.old)
             (forwards self.old.settings.now now (state E.Entries self.old) (shown_request asked.entry) link) }
         ensures keeps { Keeps E.Entries self.old self.new }
@@ -208,7 +213,7 @@ impl<A: Allocator + Copy, E: Entries<A>> RealmBroker<'_, '_, '_, '_, A, E> {
         asked: RequestRef<'_>,
         way: AdmitPlan,
         supplies: Supplies<A>,
-    ) -> AnswerCopies<A>
+    ) -> Turned<A>
         requires realm { IsRealm E.Entries self.old }
         requires moment { now ≤ 2 ^ 62 }
         requires way { IsWay self.old.settings.now (state E.Entries self.old)
@@ -217,21 +222,25 @@ impl<A: Allocator + Copy, E: Entries<A>> RealmBroker<'_, '_, '_, '_, A, E> {
             ≡ true }
         requires room { 0 < room E.Entries self.old }
         requires supplies { AreSupplies self.old.settings.now (shown_request asked) way.link supplies }
-        ensures turn { Tells supplies.outs.twice result (state E.Entries self.old)
+        ensures turn { Answers result.answer (state E.Entries self.old)
             (state E.Entries self.new) (admits self.old.settings.now now (state E.Entries self.old)
             (shown_request asked.entry) way) }
+        ensures happening { shown_happening result.happening ≡ admitted_by (state E.Entries self.old) way }
         ensures keeps { Keeps E.Entries self.old self.new }
     {
-        self.make_way(way);
-        let Supplies {
-            octets,
-            buffers,
-            mut outs,
-        } = supplies;
+        let ticket = self.numbers.ticket;
+        let replaced = self.make_way(way);
+        let Supplies { octets, buffers } = supplies;
         self.choose(now, way.link, way.bound);
         let sent = self.forward_new(now, asked, way.link, octets, buffers);
-        outs.push(sent);
-        outs.finish()
+        Turned {
+            answer: one_packet(self.numbers.alloc, sent),
+            happening: Happening::Forwarded {
+                ticket,
+                link: way.link,
+                replaced,
+            },
+        }
     }
 
     /// Admits a new request on the way that was chosen. First all memory is taken: where a growth
@@ -241,20 +250,21 @@ impl<A: Allocator + Copy, E: Entries<A>> RealmBroker<'_, '_, '_, '_, A, E> {
         now: u64,
         asked: RequestRef<'_>,
         way: AdmitPlan,
-        twice: bool,
-    ) -> Result<AnswerCopies<A>, NoMemory>
+    ) -> Result<Turned<A>, NoMemory>
         requires realm { IsRealm E.Entries self.old }
         requires moment { now ≤ 2 ^ 62 }
         requires way { IsWay self.old.settings.now (state E.Entries self.old)
             (shown_request asked) way }
-        ensures turn { IfOk result (λ told. Tells twice told (state E.Entries self.old)
+        ensures turn { IfOk result (λ t. Answers t.answer (state E.Entries self.old)
             (state E.Entries self.new) (admits self.old.settings.now now (state E.Entries self.old)
             (shown_request asked.entry) way)) }
+        ensures happening { IfOk result (λ t. shown_happening t.happening
+            ≡ admitted_by (state E.Entries self.old) way) }
         ensures no_memory { IfErr result (λ e.
             state E.Entries self.new ≡ state E.Entries self.old) }
         ensures keeps { Keeps E.Entries self.old self.new }
     {
-        let supplies = Supplies::new(self.numbers.alloc, self.settings, asked, way.link, twice)?;
+        let supplies = Supplies::new(self.numbers.alloc, self.settings, asked, way.link)?;
         self.make_lane(way.link)?;
         self.entries.reserve(self.settings.index())?;
         Ok(self.admit_reserved(now, asked, way, supplies))

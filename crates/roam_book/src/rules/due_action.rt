@@ -1,6 +1,6 @@
 //! What becomes of an entry that is due.
 
-ghost use Rattle.std.specs.Prelude.{◌≡◌, ◌≤◌, ◌+◌, ◌^◌, List, true, IfSome, is_some, length};
+ghost use Rattle.std.specs.Prelude.{◌≡◌, ◌≤◌, ◌+◌, ◌^◌, List, true, IfSome, length};
 ghost use Rattle.roam_pending.specs.PlainEntry.{PlainEntry, waits_at};
 ghost use Rattle.roam_pending.specs.EntryList.{without};
 ghost use Rattle.roam_pending.specs.Shown.{shown};
@@ -9,15 +9,18 @@ ghost use Rattle.roam_book.specs.RealmConfig.{IsLink, link_count, later_targets}
 ghost use Rattle.roam_book.specs.RealmState.{chosen_target};
 ghost use Rattle.roam_book.specs.Rests.{after_silence};
 ghost use Rattle.roam_book.specs.OnRequest.{is_reverse, packet_to_link};
+ghost use Rattle.roam_book.specs.Happenings.{at_last, due_became};
 ghost use Rattle.roam_book.specs.OnTick.{due_standing, fail_over, given_up_at};
+ghost use Rattle.roam_book.specs.declared.happening.Became.TheVariants as became;
 ghost use Rattle.roam_book.specs.Sound.{AreOwnLanes, IsEntry, IsRequest, cursors_of, chosen_link, has_free, lane_of};
 ghost use Rattle.roam_book.specs.Sound.{marks_of, state_of};
-ghost use Rattle.roam_book.specs.Private.Fates.{GivesUp, HoldsNoLink, held_for, IsHeld, IsFate, IsFateCopied, KeepsNoLink};
-ghost use Rattle.roam_book.specs.Private.Memory.{HasBuffers, IsCopied};
+ghost use Rattle.roam_book.specs.Private.Fates.{GivesUp, HoldsNoLink, held_for, IsHeld, IsFate, KeepsNoLink};
+ghost use Rattle.roam_book.specs.Private.Dues.{became_by, became_of};
+ghost use Rattle.roam_book.specs.Private.Memory.{HasBuffers};
 
 use crate::packets::buffers::{Buffers, copied_into};
 use crate::packets::forwarding::{
-    Hop, PacketCopies, RequestRef, gains_few, packet_to_link, packet_to_requester, send_new,
+    Hop, RequestRef, gains_few, packet_to_link, packet_to_requester, send_new,
 };
 use crate::state::realm_numbers::RealmNumbers;
 use crate::state::realm_settings::RealmSettings;
@@ -26,7 +29,7 @@ use roam_back::nak_reserved;
 use roam_conf::Link;
 use roam_pending::{Done, Entry, Standing, Waiting};
 use roam_reverse::error_cause::OTHER_PROXY_PROCESSING_ERROR;
-use roam_route::is_reverse_request;
+use roam_route::{Out, is_reverse_request};
 use roam_wire::{Octets, View};
 use std::alloc::Allocator;
 
@@ -36,11 +39,11 @@ pub(crate) enum DueAction<A: Allocator> {
     /// It goes.
     Expired,
     /// Its packet is sent to its link again.
-    SentAgain(PacketCopies<A>),
+    SentAgain(Out<A>),
     /// Its request is forwarded to another link, where it then waits.
-    Forwarded(PacketCopies<A>, Waiting<A>),
+    Forwarded(Out<A>, Waiting<A>),
     /// Its request, a reverse one, is answered by a NAK, which is then held, or it goes.
-    Refused(PacketCopies<A>, Option<Done<A>>),
+    Refused(Out<A>, Option<Done<A>>),
 }
 
 /// The forwarded packet of a waiting request, once more.
@@ -48,20 +51,15 @@ fn packet_again<A: Allocator>(
     settings: &RealmSettings<'_>,
     waiting: &Waiting<A>,
     buffers: Buffers<A>,
-) -> PacketCopies<A>
+) -> Out<A>
     requires link { IsLink settings.now waiting.now.link }
     requires buffers { HasBuffers (length waiting.now.forwarded) buffers }
-    ensures out { shown_out result.out
+    ensures out { shown_out result
         ≡ packet_to_link settings.now waiting.now.link waiting.now.forwarded }
-    ensures copied { IsCopied (is_some buffers.copy) result }
 {
-    let Buffers {
-        sent,
-        kept: _,
-        copy,
-    } = buffers;
+    let Buffers { sent, kept: _ } = buffers;
     let bytes = copied_into(sent, waiting.forwarded.as_slice());
-    PacketCopies::new(packet_to_link(settings, waiting.link, bytes), copy)
+    packet_to_link(settings, waiting.link, bytes)
 }
 
 /// The target that is chosen at a moment among those after a link.
@@ -133,20 +131,16 @@ fn refuse<A: Allocator>(
     requires reverse { is_reverse (shown entry.now).request ≡ true }
     requires buffers { HasBuffers (length entry.now.request.octets + 304) buffers }
     ensures fate { GivesUp settings.now now (shown entry.now) result }
-    ensures copied { IsFateCopied (is_some buffers.copy) result }
+    ensures became { became_by result ≡ became.GivenUp true }
     ensures no_link { KeepsNoLink result }
 {
     let request = View::of_packet(entry.request.octets.as_slice());
     let secret = settings.secret_of_requester(entry.request.requester);
-    let Buffers {
-        mut sent,
-        kept,
-        copy,
-    } = buffers;
+    let Buffers { mut sent, kept } = buffers;
     nak_reserved(&request, OTHER_PROXY_PROCESSING_ERROR, secret, &mut sent);
     let held = held_for(settings, now, copied_into(kept, sent.as_slice()));
     let out = packet_to_requester(settings, entry.request.key, Octets::from_vec(sent));
-    DueAction::Refused(PacketCopies::new(out, copy), held)
+    DueAction::Refused(out, held)
 }
 
 /// A request that no target answers: a reverse request is answered by a NAK, any other just goes.
@@ -160,7 +154,7 @@ fn give_up<A: Allocator>(
     requires request { IsRequest settings.now (shown entry.now).request }
     requires buffers { HasBuffers (length entry.now.request.octets + 304) buffers }
     ensures fate { GivesUp settings.now now (shown entry.now) result }
-    ensures copied { IsFateCopied (is_some buffers.copy) result }
+    ensures became { became_by result ≡ became.GivenUp (is_reverse (shown entry.now).request) }
     ensures no_link { KeepsNoLink result }
 {
     let request = View::of_packet(entry.request.octets.as_slice());
@@ -199,7 +193,12 @@ fn fail_over<A: Allocator + Copy>(
         (after_silence settings.now now numbers.old.rests.items link signs)
         (cursors_of numbers.old.lanes.items) (without entry.now.ticket es)
         (later_targets settings.now link))) }
-    ensures copied { IsFateCopied (is_some buffers.copy) result }
+    ensures became { (es : List PlainEntry) → IsHeld settings.now es (shown entry.now) numbers.old
+        → became_by result ≡ at_last (shown entry.now).request
+        (chosen_target settings.now now
+        (after_silence settings.now now numbers.old.rests.items link signs)
+        (cursors_of numbers.old.lanes.items) (without entry.now.ticket es)
+        (later_targets settings.now link)) }
     ensures no_link { KeepsNoLink result }
 {
     numbers.give_back(settings, link, id);
@@ -241,7 +240,10 @@ pub(crate) fn act_on_due<A: Allocator + Copy>(
         → IsFate settings.now now es (shown entry.now) numbers.new result
         (due_standing settings.now now (state_of es numbers.old) (shown entry.now)
         (shown entry.now).standing) }
-    ensures copied { IsFateCopied (is_some buffers.copy) result }
+    ensures became { (es : List PlainEntry) → IsHeld settings.now es (shown entry.now) numbers.old
+        → became_of (shown entry.now).standing result
+        ≡ due_became settings.now now (state_of es numbers.old) (shown entry.now)
+        (shown entry.now).standing }
     ensures no_link { KeepsNoLink result }
 {
     match &entry.standing {

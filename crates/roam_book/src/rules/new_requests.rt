@@ -1,8 +1,8 @@
 //! Whether a new request is refused or admitted, by which link, and which entries make way for it.
 
-ghost use Rattle.std.specs.Prelude.{◌≡◌, ℕ, Some, IfSome, length};
+ghost use Rattle.std.specs.Prelude.{◌≡◌, ℕ, Some, IfOk, IfSome, length};
 ghost use Rattle.roam_pending.specs.PlainEntry.{PlainRequest};
-ghost use Rattle.roam_book.specs.Private.NewEntry.{AreConfigured, Chooses, IsNew, IsWay, freed_link, links_of};
+ghost use Rattle.roam_book.specs.Private.NewEntry.{AreConfigured, Chooses, IsByTarget, IsNew, IsWay, freed_link, links_of};
 ghost use Rattle.roam_book.specs.Private.NewEntry.{once_gone, straight_after, target_at};
 ghost use Rattle.roam_book.specs.Conversing.{rests_chosen};
 ghost use Rattle.roam_book.specs.OnRequest.{at_target, new_request};
@@ -57,7 +57,9 @@ impl<A: Allocator + Copy, E: Entries<A>> RealmBroker<'_, '_, '_, '_, A, E> {
     /// or where a done entry makes way.
     fn plan_at(&self, gone: Option<Replaced>, choice: LinkChoice) -> Result<AdmitPlan, Refusal>
         requires { CountsAsGone gone (entries E.Entries self.now) }
-        ensures { (now : ℕ) (q : PlainRequest)
+        ensures gone { IfOk result (λ way. way.gone ≡ gone) }
+        ensures link { IfOk result (λ way. way.link ≡ choice.link) }
+        ensures chooses { (now : ℕ) (q : PlainRequest)
             → IsWay self.now.settings.now (state E.Entries self.now) q
             (straight_after gone choice.link choice.bound)
             → Chooses self.now.settings.now now (state E.Entries self.now) q result
@@ -131,9 +133,11 @@ impl<A: Allocator + Copy, E: Entries<A>> RealmBroker<'_, '_, '_, '_, A, E> {
         requires targets { AreConfigured self.now.settings.now targets }
         requires new { IsNew self.now.settings.now (entries E.Entries self.now) gone targets
             (shown_request asked) }
-        ensures { Chooses self.now.settings.now now (state E.Entries self.now) (shown_request asked.entry) result
-            (new_request self.now.settings.now now (state E.Entries self.now)
+        ensures chooses { Chooses self.now.settings.now now (state E.Entries self.now)
+            (shown_request asked.entry) result (new_request self.now.settings.now now (state E.Entries self.now)
             (once_gone gone (entries E.Entries self.now)) (shown_request asked.entry)) }
+        ensures target { IfOk result (IsByTarget self.now.settings.now now (state E.Entries self.now) gone
+            (shown_request asked.entry)) }
     {
         if self.numbers.ticket == 1 << 63 {
             return Err(Refusal::Exhausted);

@@ -12,15 +12,18 @@ ghost use Rattle.roam_book.specs.RealmConfig.{RealmConfig};
 ghost use Rattle.roam_book.specs.RealmState.{RealmState};
 ghost use Rattle.roam_book.specs.Turn.{packets_of, refuses};
 ghost use Rattle.roam_book.specs.OnReply.{on_reply, to_entry};
-ghost use Rattle.roam_book.specs.RealmTurn.{IsRealm, Keeps, Turns, TurnsTwice, entries, state};
+ghost use Rattle.roam_book.specs.Happenings as happenings;
+ghost use Rattle.roam_book.specs.Happenings.{by_turn, reply_happening, returned_to};
+ghost use Rattle.roam_book.specs.RealmTurn.{IsRealm, Keeps, entries, state};
+ghost use Rattle.roam_book.specs.Turned.{TurnsTelling};
 ghost use Rattle.roam_book.specs.Private.ReplyPlans.{CanSettle, IsHeard, IsPrepared, IsReplyPlan, once_heard_by};
 ghost use Rattle.roam_book.specs.Private.ReplyPlans.{once_settled};
 
-use crate::packets::answer::{Answer, Twin, refused};
+use crate::packets::answer::{Turned, refused_turn};
 use crate::rules::reply_outcome::{ReplyOutcome, to_standing};
 use crate::rules::requests::LATEST;
 use crate::state::realm_broker::RealmBroker;
-use roam_conf::Link;
+use roam_conf::{ExchangeLines, Link};
 use roam_pending::{Done, Entries, Entry, Standing, hold_standing};
 use roam_reverse::PreparedChange;
 use roam_wire::{NoMemory, Refusal, View};
@@ -37,10 +40,11 @@ pub(crate) struct Settled<A: Allocator> {
     pub counted: Option<u16>,
 }
 
-/// What a reply does: its answer, the sign of life that it is, and the entry that is then done, if one is.
+/// What a reply does: its answer and what happened, the sign of life that it is, and the entry that is then done, if
+/// one is.
 #[derive(Drop)]
 pub(crate) struct ReplyPlan<A: Allocator> {
-    pub answer: Answer<A>,
+    pub turned: Turned<A>,
     /// The link that gave a sign of life, if one did.
     pub heard: Option<Link>,
     pub settled: Option<Settled<A>>,
@@ -48,10 +52,11 @@ pub(crate) struct ReplyPlan<A: Allocator> {
 
 /// A reply that is refused before an entry is looked at. Takes no memory.
 fn refused_reply<A: Allocator>(alloc: A, why: Refusal) -> ReplyPlan<A>
-    ensures { (c : RealmConfig) (s : RealmState) → IsReplyPlan c s result (refuses why) }
+    ensures { (c : RealmConfig) (s : RealmState)
+        → IsReplyPlan c s result (refuses why) (happenings.refused why) }
 {
     ReplyPlan {
-        answer: refused(alloc, why),
+        turned: refused_turn(alloc, why),
         heard: None,
         settled: None,
     }
@@ -81,13 +86,17 @@ impl<A: Allocator + Copy, E: Entries<A>> RealmBroker<'_, '_, '_, '_, A, E> {
         now: u64,
         link: Link,
         reply: &View<'_>,
+        lines: ExchangeLines,
     ) -> Result<ReplyPlan<A>, NoMemory>
         requires realm { IsRealm E.Entries self.now }
         requires moment { now ≤ 2 ^ 62 }
         ensures plan { IfOk result (λ p. IsReplyPlan self.now.settings.now
             (state E.Entries self.now) p
             (to_entry self.now.settings.now now (state E.Entries self.now) reply.now
-            (find_link link reply.now.id (entries E.Entries self.now)))) }
+            (find_link link reply.now.id (entries E.Entries self.now)))
+            (by_turn (to_entry self.now.settings.now now (state E.Entries self.now) reply.now
+            (find_link link reply.now.id (entries E.Entries self.now)))
+            (returned_to lines reply.now (find_link link reply.now.id (entries E.Entries self.now))))) }
         ensures succeeds { packets_of (to_entry self.now.settings.now now (state E.Entries self.now)
             reply.now (find_link link reply.now.id (entries E.Entries self.now))) ≡ []
             → IsOk result }
@@ -98,10 +107,11 @@ impl<A: Allocator + Copy, E: Entries<A>> RealmBroker<'_, '_, '_, '_, A, E> {
         };
         let ReplyOutcome {
             answer,
+            happening,
             heard,
             done,
             counted,
-        } = to_standing(self.numbers.alloc, self.settings, now, entry, reply)?;
+        } = to_standing(self.numbers.alloc, self.settings, now, entry, reply, lines)?;
         let settled = match done {
             None => None,
             Some(done) => {
@@ -115,26 +125,33 @@ impl<A: Allocator + Copy, E: Entries<A>> RealmBroker<'_, '_, '_, '_, A, E> {
             }
         };
         Ok(ReplyPlan {
-            answer,
+            turned: Turned { answer, happening },
             heard: heard_from(heard, link),
             settled,
         })
     }
 
     /// What a reply that came from a link does. Nothing changes yet.
-    fn plan_reply(&self, now: u64, link: Link, octets: &[u8]) -> Result<ReplyPlan<A>, NoMemory>
+    fn plan_reply(
+        &self,
+        now: u64,
+        link: Link,
+        octets: &[u8],
+        lines: ExchangeLines,
+    ) -> Result<ReplyPlan<A>, NoMemory>
         requires realm { IsRealm E.Entries self.now }
         requires packet { IsPacketText octets.now }
         ensures plan { IfOk result (λ p. IsReplyPlan self.now.settings.now
             (state E.Entries self.now) p
-            (on_reply self.now.settings.now now (state E.Entries self.now) link octets.now)) }
+            (on_reply self.now.settings.now now (state E.Entries self.now) link octets.now)
+            (reply_happening lines self.now.settings.now now (state E.Entries self.now) link octets.now)) }
         ensures succeeds { packets_of (on_reply self.now.settings.now now (state E.Entries self.now)
             link octets.now) ≡ [] → IsOk result }
     {
         if now > LATEST {
             return Ok(refused_reply(self.numbers.alloc, Refusal::Moment));
         }
-        self.reply_to_entry(now, link, &View::of_packet(octets))
+        self.reply_to_entry(now, link, &View::of_packet(octets), lines)
     }
 
     /// Makes all growth of the ledger that an entry wants which is to be done, and changes no
@@ -244,43 +261,28 @@ impl<A: Allocator + Copy, E: Entries<A>> RealmBroker<'_, '_, '_, '_, A, E> {
     ///
     /// Refused in this order: `Moment`, `NoEntry`, `WrongReply`, `BadReply`,
     /// `BadReplyMessageAuthenticator`, `ReplyTooLong`. `NoMemory` comes where a growth was refused;
-    /// the realm is then as it was. A refused reply wants no memory.
-    pub fn on_reply(&mut self, now: u64, link: Link, octets: &[u8]) -> Result<Answer<A>, NoMemory>
-        requires realm { IsRealm E.Entries self.old }
-        requires packet { IsPacketText octets.now }
-        ensures turn { Turns E.Entries self.old self.new result
-            (λ s. on_reply self.old.settings.now now s link octets.now) }
-    {
-        let ReplyPlan {
-            answer,
-            heard,
-            settled,
-        } = self.plan_reply(now, link, octets)?;
-        let change = self.prepare_ledger(&settled)?;
-        self.carry_out(heard, settled, change)?;
-        Ok(answer)
-    }
-
-    /// The same, with the answer twice.
-    pub fn on_reply_twice(
+    /// the realm is then as it was. A refused reply wants no memory. The octets of its request are kept where lines
+    /// tell of such exchanges.
+    pub fn on_reply(
         &mut self,
         now: u64,
         link: Link,
         octets: &[u8],
-    ) -> Result<Twin<A>, NoMemory>
+        lines: ExchangeLines,
+    ) -> Result<Turned<A>, NoMemory>
         requires realm { IsRealm E.Entries self.old }
         requires packet { IsPacketText octets.now }
-        ensures turn { TurnsTwice E.Entries self.old self.new result
-            (λ s. on_reply self.old.settings.now now s link octets.now) }
+        ensures turn { TurnsTelling E.Entries self.old self.new result
+            (λ s. on_reply self.old.settings.now now s link octets.now)
+            (λ s. reply_happening lines self.old.settings.now now s link octets.now) }
     {
         let ReplyPlan {
-            answer,
+            turned,
             heard,
             settled,
-        } = self.plan_reply(now, link, octets)?;
-        let copy = answer.copy(self.numbers.alloc)?;
+        } = self.plan_reply(now, link, octets, lines)?;
         let change = self.prepare_ledger(&settled)?;
         self.carry_out(heard, settled, change)?;
-        Ok(Twin { answer, copy })
+        Ok(turned)
     }
 }

@@ -1,29 +1,36 @@
 //! What comes of a reply for the entry that it is for (RFC 2865, section 2.3).
 
-ghost use Rattle.std.specs.Prelude.{◌≡◌, ◌⊎◌, ◌↔◌, ℕ, ◌<◌, ◌≤◌, ◌^◌, [], true, IfErr};
+ghost use Rattle.std.specs.Prelude.{◌≡◌, ◌⊎◌, ◌↔◌, ℕ, ◌<◌, ◌≤◌, ◌^◌, [], Some, true, IfErr};
 ghost use Rattle.std.specs.Prelude.{IfNone, IfOk, IsErrOf, IsOk};
 ghost use Rattle.roam_wire.specs.Reading.{packet_of};
 ghost use Rattle.roam_wire.specs.Secret.{IsSecret};
 ghost use Rattle.roam_back.specs.ReplyCheck.{IsTaken};
 ghost use Rattle.roam_back.specs.Returned.{returned_length};
 ghost use Rattle.roam_pending.specs.PlainEntry.{PlainEntry, waits_at};
-ghost use Rattle.roam_pending.specs.Shown.{shown, shown_request};
-ghost use Rattle.roam_book.specs.RealmConfig.{IsLink, RealmConfig, link_secret, seal_required};
+ghost use Rattle.roam_pending.specs.Shown.{shown, shown_request, shown_standing};
+ghost use Rattle.roam_pending.specs.declared.entry.Standing.TheVariants as standing;
+ghost use Rattle.roam_book.specs.RealmConfig.{IsLink, link_secret, seal_required};
 ghost use Rattle.roam_book.specs.RealmState.{RealmState};
-ghost use Rattle.roam_book.specs.Turn.{hears, packets_of, refuses};
-ghost use Rattle.roam_book.specs.OnReply.{counted_peer, faulted, judge, once_heard_from, passing_to, reply_fault};
-ghost use Rattle.roam_book.specs.OnReply.{return_reply, returned_octets, shows_life};
+ghost use Rattle.roam_book.specs.Turn.{packets_of};
+ghost use Rattle.roam_book.specs.Happenings as happenings;
+ghost use Rattle.roam_book.specs.Happenings.{by_turn, keeps_octets, kept_octets, returned_for, returned_to, waited_at};
+ghost use Rattle.roam_book.specs.HappeningsShown.{shown_happening, shown_waited};
+ghost use Rattle.roam_book.specs.OnReply.{counted_peer, faulted, judge, passing_to, reply_fault};
+ghost use Rattle.roam_book.specs.OnReply.{return_reply, returned_octets};
 ghost use Rattle.roam_book.specs.OnReply.{returning};
 ghost use Rattle.roam_book.specs.OnReply.{to_standing};
 ghost use Rattle.roam_book.specs.Sound.{IsRequest, IsWaiting, StandsWell};
 ghost use Rattle.roam_book.specs.Private.Judged.{IsVerdict, returns_octets};
 
-use crate::packets::answer::{Answer, one_packet, refused};
+use crate::happening::{Happening, Waited};
+use crate::packets::answer::{Answer, one_packet};
 use crate::packets::forwarding::packet_to_requester;
+use crate::rules::kept_request::answered_request;
+use crate::rules::refused_reply::{faulted, not_taken, only_heard};
 use crate::state::realm_settings::RealmSettings;
 use roam_back::{back_passing, check_reply};
-use roam_conf::Link;
-use roam_pending::{Done, Entry, Key, Request, Requester, Standing, Waiting};
+use roam_conf::{ExchangeLines, Link};
+use roam_pending::{Done, Entry, Request, Requester, Standing, Waiting};
 use roam_wire::code::ACCOUNTING_RESPONSE;
 use roam_wire::{NoMemory, Octets, Refusal, View};
 use std::alloc::Allocator;
@@ -32,57 +39,13 @@ use std::alloc::Allocator;
 #[derive(Drop)]
 pub(crate) struct ReplyOutcome<A: Allocator> {
     pub answer: Answer<A>,
+    pub happening: Happening<A>,
     /// Whether the reply is a sign of life of its link.
     pub heard: bool,
     /// How the entry is done from now on. `None` where the reply isn't taken.
     pub done: Option<Done<A>>,
     /// The peer whose sessions change, if any do.
     pub counted: Option<u16>,
-}
-
-/// A reply that isn't taken. Takes no memory.
-fn not_taken<A: Allocator>(alloc: A, why: Refusal) -> ReplyOutcome<A>
-    ensures { (c : RealmConfig) (e : PlainEntry) (l : Link)
-        → IsVerdict c result e l (λ s. refuses why) }
-{
-    ReplyOutcome {
-        answer: refused(alloc, why),
-        heard: false,
-        done: None,
-        counted: None,
-    }
-}
-
-/// A reply that isn't taken, and is a sign of life of its link. Takes no memory.
-fn only_heard<A: Allocator>(alloc: A, why: Refusal) -> ReplyOutcome<A>
-    ensures { (c : RealmConfig) (e : PlainEntry) (l : Link)
-        → IsVerdict c result e l (λ s. hears why (once_heard_from c s l)) }
-{
-    ReplyOutcome {
-        answer: refused(alloc, why),
-        heard: true,
-        done: None,
-        counted: None,
-    }
-}
-
-/// Whether a reply of which this is wrong is a sign of life of its link: its seal alone is wrong, or missing.
-fn shows_life(why: Refusal) -> bool
-    ensures { result ≡ shows_life why }
-{
-    why.number() == Refusal::BadReplyMessageAuthenticator.number()
-}
-
-/// A reply of which this is wrong. Takes no memory.
-fn faulted<A: Allocator>(alloc: A, why: Refusal) -> ReplyOutcome<A>
-    ensures { (c : RealmConfig) (e : PlainEntry) (l : Link)
-        → IsVerdict c result e l (λ s. faulted c s l why) }
-{
-    if shows_life(why) {
-        only_heard(alloc, why)
-    } else {
-        not_taken(alloc, why)
-    }
 }
 
 /// Why a reply to a forwarded packet isn't taken, if it isn't. Takes no memory.
@@ -106,6 +69,8 @@ struct Judging<'s, 'c, 'r, 'd, A: Allocator> {
     settings: &'s RealmSettings<'c>,
     moment: u64,
     reply: &'r View<'d>,
+    /// Of which exchanges lines tell.
+    lines: ExchangeLines,
 }
 
 /// The packet that is returned for a reply that was taken, of what passes of it.
@@ -168,21 +133,28 @@ fn counted_peer(requester: Requester, reply: &View<'_>) -> Option<u16>
 /// reply came from.
 fn return_packet<A: Allocator + Copy>(
     judging: &Judging<'_, '_, '_, '_, A>,
-    link: Link,
-    key: Key,
+    waited: Waited<A>,
     counted: Option<u16>,
     packet: Vec<u8, A>,
 ) -> Result<ReplyOutcome<A>, NoMemory>
     requires moment { judging.now.moment ≤ 2 ^ 62 }
-    ensures { IfOk result (λ v. (e : PlainEntry) → IsVerdict judging.now.settings.now v e link
-        (λ s. returns_octets judging.now.settings.now judging.now.moment key counted packet.items e link s)) }
+    ensures verdict { IfOk result (λ v. (e : PlainEntry) → IsVerdict judging.now.settings.now v e waited.link
+        (λ s. returns_octets judging.now.settings.now judging.now.moment waited.key counted packet.items e
+        waited.link s)) }
+    ensures happening { IfOk result (λ v. shown_happening v.happening
+        ≡ happenings.returned judging.now.reply.now.code (shown_waited waited)) }
 {
+    let link = waited.link;
     let reply = Octets::copy_of(judging.alloc, packet.as_slice())?;
     let deadline = judging.moment + u64::from(judging.settings.hold());
-    let out = packet_to_requester(judging.settings, key, Octets::from_vec(packet));
-    let answer = one_packet(judging.alloc, out)?;
+    let out = packet_to_requester(judging.settings, waited.key, Octets::from_vec(packet));
+    let answer = one_packet(judging.alloc, out);
     Ok(ReplyOutcome {
         answer,
+        happening: Happening::Returned {
+            code: judging.reply.code(),
+            waited,
+        },
         heard: true,
         done: Some(Done {
             reply,
@@ -197,25 +169,33 @@ fn return_packet<A: Allocator + Copy>(
 fn return_reply<A: Allocator + Copy>(
     judging: &Judging<'_, '_, '_, '_, A>,
     entry: &Entry<A>,
-    link: Link,
+    waiting: &Waiting<A>,
     forwarded: &View<'_>,
 ) -> Result<ReplyOutcome<A>, NoMemory>
     requires moment { judging.now.moment ≤ 2 ^ 62 }
     requires request { IsRequest judging.now.settings.now (shown entry.now).request }
-    requires link { IsLink judging.now.settings.now link }
-    requires taken { IsTaken (link_secret judging.now.settings.now link)
-        (seal_required judging.now.settings.now link) judging.now.reply.now forwarded.now }
-    ensures turn { IfOk result (λ v. IsVerdict judging.now.settings.now v (shown entry.now) link
-        (λ s. return_reply judging.now.settings.now judging.now.moment s (shown entry.now) link
+    requires link { IsLink judging.now.settings.now waiting.now.link }
+    requires taken { IsTaken (link_secret judging.now.settings.now waiting.now.link)
+        (seal_required judging.now.settings.now waiting.now.link) judging.now.reply.now forwarded.now }
+    ensures turn { IfOk result (λ v. IsVerdict judging.now.settings.now v (shown entry.now) waiting.now.link
+        (λ s. return_reply judging.now.settings.now judging.now.moment s (shown entry.now) waiting.now.link
         forwarded.now judging.now.reply.now)) }
+    ensures happening { (s : RealmState) → IfOk result (λ v. shown_happening v.happening
+        ≡ by_turn (return_reply judging.now.settings.now judging.now.moment s (shown entry.now)
+        waiting.now.link forwarded.now judging.now.reply.now)
+        (returned_for judging.now.reply.now.code (waited_at (shown entry.now)
+        (kept_octets (keeps_octets judging.now.lines judging.now.reply.now.code) entry.now.request.octets)
+        (shown_standing (standing.Waiting waiting.now))))) }
     ensures succeeds { (s : RealmState) → packets_of (return_reply judging.now.settings.now
-        judging.now.moment s (shown entry.now) link forwarded.now judging.now.reply.now) ≡ []
+        judging.now.moment s (shown entry.now) waiting.now.link forwarded.now judging.now.reply.now) ≡ []
         → IsOk result }
 {
-    match returned_packet(judging, &entry.request, link, forwarded) {
+    match returned_packet(judging, &entry.request, waiting.link, forwarded) {
         Ok(packet) => {
             let counted = counted_peer(entry.request.requester, judging.reply);
-            return_packet(judging, link, entry.request.key, counted, packet)
+            let code = judging.reply.code();
+            let waited = answered_request(judging.alloc, judging.lines, code, entry, waiting)?;
+            return_packet(judging, waited, counted, packet)
         }
         Err(Refusal::ReplyTooLong) => Ok(only_heard(judging.alloc, Refusal::ReplyTooLong)),
         Err(_) => Err(NoMemory),
@@ -239,6 +219,15 @@ fn outcome_of<A: Allocator + Copy>(
         (reply_fault (link_secret judging.now.settings.now waiting.now.link)
         (seal_required judging.now.settings.now waiting.now.link) judging.now.reply.now
         (packet_of waiting.now.forwarded)))) }
+    ensures happening { (s : RealmState) → IfOk result (λ v. shown_happening v.happening
+        ≡ by_turn (judge judging.now.settings.now judging.now.moment s (shown entry.now)
+        waiting.now.link (packet_of waiting.now.forwarded) judging.now.reply.now
+        (reply_fault (link_secret judging.now.settings.now waiting.now.link)
+        (seal_required judging.now.settings.now waiting.now.link) judging.now.reply.now
+        (packet_of waiting.now.forwarded)))
+        (returned_for judging.now.reply.now.code (waited_at (shown entry.now)
+        (kept_octets (keeps_octets judging.now.lines judging.now.reply.now.code) entry.now.request.octets)
+        (shown_standing (standing.Waiting waiting.now))))) }
     ensures succeeds { (s : RealmState) → packets_of (judge judging.now.settings.now
         judging.now.moment s (shown entry.now) waiting.now.link (packet_of waiting.now.forwarded)
         judging.now.reply.now (reply_fault (link_secret judging.now.settings.now waiting.now.link)
@@ -252,7 +241,7 @@ fn outcome_of<A: Allocator + Copy>(
     if let Some(why) = fault_of(judging.reply, &forwarded, secret, seal_required) {
         return Ok(faulted(judging.alloc, why));
     }
-    return_reply(judging, entry, link, &forwarded)
+    return_reply(judging, entry, waiting, &forwarded)
 }
 
 /// A reply to an entry, as it stands. A reply that isn't taken wants no memory.
@@ -262,6 +251,7 @@ pub(crate) fn to_standing<A: Allocator + Copy>(
     now: u64,
     entry: &Entry<A>,
     reply: &View<'_>,
+    lines: ExchangeLines,
 ) -> Result<ReplyOutcome<A>, NoMemory>
     requires moment { now ≤ 2 ^ 62 }
     requires request { IsRequest settings.now (shown entry.now).request }
@@ -270,6 +260,9 @@ pub(crate) fn to_standing<A: Allocator + Copy>(
         → IsVerdict settings.now v (shown entry.now) l
         (λ s. to_standing settings.now now s (shown entry.now) reply.now
         (shown entry.now).standing)) }
+    ensures happening { (s : RealmState) → IfOk result (λ v. shown_happening v.happening
+        ≡ by_turn (to_standing settings.now now s (shown entry.now) reply.now (shown entry.now).standing)
+        (returned_to lines reply.now (Some (shown entry.now)))) }
     ensures succeeds { (s : RealmState) → packets_of (to_standing settings.now now s
         (shown entry.now) reply.now (shown entry.now).standing) ≡ [] → IsOk result }
 {
@@ -278,6 +271,7 @@ pub(crate) fn to_standing<A: Allocator + Copy>(
         settings,
         moment: now,
         reply,
+        lines,
     };
     match &entry.standing {
         Standing::Waiting(waiting) => outcome_of(&judging, entry, waiting),

@@ -8,16 +8,22 @@ ghost use Rattle.std.specs.Result.{result_err};
 ghost use Rattle.roam_wire.specs.Reading.{IsPacketText};
 ghost use Rattle.roam_pending.specs.EntryList.{find_client, without_client};
 ghost use Rattle.roam_pending.specs.Shown.{shown_standing};
-ghost use Rattle.roam_book.specs.Private.NewEntry.{AreConfigured, IsNew, IsRequestPlan, links_of, once_gone};
+ghost use Rattle.roam_book.specs.Private.NewEntry.{AreConfigured, IsNew, IsRequestPlan, gone_entry, links_of, new_happening, once_gone};
 ghost use Rattle.roam_book.specs.OnRequest.{first_seen, held_reply, is_reverse, nak_octets, new_request, of_key};
 ghost use Rattle.roam_book.specs.OnRequest.{on_request, packet_to_requester, reverse_cause, targets};
-ghost use Rattle.roam_book.specs.RealmTurn.{IsRealm, Turns, TurnsTwice, entries, state};
+ghost use Rattle.roam_book.specs.Happenings as happenings;
+ghost use Rattle.roam_book.specs.Happenings.{by_turn, first_sent, of_duplicate, request_happening, sent_for};
+ghost use Rattle.roam_book.specs.HappeningsShown.{shown_happening};
+ghost use Rattle.roam_book.specs.RealmTurn.{IsRealm, entries, state};
+ghost use Rattle.roam_book.specs.Turned.{TurnsTelling};
 ghost use Rattle.roam_book.specs.Sound.{CountsAsGone, IsRequest, shown_request};
 ghost use Rattle.roam_book.specs.Turn.{packets_of, shown_outs};
 
-use crate::packets::answer::{Answer, Twin, nothing, one_packet, refused};
+use crate::happening::Happening;
+use crate::packets::answer::{Turned, nothing, one_packet, refused_turn};
 use crate::packets::forwarding::{RequestRef, packet_to_requester};
 use crate::rules::admit_plan::AdmitPlan;
+use crate::rules::due_happening::code_in;
 use crate::rules::replaced::Replaced;
 use crate::rules::targets::Targets;
 use crate::state::realm_broker::RealmBroker;
@@ -36,31 +42,40 @@ pub const LATEST: u64 = 1 << 62;
 #[derive(Drop)]
 pub(crate) enum RequestPlan<A: Allocator> {
     /// It is a duplicate, answered by a NAK, or refused: nothing changes.
-    Answered(Answer<A>),
+    Answered(Turned<A>),
     /// It is admitted.
     Admitted(AdmitPlan),
 }
 
-/// The reply that a duplicate gets: none while its request waits, else the one that is held, again.
+/// What a duplicate gets: nothing while its request waits, else the reply that is held, again.
 fn held_reply<A: Allocator + Copy>(
     alloc: A,
     settings: &RealmSettings<'_>,
     entry: &Entry<A>,
-) -> Result<Answer<A>, NoMemory>
-    ensures outs { IfOk result (λ a. shown_outs a.outs.items
+) -> Result<Turned<A>, NoMemory>
+    ensures outs { IfOk result (λ t. shown_outs t.answer.outs
         ≡ held_reply settings.now entry.now.request.key (shown_standing entry.now.standing)) }
-    ensures refusal { IfOk result (λ a. a.refusal ≡ None) }
+    ensures refusal { IfOk result (λ t. t.answer.refusal ≡ None) }
+    ensures happening { IfOk result (λ t. shown_happening t.happening
+        ≡ of_duplicate (shown_standing entry.now.standing)) }
     ensures succeeds { held_reply settings.now entry.now.request.key
         (shown_standing entry.now.standing) ≡ [] → IsOk result }
 {
     match &entry.standing {
-        Standing::Waiting(_) => Ok(nothing(alloc)),
+        Standing::Waiting(_) => {
+            Ok(Turned {
+                answer: nothing(alloc),
+                happening: Happening::Duplicate,
+            })
+        }
         Standing::Done(done) => {
+            let code = code_in(done.reply.as_slice());
             let reply = Octets::copy_of(alloc, done.reply.as_slice())?;
-            one_packet(
-                alloc,
-                packet_to_requester(settings, entry.request.key, reply),
-            )
+            let out = packet_to_requester(settings, entry.request.key, reply);
+            Ok(Turned {
+                answer: one_packet(alloc, out),
+                happening: Happening::Held { code },
+            })
         }
     }
 }
@@ -71,18 +86,23 @@ fn refused_by_nak<A: Allocator + Copy>(
     settings: &RealmSettings<'_>,
     asked: RequestRef<'_>,
     cause: u32,
-) -> Result<Answer<A>, NoMemory>
+) -> Result<Turned<A>, NoMemory>
     requires request { IsRequest settings.now (shown_request asked) }
     requires reverse { is_reverse (shown_request asked) ≡ true }
-    ensures outs { IfOk result (λ a. shown_outs a.outs.items
+    ensures outs { IfOk result (λ t. shown_outs t.answer.outs
         ≡ packet_to_requester settings.now asked.entry.key
         (nak_octets settings.now (shown_request asked.entry) cause) ∷ []) }
-    ensures refusal { IfOk result (λ a. a.refusal ≡ None) }
+    ensures refusal { IfOk result (λ t. t.answer.refusal ≡ None) }
+    ensures happening { IfOk result (λ t. shown_happening t.happening ≡ happenings.nak cause) }
 {
     let request = View::of_packet(asked.octets);
     let secret = settings.secret_of_requester(asked.requester);
     let octets = Octets::from_vec(nak(alloc, &request, cause, secret)?);
-    one_packet(alloc, packet_to_requester(settings, asked.key, octets))
+    let out = packet_to_requester(settings, asked.key, octets);
+    Ok(Turned {
+        answer: one_packet(alloc, out),
+        happening: Happening::Nak { cause },
+    })
 }
 
 impl<A: Allocator + Copy, E: Entries<A>> RealmBroker<'_, '_, '_, '_, A, E> {
@@ -101,11 +121,13 @@ impl<A: Allocator + Copy, E: Entries<A>> RealmBroker<'_, '_, '_, '_, A, E> {
             (shown_request asked) }
         ensures { IsRequestPlan self.now.settings.now now (state E.Entries self.now) (shown_request asked.entry)
             result (new_request self.now.settings.now now (state E.Entries self.now)
-            (once_gone gone (entries E.Entries self.now)) (shown_request asked.entry)) }
+            (once_gone gone (entries E.Entries self.now)) (shown_request asked.entry))
+            (new_happening self.now.settings.now now (state E.Entries self.now) gone
+            (shown_request asked.entry)) }
     {
         match self.plan_admit(now, asked, gone, targets) {
             Ok(way) => RequestPlan::Admitted(way),
-            Err(why) => RequestPlan::Answered(refused(self.numbers.alloc, why)),
+            Err(why) => RequestPlan::Answered(refused_turn(self.numbers.alloc, why)),
         }
     }
 
@@ -145,15 +167,21 @@ impl<A: Allocator + Copy, E: Entries<A>> RealmBroker<'_, '_, '_, '_, A, E> {
         ensures plan { IfOk result (λ p. IsRequestPlan self.now.settings.now now
             (state E.Entries self.now) (shown_request asked.entry) p
             (first_seen self.now.settings.now now (state E.Entries self.now) asked.entry.named
-            (shown_request asked.entry))) }
+            (shown_request asked.entry))
+            (by_turn (first_seen self.now.settings.now now (state E.Entries self.now) asked.entry.named
+            (shown_request asked.entry))
+            (first_sent self.now.settings.now now (state E.Entries self.now) (shown_request asked.entry)
+            (gone_entry gone (entries E.Entries self.now))
+            (reverse_cause self.now.settings.now (state E.Entries self.now) asked.entry.named
+            (shown_request asked.entry))))) }
         ensures succeeds { packets_of (first_seen self.now.settings.now now
             (state E.Entries self.now) asked.entry.named (shown_request asked.entry)) ≡ []
             → IsOk result }
     {
         match self.targets_of(asked) {
             Err(cause) => {
-                let answer = refused_by_nak(self.numbers.alloc, self.settings, asked, cause)?;
-                Ok(RequestPlan::Answered(answer))
+                let turned = refused_by_nak(self.numbers.alloc, self.settings, asked, cause)?;
+                Ok(RequestPlan::Answered(turned))
             }
             Ok(targets) => Ok(self.plan_new(now, asked, gone, targets)),
         }
@@ -168,7 +196,13 @@ impl<A: Allocator + Copy, E: Entries<A>> RealmBroker<'_, '_, '_, '_, A, E> {
             (state E.Entries self.now) (shown_request asked.entry) p
             (of_key self.now.settings.now now (state E.Entries self.now) asked.entry.named
             (shown_request asked.entry)
-            (find_client asked.entry.key (entries E.Entries self.now)))) }
+            (find_client asked.entry.key (entries E.Entries self.now)))
+            (by_turn (of_key self.now.settings.now now (state E.Entries self.now) asked.entry.named
+            (shown_request asked.entry)
+            (find_client asked.entry.key (entries E.Entries self.now)))
+            (sent_for self.now.settings.now now (state E.Entries self.now) asked.entry.named
+            (shown_request asked.entry)
+            (find_client asked.entry.key (entries E.Entries self.now))))) }
         ensures succeeds { packets_of (of_key self.now.settings.now now
             (state E.Entries self.now) asked.entry.named (shown_request asked.entry)
             (find_client asked.entry.key (entries E.Entries self.now))) ≡ [] → IsOk result }
@@ -177,8 +211,8 @@ impl<A: Allocator + Copy, E: Entries<A>> RealmBroker<'_, '_, '_, '_, A, E> {
             None => self.plan_first_seen(now, asked, None),
             Some(entry) => {
                 if entry.request.octets.as_slice() == asked.octets {
-                    let answer = held_reply(self.numbers.alloc, self.settings, entry)?;
-                    return Ok(RequestPlan::Answered(answer));
+                    let turned = held_reply(self.numbers.alloc, self.settings, entry)?;
+                    return Ok(RequestPlan::Answered(turned));
                 }
                 self.plan_first_seen(now, asked, Some(Replaced::of(entry)))
             }
@@ -191,39 +225,21 @@ impl<A: Allocator + Copy, E: Entries<A>> RealmBroker<'_, '_, '_, '_, A, E> {
     /// Refused in this order: `Moment`, `Exhausted`, `ShareTaken`, `NoIdentifier`, `Busy`. `NoMemory` comes where
     /// a growth was refused; the realm is then as it was. A refused request and a duplicate of one
     /// that waits want no memory.
-    pub fn on_request(&mut self, now: u64, asked: RequestRef<'_>) -> Result<Answer<A>, NoMemory>
+    pub fn on_request(&mut self, now: u64, asked: RequestRef<'_>) -> Result<Turned<A>, NoMemory>
         requires realm { IsRealm E.Entries self.old }
         requires request { IsRequest self.old.settings.now (shown_request asked) }
-        ensures turn { Turns E.Entries self.old self.new result
+        ensures turn { TurnsTelling E.Entries self.old self.new result
             (λ s. on_request self.old.settings.now now s asked.entry.named
+            (shown_request asked.entry))
+            (λ s. request_happening self.old.settings.now now s asked.entry.named
             (shown_request asked.entry)) }
     {
         if now > LATEST {
-            return Ok(refused(self.numbers.alloc, Refusal::Moment));
+            return Ok(refused_turn(self.numbers.alloc, Refusal::Moment));
         }
         match self.plan_of_key(now, asked)? {
-            RequestPlan::Answered(answer) => Ok(answer),
-            RequestPlan::Admitted(way) => Ok(self.admit(now, asked, way, false)?.answer),
-        }
-    }
-
-    /// The same, with the answer twice.
-    pub fn on_request_twice(&mut self, now: u64, asked: RequestRef<'_>) -> Result<Twin<A>, NoMemory>
-        requires realm { IsRealm E.Entries self.old }
-        requires request { IsRequest self.old.settings.now (shown_request asked) }
-        ensures turn { TurnsTwice E.Entries self.old self.new result
-            (λ s. on_request self.old.settings.now now s asked.entry.named
-            (shown_request asked.entry)) }
-    {
-        let alloc = self.numbers.alloc;
-        if now > LATEST {
-            let answer = refused(alloc, Refusal::Moment);
-            let copy = refused(alloc, Refusal::Moment);
-            return Ok(Twin { answer, copy });
-        }
-        match self.plan_of_key(now, asked)? {
-            RequestPlan::Answered(answer) => answer.twice(alloc),
-            RequestPlan::Admitted(way) => Ok(self.admit(now, asked, way, true)?.into_twin()),
+            RequestPlan::Answered(turned) => Ok(turned),
+            RequestPlan::Admitted(way) => self.admit(now, asked, way),
         }
     }
 }

@@ -1,20 +1,26 @@
 //! What a tick does to a realm: each due entry is taken once, in order of deadline and ticket.
 
-ghost use Rattle.std.specs.Prelude.{◌≡◌, ℕ, ◌≤◌, ◌++◌, ◌+◌, ◌^◌, Bool, List, true, Ok};
-ghost use Rattle.std.specs.Prelude.{IfSome, is_some, length};
+ghost use Rattle.std.specs.Prelude.{◌≡◌, ℕ, ◌<◌, ◌≤◌, ◌++◌, ◌+◌, ◌^◌, List, Ok};
+ghost use Rattle.std.specs.Prelude.{IfSome, is_some, length, vec_capacity, vec_len};
+ghost use Rattle.roam_conf.specs.declared.exchange_lines.ExchangeLines.{ExchangeLines};
 ghost use Rattle.roam_pending.specs.EntryList.{find_ticket};
 ghost use Rattle.roam_pending.specs.Realms.{RealmBecomes};
 ghost use Rattle.roam_route.specs.Admission.{PlainOut};
+ghost use Rattle.roam_book.specs.Happenings.{PlainDue, due_of, keeps_given_up, tick_happening};
+ghost use Rattle.roam_book.specs.HappeningsShown.{dues_in};
 ghost use Rattle.roam_book.specs.OnTick.{on_tick, due_one};
-ghost use Rattle.roam_book.specs.Private.Memory.{HasBuffers, HasPlace, IsOuts, Tells};
-ghost use Rattle.roam_book.specs.RealmTurn.{IsRealm, Keeps, KeepsLoans, Turns, TurnsTwice, entries, state};
+ghost use Rattle.roam_book.specs.Private.Dues.{HasRequestRoom};
+ghost use Rattle.roam_book.specs.Private.Memory.{AreDues, HasBuffers, HasPlace, IsOuts};
+ghost use Rattle.roam_book.specs.RealmTurn.{IsRealm, Keeps, KeepsLoans, entries, state};
 ghost use Rattle.roam_book.specs.Rooms.{IsRoomFor, size_of};
-ghost use Rattle.roam_book.specs.Private.Fates.{HoldsNoLink, IsFateCopied, KeepsNoLink, fate_packets, fate_entries, once_held};
+ghost use Rattle.roam_book.specs.Turned.{TurnsTelling};
+ghost use Rattle.roam_book.specs.Private.Fates.{HoldsNoLink, KeepsNoLink, fate_packets, fate_entries, once_held};
 
-use crate::packets::answer::{Answer, AnswerCopies, Twin};
+use crate::packets::answer::Turned;
 use crate::packets::answer_builder::AnswerBuilder;
 use crate::packets::tick_memory::{Room, TickSlot};
 use crate::rules::due_action::{DueAction, act_on_due};
+use crate::rules::due_happening::happening_of;
 use crate::rules::requests::LATEST;
 use crate::state::realm_broker::RealmBroker;
 use roam_pending::{Done, Entries, Standing, send_again, set_standing};
@@ -54,12 +60,11 @@ impl<A: Allocator + Copy, E: Entries<A>> RealmBroker<'_, '_, '_, '_, A, E> {
         outs: &mut AnswerBuilder<A>,
     )
         requires moment { now ≤ 2 ^ 62 }
-        requires place { HasPlace outs.old }
-        requires copied { IsFateCopied outs.old.twice fate }
+        requires place { vec_len outs.old.sent < vec_capacity outs.old.sent }
         requires no_link { KeepsNoLink fate }
-        ensures outs { (places : ℕ) (twice : Bool) (packets : List PlainOut)
-            → IsOuts (places + 1) twice packets outs.old
-            → IsOuts places twice (packets ++ fate_packets fate) outs.new }
+        ensures outs { (places : ℕ) (packets : List PlainOut) → IsOuts (places + 1) packets outs.old.sent
+            → IsOuts places (packets ++ fate_packets fate) outs.new.sent }
+        ensures dues { outs.new.dues ≡ outs.old.dues }
         ensures entries { IfSome (find_ticket ticket (entries E.Entries self.old))
             (λ e. RealmBecomes self.old.settings.now.index
             (fate_entries self.old.settings.now now e (entries E.Entries self.old) fate)
@@ -95,40 +100,54 @@ impl<A: Allocator + Copy, E: Entries<A>> RealmBroker<'_, '_, '_, '_, A, E> {
         requires moment { now ≤ 2 ^ 62 }
         requires buffers { HasBuffers
             (size_of (find_ticket slot.due.ticket (entries E.Entries self.old))) slot.buffers }
-        requires copy { is_some slot.buffers.copy ≡ outs.old.twice }
+        requires request { HasRequestRoom (is_some slot.request)
+            (size_of (find_ticket slot.due.ticket (entries E.Entries self.old))) slot.request }
         requires place { HasPlace outs.old }
-        ensures outs { (places : ℕ) (twice : Bool) (packets : List PlainOut)
-            → IsOuts (places + 1) twice packets outs.old
-            → IsOuts places twice (packets ++ (due_one self.old.settings.now now
-            (state E.Entries self.old) slot.due).packets) outs.new }
+        ensures outs { (places : ℕ) (packets : List PlainOut) → IsOuts (places + 1) packets outs.old.sent
+            → IsOuts places (packets ++ (due_one self.old.settings.now now
+            (state E.Entries self.old) slot.due).packets) outs.new.sent }
+        ensures dues { (lines : ExchangeLines) (places : ℕ) (dues : List PlainDue)
+            → is_some slot.request ≡ keeps_given_up lines → AreDues (places + 1) dues outs.old.dues
+            → AreDues places (dues ++ due_of lines self.old.settings.now now (state E.Entries self.old)
+            (find_ticket slot.due.ticket (entries E.Entries self.old))) outs.new.dues }
         ensures state { state E.Entries self.new
             ≡ (due_one self.old.settings.now now (state E.Entries self.old) slot.due).state }
         ensures count { length outs.new.sent.items ≤ length outs.old.sent.items + 1 }
+        ensures due_count { length outs.new.dues.items ≤ length outs.old.dues.items + 1 }
 
         // The slots of the other entries stay large enough.
         ensures sizes { (t : ℕ) → size_of (find_ticket t (entries E.Entries self.new))
             ≤ size_of (find_ticket t (entries E.Entries self.old)) }
         ensures keeps { Keeps E.Entries self.old self.new }
     {
-        let TickSlot { due, buffers } = slot;
+        let TickSlot {
+            due,
+            buffers,
+            request,
+        } = slot;
         let Some(entry) = self.entries.find_ticket(self.settings.index(), due.ticket) else {
             return;
         };
         let fate = act_on_due(self.settings, self.numbers, now, entry, buffers);
+        outs.note(happening_of(self.settings, entry, &fate, request));
         self.apply_action(now, due.ticket, fate, outs);
     }
 
-    /// A tick, in the room that was made for this state and this moment.
-    fn tick(&mut self, now: u64, room: Room<A>) -> AnswerCopies<A>
+    /// A tick, in the room that was made for this state and this moment. Takes no memory.
+    pub fn on_tick(&mut self, now: u64, room: Room<A>) -> Turned<A>
         requires realm { IsRealm E.Entries self.old }
         requires room { IsRoomFor now (entries E.Entries self.old) room }
-        ensures turn { Tells room.outs.twice result (state E.Entries self.old)
-            (state E.Entries self.new)
-            (on_tick self.old.settings.now now (state E.Entries self.old)) }
-        ensures most { length result.answer.outs.items ≤ length room.slots.items }
-        ensures keeps { Keeps E.Entries self.old self.new }
+        ensures turn { TurnsTelling E.Entries self.old self.new (Ok result)
+            (λ s. on_tick self.old.settings.now now s)
+            (λ s. tick_happening room.lines self.old.settings.now now s) }
+        ensures most { length result.answer.outs ≤ length room.slots.items }
+        ensures few { dues_in result.happening ≤ length room.slots.items }
     {
-        let Room { slots, mut outs } = room;
+        let Room {
+            slots,
+            mut outs,
+            lines: _,
+        } = room;
         if now > LATEST {
             return outs.refused(self.numbers.alloc, Refusal::Moment);
         }
@@ -136,28 +155,5 @@ impl<A: Allocator + Copy, E: Entries<A>> RealmBroker<'_, '_, '_, '_, A, E> {
             self.due_one(now, slot, &mut outs);
         }
         outs.finish()
-    }
-
-    /// A tick, in the room that was made for this state and this moment. Takes no memory.
-    pub fn on_tick(&mut self, now: u64, room: Room<A>) -> Answer<A>
-        requires realm { IsRealm E.Entries self.old }
-        requires room { IsRoomFor now (entries E.Entries self.old) room }
-        ensures turn { Turns E.Entries self.old self.new (Ok result)
-            (λ s. on_tick self.old.settings.now now s) }
-        ensures most { length result.outs.items ≤ length room.slots.items }
-    {
-        self.tick(now, room).answer
-    }
-
-    /// The same, with the answer twice, in a room that was made for two.
-    pub fn on_tick_twice(&mut self, now: u64, room: Room<A>) -> Twin<A>
-        requires realm { IsRealm E.Entries self.old }
-        requires room { IsRoomFor now (entries E.Entries self.old) room }
-        requires twice { room.outs.twice ≡ true }
-        ensures turn { TurnsTwice E.Entries self.old self.new (Ok result)
-            (λ s. on_tick self.old.settings.now now s) }
-        ensures most { length result.answer.outs.items ≤ length room.slots.items }
-    {
-        self.tick(now, room).into_twin()
     }
 }

@@ -1,17 +1,11 @@
 //! What a realm's entries and numbers tell who looks at them. Nothing changes by it.
 
 ghost use Rattle.std.specs.Prelude.{◌≡◌, ◌≤◌, length, if◌then◌else◌};
-ghost use Rattle.roam_pending.specs.EntryList.{IsEntryList, find_link};
-ghost use Rattle.roam_pending.specs.Shown.{seen};
 ghost use Rattle.roam_book.specs.Private.Looking.{used_below};
-ghost use Rattle.roam_book.specs.Sound.{IsSound};
 
 use crate::state::realm_numbers::RealmNumbers;
-use crate::state::realm_settings::RealmSettings;
 use crate::state::rest::Rest;
-use roam_conf::Link;
 use roam_ids::LazyLane;
-use roam_pending::{Entries, Entry};
 use std::alloc::Allocator;
 
 /// How many ends at home servers a realm has at most: two at each of eight.
@@ -31,22 +25,6 @@ pub struct Gauges {
     pub in_use_at: [u16; SERVER_LINKS],
     /// How the links to each of these ends rest.
     pub rests: [Rest; SERVER_LINKS],
-}
-
-/// The entry that waits on a link with an Identifier: the link's lane has its ticket. Takes no memory.
-pub fn waiting_at<'e, A: Allocator + Copy, E: Entries<A>>(
-    settings: &RealmSettings<'_>,
-    entries: &'e E,
-    numbers: &RealmNumbers<A>,
-    link: Link,
-    id: u8,
-) -> Option<&'e Entry<A>>
-    requires sound { IsSound settings.now (E.entries_of entries.now settings.now.index) numbers.now }
-    requires list { IsEntryList (E.entries_of entries.now settings.now.index) }
-    ensures { seen result ≡ find_link link id (E.entries_of entries.now settings.now.index) }
-{
-    let ticket = numbers.holder(settings, link, id)?;
-    entries.find_ticket(settings.index(), ticket)
 }
 
 /// One, where that is so.

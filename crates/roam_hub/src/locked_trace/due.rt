@@ -2,16 +2,14 @@
 
 ghost use Rattle.std.specs.Prelude.{◌≡◌, ◌≢◌, ◌<◌, ◌↔◌, false};
 ghost use Rattle.std.specs.Prelude.{IfErr, IfNone, IfOk, IfSome, OnErr};
-ghost use Rattle.roam_shard.specs.Twins.{NothingDue};
+ghost use Rattle.roam_shard.specs.Turns.{NothingDue};
 ghost use Rattle.roam_due.specs.Moments.{IsTickMoment};
 ghost use Rattle.roam_hub.specs.Calls.{IsLook, Sees, TicksIfDue};
 
 use crate::answered::Ticked;
 use crate::call::Call;
-use crate::ended::{note_after, note_due};
 use crate::fault::HubFault;
 use crate::locked_trace::LockedTrace;
-use crate::notes::Notes;
 use roam_audit::Seat;
 use roam_due::moment_of_tick;
 use roam_history::Opened;
@@ -38,17 +36,16 @@ impl<'c, A: Allocator + Copy, N: Opened> LockedTrace<'c, A, N> {
         Some(moment_of_tick(self.traced.shard(), now))
     }
 
-    /// A tick of this shard where something is due in it, at a moment that parts what is due, and notes of what is due
-    /// then. None where nothing is: nothing is stored then.
+    /// A tick of this shard where something is due in it, at a moment that parts what is due. None where nothing is:
+    /// nothing is stored then.
     pub(crate) fn tick_if_due<R: Wait, G>(
         &mut self,
         call: Call<'_, R, G>,
         seat: &mut Seat<A, N>,
         shard: u16,
-        notes: &mut Notes<A>,
     ) -> Result<Option<Ticked<A>>, HubFault>
         requires { shard < N.opening.config.shards }
-        ensures tick { TicksIfDue N.opening shard call.entry.moment seat.old seat.new result }
+        ensures tick { TicksIfDue N.opening call.entry.lines shard call.entry.moment seat.old seat.new result }
         ensures no_shard { IfErr result (λ f. f ≢ HubFault.NoShard) }
     {
         self.check(seat, shard)?;
@@ -59,14 +56,13 @@ impl<'c, A: Allocator + Copy, N: Opened> LockedTrace<'c, A, N> {
                 Ok(None)
             }
             Some(moment) => {
-                note_due(call.rt, self.traced.shard(), moment, notes);
                 let part = Call {
                     rt: call.rt,
                     gate: call.gate,
                     moment,
+                    lines: call.lines,
                 };
                 let answered = self.tick(part, seat, shard)?;
-                note_after(self.traced.shard(), notes);
                 let is_more = self.has_due(now);
                 Ok(Some(Ticked {
                     moment,

@@ -6,11 +6,11 @@ use Rattle.roam_wire.specs.declared.refusal.Refusal.{Refusal}
 use Rattle.roam_wire.specs.declared.refusal.Refusal.TheVariants as refusal
 use Rattle.roam_book.specs.Turn.{shown_outs}
 use Rattle.roam_book.specs.declared.packets.answer.Answer.{Answer}
-use Rattle.roam_book.specs.declared.packets.answer.Twin.{Twin}
+use Rattle.roam_book.specs.declared.packets.answer.Turned.{Turned}
 
 -- an answer is this refusal, which isn't want of memory
 pub record IsRefusal {A : Type 0} (a : Answer A) (why : Refusal) : Type 0 where
-  pub outs : shown_outs a.outs.items ≡ []
+  pub outs : shown_outs a.outs ≡ []
   pub cause : a.refusal ≡ Some why
   pub differs : why ≢ refusal.NoMemory
 
@@ -19,8 +19,8 @@ abbrev pub IsLostOrRefused : {A : Type 0} → Result (Answer A) NoMemory → Ref
 IsLostOrRefused (Ok a) why = IsRefusal a why
 IsLostOrRefused (Err e) why = why ≡ refusal.NoMemory
 
--- the first of two answers, or want of memory
-abbrev pub IsFirst : {A : Type 0} → Result (Twin A) NoMemory → Result (Answer A) NoMemory → Type 0
-IsFirst (Ok twin) (Ok answer) = twin.answer ≡ answer
-IsFirst (Err e) (Err f) = Unit {0}
-IsFirst _ _ = ⊥
+-- the answer of a turn, or want of memory
+abbrev pub IsAnswerOf : {A : Type 0} → Result (Turned A) NoMemory → Result (Answer A) NoMemory → Type 0
+IsAnswerOf (Ok turned) (Ok answer) = turned.answer ≡ answer
+IsAnswerOf (Err e) (Err f) = Unit {0}
+IsAnswerOf _ _ = ⊥

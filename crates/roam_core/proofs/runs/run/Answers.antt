@@ -24,9 +24,9 @@ loop-place-preserved g c =
     ∙ ap shown_event (sym c.index-events-place.is) in
     elim c.match-step.branch [
       | in-Ok+in_ok-append_all-in-Ok w ↦
-          let all : shown_outs (c.loop-place.outs.items ++ w.in-Ok.answer.outs.items)
-          ≡ shown_outs c.loop-place.outs.items ++ shown_outs w.in-Ok.answer.outs.items =
-          map-append shown_out c.loop-place.outs.items w.in-Ok.answer.outs.items in
+          let all : shown_outs (c.loop-place.outs.items ++ w.in-Ok.answer.outs)
+          ≡ shown_outs c.loop-place.outs.items ++ shown_outs w.in-Ok.answer.outs =
+          map-append shown_out c.loop-place.outs.items w.in-Ok.answer.outs in
           rw (w.outs-is, w.lost-is, w.in_ok-append_all-in-Ok.ensures, all)
           (record {
             has_run = answered _ _ _ _ _ _ _ _ _ _ _ _ _ within at c.loop-place.invariant.has_run

@@ -1,7 +1,7 @@
 -- Few are due now, or something has been for long, or what is due is parted.
 use Rattle.std.proofs.Common.{◌≡◌, ◌<◌, ◌-◌, ℕ, true, false, inl, inr, refl, arith, subst, sym}
 use Rattle.std.proofs.lemmas.Bool.{cases_eq}
-use Rattle.roam_shard.specs.Twins.{NothingDue}
+use Rattle.roam_shard.specs.Turns.{NothingDue}
 use Rattle.roam_due.proofs.moment.moment_of_tick.Goals as goal
 
 pub returns-then-has_few_due : goal.returns-then-has_few_due

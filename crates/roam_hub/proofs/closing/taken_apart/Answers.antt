@@ -1,9 +1,9 @@
 use Rattle.std.proofs.Common.{◌≡◌, ◌++◌, ◌∷◌, [], List, length, map, refl, ap, sym, ◌∙◌, arith}
 use Rattle.std.proofs.lemmas.List.{map-append}
-use Rattle.roam_history.specs.Entries.{HistoryEntry, stored_of}
+use Rattle.roam_history.specs.Entries.{HistoryEntry}
 use Rattle.roam_history.specs.Fronts.{FrontView, entries_of}
 use Rattle.roam_audit.specs.Shown.{all_in, items_of}
-use Rattle.roam_hub.specs.Closing.{all_steps, stored_steps}
+use Rattle.roam_hub.specs.Closing.{all_steps, stored_events, stored_in}
 use Rattle.roam_hub.proofs.HubLemmas.{no_shards, none_closed, none_whole, one_more_closed, push_shards, push_whole}
 use Rattle.roam_hub.proofs.closing.taken_apart.Goals as goal
 
@@ -53,14 +53,14 @@ loop-lock-preserved g c =
     let fronts = c.loop-lock.fronts.items in
     let more = ap (λ l. all_steps l) c.push_reserved-in-loop-lock-2.ensures.items
     ∙ map-append all_in fronts (front ∷ []) in
-    let stored = ap (λ l. stored_steps l) c.push_reserved-in-loop-lock.ensures.items
+    let stored = ap (λ l. stored_events l) c.push_reserved-in-loop-lock.ensures.items
     ∙ map-append items_of c.loop-lock.steps.items (c.in_ok-shard.its_steps ∷ []) in
     let entries : entries_of (fronts ++ front ∷ []) ≡ entries_of fronts ++ front.entries ∷ [] =
     map-append (λ (f : FrontView). f.entries) fronts (front ∷ []) in
-    let all : map stored_of (entries_of (fronts ++ front ∷ [])) ≡ map stored_of (entries_of fronts)
-    ++ stored_of front.entries ∷ [] =
-    ap (λ (l : List (List HistoryEntry)). map stored_of l) entries
-    ∙ map-append stored_of (entries_of fronts) (front.entries ∷ []) in
+    let all : map stored_in (entries_of (fronts ++ front ∷ [])) ≡ map stored_in (entries_of fronts)
+    ++ stored_in front.entries ∷ [] =
+    ap (λ (l : List (List HistoryEntry)). map stored_in l) entries
+    ∙ map-append stored_in (entries_of fronts) (front.entries ∷ []) in
     record {
       closed = rw (
         c.push_reserved.ensures.items,
@@ -71,7 +71,7 @@ loop-lock-preserved g c =
       stored =
           stored
           ∙ ((λ j. inv.stored j ++ one.steps j ∷ [])
-          ∙ (sym all ∙ ap (λ (l : List FrontView). map stored_of (entries_of l))
+          ∙ (sym all ∙ ap (λ (l : List FrontView). map stored_in (entries_of l))
           (sym c.push_reserved-in-loop-lock-2.ensures.items)));
       of_shards = rw c.push_reserved-in-loop-lock-2.ensures.items
           (push_shards fronts front inv.of_shards (let n = c.loop-lock.fronts.ok.0 in

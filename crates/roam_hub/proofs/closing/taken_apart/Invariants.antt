@@ -1,14 +1,13 @@
 use Rattle.std.specs.Vec.Iter.{into_iter_items, into_iter_len}
 use Rattle.std.proofs.Common.{◌≡◌, ◌+◌, ◌≤◌, length, map, vec_len, vec_capacity}
-use Rattle.roam_history.specs.Entries.{stored_of}
 use Rattle.roam_history.specs.Fronts.{AreOfShards, AreWhole, entries_of}
-use Rattle.roam_hub.specs.Closing.{AreClosed, all_steps, stored_steps}
+use Rattle.roam_hub.specs.Closing.{AreClosed, all_steps, stored_events, stored_in}
 use Rattle.roam_hub.proofs.closing.taken_apart.Given as goal
 
 abbrev pub invariant-loop-lock : goal.invariant-loop-lock
 invariant-loop-lock g l = record {
   closed : AreClosed g.N.Opened.opening l.number l.shards.items (all_steps l.fronts.items);
-  stored : stored_steps l.steps.items ≡ map stored_of (entries_of l.fronts.items);
+  stored : stored_events l.steps.items ≡ map stored_in (entries_of l.fronts.items);
   of_shards : AreOfShards l.fronts.items;
   whole : AreWhole l.fronts.items;
   few : vec_len l.fronts ≡ l.number;

@@ -42,9 +42,9 @@ loop-realm-preserved g c =
     let here : realm < length (states_in o entries numbers) =
     omega (arith, c.loop-realm-test.true, count) in
     rw c.in_ok-push.ensures.items
-    (one-more-gathered o.config c.args.now o.shard realm (states_in o entries numbers)
+    (one-more-gathered c.args.lines o.config c.args.now o.shard realm (states_in o entries numbers)
     c.loop-realm.rooms.items c.loop-realm.most _ room
-    c.loop-realm.invariant here seen c.in_ok-room.ensures.twice c.in_ok-most.ensures)
+    c.loop-realm.invariant here seen c.in_ok-room.ensures.lines c.in_ok-most.ensures)
 
 pub returns-clause-rooms : goal.returns-clause-rooms
 returns-clause-rooms g c =
@@ -52,6 +52,9 @@ returns-clause-rooms g c =
     let numbers = c.args.numbers.now in
     let entries = c.args.entries.now in
     let count = length-states o (entries_in entries) 0 numbers in
-    all-gathered o.config c.args.now o.shard c.loop-realm.realm (states_in o entries numbers)
+    all-gathered c.args.lines o.config c.args.now o.shard c.loop-realm.realm (states_in o entries numbers)
     c.loop-realm.rooms.items c.loop-realm.most c.loop-realm.invariant
     (omega (arith, count, c.loop-realm-test.false, c.loop-realm.auto.realm-end))
+
+pub returns-clause-lines : goal.returns-clause-lines
+returns-clause-lines g c = c.loop-realm.invariant.lines

@@ -35,11 +35,12 @@ returns-clause-turn g c =
     let new = c.on_reply.new.self in
     let event = ap (event_by c.args.now (shown_job c.args.job.now)) c.link_of.ensures in
     let gives = rw c.as_slice-octets.ensures at turn.gives in
+    let given = c.answer_of.ensures.gives _ _ _ _ gives in
     realm-gives (λ k s. on_event k s (event_of c.args.now (shown_job c.args.job.now)))
-    c.on_reply.result c.args.self.now (shown b.config.now) b.realm b.entries new.entries.now
+    c.answer_of.result c.args.self.now (shown b.config.now) b.realm b.entries new.entries.now
     b.numbers new.numbers.now c.new-settings.result new.settings.now turn.rest.loans.settings
     (sym c.self.view_is) c.new-settings.ensures c.self.invariant.own_entries turn.rest.loans.keeps
-    (rw event gives)
+    (rw event given)
 
 pub returns-clause-succeeds : goal.returns-clause-succeeds
 returns-clause-succeeds g c =
@@ -47,6 +48,6 @@ returns-clause-succeeds g c =
     let event = ap (event_by c.args.now (shown_job c.args.job.now)) c.link_of.ensures in
     let calls = rw c.as_slice-octets.ensures at c.on_reply.ensures.turn.succeeds in
     own-succeeds (λ k s. on_event k s (event_of c.args.now (shown_job c.args.job.now)))
-    c.on_reply.result c.args.self.now (shown b.config.now) b.realm b.entries b.numbers
+    c.answer_of.result c.args.self.now (shown b.config.now) b.realm b.entries b.numbers
     c.new-settings.result (sym c.self.view_is) c.new-settings.ensures c.self.invariant.own_entries
-    (rw event calls)
+    (rw event (λ none. c.answer_of.ensures.ok (calls none)))

@@ -28,17 +28,18 @@ returns-clause-turn g c =
     let turn = c.on_request.ensures.turn in
     let new = c.on_request.new.self in
     let event = c.request_of_job-asked.ensures.event c.args.now in
+    let given = c.answer_of.ensures.gives _ _ _ _ turn.gives in
     realm-gives (λ k s. on_event k s (event_of c.args.now (shown_job c.args.job.now)))
-    c.on_request.result c.args.self.now (shown b.config.now) b.realm b.entries new.entries.now
+    c.answer_of.result c.args.self.now (shown b.config.now) b.realm b.entries new.entries.now
     b.numbers new.numbers.now c.new-settings.result new.settings.now turn.rest.loans.settings
     (sym c.self.view_is) c.new-settings.ensures c.self.invariant.own_entries turn.rest.loans.keeps
-    (rw event turn.gives)
+    (rw event given)
 
 pub returns-clause-succeeds : goal.returns-clause-succeeds
 returns-clause-succeeds g c =
     let b = c.self.inside in
     let event = c.request_of_job-asked.ensures.event c.args.now in
     own-succeeds (λ k s. on_event k s (event_of c.args.now (shown_job c.args.job.now)))
-    c.on_request.result c.args.self.now (shown b.config.now) b.realm b.entries b.numbers
+    c.answer_of.result c.args.self.now (shown b.config.now) b.realm b.entries b.numbers
     c.new-settings.result (sym c.self.view_is) c.new-settings.ensures c.self.invariant.own_entries
-    (rw event c.on_request.ensures.turn.succeeds)
+    (rw event (λ none. c.answer_of.ensures.ok (c.on_request.ensures.turn.succeeds none)))

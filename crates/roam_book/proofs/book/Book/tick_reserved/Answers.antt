@@ -53,7 +53,7 @@ returns-clause-turn g c =
     let turn = c.on_tick.ensures.turn in
     let new = c.on_tick.new.self in
     realm-gives (λ k s. on_tick k c.args.now s)
-    (Ok c.on_tick.result) c.args.self.now (shown b.config.now) b.realm b.entries new.entries.now
+    (Ok c.on_tick.result.answer) c.args.self.now (shown b.config.now) b.realm b.entries new.entries.now
     b.numbers new.numbers.now c.new-settings.result new.settings.now turn.rest.loans.settings
     (sym c.self.view_is) c.new-settings.ensures c.self.invariant.own_entries turn.rest.loans.keeps
-    turn.gives
+    turn.gives.answers

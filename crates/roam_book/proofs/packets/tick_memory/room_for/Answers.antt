@@ -1,22 +1,20 @@
-use Rattle.std.proofs.Common.{◌≡◌, ℕ, Bool, [], length, ap, sym, subst, arith}
+use Rattle.std.proofs.Common.{◌≡◌, ℕ, [], length, ap, subst, arith}
 use Rattle.std.proofs.lemmas.List.{length-map}
-use Rattle.roam_book.specs.Private.Memory.{IsOuts}
+use Rattle.roam_book.specs.Private.Memory.{AreDues, IsOuts}
 use Rattle.roam_book.proofs.RoomLemmas.{due-few}
 use Rattle.roam_book.proofs.packets.tick_memory.room_for.Goals as goal
 
--- there is a place for each slot's packet
+-- there is a place for each slot's packet, and for what becomes of its request
 pub returns-clause-room : goal.returns-clause-room
 returns-clause-room g c =
     let slots = c.in_ok-slots.slots in
-    let es = g.E.Entries.entries_of c.args.entries.now c.args.realm in
     let outs = c.in_ok-outs.outs in
-    let wanted : outs.twice ≡ c.args.twice = c.in_ok-outs.ensures.outs.wanted in
     let count : c.len.result ≡ length slots.items = omega (arith, slots.ok.0, c.len.ensures) in
     record {
       dues = c.in_ok-slots.ensures.dues;
-      buffers = rw wanted c.in_ok-slots.ensures.buffers;
-      outs = subst (λ (n : ℕ). IsOuts n outs.twice [] outs) count
-          (subst (λ (b : Bool). IsOuts c.len.result b [] outs) (sym wanted) c.in_ok-outs.ensures.outs);
+      buffers = c.in_ok-slots.ensures.buffers;
+      outs = subst (λ (n : ℕ). IsOuts n [] outs.sent) count c.in_ok-outs.ensures.outs;
+      noted = subst (λ (n : ℕ). AreDues n [] outs.dues) count c.in_ok-outs.ensures.dues;
     }
 
 -- at most as many are due as there are entries

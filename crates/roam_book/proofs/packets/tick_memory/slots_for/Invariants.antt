@@ -4,7 +4,7 @@ use Rattle.roam_book.proofs.RoomLemmas.{IsReading}
 use Rattle.roam_book.proofs.packets.tick_memory.slots_for.Given as goal
 
 abbrev pub invariant-loop-due : goal.invariant-loop-due
-invariant-loop-due g l = IsReading l.twice l.now (g.E.Entries.entries_of l.entries l.realm) l.slots.items
+invariant-loop-due g l = IsReading l.lines l.now (g.E.Entries.entries_of l.entries l.realm) l.slots.items
     l.last
 
 abbrev pub decreases-loop-due : goal.decreases-loop-due

@@ -5,6 +5,7 @@ use Rattle.roam_pending.specs.Shown.{shown}
 use Rattle.roam_pending.proofs.OrderLemmas.{list-without}
 use Rattle.roam_pending.proofs.ChangeLemmas.{find-without}
 use Rattle.roam_book.specs.Sound.{LanesTell}
+use Rattle.roam_book.proofs.BecameLemmas.{became-forwarded, became-gone}
 use Rattle.roam_book.proofs.FateLemmas.{IsSent, gone-freed, forwarded-freed, was-freed}
 use Rattle.roam_book.proofs.RoomLemmas.{buffers-smaller}
 use Rattle.roam_book.proofs.rules.due_action.fail_over.Goals as goal
@@ -106,3 +107,58 @@ send_new-sent-requires-clause-free g c = rw c.put_off.ensures.lanes c.in-Some.en
 
 pub send_new-sent-requires-clause-made : goal.send_new-sent-requires-clause-made
 send_new-sent-requires-clause-made g c = rw c.put_off.ensures.lanes c.in-Some.ensures.made
+
+-- what became of it: no server is left
+pub returns-in_default-clause-became : goal.returns-in_default-clause-became
+returns-in_default-clause-became g c =
+    λ es held.
+    let e = shown c.args.entry.now in
+    let freed = was-freed c.args.settings.now c.args.now c.args.link c.args.id c.args.signs es e c.args.numbers.now
+    c.give_back.new.self c.count_silence.new.self held c.requires.waits
+    (record {
+      cursors = c.give_back.ensures.cursors;
+      tells = c.give_back.ensures.tells;
+      count = c.give_back.ensures.keeps.count;
+      ticket = c.give_back.ensures.keeps.ticket;
+      stream_position = c.give_back.ensures.keeps.stream_position;
+      sessions = c.give_back.ensures.keeps.sessions;
+      rests = c.give_back.ensures.keeps.rests;
+      marks = c.give_back.ensures.marks;
+    })
+    (record {
+      lanes = c.count_silence.ensures.lanes;
+      ticket = c.count_silence.ensures.ticket;
+      stream_position = c.count_silence.ensures.stream_position;
+      sessions = c.count_silence.ensures.sessions;
+      rests = c.count_silence.ensures.rests;
+    }) in
+    became-gone c.args.settings.now c.args.now es e c.args.numbers.now c.count_silence.new.self
+    c.args.link c.args.signs c.give_up.result held freed c.in_default.ensures.chosen c.give_up.ensures.became
+
+-- or it goes to the target that was found
+pub returns-clause-became : goal.returns-clause-became
+returns-clause-became g c =
+    λ es held.
+    let e = shown c.args.entry.now in
+    let freed = was-freed c.args.settings.now c.args.now c.args.link c.args.id c.args.signs es e c.args.numbers.now
+    c.give_back.new.self c.count_silence.new.self held c.requires.waits
+    (record {
+      cursors = c.give_back.ensures.cursors;
+      tells = c.give_back.ensures.tells;
+      count = c.give_back.ensures.keeps.count;
+      ticket = c.give_back.ensures.keeps.ticket;
+      stream_position = c.give_back.ensures.keeps.stream_position;
+      sessions = c.give_back.ensures.keeps.sessions;
+      rests = c.give_back.ensures.keeps.rests;
+      marks = c.give_back.ensures.marks;
+    })
+    (record {
+      lanes = c.count_silence.ensures.lanes;
+      ticket = c.count_silence.ensures.ticket;
+      stream_position = c.count_silence.ensures.stream_position;
+      sessions = c.count_silence.ensures.sessions;
+      rests = c.count_silence.ensures.rests;
+    }) in
+    became-forwarded c.args.settings.now c.args.now es e c.args.numbers.now c.count_silence.new.self
+    c.args.link c.in-Some.target c.args.signs c.send_new-sent.result.0 c.send_new-sent.result.1 _ _ _ _ _ held freed
+    c.in-Some.ensures.chosen c.send_new-sent.ensures.standing

@@ -1,12 +1,10 @@
-use Rattle.std.proofs.Common.{◌≡◌, ap, ◌∙◌, arith}
+use Rattle.std.proofs.Common.{ap, ◌∙◌, arith}
 use Rattle.roam_pending.specs.Shown.{shown}
 use Rattle.roam_reverse.specs.declared.error_cause.TheConstants.{OTHER_PROXY_PROCESSING_ERROR}
 use Rattle.roam_wire.specs.Reading.{packet_of}
-use Rattle.roam_route.specs.Admission.{PlainOut}
-use Rattle.roam_route.specs.Shown.{shown_out}
 use Rattle.roam_book.specs.OnRequest.{packet_to_requester}
 use Rattle.roam_book.specs.Private.Fates.{held_for}
-use Rattle.roam_book.proofs.NakLemmas.{copy-less, gives-up, length-nak_octets, nak-written, refused-fits, room-for-nak, room-less}
+use Rattle.roam_book.proofs.NakLemmas.{gives-up, length-nak_octets, nak-written, refused-fits, room-for-nak, room-less}
 use Rattle.roam_book.proofs.rules.due_action.refuse.Goals as goal
 
 -- the NAK fits into a packet, and into the buffers
@@ -35,19 +33,6 @@ copied_into-requires g c =
     (c.of_packet-request.ensures ∙ ap packet_of c.as_slice.ensures) in
     rw is (room-less _ _ c.args.buffers.kept c.requires.buffers.kept fits)
 
-pub new-requires : goal.new-requires
-new-requires g c =
-    let fits = length-nak_octets c.args.settings.now (shown c.args.entry.now).request
-    OTHER_PROXY_PROCESSING_ERROR c.requires.request c.requires.reverse in
-    let bytes : c.packet_to_requester-out.result.bytes ≡ c.from_vec.result =
-    ap (λ (o : PlainOut). o.bytes) c.packet_to_requester-out.ensures in
-    let is = bytes ∙ c.from_vec.ensures ∙ nak-written c.args.settings.now (shown c.args.entry.now).request
-    OTHER_PROXY_PROCESSING_ERROR c.args.buffers.sent.items c.nak_reserved.new.out.items
-    c.secret_of_requester-secret.result.now c.of_packet-request.result c.nak_reserved.ensures.octets
-    c.requires.buffers.sent.empty c.secret_of_requester-secret.ensures.text
-    (c.of_packet-request.ensures ∙ ap packet_of c.as_slice.ensures) in
-    record { copy = rw is (copy-less _ _ c.args.buffers.copy c.requires.buffers.copy fits) }
-
 pub returns-clause-fate : goal.returns-clause-fate
 returns-clause-fate g c =
     let e = shown c.args.entry.now in
@@ -57,8 +42,8 @@ returns-clause-fate g c =
     c.secret_of_requester-secret.result.now c.of_packet-request.result c.nak_reserved.ensures.octets
     c.requires.buffers.sent.empty c.secret_of_requester-secret.ensures.text
     (c.of_packet-request.ensures ∙ ap packet_of c.as_slice.ensures) in
-    let out = ap shown_out c.new.ensures.out ∙ c.packet_to_requester-out.ensures
+    let out = c.packet_to_requester-out.ensures
     ∙ ap (packet_to_requester config e.request.key) (c.from_vec.ensures ∙ is) in
     let held = c.held_for-held.ensures.held
     ∙ ap (held_for config c.args.now) (c.copied_into.ensures ∙ c.as_slice-2.ensures.value ∙ is) in
-    gives-up config c.args.now e c.new.result c.held_for-held.result c.requires.reverse out held
+    gives-up config c.args.now e c.packet_to_requester-out.result c.held_for-held.result c.requires.reverse out held

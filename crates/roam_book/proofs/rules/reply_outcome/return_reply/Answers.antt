@@ -1,39 +1,68 @@
-use Rattle.std.proofs.Common.{ℕ, List, ap}
-use Rattle.std.specs.Prelude.{Err}
+use Rattle.std.proofs.Common.{◌≡◌, ℕ, List, Option, ap, subst}
+use Rattle.std.specs.Prelude.{Err, IfOk}
 use Rattle.std.proofs.lemmas.Result.{IfOk-weaker}
 use Rattle.roam_pending.specs.PlainEntry.{PlainEntry}
 use Rattle.roam_pending.specs.Shown.{shown}
+use Rattle.roam_book.specs.Happenings.{PlainWaited, returned_for}
+use Rattle.roam_book.specs.HappeningsShown.{shown_happening, shown_waited}
 use Rattle.roam_book.specs.OnReply.{return_reply}
 use Rattle.roam_book.specs.Private.Judged.{IsVerdict, returns_octets}
-use Rattle.roam_book.proofs.ReplyLemmas.{long-turn, returned-turn, same-verdict}
+use Rattle.roam_book.proofs.ReplyLemmas.{answered-at, long-turn, returned-turn, same-verdict}
 use Rattle.roam_book.proofs.rules.reply_outcome.return_reply.Goals as goal
 
 -- the packet fits, and is sent and held
-pub returns-in-Ok-clause-turn : goal.returns-in-Ok-clause-turn
-returns-in-Ok-clause-turn g c =
+pub returns-in_ok-waited-in-Ok-clause-turn : goal.returns-in_ok-waited-in-Ok-clause-turn
+returns-in_ok-waited-in-Ok-clause-turn g c =
     let e : PlainEntry = shown c.args.entry.now in
     let octets : List ℕ = c.in-Ok.packet.items in
+    let config = c.args.judging.now.settings.now in
+    let link = c.args.waiting.now.link in
+    let at = answered-at e _ (shown_waited c.in_ok-waited-in-Ok.waited) link c.args.waiting.now.id
+    c.args.waiting.now.forwarded c.args.waiting.now.sends_left c.args.waiting.now.deadline c.args.waiting.now.signs
+    c.in_ok-waited-in-Ok.ensures in
     IfOk-weaker c.return_packet.result
-    (λ v. (x : PlainEntry) → IsVerdict c.args.judging.now.settings.now v x c.args.link
-    (λ s. returns_octets c.args.judging.now.settings.now c.args.judging.now.moment e.request.key
-    c.counted_peer-counted.result octets x c.args.link s))
-    (λ v. IsVerdict c.args.judging.now.settings.now v e c.args.link
-    (λ s. return_reply c.args.judging.now.settings.now c.args.judging.now.moment s e c.args.link
-    c.args.forwarded.now c.args.judging.now.reply.now))
-    (λ v h s. same-verdict c.args.judging.now.settings.now v e c.args.link s _ _ (h e s)
-    (returned-turn c.args.judging.now.settings.now c.args.judging.now.moment s e c.args.link c.args.forwarded.now
-    c.args.judging.now.reply.now
-    c.counted_peer-counted.result octets
+    (λ v. (x : PlainEntry) → IsVerdict config v x link
+    (λ s. returns_octets config c.args.judging.now.moment e.request.key
+    c.counted_peer-counted.result octets x link s))
+    (λ v. IsVerdict config v e link
+    (λ s. return_reply config c.args.judging.now.moment s e link c.args.forwarded.now c.args.judging.now.reply.now))
+    (λ v h s. same-verdict config v e link s _ _ (h e s)
+    (returned-turn config c.args.judging.now.moment s e link c.args.forwarded.now
+    c.args.judging.now.reply.now c.counted_peer-counted.result octets
     (λ lt. absurd (let k = c.in-Ok.ensures.too_long.1 lt in cc)) c.in-Ok.ensures.octets
     c.counted_peer-counted.ensures))
-    c.return_packet.ensures
+    (rw (at.0, at.1) at c.return_packet.ensures.verdict)
+
+-- for the request that waited
+pub returns-in_ok-waited-in-Ok-clause-happening : goal.returns-in_ok-waited-in-Ok-clause-happening
+returns-in_ok-waited-in-Ok-clause-happening g c = λ s.
+    let e : PlainEntry = shown c.args.entry.now in
+    let octets : List ℕ = c.in-Ok.packet.items in
+    let config = c.args.judging.now.settings.now in
+    let link = c.args.waiting.now.link in
+    let turn = returned-turn config c.args.judging.now.moment s e link c.args.forwarded.now
+    c.args.judging.now.reply.now c.counted_peer-counted.result octets
+    (λ lt. absurd (let k = c.in-Ok.ensures.too_long.1 lt in cc)) c.in-Ok.ensures.octets
+    c.counted_peer-counted.ensures in
+    rw (← turn) (subst (λ (o : Option PlainWaited). IfOk c.return_packet.result
+    (λ v. shown_happening v.happening ≡ returned_for c.args.judging.now.reply.now.code o))
+    (rw c.code-code.ensures at c.in_ok-waited-in-Ok.ensures) c.return_packet.ensures.happening)
 
 -- the packet doesn't fit
 pub returns-in-Err-ReplyTooLong-clause-turn : goal.returns-in-Err-ReplyTooLong-clause-turn
 returns-in-Err-ReplyTooLong-clause-turn g c =
     let e : PlainEntry = shown c.args.entry.now in
     let long = c.in-Err-ReplyTooLong.ensures.too_long.0 (ap Err c.in-Err-ReplyTooLong.field-0-is) in
-    λ s. same-verdict c.args.judging.now.settings.now c.only_heard.result e c.args.link s _ _
-    (c.only_heard.ensures c.args.judging.now.settings.now e c.args.link s)
-    (long-turn c.args.judging.now.settings.now c.args.judging.now.moment s e c.args.link c.args.forwarded.now
+    let config = c.args.judging.now.settings.now in
+    λ s. same-verdict config c.only_heard.result e c.args.waiting.now.link s _ _
+    (c.only_heard.ensures.verdict config e c.args.waiting.now.link s)
+    (long-turn config c.args.judging.now.moment s e c.args.waiting.now.link c.args.forwarded.now
     c.args.judging.now.reply.now long)
+
+pub returns-in-Err-ReplyTooLong-clause-happening : goal.returns-in-Err-ReplyTooLong-clause-happening
+returns-in-Err-ReplyTooLong-clause-happening g c = λ s.
+    let e : PlainEntry = shown c.args.entry.now in
+    let long = c.in-Err-ReplyTooLong.ensures.too_long.0 (ap Err c.in-Err-ReplyTooLong.field-0-is) in
+    let turn = long-turn c.args.judging.now.settings.now c.args.judging.now.moment s e c.args.waiting.now.link
+    c.args.forwarded.now c.args.judging.now.reply.now long in
+    rw (← turn) c.only_heard.ensures.happening

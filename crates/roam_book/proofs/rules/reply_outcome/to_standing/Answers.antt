@@ -24,6 +24,11 @@ pub returns-in-Done-clause-turn : goal.returns-in-Done-clause-turn
 returns-in-Done-clause-turn g c =
     let e : PlainEntry = shown c.args.entry.now in
     λ l i waits s. same-verdict c.args.settings.now c.not_taken.result e l s _ _
-    (c.not_taken.ensures c.args.settings.now e l s)
+    (c.not_taken.ensures.verdict c.args.settings.now e l s)
     (ap (λ (st : PlainStanding). to_standing c.args.settings.now c.args.now s e c.args.reply.now st)
     (ap shown_standing (sym c.in-Done.is)))
+
+-- what happened is said of the entry as it stands
+pub returns-in-Waiting-clause-happening : goal.returns-in-Waiting-clause-happening
+returns-in-Waiting-clause-happening g c = λ s.
+    rw (ap shown_standing c.in-Waiting.is) (c.outcome_of.ensures.happening s)

@@ -70,7 +70,7 @@ pub returns-clause-packets : goal.returns-clause-packets
 returns-clause-packets g c =
     let inv = c.loop-room.invariant in
     let none = nothing-left (into_iter_items c.loop-room.room-iterator) (sym inv.left ∙ c.in-None.ensures.steps.0) in
-    (ticking-end _ _ _ _ _ _ _ _ none inv.ticking).packets
+    ap shown_outs c.of_vec.ensures ∙ (ticking-end _ _ _ _ _ _ _ _ none inv.ticking).packets
 
 pub returns-clause-states : goal.returns-clause-states
 returns-clause-states g c =

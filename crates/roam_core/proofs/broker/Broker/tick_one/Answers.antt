@@ -5,13 +5,14 @@ use Rattle.roam_conf.specs.Shown.{shown}
 use Rattle.roam_route.specs.Admission.{PlainOut}
 use Rattle.roam_route.specs.Shown.{shown_out}
 use Rattle.roam_book.specs.BookView.{BookView}
-use Rattle.roam_book.specs.Rooms.{only_done_due}
+use Rattle.roam_book.specs.RealmState.{RealmState}
+use Rattle.roam_book.specs.Rooms.{IsRoomFor, only_done_due}
 use Rattle.roam_book.specs.Turn.{Turn, packets_of, shown_outs, state_after}
 use Rattle.roam_core.specs.BrokerView.{BrokerView, states_of}
 use Rattle.roam_core.specs.Events.{is_in_shard}
 use Rattle.roam_core.specs.ManyRealms.{state_at, tick_of}
-use Rattle.roam_core.specs.ShardRooms.{wants_room}
-use Rattle.roam_core.proofs.BookLemmas.{broker-set, tick-of-book, state-of-tick}
+use Rattle.roam_core.specs.ShardRooms.{Fits, wants_room}
+use Rattle.roam_core.proofs.BookLemmas.{broker-set, state-of-book, state-of-tick, tick-of-book}
 use Rattle.roam_core.proofs.ShardLemmas.{only_lets_go, takes_part}
 use Rattle.roam_core.proofs.broker.Broker.tick_one.Goals as goal
 
@@ -53,6 +54,21 @@ own g c =
     (wants_room v.config c.args.now c.args.shard c.args.realm entries) refl
     (sym c.requires.room.part ∙ ap is_some c.in-Some.is)
 
+pub tick_reserved-answer-requires : goal.tick_reserved-answer-requires
+tick_reserved-answer-requires g c =
+    let books = c.self.inside.books.items in
+    let count = length-map books (λ (b : BookView). b.state) in
+    let same = ap (λ (v : BrokerView). length v.states) c.self.view_is in
+    let lt : c.args.realm < length books = omega (arith, count, same, c.requires.there) in
+    let given = subst (λ r. Fits c.args.now (state_at c.args.self.now.states c.args.realm).entries r) c.in-Some.is
+    c.requires.room.fits in
+    let here = subst (λ (v : BrokerView). IsRoomFor c.args.now (state_at v.states c.args.realm).entries c.in-Some.room)
+    (sym c.self.view_is) given in
+    record {
+      room = subst (λ (s : RealmState). IsRoomFor c.args.now s.entries c.in-Some.room)
+          (state-of-book books c.args.realm c.index_mut.result.now lt c.index_mut.ensures.value) here;
+    }
+
 pub invariant_of-self : goal.invariant_of-self
 invariant_of-self g c =
     broker-set (shown c.self.inside.config.now) c.self.inside.books.items c.args.realm c.index_mut.result.now
@@ -66,10 +82,10 @@ returns-clause-packets g c =
     let here = tick-of-book (shown c.self.inside.config.now) c.self.inside.books.items c.args.realm
     c.index_mut.result.now c.args.now c.args.shard c.self.invariant (within g c) c.index_mut.ensures.value
     (own g c) in
-    let there = subst (λ (v : BrokerView). shown_outs answer.outs.items
+    let there = subst (λ (v : BrokerView). shown_outs answer.outs
     ≡ packets_of (tick_of v.config c.args.now c.args.shard c.args.realm (state_at v.states c.args.realm)))
     c.self.view_is (c.tick_reserved-answer.ensures.turn.packets ∙ ap packets_of here) in
-    ap shown_outs c.append_reserved.ensures.items ∙ map-append shown_out outs answer.outs.items
+    ap shown_outs c.append_reserved.ensures.items ∙ map-append shown_out outs answer.outs
     ∙ ap (λ (l : List PlainOut). shown_outs outs ++ l) there
 
 pub returns-clause-states : goal.returns-clause-states

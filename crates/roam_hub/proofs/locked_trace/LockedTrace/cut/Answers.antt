@@ -2,13 +2,13 @@
 use Rattle.std.proofs.Common.{◌≡◌, ℕ, List, ap, subst, sym, ◌∙◌}
 use Rattle.roam_shard.specs.ShardView.{OpeningView}
 use Rattle.roam_trace.specs.History.{IsHistory, end_of}
-use Rattle.roam_trace.specs.Steps.{PlainStep}
+use Rattle.roam_trace.specs.Steps.{PlainStep, events_of}
 use Rattle.roam_history.specs.Entries.{IsWhole, steps_in, stored_of}
 use Rattle.roam_history.specs.Fronts.{FrontView}
 use Rattle.roam_history.specs.HubOpening.{opening_at}
 use Rattle.roam_history.proofs.EntryLemmas.{closed-stored, is_whole_closed}
 use Rattle.roam_hub.specs.Keeping.{KeptView}
-use Rattle.roam_hub.proofs.KeptLemmas.{whole_end, whole_history, whole_steps}
+use Rattle.roam_hub.proofs.KeptLemmas.{events_kept, whole_end, whole_history, whole_steps}
 use Rattle.roam_hub.proofs.locked_trace.LockedTrace.cut.Goals as goal
 
 pub returns-clause-its_shard : goal.returns-clause-its_shard
@@ -44,10 +44,12 @@ returns-clause-history g c =
 
 pub returns-clause-steps : goal.returns-clause-steps
 returns-clause-steps g c =
+    let i = c.self.inside in
+    let k : KeptView = record { trace = i.traced; front = i.front } in
     c.cut-shard.ensures.steps
-    ∙ (c.self.invariant.0.stored
-    ∙ (sym (closed-stored c.self.inside.front.entries)
-    ∙ sym (ap (λ (f : FrontView). stored_of f.entries) c.closed-whole.ensures)))
+    ∙ (events_kept g.N.Opened.opening k c.self.invariant.0
+    ∙ (ap (λ (l : List PlainStep). events_of l) (sym (closed-stored i.front.entries))
+    ∙ sym (ap (λ (f : FrontView). events_of (stored_of f.entries)) c.closed-whole.ensures)))
 
 pub returns-clause-shard : goal.returns-clause-shard
 returns-clause-shard g c =

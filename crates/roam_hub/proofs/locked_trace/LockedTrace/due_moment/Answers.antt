@@ -1,7 +1,7 @@
 -- What is due in the shard is due in the trace.
 use Rattle.std.proofs.Common.{◌≡◌, false, List, subst, sym}
 use Rattle.roam_book.specs.RealmState.{RealmState}
-use Rattle.roam_shard.specs.Twins.{NothingDue}
+use Rattle.roam_shard.specs.Turns.{NothingDue}
 use Rattle.roam_due.specs.Moments.{IsTickMoment}
 use Rattle.roam_hub.specs.Keeping.{KeptView}
 use Rattle.roam_hub.proofs.locked_trace.LockedTrace.due_moment.Goals as goal

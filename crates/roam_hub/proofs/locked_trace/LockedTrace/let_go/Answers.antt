@@ -1,7 +1,7 @@
 -- The stored steps are let go of, and the history says so.
 use Rattle.std.proofs.Common.{◌≡◌, ℕ, ◌++◌, ◌∷◌, [], length, ap, sym, subst, ◌∙◌, arith}
 use mathlib.Core.List.{IsPrefix}
-use Rattle.roam_trace.specs.History.{Ends, TraceView, without_steps}
+use Rattle.roam_trace.specs.History.{Ends, TraceView, stored_steps, without_steps}
 use Rattle.roam_history.specs.Entries.{gone_of, let_go_entry}
 use Rattle.roam_history.specs.Fronts.{FrontView}
 use Rattle.roam_audit.specs.Seats.{after_letting_go, front_of}
@@ -40,8 +40,8 @@ invariant_of-self g c =
     let after : FrontView = record { shard = i.front.shard; entries = es ++ let_go_entry ∷ [] } in
     let gone : c.let_go-steps.new.self ≡ without_steps i.traced = c.let_go-steps.ensures.gone in
     let first = o.states i.front.shard in
-    let ends : Ends (without_steps i.traced) first (gone_of es ++ i.traced.steps) =
-    subst (λ (v : TraceView). Ends v first (gone_of es ++ i.traced.steps)) gone
+    let ends : Ends (without_steps i.traced) first (gone_of es ++ stored_steps i.traced first (gone_of es)) =
+    subst (λ (v : TraceView). Ends v first (gone_of es ++ stored_steps i.traced first (gone_of es))) gone
     (c.let_go-steps.ensures.history first (gone_of es) c.self.invariant.0.ends) in
     let one : IsKept o (record { trace = without_steps i.traced; front = after }) = kept_gone o k c.self.invariant.0
     (let same = ap (λ (v : KeptView). length v.front.entries) c.self.view_is in

@@ -1,7 +1,7 @@
 -- Something was due where the shard stands, at the end of its history, or nothing.
 use Rattle.std.proofs.Common.{◌≡◌, ◌↔◌, ℕ, ◌++◌, ◌∷◌, [], List, false, Ok, Err, ap, refl, sym, subst, ◌∙◌}
 use Rattle.roam_book.specs.RealmState.{RealmState}
-use Rattle.roam_shard.specs.Twins.{NothingDue}
+use Rattle.roam_shard.specs.Turns.{NothingDue}
 use mathlib.Core.List.{IsPrefix}
 use Rattle.roam_due.specs.Moments.{IsTickMoment}
 use Rattle.roam_trace.specs.History.{end_of}
@@ -69,6 +69,7 @@ returns-in_ok-answered-in-Some-clause-tick g c =
     (sym c.in_ok-answered-in-Some.ensures.all) in
     record {
       tick = record {
+        happened = c.in_ok-answered-in-Some.ensures.happened;
         call = call;
         more =
             subst (λ (t : List RealmState). c.has_due-is_more.result ≡ false

@@ -3,7 +3,7 @@ use Rattle.std.proofs.Common.{ap, sym, subst, arith, length}
 use Rattle.std.proofs.lemmas.List.{length-map}
 use Rattle.roam_conf.specs.Parts.{shown_realm}
 use Rattle.roam_shard.specs.ShardView.{ShardView, shown_opening, states_in}
-use Rattle.roam_shard.specs.Twins.{NothingDue}
+use Rattle.roam_shard.specs.Turns.{NothingDue}
 use Rattle.roam_shard.proofs.shard.Shard.is_due.Goals as goal
 
 pub any_due-requires : goal.any_due-requires

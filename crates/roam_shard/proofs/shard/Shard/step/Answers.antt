@@ -9,6 +9,7 @@ use Rattle.roam_route.specs.Shown.{shown_job}
 use Rattle.roam_route.proofs.EventLemmas.{event_realm}
 use Rattle.roam_tables.proofs.RealmLemmas.{get-read}
 use Rattle.roam_wire.specs.Packet.{AreOctets}
+use Rattle.roam_book.specs.Happenings.{event_happening}
 use Rattle.roam_book.specs.OneRealm.{event_of, on_event}
 use Rattle.roam_book.specs.RealmConfig.{realm_config}
 use Rattle.roam_book.specs.Turn.{Turn, packets_of}
@@ -125,7 +126,8 @@ returns-clause-turn g c =
     shard_seen (shown_opening i.opening) i.entries i.numbers.items c.self.invariant c.from.result
     c.in-Some.numbers at c.new-settings.result own
     new.entries.now new.numbers.now new.settings.now turn.rest.loans.settings turn.rest.loans.keeps
-    turn.rest.others (λ x s. on_event x s (event_of c.args.now job)) c.handle_job.result
+    turn.rest.others (λ x s. on_event x s (event_of c.args.now job))
+    (λ x s. event_happening c.args.lines x s (event_of c.args.now job)) c.handle_job.result
     c.args.self.now c.self.view_is c.args.job.now.realm c.from.ensures _ refl turn.gives
 
 -- where its turn sends nothing no memory is wanted

@@ -1,15 +1,18 @@
 -- All rooms first, then the tick in them.
-use Rattle.std.proofs.Common.{◌≡◌, ◌<◌, ◌≤◌, ◌^◌, [], true, false, ap, sym, subst, ◌∙◌, arith, length}
+use Rattle.std.proofs.Common.{◌≡◌, ◌<◌, ◌≤◌, ◌^◌, [], true, false, ap, sym, subst, ◌∙◌, arith, length, refl}
 use Rattle.std.proofs.lemmas.List.{length-map}
 use Rattle.roam_conf.specs.Parts.{shown_realm}
+use Rattle.roam_book.specs.HappeningsShown.{shown_dues}
 use Rattle.roam_book.specs.Turn.{shown_outs}
+use Rattle.roam_core.specs.HappeningsTo.{dues_from}
 use Rattle.roam_core.specs.ManyRealms.{AllRealms, tick_from}
 use Rattle.roam_core.specs.ShardRooms.{AreRooms, only_done_from}
 use Rattle.roam_core.proofs.ShardLemmas.{ticked}
 use Rattle.roam_shard.specs.ShardView.{HaveNumbers, ShardView, shown_opening, states_in}
-use Rattle.roam_shard.specs.Twins.{NothingDue}
+use Rattle.roam_shard.specs.Turns.{NothingDue}
 use Rattle.roam_shard.proofs.DueLemmas.{nothing_ticked}
-use Rattle.roam_shard.proofs.TickLemmas.{too_late}
+use Rattle.roam_shard.proofs.QuietLemmas.{none_due_from, quiet_from}
+use Rattle.roam_shard.proofs.TickLemmas.{early_happened, late_happened, too_late}
 use Rattle.roam_shard.proofs.shard.Shard.tick.Goals as goal
 
 pub returns-then-now-gt-LATEST-clause-turn : goal.returns-then-now-gt-LATEST-clause-turn
@@ -18,12 +21,13 @@ returns-then-now-gt-LATEST-clause-turn g c =
     c.self.invariant.there in
     let late : 2 ^ 62 < c.args.now = omega (arith, c.if-now-gt-LATEST.true) in
     let o = c.args.self.now.opening in
-    let told = c.refused_twice.ensures in (
-      too_late c.refused_twice.result.answer o.config c.args.self.now.states c.args.now o.shard
-          there late told.outs told.refusal,
-      too_late c.refused_twice.result.copy o.config c.args.self.now.states c.args.now o.shard there
-          late told.copies told.copy_refusal,
-    )
+    let told = c.refused_turn.ensures in
+    record {
+      answer = too_late c.refused_turn.result.answer o.config c.args.self.now.states c.args.now o.shard
+          there late told.outs told.refusal;
+      happened = told.happening
+          ∙ late_happened c.args.lines o.config c.args.self.now.states c.args.now o.shard there late;
+    }
 
 -- with nothing due nothing is sent, and nothing changes
 pub returns-then-not-any_due-clause-turn : goal.returns-then-not-any_due-clause-turn
@@ -43,19 +47,22 @@ returns-then-not-any_due-clause-turn g c =
     let states : c.args.self.now.states
     ≡ (tick_from o.config c.args.now o.shard 0 c.args.self.now.states).states =
     ap (λ (x : AllRealms). x.states) (sym all) in
-    let sent : shown_outs c.into_twin.result.answer.outs.items ≡ [] =
-    ap (λ v. shown_outs v.items) c.into_twin.ensures.sent
+    let sent : shown_outs c.into_turned.result.answer.outs ≡ [] =
+    ap shown_outs c.into_turned.ensures.sent
     ∙ ap (λ l. shown_outs l) c.none.ensures.sent in
-    let copies : shown_outs c.into_twin.result.copy.outs.items ≡ [] =
-    ap (λ v. shown_outs v.items) c.into_twin.ensures.copies
-    ∙ ap (λ l. shown_outs l) c.none.ensures.copies in (
-      ticked c.into_twin.result.answer o.config c.args.self.now.states c.args.self.now.states
+    let dues : shown_dues c.none.result.dues.items ≡ dues_from c.args.lines o.config c.args.now o.shard 0
+    c.args.self.now.states =
+    ap (λ l. shown_dues l) c.none.ensures.dues
+    ∙ sym (quiet_from c.args.lines o.config c.args.now o.shard 0 c.args.self.now.states
+    (none_due_from o.config c.args.now o.shard 0 c.args.self.now.states quiet)) in
+    record {
+      answer = ticked c.into_turned.result.answer o.config c.args.self.now.states c.args.self.now.states
           c.args.now o.shard there (omega (arith, c.if-now-gt-LATEST.false)) (sent ∙ packets)
-          c.into_twin.ensures.refusal states,
-      ticked c.into_twin.result.copy o.config c.args.self.now.states c.args.self.now.states
-          c.args.now o.shard there (omega (arith, c.if-now-gt-LATEST.false)) (copies ∙ packets)
-          c.into_twin.ensures.copy_refusal states,
-    )
+          c.into_turned.ensures.refusal states;
+      happened = c.into_turned.ensures.happening
+          ∙ early_happened c.args.lines o.config c.args.self.now.states c.args.now o.shard _ there
+          (omega (arith, c.if-now-gt-LATEST.false)) dues;
+    }
 
 pub any_due-requires : goal.any_due-requires
 any_due-requires g c =
@@ -94,18 +101,27 @@ returns-then-all_done-clause-turn g c =
     c.self.invariant.there in
     let early : c.args.now ≤ 2 ^ 62 = omega (arith, c.if-now-gt-LATEST.false) in
     let gone = c.let_go.ensures in
-    let sent : shown_outs c.into_twin-then-all_done.result.answer.outs.items ≡ [] =
-    ap (λ v. shown_outs v.items) c.into_twin-then-all_done.ensures.sent
+    let sent : shown_outs c.into_turned-then-all_done.result.answer.outs ≡ [] =
+    ap shown_outs c.into_turned-then-all_done.ensures.sent
     ∙ ap (λ l. shown_outs l) c.none-then-all_done.ensures.sent in
-    let copies : shown_outs c.into_twin-then-all_done.result.copy.outs.items ≡ [] =
-    ap (λ v. shown_outs v.items) c.into_twin-then-all_done.ensures.copies
-    ∙ ap (λ l. shown_outs l) c.none-then-all_done.ensures.copies in (
-      ticked c.into_twin-then-all_done.result.answer o.config states c.let_go.new.self.states c.args.now o.shard
-          there early (sent ∙ sym gone.packets) c.into_twin-then-all_done.ensures.refusal (sym gone.states),
-      ticked c.into_twin-then-all_done.result.copy o.config states c.let_go.new.self.states c.args.now o.shard
-          there early (copies ∙ sym gone.packets) c.into_twin-then-all_done.ensures.copy_refusal
-          (sym gone.states),
-    )
+    let own = subst (λ ns. HaveNumbers (shown_opening c.self.inside.opening) ns) (sym c.deref-2.ensures.value)
+    c.self.invariant.own in
+    let done = sym (c.all_done.ensures (shown_opening c.self.inside.opening) own
+    ∙ ap (λ ns. only_done_from (shown_opening c.self.inside.opening).config c.args.now
+    (shown_opening c.self.inside.opening).shard 0
+    (states_in (shown_opening c.self.inside.opening) c.self.inside.entries ns)) c.deref-2.ensures.value
+    ∙ ap (λ (v : ShardView).
+    only_done_from v.opening.config c.args.now v.opening.shard 0 v.states) c.self.view_is) ∙ c.if-all_done.true in
+    let dues : shown_dues c.none-then-all_done.result.dues.items ≡ dues_from c.args.lines o.config c.args.now o.shard 0
+    states =
+    ap (λ l. shown_dues l) c.none-then-all_done.ensures.dues
+    ∙ sym (quiet_from c.args.lines o.config c.args.now o.shard 0 states done) in
+    record {
+      answer = ticked c.into_turned-then-all_done.result.answer o.config states c.let_go.new.self.states c.args.now
+          o.shard there early (sent ∙ sym gone.packets) c.into_turned-then-all_done.ensures.refusal (sym gone.states);
+      happened = c.into_turned-then-all_done.ensures.happening
+          ∙ early_happened c.args.lines o.config states c.args.now o.shard _ there early dues;
+    }
 
 -- memory is wanted only where an entry is due that waits
 pub returns-in_err-room-clause-only_done : goal.returns-in_err-room-clause-only_done
@@ -152,9 +168,11 @@ returns-clause-turn g c =
     let there = subst (λ (v : ShardView). v.opening.shard < v.opening.config.shards) c.self.view_is
     c.self.invariant.there in
     let early : c.args.now ≤ 2 ^ 62 = omega (arith, c.if-now-gt-LATEST.false) in
-    let told = c.tick_in.ensures in (
-      ticked c.tick_in.result.answer o.config states c.tick_in.new.self.states c.args.now o.shard there early
-          told.packets told.refusal told.states,
-      ticked c.tick_in.result.copy o.config states c.tick_in.new.self.states c.args.now o.shard there early
-          told.copies told.copy_refusal told.states,
-    )
+    let told = c.tick_in.ensures in
+    let lines = c.in_ok-room.ensures.lines in
+    record {
+      answer = ticked c.tick_in.result.answer o.config states c.tick_in.new.self.states c.args.now o.shard there early
+          told.packets told.refusal told.states;
+      happened = told.happening c.args.lines lines
+          ∙ early_happened c.args.lines o.config states c.args.now o.shard _ there early refl;
+    }

@@ -56,8 +56,8 @@ unreachable-requires g c =
     numbers_there c.index_mut.result.now
     (c.self.invariant.own c.args.realm c.index_mut.result.now at ∙ own) c.in_default.is
 
-pub on_tick_twice-requires-clause-realm : goal.on_tick_twice-requires-clause-realm
-on_tick_twice-requires-clause-realm g c =
+pub on_tick-requires-clause-realm : goal.on_tick-requires-clause-realm
+on_tick-requires-clause-realm g c =
     let i = c.self.inside in
     let count = shard_count (shown_opening i.opening) i.entries i.numbers.items c.args.self.now
     c.self.view_is in
@@ -77,8 +77,8 @@ on_tick_twice-requires-clause-realm g c =
           c.args.realm c.in-Some.numbers at c.new-settings.result c.new-settings.ensures;
     }
 
-pub on_tick_twice-requires-clause-room : goal.on_tick_twice-requires-clause-room
-on_tick_twice-requires-clause-room g c =
+pub on_tick-requires-clause-room : goal.on_tick-requires-clause-room
+on_tick-requires-clause-room g c =
     let i = c.self.inside in
     let count = shard_count (shown_opening i.opening) i.entries i.numbers.items c.args.self.now
     c.self.view_is in
@@ -98,8 +98,8 @@ invariant_of-self g c =
     let lt : c.args.realm < length i.numbers.items = omega (arith, count, c.requires.there) in
     let at = get-read i.numbers.items c.args.realm c.index_mut.result.now lt
     c.index_mut.ensures.value ∙ ap Some c.in-Some.is in
-    let turn = c.on_tick_twice.ensures.turn in
-    let new = c.on_tick_twice.new.self in
+    let turn = c.on_tick.ensures.turn in
+    let new = c.on_tick.new.self in
     shard_written (shown_opening i.opening) i.entries i.numbers.items c.self.invariant c.args.realm
     c.in-Some.numbers at c.new-settings.result c.new-settings.ensures new.entries.now
     new.numbers.now new.settings.now turn.rest.loans.settings turn.rest.loans.keeps
@@ -113,29 +113,29 @@ returns-clause-packets g c =
     let lt : c.args.realm < length i.numbers.items = omega (arith, count, c.requires.there) in
     let at = get-read i.numbers.items c.args.realm c.index_mut.result.now lt
     c.index_mut.ensures.value ∙ ap Some c.in-Some.is in
-    let turn = c.on_tick_twice.ensures.turn in
-    let new = c.on_tick_twice.new.self in
+    let turn = c.on_tick.ensures.turn in
+    let new = c.on_tick.new.self in
     (ticks_seen (shown_opening i.opening) i.entries i.numbers.items c.self.invariant c.args.realm
     c.in-Some.numbers at c.new-settings.result c.new-settings.ensures new.entries.now
     new.numbers.now new.settings.now turn.rest.loans.settings turn.rest.loans.keeps
-    turn.rest.others c.args.now c.on_tick_twice.result c.args.self.now c.self.view_is
+    turn.rest.others c.args.now c.args.room.lines c.on_tick.result c.args.self.now c.self.view_is
     (Some new.numbers.now) refl turn.gives).packets
 
-pub returns-clause-copies : goal.returns-clause-copies
-returns-clause-copies g c =
+pub returns-clause-happening : goal.returns-clause-happening
+returns-clause-happening g c =
     let i = c.self.inside in
     let count = shard_count (shown_opening i.opening) i.entries i.numbers.items c.args.self.now
     c.self.view_is in
     let lt : c.args.realm < length i.numbers.items = omega (arith, count, c.requires.there) in
     let at = get-read i.numbers.items c.args.realm c.index_mut.result.now lt
     c.index_mut.ensures.value ∙ ap Some c.in-Some.is in
-    let turn = c.on_tick_twice.ensures.turn in
-    let new = c.on_tick_twice.new.self in
+    let turn = c.on_tick.ensures.turn in
+    let new = c.on_tick.new.self in
     (ticks_seen (shown_opening i.opening) i.entries i.numbers.items c.self.invariant c.args.realm
     c.in-Some.numbers at c.new-settings.result c.new-settings.ensures new.entries.now
     new.numbers.now new.settings.now turn.rest.loans.settings turn.rest.loans.keeps
-    turn.rest.others c.args.now c.on_tick_twice.result c.args.self.now c.self.view_is
-    (Some new.numbers.now) refl turn.gives).copies
+    turn.rest.others c.args.now c.args.room.lines c.on_tick.result c.args.self.now c.self.view_is
+    (Some new.numbers.now) refl turn.gives).happened
 
 pub returns-clause-states : goal.returns-clause-states
 returns-clause-states g c =
@@ -145,10 +145,10 @@ returns-clause-states g c =
     let lt : c.args.realm < length i.numbers.items = omega (arith, count, c.requires.there) in
     let at = get-read i.numbers.items c.args.realm c.index_mut.result.now lt
     c.index_mut.ensures.value ∙ ap Some c.in-Some.is in
-    let turn = c.on_tick_twice.ensures.turn in
-    let new = c.on_tick_twice.new.self in
+    let turn = c.on_tick.ensures.turn in
+    let new = c.on_tick.new.self in
     (ticks_seen (shown_opening i.opening) i.entries i.numbers.items c.self.invariant c.args.realm
     c.in-Some.numbers at c.new-settings.result c.new-settings.ensures new.entries.now
     new.numbers.now new.settings.now turn.rest.loans.settings turn.rest.loans.keeps
-    turn.rest.others c.args.now c.on_tick_twice.result c.args.self.now c.self.view_is _ refl
+    turn.rest.others c.args.now c.args.room.lines c.on_tick.result c.args.self.now c.self.view_is _ refl
     turn.gives).states

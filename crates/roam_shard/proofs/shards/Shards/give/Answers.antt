@@ -13,7 +13,9 @@ use Rattle.roam_core.specs.Events.{is_in_shard}
 use Rattle.roam_core.specs.ManyRealms.{to_arrival}
 use Rattle.roam_core.specs.Steps.{GivesAnswer}
 use Rattle.roam_shard.specs.Across.{all_states}
-use Rattle.roam_shard.specs.Twins.{GivesTwin}
+use Rattle.roam_conf.specs.declared.exchange_lines.ExchangeLines.TheVariants as lines
+use Rattle.roam_core.specs.HappeningsTo.{job_happening}
+use Rattle.roam_shard.specs.Turns.{GivesTurn}
 use Rattle.roam_shard.proofs.AcrossLemmas.{gives_across, job_length, still_sharded}
 use Rattle.roam_shard.proofs.shards.Shards.give.Goals as goal
 
@@ -58,7 +60,7 @@ invariant_of-self g c =
     omega (arith, c.from.ensures, c.shard_of-shard.ensures.bound, c.self.invariant.count) in
     let at = get-read i.shards.items c.from.result old lt c.index_mut.ensures.value in
     let many = job_length c.step.result old.opening.config old.states c.step.new.self.states
-    c.args.now (shown_job c.args.job.now) c.step.ensures.turn in
+    c.args.now (shown_job c.args.job.now) _ c.step.ensures.turn in
     still_sharded config i.shards.items c.from.result old c.step.new.self at lt c.self.invariant
     c.step.ensures.opening many
 
@@ -77,12 +79,13 @@ returns-clause-turn g c =
     sym (c.from.ensures ∙ c.shard_of-shard.ensures.value) in
     let event = subst (λ (v : BrokerView). IsEvent v.config job) (sym c.self.view_is) c.requires in
     let realm = event_realm config job event in
+    let happening = job_happening lines.OfNone old.opening.config old.states c.args.now job in
     let told = subst (λ (x : ConfigView).
-    GivesTwin c.step.result old.states new.states
-    (to_arrival x old.states c.args.now (admitted job))) own.same_config c.step.ensures.turn in
+    GivesTurn c.step.result old.states new.states
+    (to_arrival x old.states c.args.now (admitted job)) happening) own.same_config c.step.ensures.turn in
     let seen = gives_across config i.shards.items c.from.result old new at lt c.step.result
-    c.first.result c.args.now job realm here own.whole c.first.ensures told in
+    c.answer_of.result c.args.now job realm here own.whole happening c.answer_of.ensures told in
     subst (λ (v : BrokerView).
-    GivesAnswer c.first.result v.states
+    GivesAnswer c.answer_of.result v.states
     (all_states config (set i.shards.items c.from.result new))
     (to_arrival v.config v.states c.args.now (admitted job))) c.self.view_is seen

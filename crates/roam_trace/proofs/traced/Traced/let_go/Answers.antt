@@ -11,11 +11,10 @@ invariant_of-self g c =
       opening = i.shard.opening;
       states = i.shard.states;
       gone = i.gone;
-      steps =
-          i.steps.items;
+      events = i.steps.items;
       limit = i.limit;
     } in
     let none : c.replace.new.dest.items ≡ [] = ap (λ v. v.items) c.replace.ensures.after ∙ c.new.ensures.items in
     let gone : c.len-self-inside.result ≡ i.gone + length i.steps.items = c.len-self-inside.ensures.value
-    ∙ ap (λ (v : TraceView). v.gone + length v.steps) (sym c.self.view_is) in
+    ∙ ap (λ (v : TraceView). v.gone + length v.events) (sym c.self.view_is) in
     rw (none, gone) (still_trace t c.self.invariant.0, refl)

@@ -1,4 +1,4 @@
-use Rattle.std.proofs.Common.{◌≡◌, true, false, List, [], ◌∷◌, ap, ◌∙◌, refl, subst, sym}
+use Rattle.std.proofs.Common.{◌≡◌, true, false, List, [], ◌∷◌, ap, ◌∙◌, subst, sym}
 use Rattle.roam_route.specs.Shown.{shown_out}
 use Rattle.roam_ids.specs.LaneState.{LaneState}
 use Rattle.roam_book.specs.Conversing.{rests_chosen}
@@ -7,10 +7,9 @@ use Rattle.roam_book.specs.RealmState.{RealmState, with_rests}
 use Rattle.roam_book.specs.RealmTurn.{state}
 use Rattle.roam_book.specs.Turn.{packets_of, state_after}
 use Rattle.roam_book.specs.Private.NewEntry.{IsWay, admits, cleared, forwards, straight_to}
-use Rattle.roam_book.specs.Private.Memory.{IsCopied}
+use Rattle.roam_book.specs.Happenings.{forwarded}
 use Rattle.roam_book.specs.Sound.{lane_of, shown_request}
 use Rattle.roam_book.proofs.LinkLaneLemmas.{made-same}
-use Rattle.roam_book.proofs.MemoryLemmas.{has-place, told-tells}
 use Rattle.roam_book.proofs.RealmLemmas.{keeps-both}
 use Rattle.roam_book.proofs.WayLemmas.{way-chosen}
 use Rattle.roam_book.proofs.state.realm_broker.RealmBroker.admit_reserved.Goals as goal
@@ -18,89 +17,85 @@ use Rattle.roam_book.proofs.state.realm_broker.RealmBroker.admit_reserved.Goals 
 -- the way's link is the realm's
 pub choose-requires-clause-link : goal.choose-requires-clause-link
 choose-requires-clause-link g c =
-    subst (λ (k : RealmConfig). IsLink k c.args.way.link) (sym c.make_way.ensures.keeps.loans.settings)
+    subst (λ (k : RealmConfig). IsLink k c.args.way.link) (sym c.make_way-replaced.ensures.keeps.loans.settings)
     c.requires.way.link
 
 -- the way is clear
 pub forward_new-sent-requires-clause-way : goal.forward_new-sent-requires-clause-way
 forward_new-sent-requires-clause-way g c =
     let config = c.args.self.now.settings.now in
-    let mid = c.make_way.new.self in
+    let mid = c.make_way-replaced.new.self in
     let last = c.choose.new.self in
     let q = shown_request c.args.asked in
     let rests = rests_chosen mid.settings.now c.args.now (state g.E.Entries mid).rests c.args.way.bound
     c.args.way.link in
     let chosen : IsWay config (with_rests (state g.E.Entries mid) rests) q (straight_to c.args.way.link false) =
-    way-chosen config (state g.E.Entries mid) q c.args.way rests (c.make_way.ensures.way q c.requires.way) in
+    way-chosen config (state g.E.Entries mid) q c.args.way rests (c.make_way-replaced.ensures.way q c.requires.way) in
     let way : IsWay config (state g.E.Entries last) q (straight_to c.args.way.link false) =
     subst (λ (s : RealmState). IsWay config s q (straight_to c.args.way.link false)) (sym c.choose.ensures.state)
     chosen in
     let settings : c.choose.new.self.settings.now ≡ c.args.self.now.settings.now =
-    c.choose.ensures.keeps.loans.settings ∙ c.make_way.ensures.keeps.loans.settings in
+    c.choose.ensures.keeps.loans.settings ∙ c.make_way-replaced.ensures.keeps.loans.settings in
     subst (λ (k : RealmConfig). IsWay k (state g.E.Entries last) q (straight_to c.args.way.link false))
     (sym settings) way
 
 -- the memory of the link's lane is there
 pub forward_new-sent-requires-clause-made : goal.forward_new-sent-requires-clause-made
 forward_new-sent-requires-clause-made g c =
-    let mid = c.make_way.new.self.numbers.now.lanes.items in
+    let mid = c.make_way-replaced.new.self.numbers.now.lanes.items in
     let made = made-same c.args.self.now.settings.now c.args.self.now.numbers.now.lanes.items mid
-    c.args.way.link c.make_way.ensures.marks c.requires.made in
+    c.args.way.link c.make_way-replaced.ensures.marks c.requires.made in
     let settings : c.choose.new.self.settings.now ≡ c.args.self.now.settings.now =
-    c.choose.ensures.keeps.loans.settings ∙ c.make_way.ensures.keeps.loans.settings in
+    c.choose.ensures.keeps.loans.settings ∙ c.make_way-replaced.ensures.keeps.loans.settings in
     let last = c.choose.new.self.numbers.now.lanes.items in
     let chosen = subst (λ (ls : List LaneState). (lane_of c.args.self.now.settings.now ls c.args.way.link).made ≡ true)
     (sym c.choose.ensures.lanes) made in
     subst (λ (k : RealmConfig). (lane_of k last c.args.way.link).made ≡ true) (sym settings) chosen
-
--- there is a place for the one packet, and it has its copy
-pub push-requires-clause-place : goal.push-requires-clause-place
-push-requires-clause-place g c =
-    has-place 0 c.args.supplies.outs.twice [] c.args.supplies.outs c.requires.supplies.outs
-
-pub push-requires-clause-copied : goal.push-requires-clause-copied
-push-requires-clause-copied g c =
-    subst (λ b. IsCopied b c.forward_new-sent.result) c.requires.supplies.copy
-    c.forward_new-sent.ensures.copied
 
 -- the one packet is sent, and the state is that of an admission to the entries that are left
 pub returns-clause-turn : goal.returns-clause-turn
 returns-clause-turn g c =
     let config = c.args.self.now.settings.now in
     let old = state g.E.Entries c.args.self.now in
-    let mid = state g.E.Entries c.make_way.new.self in
+    let mid = state g.E.Entries c.make_way-replaced.new.self in
     let last = state g.E.Entries c.choose.new.self in
     let new = state g.E.Entries c.forward_new-sent.new.self in
     let q = shown_request c.args.asked in
     let at : c.choose.new.self.settings.now ≡ c.args.self.now.settings.now =
-    c.choose.ensures.keeps.loans.settings ∙ c.make_way.ensures.keeps.loans.settings in
+    c.choose.ensures.keeps.loans.settings ∙ c.make_way-replaced.ensures.keeps.loans.settings in
     let cleared_way = cleared c.args.way in
-    let same = c.make_way.ensures.turn c.args.now q c.requires.way in
+    let same = c.make_way-replaced.ensures.turn c.args.now q c.requires.way in
     let chosen : last ≡ with_rests mid
     (rests_chosen config c.args.now mid.rests c.args.way.bound c.args.way.link) =
     subst (λ (k : RealmConfig). last ≡ with_rests mid
-    (rests_chosen k c.args.now mid.rests c.args.way.bound c.args.way.link)) c.make_way.ensures.keeps.loans.settings
+    (rests_chosen k c.args.now mid.rests c.args.way.bound c.args.way.link))
+    c.make_way-replaced.ensures.keeps.loans.settings
     c.choose.ensures.state in
     let turn : forwards config c.args.now last q c.args.way.link ≡ admits config c.args.now mid q cleared_way =
     ap (λ (s : RealmState). forwards config c.args.now s q c.args.way.link) chosen in
-    let out = shown_out c.forward_new-sent.result.out in
+    let out = shown_out c.forward_new-sent.result in
     let packets : out ∷ [] ≡ packets_of (forwards config c.args.now last q c.args.way.link) =
     subst (λ (k : RealmConfig). out ∷ [] ≡ packets_of (forwards k c.args.now last q c.args.way.link))
     at c.forward_new-sent.ensures.out in
     let after : new ≡ state_after last (forwards config c.args.now last q c.args.way.link) =
     subst (λ (k : RealmConfig). new ≡ state_after last (forwards k c.args.now last q c.args.way.link))
     at c.forward_new-sent.ensures.state in
-    let twice = c.args.supplies.outs.twice in
-    let gathered = c.push.ensures.outs 0 twice [] c.requires.supplies.outs in
     let whole = turn ∙ same in
-    told-tells 0 twice (out ∷ []) c.push.new.self c.finish.result old new
-    (admits config c.args.now old q c.args.way) gathered c.finish.ensures.packets c.finish.ensures.refusal
-    c.finish.ensures.wanted c.finish.ensures.copies c.finish.ensures.copied_refusal
-    (packets ∙ ap packets_of whole) refl (after ∙ ap (state_after last) whole)
+    record {
+      packets = c.one_packet.ensures.outs ∙ packets ∙ ap packets_of whole;
+      refusal = c.one_packet.ensures.refusal;
+      state = after ∙ ap (state_after last) whole;
+    }
+
+-- and it takes the place of the one that counts as gone
+pub returns-clause-happening : goal.returns-clause-happening
+returns-clause-happening g c =
+    ap (forwarded c.args.self.now.numbers.now.ticket c.args.way.link) c.make_way-replaced.ensures.replaced
 
 pub returns-clause-keeps : goal.returns-clause-keeps
 returns-clause-keeps g c =
     keeps-both g.E.Entries c.args.self.now c.choose.new.self c.forward_new-sent.new.self
-    (keeps-both g.E.Entries c.args.self.now c.make_way.new.self c.choose.new.self c.make_way.ensures.keeps
+    (keeps-both g.E.Entries c.args.self.now c.make_way-replaced.new.self c.choose.new.self
+    c.make_way-replaced.ensures.keeps
     c.choose.ensures.keeps)
     c.forward_new-sent.ensures.keeps

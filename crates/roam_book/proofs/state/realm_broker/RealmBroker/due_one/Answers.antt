@@ -1,4 +1,9 @@
-use Rattle.std.proofs.Common.{◌≡◌, ◌++◌, Bool, List, Some, ap, sym, ◌∙◌, subst}
+use Rattle.std.proofs.Common.{◌≡◌, ◌++◌, List, None, Some, ap, is_some, sym, ◌∙◌, subst, ◌+◌}
+use Rattle.std.proofs.lemmas.List.{append-nil}
+use Rattle.roam_conf.specs.declared.exchange_lines.ExchangeLines.{ExchangeLines}
+use Rattle.roam_book.specs.Happenings.{PlainDue, due_of, due_with, keeps_given_up}
+use Rattle.roam_book.specs.Private.Dues.{noted_of}
+use Rattle.roam_book.proofs.MemoryLemmas.{fewer-dues}
 use Rattle.roam_pending.specs.PlainEntry.{PlainEntry}
 use Rattle.roam_pending.specs.EntryList.{IsEntryList, find_ticket}
 use Rattle.roam_pending.specs.Realms.{RealmBecomes}
@@ -6,9 +11,9 @@ use Rattle.roam_pending.specs.Shown.{shown}
 use Rattle.roam_route.specs.Admission.{PlainOut}
 use Rattle.roam_book.specs.RealmTurn.{entries, state}
 use Rattle.roam_book.specs.OnTick.{Progress, due_standing, due_one}
-use Rattle.roam_book.specs.Private.Memory.{IsOuts}
+use Rattle.roam_book.specs.Private.Memory.{AreDues, IsOuts}
 use Rattle.roam_book.specs.Sound.{IsSound, state_of}
-use Rattle.roam_book.specs.Private.Fates.{IsFate, IsFateCopied, fate_entries}
+use Rattle.roam_book.specs.Private.Fates.{IsFate, fate_entries}
 use Rattle.roam_book.proofs.SoundLemmas.{kept-ticket}
 use Rattle.roam_book.proofs.FateListLemmas.{list-after, size-after}
 use Rattle.roam_book.proofs.TickLemmas.{due_one-found, own-ticket, becomes-found}
@@ -86,16 +91,12 @@ here g c =
     ap (λ k. g.E.Entries.entries_of c.apply_action.new.self.entries.now k.index)
     c.apply_action.ensures.loans.settings ∙ (becomes g c).here
 
-pub apply_action-requires-clause-copied : goal.apply_action-requires-clause-copied
-apply_action-requires-clause-copied g c =
-    subst (λ (b : Bool). IsFateCopied b c.act_on_due-fate.result) c.requires.copy
-    c.act_on_due-fate.ensures.copied
-
 pub returns-clause-outs : goal.returns-clause-outs
-returns-clause-outs g c = λ places twice packets h.
+returns-clause-outs g c = λ places packets h.
     let sent = (fate g c).packets ∙ ap (λ (p : Progress). p.packets) (one g c) in
-    subst (λ (ps : List PlainOut). IsOuts places twice (packets ++ ps) c.apply_action.new.outs) sent
-    (c.apply_action.ensures.outs places twice packets h)
+    subst (λ (ps : List PlainOut). IsOuts places (packets ++ ps) c.apply_action.new.outs.sent) sent
+    (c.apply_action.ensures.outs places packets
+    (subst (λ v. IsOuts (places + 1) packets v) (sym c.note.ensures.outs) h))
 
 pub returns-clause-state : goal.returns-clause-state
 returns-clause-state g c =
@@ -135,3 +136,32 @@ returns-clause-keeps g c =
       };
       others = (becomes g c).others;
     }
+
+-- what is noted of it is what became of it
+noted :
+    (g : _) (c : goal.After-apply_action g) (lines : ExchangeLines)
+    → is_some c.args.slot.request ≡ keeps_given_up lines
+    → noted_of c.happening_of.result ≡ due_of lines c.args.self.now.settings.now c.args.now
+    (state g.E.Entries c.args.self.now) (find_ticket c.args.slot.due.ticket (held g c))
+noted g c lines kept =
+    let config = c.args.self.now.settings.now in
+    let s = state g.E.Entries c.args.self.now in
+    let became = c.act_on_due-fate.ensures.became (held g c) (record {
+      sound = c.requires.realm.sound;
+      list = c.requires.realm.list;
+      found = own g c;
+    }) in
+    c.happening_of.ensures lines kept ∙ ap (due_with lines config (entry g c)) became
+    ∙ ap (due_of lines config c.args.now s) (found g c)
+
+pub returns-clause-dues : goal.returns-clause-dues
+returns-clause-dues g c = λ lines places dues kept h.
+    rw c.apply_action.ensures.dues
+    (subst (λ (ds : List PlainDue). AreDues places (dues ++ ds) c.note.new.self.dues) (noted g c lines kept)
+    (c.note.ensures.dues places dues h))
+
+pub returns-in_default-clause-dues : goal.returns-in_default-clause-dues
+returns-in_default-clause-dues g c = λ lines places dues kept h.
+    let none : find_ticket c.args.slot.due.ticket (entries g.E.Entries c.args.self.now) ≡ None =
+    rw c.index.ensures at (sym c.in_default.ensures.found) in
+    rw (none, append-nil dues) (fewer-dues places dues c.args.outs.now.dues h)

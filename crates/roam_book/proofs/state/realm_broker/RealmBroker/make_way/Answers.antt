@@ -8,16 +8,16 @@ use Rattle.roam_book.proofs.state.realm_broker.RealmBroker.make_way.Goals as goa
 -- the entries and numbers before, between, and after
 clears : (g : _) (c : goal.After-take_away_done g)
     → IsCleared c.args.self.now.settings.now (entries g.E.Entries c.args.self.now)
-    (entries g.E.Entries c.take_away_gone.new.self) (entries g.E.Entries c.take_away_done.new.self)
-    c.args.self.now.numbers.now c.take_away_gone.new.self.numbers.now
+    (entries g.E.Entries c.take_away_gone-replaced.new.self) (entries g.E.Entries c.take_away_done.new.self)
+    c.args.self.now.numbers.now c.take_away_gone-replaced.new.self.numbers.now
     c.take_away_done.new.self.numbers.now c.args.way
 clears g c =
-    let mid = c.take_away_gone.new.self in
-    let kept = c.take_away_gone.ensures.keeps in
+    let mid = c.take_away_gone-replaced.new.self in
+    let kept = c.take_away_gone-replaced.ensures.keeps in
     record {
-      gone = c.take_away_gone.ensures.entries;
+      gone = c.take_away_gone-replaced.ensures.entries;
       done = c.take_away_done.ensures.entries;
-      slots = c.take_away_gone.ensures.numbers;
+      slots = c.take_away_gone-replaced.ensures.numbers;
       same = c.take_away_done.ensures.numbers;
       sound = subst (λ (k : RealmConfig). IsSound k (entries g.E.Entries mid) mid.numbers.now)
           kept.loans.settings kept.realm.sound;

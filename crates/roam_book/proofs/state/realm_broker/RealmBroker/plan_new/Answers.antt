@@ -1,13 +1,22 @@
+use Rattle.std.proofs.Common.{refl}
 use Rattle.roam_book.specs.RealmTurn.{state}
-use Rattle.roam_book.proofs.WayLemmas.{refusal-plan}
+use Rattle.roam_book.specs.Sound.{shown_request}
+use Rattle.roam_book.proofs.WayLemmas.{admitted-plan, refusal-plan}
 use Rattle.roam_book.proofs.state.realm_broker.RealmBroker.plan_new.Goals as goal
 
 -- it is admitted on the way that was chosen
 pub returns-in-Ok : goal.returns-in-Ok
-returns-in-Ok g c = c.in-Ok.ensures
+returns-in-Ok g c =
+    let r = c.args.self.now in
+    let chosen = c.in-Ok.ensures.chooses in (
+      chosen,
+      admitted-plan r.settings.now c.args.now (state g.E.Entries r) (shown_request c.args.asked) c.args.gone
+          c.in-Ok.way _ refl chosen c.in-Ok.ensures.target,
+    )
 
 -- it is refused
 pub returns-in-Err : goal.returns-in-Err
 returns-in-Err g c =
-    refusal-plan c.refused.result (state g.E.Entries c.args.self.now) c.in-Err.why _
-    c.refused.ensures.outs c.refused.ensures.refusal c.in-Err.ensures
+    let e = c.refused_turn.ensures in
+    refusal-plan c.refused_turn.result (state g.E.Entries c.args.self.now) c.in-Err.why _ _
+    e.outs e.refusal e.happening c.in-Err.ensures.chooses

@@ -6,7 +6,7 @@ use Rattle.roam_pending.specs.Shown.{shown}
 use Rattle.roam_pending.proofs.ClientLemmas.{without_client-absent}
 use Rattle.roam_book.specs.RealmTurn.{entries, state}
 use Rattle.roam_book.specs.Sound.{shown_request}
-use Rattle.roam_book.proofs.RequestLemmas.{key-free, key-gone, of-key-same, rest-of}
+use Rattle.roam_book.proofs.RequestLemmas.{found-gone, key-free, key-gone, of-key-same, rest-of}
 use Rattle.roam_book.proofs.WayLemmas.{held-plan}
 use Rattle.roam_book.proofs.state.realm_broker.RealmBroker.plan_of_key.Goals as goal
 
@@ -20,9 +20,11 @@ returns-then-eq-clause-plan g c =
     rw (← c.index.ensures) (sym c.in-Some.ensures.found) in
     let test : pointwise nat_eq e.request.octets c.args.asked.octets.now ≡ true =
     rw c.as_slice.ensures at (sym c.eq.ensures ∙ c.if-eq.true) in
-    let held = c.in_ok-answer-in-Some.ensures in
-    held-plan c.in_ok-answer-in-Some.answer s _ _ held.outs held.refusal
-    (of-key-same r.settings.now c.args.now s c.args.asked.named (shown_request c.args.asked) e found test)
+    let held = c.in_ok-turned-in-Some.ensures in
+    rw (found, test) (held-plan c.in_ok-turned-in-Some.turned s _ _ _ held.outs held.refusal held.happening
+    (rw (found, test) at
+    (of-key-same r.settings.now c.args.now s c.args.asked.named (shown_request c.args.asked) e found
+    test)))
 
 -- the entry of the key goes
 pub plan_first_seen-requires-in-Some-clause-gone : goal.plan_first_seen-requires-in-Some-clause-gone
@@ -81,4 +83,5 @@ returns-else-eq-clause-plan g c =
     rw (← c.index.ensures) (sym c.in-Some.ensures.found) in
     let test : pointwise nat_eq e.request.octets c.args.asked.octets.now ≡ false =
     rw c.as_slice.ensures at (sym c.eq.ensures ∙ c.if-eq.false) in
-    rw (found, test) c.plan_first_seen-in-Some.ensures.plan
+    let gone = found-gone c.args.asked.key e s.entries c.of.result c.requires.realm.list found c.of.ensures.ticket in
+    rw (found, test) (rw gone at c.plan_first_seen-in-Some.ensures.plan)

@@ -50,8 +50,9 @@ returns-clause-plan g c =
     let turn : Turn = to_entry config c.args.now s c.args.reply.now (Some e) in
     let v = c.in_ok-answer.field-0 in
     let answers = c.in_ok-answer.ensures.turn c.args.link c.id-id.result waits s in
+    let happened = c.in_ok-answer.ensures.happening s in
     rw (asked, c.heard_from.ensures) (elim c.match-done.branch [
-      | in-None w ↦ rw w.settled-is (plan-none config s e v c.args.link turn w.in-None.is link answers)
+      | in-None w ↦ rw w.settled-is (plan-none config s e v c.args.link turn _ w.in-None.is link answers happened)
       | in-Some-done w ↦ rw w.settled-is
-          (plan-some config s e v turn _ w.in-Some-done.is refl link refl here waits answers)
+          (plan-some config s e v turn _ _ w.in-Some-done.is refl link refl here waits answers happened)
     ])

@@ -19,14 +19,14 @@ pub returns-in-Some-waits_at-clause-keeps : goal.returns-in-Some-waits_at-clause
 returns-in-Some-waits_at-clause-keeps g c =
     let old = c.args.self.now in
     let es = entries g.E.Entries old in
-    let become = rw c.index.ensures at c.remove-gone.ensures.entries in
+    let become = rw c.index.ensures at c.remove-removed.ensures.entries in
     let left = become.here
     ∙ sym (ap (λ (o : Option Replaced). besides (gone_ticket o) es) c.in-Some.is) in
     let back = c.give_back.ensures in
     let kept = c.requires.realm in
     record {
       realm = record {
-        kept_here = rw c.remove-gone.ensures.keeps kept.kept_here;
+        kept_here = rw c.remove-removed.ensures.keeps kept.kept_here;
         sound = rw left (gone-waiting old.settings.now es old.numbers.now c.give_back.new.self
             c.args.gone c.in-Some.gone c.in-Some-waits_at.link c.in-Some-waits_at.id kept.sound
             c.requires.gone c.in-Some.is c.in-Some-waits_at.is back.tells back.keeps.ticket
@@ -37,7 +37,7 @@ returns-in-Some-waits_at-clause-keeps g c =
         settings = refl;
         same_entries = refl;
         same_numbers = refl;
-        keeps = c.remove-gone.ensures.keeps;
+        keeps = c.remove-removed.ensures.keeps;
       };
       others = become.others;
     }
@@ -47,13 +47,13 @@ pub returns-clause-keeps : goal.returns-clause-keeps
 returns-clause-keeps g c =
     let old = c.args.self.now in
     let es = entries g.E.Entries old in
-    let become = rw c.index.ensures at c.remove-gone.ensures.entries in
+    let become = rw c.index.ensures at c.remove-removed.ensures.entries in
     let left = become.here
     ∙ sym (ap (λ (o : Option Replaced). besides (gone_ticket o) es) c.in-Some.is) in
     let kept = c.requires.realm in
     record {
       realm = record {
-        kept_here = rw c.remove-gone.ensures.keeps kept.kept_here;
+        kept_here = rw c.remove-removed.ensures.keeps kept.kept_here;
         sound = rw left (gone-done old.settings.now es old.numbers.now c.args.gone c.in-Some.gone
             kept.sound c.requires.gone c.in-Some.is c.in_default-waits_at.is);
         list = rw left (list-besides (gone_ticket c.args.gone) es kept.list);
@@ -62,7 +62,7 @@ returns-clause-keeps g c =
         settings = refl;
         same_entries = refl;
         same_numbers = refl;
-        keeps = c.remove-gone.ensures.keeps;
+        keeps = c.remove-removed.ensures.keeps;
       };
       others = become.others;
     }

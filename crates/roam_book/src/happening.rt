@@ -1,0 +1,90 @@
+//! What became of an event: for the counts and the log.
+
+use roam_conf::Link;
+use roam_pending::{Key, Requester};
+use roam_wire::{Octets, Refusal};
+use std::alloc::Allocator;
+
+/// A request as it waited for a reply when something became of it.
+#[derive(Drop)]
+pub struct Waited<A: Allocator> {
+    pub ticket: u64,
+    pub key: Key,
+    pub requester: Requester,
+    /// When it came in, in milliseconds.
+    pub came: u64,
+    /// Its code.
+    pub code: u8,
+    /// Where it waited.
+    pub link: Link,
+    /// How often it might have been sent there again.
+    pub sends_left: u8,
+    /// Until when it would have waited, in milliseconds.
+    pub deadline: u64,
+    /// Its octets, where they are kept for a line.
+    pub octets: Option<Octets<A>>,
+}
+
+/// What becomes of a due request that waits.
+#[derive(Clone, Copy, PartialEq, Eq)]
+pub enum Became {
+    /// Its packet was sent to its link again.
+    SentAgain,
+    /// It was sent to this link, since its own one kept silent.
+    FailedOver(Link),
+    /// No server was left for it.
+    GivenUp {
+        /// Whether it is a reverse request, which was then answered by a NAK.
+        by_nak: bool,
+    },
+}
+
+/// What became of one of a realm's requests in a tick.
+#[derive(Drop)]
+pub struct DueHappening<A: Allocator> {
+    /// The index of its realm.
+    pub realm: u16,
+    pub became: Became,
+    pub waited: Waited<A>,
+}
+
+/// What happened by an event.
+#[derive(Drop)]
+pub enum Happening<A: Allocator> {
+    /// It was refused.
+    Refused(Refusal),
+    /// A request that waits for its reply came again: nothing was sent.
+    Duplicate,
+    /// A request that was answered came again: the reply that is held was sent once more.
+    Held {
+        /// The reply's code.
+        code: u8,
+    },
+    /// A reverse request was answered by a NAK.
+    Nak {
+        /// Its Error-Cause (RFC 5176, section 3.5).
+        cause: u32,
+    },
+    /// A new request was forwarded.
+    Forwarded {
+        ticket: u64,
+        /// Where it went.
+        link: Link,
+        /// The request that waited, and that made way for it.
+        replaced: Option<Waited<A>>,
+    },
+    /// A reply was returned.
+    Returned {
+        /// Its code.
+        code: u8,
+        /// The request that waited for it.
+        waited: Waited<A>,
+    },
+    /// A shard's timer fired: what became of the requests that were due, in order.
+    Ticked(Vec<DueHappening<A>, A>),
+    /// The broker answered by itself, before a realm was asked.
+    Local {
+        /// The answer's code.
+        code: u8,
+    },
+}

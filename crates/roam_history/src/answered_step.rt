@@ -1,0 +1,22 @@
+//! A step with its answer, as a history has it: in proofs alone.
+
+use roam_book::Answer;
+use roam_core::Event;
+use std::alloc::Global;
+use std::marker::Model;
+
+/// A step with its answer: nobody makes one, but contracts see it as an entry of a history.
+#[derive(Drop)]
+pub struct AnsweredStep {
+    event: Event<Global>,
+    answer: Answer<Global>,
+}
+
+impl Model for AnsweredStep {
+    ghost use Rattle.roam_core.specs.Shown.{shown_event};
+    ghost use Rattle.roam_trace.specs.Steps.{PlainStep, shown_answer};
+
+    ghost Value = { PlainStep };
+
+    ghost view = { λ s. record { event = shown_event s.event; answer = shown_answer s.answer } };
+}

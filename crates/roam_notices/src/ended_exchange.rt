@@ -1,0 +1,85 @@
+//! The line of an exchange that ended, from the request that waited.
+
+ghost use Rattle.std.specs.Prelude.{◌≡◌, ◌-◌, IfSome};
+ghost use Rattle.roam_conf.specs.Shown.{shown};
+ghost use Rattle.roam_book.specs.HappeningsShown.{shown_waited};
+ghost use Rattle.roam_notices.specs.EndedExchanges as spec;
+ghost use Rattle.roam_notices.specs.EndedExchanges.{IsLineOf};
+
+use crate::exchange::{Exchange, ExchangeEnd};
+use crate::said::{charged_by, said_by};
+use roam_book::Waited;
+use roam_conf::{Config, Endpoint, Link};
+use roam_pending::Requester;
+use std::alloc::Allocator;
+
+/// The endpoint of a realm's link to a home server; none where the link is a peer's, or isn't configured.
+pub fn server_endpoint(config: &Config, realm: u16, link: Link) -> Option<Endpoint>
+    ensures { result ≡ spec.server_at (shown config.now).realms realm link }
+{
+    let realm = config.realms.get(usize::from(realm))?;
+    match link {
+        Link::Auth(server, _) => Some(realm.servers.get(usize::from(server))?.auth),
+        Link::Acct(server, _) => realm.servers.get(usize::from(server))?.acct,
+        Link::Coa(_, _) => None,
+    }
+}
+
+/// How often a request of a realm was sent to its link that may be sent there so often again.
+fn tries_of(config: &Config, realm: u16, sends_left: u8) -> u8
+    ensures { result ≡ spec.tries_of (shown config.now).realms realm sends_left }
+{
+    match config.realms.get(usize::from(realm)) {
+        Some(realm) => realm.tries.saturating_sub(sends_left),
+        None => 0,
+    }
+}
+
+/// The peer of an exchange: who asked, or to whom a reverse request was sent.
+fn peer_of(requester: Requester, link: Link) -> Option<u16>
+    ensures { result ≡ spec.peer_of requester link }
+{
+    match (requester, link) {
+        (Requester::Peer(peer), _) => Some(peer),
+        (Requester::Home(_), Link::Coa(peer, _)) => Some(peer),
+        (Requester::Home(_), _) => None,
+    }
+}
+
+/// The home server of an exchange: the one to which a peer's request was sent, or that sent a reverse one.
+fn server_of<A: Allocator>(config: &Config, realm: u16, waited: &Waited<A>) -> Option<Endpoint>
+    ensures { result ≡ spec.server_of (shown config.now).realms realm (shown_waited waited.now) }
+{
+    match waited.requester {
+        Requester::Peer(_) => server_endpoint(config, realm, waited.link),
+        Requester::Home(_) => Some(waited.key.from),
+    }
+}
+
+/// The line of an exchange of a realm that ended so at a moment, with this reply, or with none, which has no octets: of
+/// the request that waited. None where its octets aren't kept.
+pub fn exchange_of<A: Allocator>(
+    config: &Config,
+    realm: u16,
+    waited: &Waited<A>,
+    outcome: ExchangeEnd,
+    reply: &[u8],
+    now: u64,
+) -> Option<Exchange>
+    ensures line { IfSome result
+        (IsLineOf (shown config.now) realm (shown_waited waited.now) outcome reply.now) }
+    ensures time { IfSome result (λ x. x.milliseconds ≡ now - waited.now.came) }
+{
+    let octets = match &waited.octets {
+        Some(octets) => octets.as_slice(),
+        None => return None,
+    };
+    let mut exchange = said_by(octets, outcome);
+    exchange.realm = Some(realm);
+    exchange.peer = peer_of(waited.requester, waited.link);
+    exchange.server = server_of(config, realm, waited);
+    exchange.milliseconds = now.saturating_sub(waited.came);
+    exchange.tries = tries_of(config, realm, waited.sends_left);
+    exchange.details.charged = charged_by(reply);
+    Some(exchange)
+}

@@ -1,0 +1,10 @@
+-- The event of a step, as it is looked at (ours).
+use Rattle.std.specs.Prelude.{None}
+use Rattle.roam_core.specs.Events.{PlainEvent, arrives, ticks}
+use Rattle.roam_trace.specs.declared.look.EventRef.{EventRef}
+use Rattle.roam_trace.specs.declared.look.EventRef.TheVariants as event
+
+abbrev pub shown_event_ref : EventRef → PlainEvent
+shown_event_ref (event.Arrived now at from octets) =
+    arrives now (record { at = at; from = from; octets = octets.now; seconds = None })
+shown_event_ref (event.Ticked now shard) = ticks now shard
