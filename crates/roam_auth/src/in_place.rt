@@ -1,45 +1,46 @@
 //! Filling in the Message-Authenticator and the Authenticator of a packet that is built, in place.
 
-ghost use Rattle.std.specs.Prelude.{◌≡◌, ◌+◌, ◌≤◌, ◌++◌, length, take, drop, MatchOption, IfNone};
+ghost use Rattle.std.specs.Prelude.{◌≡◌, ◌+◌, ◌≤◌, ◌++◌, length, take, drop, IfNone};
 ghost use Rattle.std.specs.Prelude.{IfSome};
 ghost use Rattle.roam_wire.specs.Packet.{packet_text};
 ghost use Rattle.roam_wire.specs.Reading.{IsPacketText, packet_of};
 ghost use Rattle.roam_wire.specs.Secret.{IsSecret};
 ghost use Rattle.roam_auth.specs.Authenticators.{request_authenticator, response_authenticator, with_authenticator};
 ghost use Rattle.roam_auth.specs.Authenticators.{signed_reply};
-ghost use Rattle.roam_auth.specs.MessageAuthenticator.{HasNoMessageAuthenticator, HasOneMessageAuthenticator};
+ghost use Rattle.roam_auth.specs.MessageAuthenticator.{HasOneMessageAuthenticator};
 ghost use Rattle.roam_auth.specs.MessageAuthenticator.{HasAtMostOneMessageAuthenticator, message_authenticator};
 ghost use Rattle.roam_auth.specs.MessageAuthenticator.{with_message_authenticator};
 ghost use Rattle.roam_auth.specs.Sealing.{IsValuePlace};
 
-use crate::message::message_auth;
-use crate::pieces::value_place;
+use crate::message::digest_at;
 use crate::request::request_auth;
 use crate::response::response_auth;
+use crate::seal_place::seal_place;
+use crate::secret::Secret;
 use roam_wire::View;
 
-/// The same, in the packet's octets.
-fn place_in(octets: &[u8]) -> Option<usize>
+/// Where the Value of the one Message-Authenticator begins, in the packet's octets.
+fn seal_place_in(octets: &[u8]) -> Option<usize>
     requires { IsPacketText octets.now }
-    ensures { MatchOption result (HasNoMessageAuthenticator (packet_of octets.now))
-        (λ at. IsValuePlace at (packet_of octets.now).attributes) }
+    ensures none { IfNone result (¬ HasOneMessageAuthenticator (packet_of octets.now)) }
+    ensures one { IfSome result (λ _. HasOneMessageAuthenticator (packet_of octets.now)) }
+    ensures place { IfSome result (λ at. IsValuePlace at (packet_of octets.now).attributes) }
 {
-    value_place(&View::of_packet(octets))
+    seal_place(&View::of_packet(octets))
 }
 
-/// The Message-Authenticator of the packet of these octets, if it has one.
-fn digest_of(octets: &[u8], secret: &[u8], authenticator: [u8; 16]) -> Option<[u8; 16]>
+/// The Message-Authenticator of the packet of these octets, whose own begins at this octet.
+fn digest_in(octets: &[u8], at: usize, secret: &Secret, authenticator: [u8; 16]) -> [u8; 16]
     requires packet { IsPacketText octets.now }
-    requires secret { IsSecret secret.now }
-    ensures none { IfNone result (¬ HasOneMessageAuthenticator (packet_of octets.now)) }
-    ensures some { IfSome result (λ digest. digest
-        ≡ message_authenticator secret.now authenticator (packet_of octets.now)) }
+    requires one { HasOneMessageAuthenticator (packet_of octets.now) }
+    requires place { IsValuePlace at (packet_of octets.now).attributes }
+    ensures { result ≡ message_authenticator secret.now authenticator (packet_of octets.now) }
 {
-    message_auth(&View::of_packet(octets), secret, authenticator)
+    digest_at(&View::of_packet(octets), at, secret, authenticator)
 }
 
 /// Writes sixteen octets.
-pub(crate) fn put_sixteen(octets: &mut [u8], at: usize, sixteen: &[u8; 16])
+fn put_sixteen(octets: &mut [u8], at: usize, sixteen: &[u8; 16])
     requires { at + 16 ≤ length octets.old }
     ensures { octets.new ≡ take at octets.old ++ sixteen.now ++ drop (at + 16) octets.old }
 {
@@ -48,19 +49,17 @@ pub(crate) fn put_sixteen(octets: &mut [u8], at: usize, sixteen: &[u8; 16])
 
 /// Fills in a packet's Message-Authenticator over this Authenticator (RFC 3579, section 3.2), in its
 /// octets. A packet that has none stays as it is.
-pub fn seal(octets: &mut [u8], secret: &[u8], authenticator: [u8; 16])
+pub fn seal(octets: &mut [u8], secret: &Secret, authenticator: [u8; 16])
     requires packet { IsPacketText octets.old }
     requires at_most_one { HasAtMostOneMessageAuthenticator (packet_of octets.old) }
-    requires secret { IsSecret secret.now }
     ensures { octets.new
         ≡ packet_text (with_message_authenticator secret.now authenticator (packet_of octets.old)) }
 {
-    let Some(at) = place_in(octets) else {
+    let Some(at) = seal_place_in(octets) else {
         return;
     };
-    if let Some(digest) = digest_of(octets, secret, authenticator) {
-        put_sixteen(octets, at, &digest);
-    }
+    let digest = digest_in(octets, at, secret, authenticator);
+    put_sixteen(octets, at, &digest);
 }
 
 /// Fills in the Authenticator of an accounting or reverse request (RFC 2866, section 3; RFC 5176,
@@ -90,7 +89,7 @@ pub fn sign_reply(octets: &mut [u8], secret: &[u8], request_authenticator: [u8; 
 
 /// Seals and signs a reply to a request of this Authenticator (RFC 3579, section 3.2; RFC 2865, section
 /// 3), in its octets.
-pub fn seal_and_sign(octets: &mut [u8], secret: &[u8], request_authenticator: [u8; 16])
+pub fn seal_and_sign(octets: &mut [u8], secret: &Secret, request_authenticator: [u8; 16])
     requires packet { IsPacketText octets.old }
     requires at_most_one { HasAtMostOneMessageAuthenticator (packet_of octets.old) }
     requires secret { IsSecret secret.now }
@@ -98,5 +97,5 @@ pub fn seal_and_sign(octets: &mut [u8], secret: &[u8], request_authenticator: [u
         (with_message_authenticator secret.now request_authenticator (packet_of octets.old))) }
 {
     seal(octets, secret, request_authenticator);
-    sign_reply(octets, secret, request_authenticator);
+    sign_reply(octets, secret.octets(), request_authenticator);
 }

@@ -18,7 +18,6 @@
 mod comparing;
 mod hmac;
 mod in_place;
-mod keyed;
 mod laws;
 mod message;
 mod pieces;
@@ -28,7 +27,6 @@ mod seal_place;
 mod secret;
 
 pub use in_place::{seal, seal_and_sign, sign_reply, sign_request};
-pub use keyed::{message_auth_by, message_ok_by, seal_and_sign_by, seal_by};
 pub use laws::{deciding, digests, sealing, signing, zeroing};
 pub use message::{has_one_message_authenticator, message_auth, message_ok};
 pub use pieces::{ZERO_OCTETS, value_place};

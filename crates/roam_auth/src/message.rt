@@ -4,17 +4,14 @@ ghost use Rattle.std.specs.Prelude.{◌≡◌, ◌↔◌, ℕ, List, [], ◌∷�
 ghost use Rattle.std.specs.Prelude.{IsSome, IfSome};
 ghost use Rattle.md5.specs.Md5.{Holds};
 ghost use Rattle.roam_wire.specs.Packet.{packet_text};
-ghost use Rattle.roam_wire.specs.Secret.{IsSecret};
 ghost use Rattle.roam_auth.specs.Authenticators.{with_authenticator, zero_octets};
 ghost use Rattle.roam_auth.specs.MessageAuthenticator.{HasOneMessageAuthenticator, IsWellSealed, with_value};
 ghost use Rattle.roam_auth.specs.MessageAuthenticator.{message_authenticator};
 ghost use Rattle.roam_auth.specs.Sealing.{IsValuePlace};
 
 use crate::comparing::is_same_digest;
-use crate::keyed::message_auth_by;
-use crate::pieces::{
-    ZERO_OCTETS, before_authenticator, behind_sixteen, between_authenticator_and, value_place,
-};
+use crate::pieces::{ZERO_OCTETS, before_authenticator, behind_sixteen, between_authenticator_and};
+use crate::seal_place::seal_place;
 use crate::secret::Secret;
 use md5::{Digest, Md5};
 use roam_wire::View;
@@ -51,23 +48,40 @@ pub(crate) fn update_with_packet(
     hasher.update(behind_sixteen(octets, at));
 }
 
+/// The Message-Authenticator of a packet whose own begins at this octet, over an Authenticator.
+pub(crate) fn digest_at(
+    view: &View<'_>,
+    at: usize,
+    secret: &Secret,
+    authenticator: [u8; 16],
+) -> [u8; 16]
+    requires one { HasOneMessageAuthenticator view.now }
+    requires place { IsValuePlace at view.now.attributes }
+    ensures { result ≡ message_authenticator secret.now authenticator view.now }
+{
+    let mut hasher = secret.inner_hasher();
+    update_with_packet(&mut hasher, view, at, authenticator);
+    secret.outer_digest(hasher.finalize())
+}
+
 /// The Message-Authenticator of a packet over an Authenticator: HMAC-MD5, keyed by the secret, of
 /// the packet with that Authenticator in its field and its Message-Authenticator's 16 octets zero
 /// (RFC 3579, section 3.2). None unless just one Message-Authenticator stands there, of 16 octets.
-pub fn message_auth(view: &View<'_>, secret: &[u8], authenticator: [u8; 16]) -> Option<[u8; 16]>
-    requires secret { IsSecret secret.now }
+pub fn message_auth(view: &View<'_>, secret: &Secret, authenticator: [u8; 16]) -> Option<[u8; 16]>
     ensures some { IfSome result (λ digest.
         digest ≡ message_authenticator secret.now authenticator view.now) }
     ensures stands { IsSome result ↔ HasOneMessageAuthenticator view.now }
 {
-    message_auth_by(view, &Secret::new(secret), authenticator)
+    match seal_place(view) {
+        None => None,
+        Some(at) => Some(digest_at(view, at, secret, authenticator)),
+    }
 }
 
 /// Whether a packet is well sealed for a secret and one Authenticator: whether it has no
 /// Message-Authenticator, or just one, of 16 octets, that is the packet's over that Authenticator
 /// (RFC 3579, section 3.2).
-pub fn message_ok(view: &View<'_>, secret: &[u8], authenticator: [u8; 16]) -> bool
-    requires secret { IsSecret secret.now }
+pub fn message_ok(view: &View<'_>, secret: &Secret, authenticator: [u8; 16]) -> bool
     ensures { IsTrue result ↔ IsWellSealed secret.now (authenticator ∷ []) view.now }
 {
     match view.first(MESSAGE_AUTHENTICATOR) {

@@ -9,7 +9,7 @@ ghost use Rattle.roam_auth.specs.MessageAuthenticator.{IsWellSealed};
 ghost use Rattle.roam_back.specs.ReplyCheck.{answers, sealing_authenticators, HasRequiredSeal, HasSealForEap};
 ghost use Rattle.roam_back.specs.ReplyCheck.{IsRightlySealed, IsTaken, reply_fault};
 
-use roam_auth::{ZERO_OCTETS, message_ok, response_ok};
+use roam_auth::{Secret, ZERO_OCTETS, message_ok, response_ok};
 use roam_wire::attribute_type::{EAP_MESSAGE, MESSAGE_AUTHENTICATOR};
 use roam_wire::code::{
     ACCESS_REQUEST, ACCOUNTING_REQUEST, ACCOUNTING_RESPONSE, COA_ACK, COA_NAK, COA_REQUEST,
@@ -33,7 +33,7 @@ fn answers(request: u8, reply: u8) -> bool
 
 /// Whether a reply is well sealed for one of the Authenticators over which its Message-Authenticator
 /// may be (RFC 3579, section 3.2).
-fn is_well_sealed(reply: &View<'_>, forwarded: &View<'_>, secret: &[u8]) -> bool
+fn is_well_sealed(reply: &View<'_>, forwarded: &View<'_>, secret: &Secret) -> bool
     requires secret { IsSecret secret.now }
     ensures { IsTrue result
         ↔ IsWellSealed secret.now (sealing_authenticators reply.now forwarded.now) reply.now }
@@ -66,7 +66,7 @@ fn has_required_seal(reply: &View<'_>, seal_required: bool) -> bool
 fn is_rightly_sealed(
     reply: &View<'_>,
     forwarded: &View<'_>,
-    secret: &[u8],
+    secret: &Secret,
     seal_required: bool,
 ) -> bool
     requires secret { IsSecret secret.now }
@@ -91,7 +91,7 @@ fn is_rightly_sealed(
 pub fn check_reply(
     reply: &View<'_>,
     forwarded: &View<'_>,
-    secret: &[u8],
+    secret: &Secret,
     seal_required: bool,
 ) -> Result<(), Refusal>
     requires secret { IsSecret secret.now }
@@ -115,7 +115,7 @@ pub fn check_reply(
     if !answers(forwarded.code(), reply.code()) {
         return Err(Refusal::WrongReply);
     }
-    if !response_ok(reply, forwarded.authenticator(), secret) {
+    if !response_ok(reply, forwarded.authenticator(), secret.octets()) {
         return Err(Refusal::BadReply);
     }
     if !is_rightly_sealed(reply, forwarded, secret, seal_required) {

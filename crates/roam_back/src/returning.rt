@@ -14,7 +14,7 @@ ghost use Rattle.roam_back.specs.Shown.{shown};
 use crate::own_names::own_of;
 use crate::plain_packet::{append_plain, returned_len};
 use crate::terms::Returning;
-use roam_auth::seal_and_sign;
+use roam_auth::{Secret, seal_and_sign};
 use roam_filter::{Removal, nothing_removed};
 use roam_hide::{Hidden, HidingKey, rehide_packet};
 use roam_wire::code::{ACCESS_ACCEPT, is_access_reply};
@@ -35,7 +35,7 @@ fn rehide_accept(octets: &mut [u8], reply: &View<'_>, request: &View<'_>, return
             authenticator: &returning.forwarded_authenticator,
         };
         let to = HidingKey {
-            secret: returning.client_secret,
+            secret: returning.client_secret.octets(),
             authenticator: &request.authenticator(),
         };
         rehide_packet(octets, Hidden::SaltedStrings, from, to);
@@ -119,7 +119,7 @@ pub fn back_passing<A: Allocator>(
     own_names: bool,
     forwarded_authenticator: [u8; 16],
     home_secret: &[u8],
-    client_secret: &[u8],
+    client_secret: &Secret,
     out: &mut Vec<u8, A>,
 ) -> Result<(), Refusal>
     requires at_most_one { HasAtMostOneMessageAuthenticator reply.now }
@@ -182,7 +182,7 @@ pub fn back<A: Allocator>(
     request: &View<'_>,
     forwarded_authenticator: [u8; 16],
     home_secret: &[u8],
-    client_secret: &[u8],
+    client_secret: &Secret,
     out: &mut Vec<u8, A>,
 ) -> Result<(), Refusal>
     requires at_most_one { HasAtMostOneMessageAuthenticator reply.now }

@@ -22,10 +22,10 @@ use Rattle.roam_book.specs.RealmConfig.{RealmConfig, IsLink}
 use Rattle.roam_book.specs.RealmState.{RealmState, Target, next_toward}
 use Rattle.roam_book.specs.OnRequest.{admit, position_after}
 use Rattle.roam_book.specs.Turn.{Turn}
-use Rattle.roam_book.specs.Sound.{AreOwnLanes, CountsAsGone, IsEntry, IsRequest, IsSound, IsWaiting, LanesTell, StandsWell, cursors_of, gone_ticket, standing_place, marks_of}
+use Rattle.roam_book.specs.Sound.{AreOwnLanes, CountsAsReplaced, IsEntry, IsRequest, IsSound, IsWaiting, LanesTell, StandsWell, cursors_of, replaced_ticket, standing_place, marks_of}
 use Rattle.roam_book.proofs.SendingLemmas.{position-below}
 use Rattle.roam_book.proofs.SoundLemmas.{kept-later, kept-put, kept-ticket, kept-without}
-use Rattle.roam_book.proofs.LaneLemmas.{next-tells, tells-gone}
+use Rattle.roam_book.proofs.LaneLemmas.{next-tells, tells-replaced}
 
 -- a link is itself
 same_link-self : (l : Link) → same_link l l ≡ true
@@ -62,16 +62,16 @@ stands-done (waiting link id forwarded sends_left deadline signs) h =
 stands-done (done reply deadline from) h = refl
 
 -- the entry that counts as gone waits on a link of the realm
-pub gone-on_link :
+pub replaced-on_link :
     {A : Type 0} (c : RealmConfig) (es : List PlainEntry) (n : RealmNumbers A) (o : Option Replaced)
-    (g : Replaced) (l : Link) (i : ℕ) → IsSound c es n → CountsAsGone o es → o ≡ Some g → g.waits_at ≡ Some (l, i)
+    (g : Replaced) (l : Link) (i : ℕ) → IsSound c es n → CountsAsReplaced o es → o ≡ Some g → g.waits_at ≡ Some (l, i)
     → IsLink c l
-gone-on_link c es n None g l i sound gone is at = absurd (let k : None ≡ Some g = is in cc)
-gone-on_link c es n (Some x) g l i sound gone is at =
+replaced-on_link c es n None g l i sound replaced is at = absurd (let k : None ≡ Some g = is in cc)
+replaced-on_link c es n (Some x) g l i sound replaced is at =
     let same : x ≡ g = cc is in
     let there : x.waits_at ≡ Some (l, i) = ap (λ (y : Replaced). y.waits_at) same ∙ at in
-    let well = (kept-ticket c n.ticket x.ticket gone.0 es gone.1.found sound.each).standing in
-    stands-on_link c gone.0.request gone.0.standing l i (sym gone.1.place ∙ there) well
+    let well = (kept-ticket c n.ticket x.ticket replaced.0 es replaced.1.found sound.each).standing in
+    stands-on_link c replaced.0.request replaced.0.standing l i (sym replaced.1.place ∙ there) well
 
 -- what a realm keeps is kept where a done entry goes
 pub without-done :
@@ -83,20 +83,20 @@ without-done c es n t e sound found is = record {
   stream_position = sound.stream_position;
   lane_count = sound.lane_count;
   lanes = sound.lanes;
-  lanes_tell = tells-gone c es n.lanes.items t e sound.lanes_tell found is;
+  lanes_tell = tells-replaced c es n.lanes.items t e sound.lanes_tell found is;
   ledger = sound.ledger;
 }
 
-pub gone-done :
+pub replaced-done :
     {A : Type 0} (c : RealmConfig) (es : List PlainEntry) (n : RealmNumbers A) (o : Option Replaced)
-    (g : Replaced) → IsSound c es n → CountsAsGone o es → o ≡ Some g → g.waits_at ≡ None
-    → IsSound c (besides (gone_ticket o) es) n
-gone-done c es n None g sound gone is at = absurd (let k : None ≡ Some g = is in cc)
-gone-done c es n (Some x) g sound gone is at =
+    (g : Replaced) → IsSound c es n → CountsAsReplaced o es → o ≡ Some g → g.waits_at ≡ None
+    → IsSound c (besides (replaced_ticket o) es) n
+replaced-done c es n None g sound replaced is at = absurd (let k : None ≡ Some g = is in cc)
+replaced-done c es n (Some x) g sound replaced is at =
     let none : x.waits_at ≡ None = let same : x ≡ g = cc is in ap (λ (y : Replaced). y.waits_at) same ∙
     at in
-    without-done c es n x.ticket gone.0 sound gone.1.found
-    (stands-done gone.0.standing (sym gone.1.place ∙ none))
+    without-done c es n x.ticket replaced.0 sound replaced.1.found
+    (stands-done replaced.0.standing (sym replaced.1.place ∙ none))
 
 -- what a realm keeps is kept where a waiting entry goes and its Identifier is free again
 without-waiting :
@@ -122,38 +122,38 @@ GivenBack c old new l i =
     (e : PlainEntry) (es : List PlainEntry) → LanesTell c es old → find_ticket e.ticket es ≡ Some e
     → waits_at l i e ≡ true → LanesTell c (without e.ticket es) new
 
-pub gone-waiting :
+pub replaced-waiting :
     {A : Type 0} (c : RealmConfig) (es : List PlainEntry) (old new : RealmNumbers A) (o : Option Replaced)
-    (g : Replaced) (l : Link) (i : ℕ) → IsSound c es old → CountsAsGone o es → o ≡ Some g
+    (g : Replaced) (l : Link) (i : ℕ) → IsSound c es old → CountsAsReplaced o es → o ≡ Some g
     → g.waits_at ≡ Some (l, i) → GivenBack c old.lanes.items new.lanes.items l i
     → new.ticket ≡ old.ticket → new.stream_position ≡ old.stream_position
     → new.sessions ≡ old.sessions → length new.lanes.items ≡ length old.lanes.items
-    → marks_of new.lanes.items ≡ marks_of old.lanes.items → IsSound c (besides (gone_ticket o) es) new
-gone-waiting c es old new None g l i sound gone is at back ticket position sessions count marks =
+    → marks_of new.lanes.items ≡ marks_of old.lanes.items → IsSound c (besides (replaced_ticket o) es) new
+replaced-waiting c es old new None g l i sound replaced is at back ticket position sessions count marks =
     absurd (let k : None ≡ Some g = is in cc)
-gone-waiting c es old new (Some x) g l i sound gone is at back ticket position sessions count marks =
-    let e = gone.0 in
+replaced-waiting c es old new (Some x) g l i sound replaced is at back ticket position sessions count marks =
+    let e = replaced.0 in
     let same : x ≡ g = cc is in
     let there : x.waits_at ≡ Some (l, i) = ap (λ (y : Replaced). y.waits_at) same ∙ at in
-    let same_ticket : e.ticket ≡ x.ticket = found-ticket x.ticket es e gone.1.found in
+    let same_ticket : e.ticket ≡ x.ticket = found-ticket x.ticket es e replaced.1.found in
     let found : find_ticket e.ticket es ≡ Some e =
-    subst (λ (t : ℕ). find_ticket t es ≡ Some e) (sym same_ticket) gone.1.found in
-    let waits = stands-there e.standing l i (sym gone.1.place ∙ there) in
+    subst (λ (t : ℕ). find_ticket t es ≡ Some e) (sym same_ticket) replaced.1.found in
+    let waits = stands-there e.standing l i (sym replaced.1.place ∙ there) in
     let tells = back e es sound.lanes_tell found waits in
     let told = subst (λ (t : ℕ). LanesTell c (without t es) new.lanes.items) same_ticket tells in
     without-waiting c es old new x.ticket sound told ticket position sessions count marks
 
-pub way-sound :
-    {A : Type 0} (c : RealmConfig) (es : List PlainEntry) (n : RealmNumbers A) (way : Option ℕ)
-    → IsSound c es n → IsEntryList es → MakesWay way es → IsSound c (besides way es) n
-way-sound c es n None sound list h = sound
-way-sound c es n (Some t) sound list h =
+pub plan-sound :
+    {A : Type 0} (c : RealmConfig) (es : List PlainEntry) (n : RealmNumbers A) (plan : Option ℕ)
+    → IsSound c es n → IsEntryList es → MakesWay plan es → IsSound c (besides plan es) n
+plan-sound c es n None sound list h = sound
+plan-sound c es n (Some t) sound list h =
     let found = done-found es t list.in_order h in
     without-done c es n t found.0 sound found.1 found.2
 
 -- each list without an entry is a realm's list
 pub list-besides :
-    (way : Option ℕ) (es : List PlainEntry) → IsEntryList es → IsEntryList (besides way es)
+    (plan : Option ℕ) (es : List PlainEntry) → IsEntryList es → IsEntryList (besides plan es)
 list-besides None es list = list
 list-besides (Some t) es list = list-without t es list
 
@@ -174,29 +174,29 @@ client-without k t (e ∷ es) h =
     ]
 
 pub client-besides :
-    (k : Key) (way : Option ℕ) (es : List PlainEntry) → find_client k es ≡ None
-    → find_client k (besides way es) ≡ None
+    (k : Key) (plan : Option ℕ) (es : List PlainEntry) → find_client k es ≡ None
+    → find_client k (besides plan es) ≡ None
 client-besides k None es h = h
 client-besides k (Some t) es h = client-without k t es h
 
 -- the next free Identifier doesn't change where a done entry goes
 pub next-besides :
-    {A : Type 0} (c : RealmConfig) (es : List PlainEntry) (n : RealmNumbers A) (way : Option ℕ)
-    (l : Link) → IsSound c es n → IsEntryList es → MakesWay way es → IsLink c l
-    → next_toward c (cursors_of n.lanes.items) (besides way es) l
+    {A : Type 0} (c : RealmConfig) (es : List PlainEntry) (n : RealmNumbers A) (plan : Option ℕ)
+    (l : Link) → IsSound c es n → IsEntryList es → MakesWay plan es → IsLink c l
+    → next_toward c (cursors_of n.lanes.items) (besides plan es) l
     ≡ next_toward c (cursors_of n.lanes.items) es l
-next-besides c es n way l sound list h is =
-    let after = way-sound c es n way sound list h in
-    next-tells c (besides way es) n.lanes.items l (list-besides way es list) after.lanes_tell is
+next-besides c es n plan l sound list h is =
+    let after = plan-sound c es n plan sound list h in
+    next-tells c (besides plan es) n.lanes.items l (list-besides plan es list) after.lanes_tell is
     ∙ sym (next-tells c es n.lanes.items l list sound.lanes_tell is)
 
 -- how many entries there are besides one that counts as gone
 pub length-besides :
-    (es : List PlainEntry) (o : Option Replaced) (g : Replaced) → IsEntryList es → CountsAsGone o es
-    → o ≡ Some g → length (besides (gone_ticket o) es) + 1 ≡ length es
-length-besides es None g list gone is = absurd (let k : None ≡ Some g = is in cc)
-length-besides es (Some x) g list gone is =
-    length-without x.ticket es gone.0 list.in_order gone.1.found
+    (es : List PlainEntry) (o : Option Replaced) (g : Replaced) → IsEntryList es → CountsAsReplaced o es
+    → o ≡ Some g → length (besides (replaced_ticket o) es) + 1 ≡ length es
+length-besides es None g list replaced is = absurd (let k : None ≡ Some g = is in cc)
+length-besides es (Some x) g list replaced is =
+    length-without x.ticket es replaced.0 list.in_order replaced.1.found
 
 -- an entry of a request with octets of its own
 abbrev pub entry_of : PlainRequest → List ℕ → ℕ → PlainStanding → PlainEntry

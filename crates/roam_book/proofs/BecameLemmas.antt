@@ -8,7 +8,7 @@ use Rattle.roam_pending.specs.PlainEntry.{PlainEntry, waiting}
 use Rattle.roam_pending.specs.EntryList.{without}
 use Rattle.roam_pending.specs.Shown.{shown_standing}
 use Rattle.roam_book.specs.declared.rules.due_action.DueAction.{DueAction}
-use Rattle.roam_book.specs.declared.rules.due_action.DueAction.TheVariants as fate
+use Rattle.roam_book.specs.declared.rules.due_action.DueAction.TheVariants as action
 use Rattle.roam_book.specs.declared.state.realm_numbers.RealmNumbers.{RealmNumbers}
 use Rattle.roam_route.specs.declared.datagram.Out.{Out}
 use Rattle.roam_book.specs.Happenings.{at_last}
@@ -17,8 +17,8 @@ use Rattle.roam_book.specs.Private.Dues.{became_by}
 use Rattle.roam_book.specs.declared.happening.Became.TheVariants as became
 use Rattle.roam_book.specs.RealmConfig.{RealmConfig, later_targets}
 use Rattle.roam_book.specs.Sound.{chosen_link}
-use Rattle.roam_book.specs.Private.Fates.{IsHeld}
-use Rattle.roam_book.proofs.FateLemmas.{IsFreed, a_target, next_target, no_target, target-is}
+use Rattle.roam_book.specs.Private.DueActions.{IsHeld}
+use Rattle.roam_book.proofs.DueActionLemmas.{IsFreed, a_target, next_target, no_target, target-is}
 
 pub became-gone :
     {A : Type 0} (c : RealmConfig) (now : ℕ) (es : List PlainEntry) (e : PlainEntry)
@@ -43,7 +43,7 @@ pub became-forwarded :
     → IsHeld c es e n → IsFreed c now l signs (without e.ticket es) n m
     → Some to ≡ chosen_link c now m.rests.items m.lanes.items None (later_targets c l)
     → shown_standing (standing.Waiting w) ≡ waiting to id f s d k
-    → became_by (fate.Forwarded o w) ≡ at_last e.request (next_target c now es e n l signs)
+    → became_by (action.Forwarded o w) ≡ at_last e.request (next_target c now es e n l signs)
 became-forwarded c now es e n m l to signs o w id f s d k held freed some stands =
     let found = a_target (next_target c now es e n l signs) to
     (target-is c now es e n m l signs held freed ∙ sym some) in

@@ -13,12 +13,12 @@ use Rattle.roam_book.specs.Private.NewEntry.{bound_way, freed_link, way_link}
 use Rattle.roam_book.specs.RealmConfig.{RealmConfig, IsLink}
 use Rattle.roam_book.specs.RealmState.{RealmState, Target, chosen_target, first_target, next_toward, this_or}
 use Rattle.roam_book.specs.Rests.{has_moment}
-use Rattle.roam_book.specs.Sound.{CountsAsGone, IsEntry, IsSound, cursors_of, gone_ticket, is_open, is_wanted, standing_place, state_of}
+use Rattle.roam_book.specs.Sound.{CountsAsReplaced, IsEntry, IsSound, cursors_of, replaced_ticket, is_open, is_wanted, standing_place, state_of}
 use Rattle.roam_book.specs.declared.rules.replaced.Replaced.{Replaced}
 use Rattle.roam_book.specs.declared.state.link_rests.Wanted.TheVariants as wanted
 use Rattle.roam_book.specs.declared.state.realm_numbers.RealmNumbers.{RealmNumbers}
 use Rattle.roam_book.specs.declared.state.rest.Rest.{Rest}
-use Rattle.roam_book.proofs.LaneLemmas.{chosen-by, either, first-next, link-or, next-tells, open-freed, or-same, placed-octet, placeless-done, target-among, target-next, tells-gone}
+use Rattle.roam_book.proofs.LaneLemmas.{chosen-by, either, first-next, link-or, next-tells, open-freed, or-same, placed-octet, placeless-done, target-among, target-next, tells-replaced}
 
 -- ---- which links have a free Identifier
 
@@ -29,21 +29,21 @@ open-at : {A : Type 0} (c : RealmConfig) (es : List PlainEntry) (n : RealmNumber
     → is_some (next_toward c (cursors_of n.lanes.items) (without t es) k)
     ≡ is_open c n.lanes.items (option_map (λ p. p.0) place) k
 open-at c es n t e None sound list at is k link =
-    let gone = tells-gone c es n.lanes.items t e sound.lanes_tell at (placeless-done e.standing is) in
+    let replaced = tells-replaced c es n.lanes.items t e sound.lanes_tell at (placeless-done e.standing is) in
     ap is_some (next-tells c (without t es) n.lanes.items k
-    (list-without t es list) gone link)
+    (list-without t es list) replaced link)
 open-at c es n t e (Some (l, id)) sound list at is k link =
     let entry = all-find (IsEntry c n.ticket) (has_ticket t) es e at sound.each in
     let octet : id < 256 = placed-octet c e.request e.standing l id is entry.standing in
     open-freed c es n.lanes.items t e l id k list sound.lanes_tell link at is octet
 
 opens : {A : Type 0} (c : RealmConfig) (es : List PlainEntry) (n : RealmNumbers A) (o : Option Replaced)
-    → IsSound c es n → IsEntryList es → CountsAsGone o es → (k : Link) → IsLink c k
-    → is_some (next_toward c (cursors_of n.lanes.items) (besides (gone_ticket o) es) k)
+    → IsSound c es n → IsEntryList es → CountsAsReplaced o es → (k : Link) → IsLink c k
+    → is_some (next_toward c (cursors_of n.lanes.items) (besides (replaced_ticket o) es) k)
     ≡ is_open c n.lanes.items (freed_link o) k
-opens c es n None sound list gone k link = ap is_some (next-tells c es n.lanes.items k list sound.lanes_tell link)
-opens c es n (Some g) sound list gone k link =
-    open-at c es n g.ticket gone.0 g.waits_at sound list gone.1.found (sym gone.1.place) k link
+opens c es n None sound list replaced k link = ap is_some (next-tells c es n.lanes.items k list sound.lanes_tell link)
+opens c es n (Some g) sound list replaced k link =
+    open-at c es n g.ticket replaced.0 g.waits_at sound list replaced.1.found (sym replaced.1.place) k link
 
 -- ---- the link of the target
 
@@ -89,15 +89,15 @@ untried-by c rests cursors es is_free false links h = refl
 -- the target of a new request is at the link that the code chooses
 pub way-is : {A : Type 0} (c : RealmConfig) (now : ℕ) (es : List PlainEntry) (n : RealmNumbers A)
     (o : Option Replaced) (q : PlainRequest) (links : List Link) → IsSound c es n → IsEntryList es
-    → CountsAsGone o es → AllByRecursion (IsLink c) links
-    → option_map (λ t. t.link) (new_target c now (state_of es n) (besides (gone_ticket o) es) q links)
+    → CountsAsReplaced o es → AllByRecursion (IsLink c) links
+    → option_map (λ t. t.link) (new_target c now (state_of es n) (besides (replaced_ticket o) es) q links)
     ≡ way_link c now n.rests.items n.lanes.items (freed_link o) q es links
-way-is c now es n o q links sound list gone are =
+way-is c now es n o q links sound list replaced are =
     let cursors = cursors_of n.lanes.items in
-    let mid = besides (gone_ticket o) es in
+    let mid = besides (replaced_ticket o) es in
     let is_free = is_open c n.lanes.items (freed_link o) in
     let at : (k : Link) → IsLink c k → is_some (next_toward c cursors mid k) ≡ is_free k =
-    opens c es n o sound list gone in
+    opens c es n o sound list replaced in
     let all = all-weaker (IsLink c) (λ l. is_some (next_toward c cursors mid l) ≡ is_free l) links at are in
     let first = bound-by c n.rests.items cursors mid is_free (bound_link c q es) links all in
     let second = untried-by c n.rests.items cursors mid is_free (is_some (asked_state c q)) links all in
@@ -116,16 +116,16 @@ mapped-some (Some t) = refl
 
 -- and it is bound there just where the code finds it bound
 pub bound-is : {A : Type 0} (c : RealmConfig) (es : List PlainEntry) (n : RealmNumbers A) (o : Option Replaced)
-    (q : PlainRequest) (links : List Link) → IsSound c es n → IsEntryList es → CountsAsGone o es
+    (q : PlainRequest) (links : List Link) → IsSound c es n → IsEntryList es → CountsAsReplaced o es
     → AllByRecursion (IsLink c) links
-    → is_some (bound_target c (state_of es n) (besides (gone_ticket o) es) q links)
+    → is_some (bound_target c (state_of es n) (besides (replaced_ticket o) es) q links)
     ≡ is_some (bound_way c n.rests.items n.lanes.items (freed_link o) q es links)
-bound-is c es n o q links sound list gone are =
+bound-is c es n o q links sound list replaced are =
     let cursors = cursors_of n.lanes.items in
-    let mid = besides (gone_ticket o) es in
+    let mid = besides (replaced_ticket o) es in
     let is_free = is_open c n.lanes.items (freed_link o) in
     let all = all-weaker (IsLink c) (λ l. is_some (next_toward c cursors mid l) ≡ is_free l) links
-    (opens c es n o sound list gone) are in
+    (opens c es n o sound list replaced) are in
     sym (mapped-some (first_target c cursors mid (bound_links (bound_link c q es) links)))
     ∙ ap is_some (bound-by c n.rests.items cursors mid is_free (bound_link c q es) links all)
 

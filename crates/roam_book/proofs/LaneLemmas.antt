@@ -36,11 +36,11 @@ pub done-waits_nowhere :
     (l : Link) (id : ℕ) (e : PlainEntry) → is_done e ≡ true → waits_at l id e ≡ false
 done-waits_nowhere l id e h = done-stands_nowhere l id e.standing h
 
-pub tells-gone :
+pub tells-replaced :
     (c : RealmConfig) (es : List PlainEntry) (lanes : List LaneState) (t : ℕ) (e : PlainEntry)
     → LanesTell c es lanes → find_ticket t es ≡ Some e → is_done e ≡ true
     → LanesTell c (without t es) lanes
-tells-gone c es lanes t e tells at is l link id octet =
+tells-replaced c es lanes t e tells at is l link id octet =
     let away = ap (waits_as l id) at ∙ done-waits_nowhere l id e is in
     tells-same l (lane_of c lanes l) id es (without t es) (without-waits l id t es away)
     (tells l link id octet)

@@ -1,9 +1,12 @@
+pub mod ActionListLemmas
 pub mod AdmissionLemmas
+pub mod AdmitPlanLemmas
+pub mod BecameLemmas
 pub mod BookLemmas
 pub mod ClearLemmas
-pub mod BecameLemmas
-pub mod FateLemmas
-pub mod FateListLemmas
+pub mod ConversingLemmas
+pub mod DoneDueLemmas
+pub mod DueActionLemmas
 pub mod HolderLemmas
 pub mod JobLemmas
 pub mod LaneLemmas
@@ -16,10 +19,10 @@ pub mod MemoryLemmas
 pub mod NakLemmas
 pub mod RealmLemmas
 pub mod ReplyLemmas
-pub mod ConversingLemmas
 pub mod RequestLemmas
 pub mod RestLemmas
 pub mod RoomLemmas
+pub mod SavingLemmas
 pub mod SendingLemmas
 pub mod ShapingLemmas
 pub mod SharingLemmas
@@ -32,8 +35,5 @@ pub mod TickLemmas
 pub mod TurnLemmas
 pub mod UsedLemmas
 pub mod WaitingLemmas
-pub mod WayLemmas
 pub mod WaysToLemmas
-pub mod SavingLemmas
 pub mod WrittenLemmas
-pub mod DoneDueLemmas

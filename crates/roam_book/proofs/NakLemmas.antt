@@ -20,13 +20,13 @@ use Rattle.roam_pending.proofs.ChangeLemmas.{put-without}
 use Rattle.roam_reverse.specs.declared.error_cause.TheConstants.{OTHER_PROXY_PROCESSING_ERROR}
 use Rattle.roam_route.specs.Admission.{PlainOut}
 use Rattle.roam_route.specs.Shown.{shown_out}
-use Rattle.roam_book.specs.declared.rules.due_action.DueAction.TheVariants as fate
+use Rattle.roam_book.specs.declared.rules.due_action.DueAction.TheVariants as action
 use Rattle.roam_route.specs.declared.datagram.Out.{Out}
 use Rattle.roam_book.specs.RealmConfig.{RealmConfig, requester_secret}
 use Rattle.roam_book.specs.RealmState.{RealmState, with_entries}
 use Rattle.roam_book.specs.OnRequest.{is_reverse, nak_octets, packet_to_requester}
 use Rattle.roam_book.specs.OnTick.{once_refused}
-use Rattle.roam_book.specs.Private.Fates.{GivesUp, held_for, once_held}
+use Rattle.roam_book.specs.Private.DueActions.{GivesUp, held_for, once_held}
 use Rattle.roam_book.specs.Private.Memory.{HasRoom}
 use Rattle.roam_book.specs.Sound.{CanGo, IsRequest}
 use Rattle.roam_book.proofs.ShapingLemmas.{reverse-is_no_access}
@@ -85,7 +85,7 @@ pub gives-up : {A : Type 0} (c : RealmConfig) (now : ℕ) (e : PlainEntry) (sent
     → shown_out sent
     ≡ packet_to_requester c e.request.key (nak_octets c e.request OTHER_PROXY_PROCESSING_ERROR)
     → held ≡ held_for c now (nak_octets c e.request OTHER_PROXY_PROCESSING_ERROR)
-    → GivesUp c now e (fate.Refused sent held)
+    → GivesUp c now e (action.Refused sent held)
 gives-up {A} c now e sent held reverse out is = record {
   packets = λ s. rw reverse (ap (λ (o : PlainOut). o ∷ []) out);
   state = λ s es rest. rw (reverse, is) (held-state s es rest);
@@ -106,7 +106,7 @@ gives-up {A} c now e sent held reverse out is = record {
 
 -- any other just goes
 pub goes : {A : Type 0} (c : RealmConfig) (now : ℕ) (e : PlainEntry)
-    → is_reverse e.request ≡ false → GivesUp {A = A} c now e fate.Expired
+    → is_reverse e.request ≡ false → GivesUp {A = A} c now e action.Expired
 goes c now e other = record {
   packets = λ s. rw other refl;
   state = λ s es rest. rw other (rw (← rest) refl);

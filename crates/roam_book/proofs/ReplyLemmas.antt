@@ -20,7 +20,7 @@ use Rattle.roam_book.specs.OnReply.{counted_peer, faulted, once_heard_from, pass
 use Rattle.roam_book.specs.Sound.{AreOwnLanes, IsEntry, IsSound, LanesTell, StandsWell, marks_of}
 use Rattle.roam_book.specs.Happenings.{PlainHappening, PlainWaited, by_turn, refused, waited_at}
 use Rattle.roam_book.specs.HappeningsShown.{shown_happening}
-use Rattle.roam_book.specs.Private.Judged.{Judges, returns_octets}
+use Rattle.roam_book.specs.Private.Outcomes.{HasOutcome, returns_octets}
 use Rattle.roam_book.specs.Private.ReplyPlans.{IsHeard, IsReplyPlan, once_heard_by}
 use Rattle.roam_book.specs.declared.rules.replies.Settled.{Settled}
 use Rattle.roam_book.specs.declared.rules.reply_outcome.ReplyOutcome.{ReplyOutcome}
@@ -72,14 +72,14 @@ long-turn c now s e l forwarded reply lt =
 
 -- a verdict is one for the same turn
 pub same-verdict : {A : Type 0} (c : RealmConfig) (v : ReplyOutcome A) (e : PlainEntry) (l : Link)
-    (s : RealmState) (turn other : Turn) → Judges c v e l s turn → turn ≡ other
-    → Judges c v e l s other
-same-verdict c v e l s turn other h is = subst (λ (t : Turn). Judges c v e l s t) is h
+    (s : RealmState) (turn other : Turn) → HasOutcome c v e l s turn → turn ≡ other
+    → HasOutcome c v e l s other
+same-verdict c v e l s turn other h is = subst (λ (t : Turn). HasOutcome c v e l s t) is h
 
 -- so is one for the same link
 pub verdict-from : {A : Type 0} (c : RealmConfig) (v : ReplyOutcome A) (e : PlainEntry) (s : RealmState)
-    (turn : Turn) (l k : Link) → l ≡ k → Judges c v e l s turn → Judges c v e k s turn
-verdict-from c v e s turn l k is h = subst (λ (x : Link). Judges c v e x s turn) is h
+    (turn : Turn) (l k : Link) → l ≡ k → HasOutcome c v e l s turn → HasOutcome c v e k s turn
+verdict-from c v e s turn l k is h = subst (λ (x : Link). HasOutcome c v e x s turn) is h
 
 -- The entry that a reply is for
 
@@ -156,7 +156,7 @@ faulted-only c s l why is = rw is refl
 
 -- where the reply isn't taken, or its entry is done, the answer's turn is that of the plan
 pub plan-none : {A : Type 0} (c : RealmConfig) (s : RealmState) (e : PlainEntry) (v : ReplyOutcome A)
-    (l : Link) (turn : Turn) (happening : PlainHappening) → v.done ≡ None → IsLink c l → Judges c v e l s turn
+    (l : Link) (turn : Turn) (happening : PlainHappening) → v.done ≡ None → IsLink c l → HasOutcome c v e l s turn
     → shown_happening v.happening ≡ happening
     → IsReplyPlan c s (record {
       turned = record { answer = v.answer; happening = v.happening };
@@ -177,7 +177,7 @@ pub plan-some : {A : Type 0} (c : RealmConfig) (s : RealmState) (e : PlainEntry)
     (turn : Turn) (happening : PlainHappening) (d : Settled A) → v.done ≡ Some d.done → v.counted ≡ d.counted
     → IsLink c d.link → d.ticket ≡ e.ticket
     → find_ticket e.ticket s.entries ≡ Some e → waits_at d.link d.id e ≡ true
-    → Judges c v e d.link s turn → shown_happening v.happening ≡ happening
+    → HasOutcome c v e d.link s turn → shown_happening v.happening ≡ happening
     → IsReplyPlan c s (record {
       turned = record { answer = v.answer; happening = v.happening };
       heard = if v.heard then Some d.link else None;

@@ -19,7 +19,7 @@ use Rattle.roam_book.specs.Shares.{share_taken}
 use Rattle.roam_book.specs.OnRequest.{at_target, coa_links, held_reply, is_reverse, new_request, of_key, targets}
 use Rattle.roam_book.specs.RealmConfig.{RealmConfig, IsLink, service_of}
 use Rattle.roam_book.specs.RealmState.{RealmState, Target, next_toward, with_rests}
-use Rattle.roam_book.specs.Sound.{CountsAsGone, IsSound, cursors_of, gone_ticket, standing_place, state_of}
+use Rattle.roam_book.specs.Sound.{CountsAsReplaced, IsSound, cursors_of, replaced_ticket, standing_place, state_of}
 use Rattle.roam_book.specs.Turn.{Turn, refuses, sends}
 use Rattle.roam_book.specs.declared.rules.replaced.Replaced.{Replaced}
 use Rattle.roam_book.specs.declared.state.realm_numbers.RealmNumbers.{RealmNumbers}
@@ -74,11 +74,11 @@ targets-links c q =
 
 targets-way :
     {A : Type 0} (c : RealmConfig) (now : ℕ) (es : List PlainEntry) (n : RealmNumbers A) (o : Option Replaced)
-    (q : PlainRequest) → IsSound c es n → IsEntryList es → CountsAsGone o es
-    → option_map (λ t. t.link) (new_target c now (state_of es n) (besides (gone_ticket o) es) q (targets c q))
+    (q : PlainRequest) → IsSound c es n → IsEntryList es → CountsAsReplaced o es
+    → option_map (λ t. t.link) (new_target c now (state_of es n) (besides (replaced_ticket o) es) q (targets c q))
     ≡ way_link c now n.rests.items n.lanes.items (freed_link o) q es (targets c q)
-targets-way c now es n o q sound list gone =
-    way-is c now es n o q (targets c q) sound list gone (targets-links c q)
+targets-way c now es n o q sound list replaced =
+    way-is c now es n o q (targets c q) sound list replaced (targets-links c q)
 
 -- a new request, while there is a ticket
 pub in-else : (b : Bool) (x y : Turn) → b ≡ false → cond b x y ≡ y
@@ -113,24 +113,24 @@ pub at-open :
     {A : Type 0} (c : RealmConfig) (now : ℕ) (es : List PlainEntry) (n : RealmNumbers A)
     (o : Option Replaced) (q : PlainRequest) (freed : Option Link) (l : Link) (bound : Bool) → IsSound c es n
     → IsEntryList es
-    → CountsAsGone o es → n.ticket ≢ 2 ^ 63 → share_taken c (besides (gone_ticket o) es) q ≡ false
+    → CountsAsReplaced o es → n.ticket ≢ 2 ^ 63 → share_taken c (besides (replaced_ticket o) es) q ≡ false
     → freed ≡ freed_link o
     → Some l ≡ way_link c now n.rests.items n.lanes.items freed q es (targets c q)
     → bound ≡ is_some (bound_way c n.rests.items n.lanes.items freed q es (targets c q))
-    → (new_request c now (state_of es n) (besides (gone_ticket o) es) q
+    → (new_request c now (state_of es n) (besides (replaced_ticket o) es) q
     ≡ at_target c now (with_rests (state_of es n) (rests_chosen c now n.rests.items bound l))
-    (besides (gone_ticket o) es) q
-    (Some (target_at c (cursors_of n.lanes.items) (besides (gone_ticket o) es) l)))
-    × HasNext c (cursors_of n.lanes.items) (besides (gone_ticket o) es) l
-at-open c now es n o q freed l bound sound list gone ne share same_freed found bound_there =
-    let mid = besides (gone_ticket o) es in
+    (besides (replaced_ticket o) es) q
+    (Some (target_at c (cursors_of n.lanes.items) (besides (replaced_ticket o) es) l)))
+    × HasNext c (cursors_of n.lanes.items) (besides (replaced_ticket o) es) l
+at-open c now es n o q freed l bound sound list replaced ne share same_freed found bound_there =
+    let mid = besides (replaced_ticket o) es in
     let links = targets c q in
     let here : way_link c now n.rests.items n.lanes.items (freed_link o) q es links ≡ Some l =
     subst (λ (x : Option Link). way_link c now n.rests.items n.lanes.items x q es links ≡ Some l) same_freed
     (sym found) in
-    let at = targets-way c now es n o q sound list gone ∙ here in
+    let at = targets-way c now es n o q sound list replaced ∙ here in
     let target = target-is c now (state_of es n) mid q links l _ refl at in
-    let bound_is = bound-is c es n o q links sound list gone (targets-links c q)
+    let bound_is = bound-is c es n o q links sound list replaced (targets-links c q)
     ∙ ap (λ (x : Option Link). is_some (bound_way c n.rests.items n.lanes.items x q es links)) (sym same_freed)
     ∙ sym bound_there in
     (new-request-is c now (state_of es n) mid q bound _ ne share bound_is target.0, target.1)
@@ -139,47 +139,47 @@ at-open c now es n o q freed l bound sound list gone ne share same_freed found b
 pub link-open :
     {A : Type 0} (c : RealmConfig) (now : ℕ) (es : List PlainEntry) (n : RealmNumbers A)
     (o : Option Replaced) (q : PlainRequest) (freed : Option Link) (l : Link) → IsSound c es n → IsEntryList es
-    → CountsAsGone o es → freed ≡ freed_link o
+    → CountsAsReplaced o es → freed ≡ freed_link o
     → Some l ≡ way_link c now n.rests.items n.lanes.items freed q es (targets c q)
     → option_map (λ (t : Target). t.link)
-    (new_target c now (state_of es n) (besides (gone_ticket o) es) q (targets c q))
+    (new_target c now (state_of es n) (besides (replaced_ticket o) es) q (targets c q))
     ≡ Some l
-link-open c now es n o q freed l sound list gone same_freed found =
-    targets-way c now es n o q sound list gone
+link-open c now es n o q freed l sound list replaced same_freed found =
+    targets-way c now es n o q sound list replaced
     ∙ subst (λ (x : Option Link). way_link c now n.rests.items n.lanes.items x q es (targets c q) ≡ Some l) same_freed
     (sym found)
 
 pub at-none :
     {A : Type 0} (c : RealmConfig) (now : ℕ) (es : List PlainEntry) (n : RealmNumbers A)
     (o : Option Replaced) (q : PlainRequest) (freed : Option Link) → IsSound c es n → IsEntryList es
-    → CountsAsGone o es → n.ticket ≢ 2 ^ 63 → share_taken c (besides (gone_ticket o) es) q ≡ false
+    → CountsAsReplaced o es → n.ticket ≢ 2 ^ 63 → share_taken c (besides (replaced_ticket o) es) q ≡ false
     → freed ≡ freed_link o
     → None ≡ way_link c now n.rests.items n.lanes.items freed q es (targets c q)
-    → new_request c now (state_of es n) (besides (gone_ticket o) es) q
+    → new_request c now (state_of es n) (besides (replaced_ticket o) es) q
     ≡ refuses refusal.NoIdentifier
-at-none c now es n o q freed sound list gone ne share same_freed found =
-    let mid = besides (gone_ticket o) es in
+at-none c now es n o q freed sound list replaced ne share same_freed found =
+    let mid = besides (replaced_ticket o) es in
     let links = targets c q in
     let here : way_link c now n.rests.items n.lanes.items (freed_link o) q es links ≡ None =
     subst (λ (x : Option Link). way_link c now n.rests.items n.lanes.items x q es links ≡ None) same_freed
     (sym found) in
-    let at = targets-way c now es n o q sound list gone ∙ here in
+    let at = targets-way c now es n o q sound list replaced ∙ here in
     new-request-is c now (state_of es n) mid q _ None ne share refl (no-target _ at)
 
 -- the entry of a request's key counts as gone, and the key is then free
-pub key-gone :
+pub key-replaced :
     (k : Key) (e : PlainEntry) (es : List PlainEntry) (g : Replaced) → IsEntryList es
     → find_client k es ≡ Some e → g.ticket ≡ e.ticket → g.waits_at ≡ standing_place e.standing
-    → CountsAsGone (Some g) es
-key-gone k e es g list at ticket place =
+    → CountsAsReplaced (Some g) es
+key-replaced k e es g list at ticket place =
     let found = found-is (has_key k) es e list.in_order at in
     let here = subst (λ (t : ℕ). find_ticket t es ≡ Some e) (sym ticket) found in
     (e, record { found = here; place = place })
 
-pub found-gone :
+pub found-replaced :
     (k : Key) (e : PlainEntry) (es : List PlainEntry) (g : Replaced) → IsEntryList es
     → find_client k es ≡ Some e → g.ticket ≡ e.ticket → find_ticket g.ticket es ≡ Some e
-found-gone k e es g list at ticket =
+found-replaced k e es g list at ticket =
     subst (λ (t : ℕ). find_ticket t es ≡ Some e) (sym ticket) (found-is (has_key k) es e list.in_order at)
 
 pub rest-of :

@@ -23,7 +23,7 @@ use Rattle.roam_book.specs.Turn.{Turn, state_after}
 use Rattle.roam_book.specs.Shares.{share_taken}
 use Rattle.roam_book.specs.Conversing.{bound_target, new_target, rests_by, rests_chosen, rests_for}
 use Rattle.roam_book.specs.OnRequest.{admit, at_target, is_reverse, make_way, nak_or_new, of_key, on_request, reverse_cause, targets}
-use Rattle.roam_book.specs.OnReply.{judge, shows_life, on_reply, passing_to, reply_fault, returning, to_entry, to_standing}
+use Rattle.roam_book.specs.OnReply.{reply_turn, shows_life, on_reply, passing_to, reply_fault, returning, to_entry, to_standing}
 use Rattle.roam_book.specs.OnTick.{Progress, due_each, due_entry, due_one, due_standing, fail_over, given_up_at, once_refused}
 use Rattle.roam_book.specs.OneRealm.{RealmEvent, on_event, one_realm_run, reply_came, request_came, tick_came}
 use Rattle.roam_book.specs.declared.state.rest.Rest.{Rest}
@@ -109,11 +109,11 @@ module _ (c : RealmConfig) (K : List Rest → Type 0)
 -- what a reply keeps of them, a reply keeps
 module _ (c : RealmConfig) (K : List Rest → Type 0)
     (answered : (rests : List Rest) (l : Link) → K rests → K (after_sign c rests l)) where
-  judge-keeps : (now : ℕ) (s : RealmState) (e : PlainEntry) (l : Link) (forwarded reply : Packet)
-      (why : Option Refusal) → K s.rests → After K s (judge c now s e l forwarded reply why)
-  judge-keeps now s e l forwarded reply (Some why) k =
+  reply_turn-keeps : (now : ℕ) (s : RealmState) (e : PlainEntry) (l : Link) (forwarded reply : Packet)
+      (why : Option Refusal) → K s.rests → After K s (reply_turn c now s e l forwarded reply why)
+  reply_turn-keeps now s e l forwarded reply (Some why) k =
       either (After K s) (shows_life why) _ _ (answered s.rests l k) k
-  judge-keeps now s e l forwarded reply None k =
+  reply_turn-keeps now s e l forwarded reply None k =
       either (After K s)
       (ltb 4096 (returned_length (returning c e.request l forwarded) (passing_to c e.request reply)
       (packet_of e.request.octets)))
@@ -122,7 +122,7 @@ module _ (c : RealmConfig) (K : List Rest → Type 0)
   to_standing-keeps : (now : ℕ) (s : RealmState) (e : PlainEntry) (reply : Packet) (p : PlainStanding)
       → K s.rests → After K s (to_standing c now s e reply p)
   to_standing-keeps now s e reply (waiting l id forwarded sends_left deadline signs) k =
-      judge-keeps now s e l (packet_of forwarded) reply
+      reply_turn-keeps now s e l (packet_of forwarded) reply
       (reply_fault (link_secret c l) (seal_required c l) reply (packet_of forwarded)) k
   to_standing-keeps now s e reply (done old deadline from) k = k
 

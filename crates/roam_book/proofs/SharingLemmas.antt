@@ -192,10 +192,10 @@ count-kept w k s (e ∷ es) =
             count-cons (λ x. w x && s x) e (filter k es),
             count-kept w k s es,
           )
-      | inr gone ↦
-          let here : one_if (w e && (k e && s e)) ≡ 0 = rw gone (ap one_if (and-none (w e))) in
+      | inr replaced ↦
+          let here : one_if (w e && (k e && s e)) ≡ 0 = rw replaced (ap one_if (and-none (w e))) in
           let first : count_by (λ x. w x && s x) (filter k (e ∷ es))
-          ≡ count_by (λ x. w x && s x) (filter k es) = rw gone refl in
+          ≡ count_by (λ x. w x && s x) (filter k es) = rw replaced refl in
           omega (
             arith,
             count-cons (λ x. w x && (k x && s x)) e es,
@@ -205,28 +205,28 @@ count-kept w k s (e ∷ es) =
           )
     ]
 
-count-besides : (asked : Service) (test : PlainEntry → Bool) (gone : Option ℕ) (es : List PlainEntry) →
-    count_by (λ e. waits_for asked e.standing && is_kept_as test gone e) es
-    ≡ count_by (λ e. waits_for asked e.standing && test e) (besides gone es)
+count-besides : (asked : Service) (test : PlainEntry → Bool) (replaced : Option ℕ) (es : List PlainEntry) →
+    count_by (λ e. waits_for asked e.standing && is_kept_as test replaced e) es
+    ≡ count_by (λ e. waits_for asked e.standing && test e) (besides replaced es)
 count-besides asked test None es = refl
 count-besides asked test (Some t) es =
     count-kept (λ e. waits_for asked e.standing) (λ e. not (has_ticket t e)) test es
 
 -- what is counted by the Identifiers is what is counted by the entries
 pub counted-is : {A : Type 0} (c : RealmConfig) (es : List PlainEntry) (n : RealmNumbers A) (asked : Service)
-    (test : PlainEntry → Bool) (gone : Option ℕ) → IsSound c es n → IsEntryList es →
+    (test : PlainEntry → Bool) (replaced : Option ℕ) → IsSound c es n → IsEntryList es →
     sum_below (length c.realm.servers) (λ server. sum_below (length c.realm.out)
-    (λ out. held_below 256 test gone (server_link asked server out) es))
-    ≡ count_by (λ e. waits_for asked e.standing && test e) (besides gone es)
-counted-is c es n asked test gone sound list =
-    let p : PlainEntry → Bool = is_kept_as test gone in
+    (λ out. held_below 256 test replaced (server_link asked server out) es))
+    ≡ count_by (λ e. waits_for asked e.standing && test e) (besides replaced es)
+counted-is c es n asked test replaced sound list =
+    let p : PlainEntry → Bool = is_kept_as test replaced in
     all-same (length c.realm.servers) (length c.realm.out)
-    (λ server out id. one_if (held_as test gone (server_link asked server out) id es))
+    (λ server out id. one_if (held_as test replaced (server_link asked server out) id es))
     (λ server out id. count_at p (server_link asked server out) id es)
     (λ server out id within way octet.
     sym (there c es n p (server_link asked server out) id sound list (server-is c asked server out within way) octet))
     ∙ by-service c n.ticket asked p es sound.each
-    ∙ count-besides asked test gone es
+    ∙ count-besides asked test replaced es
 
 -- ---- the count of both services
 

@@ -19,7 +19,7 @@ use Rattle.roam_book.specs.RealmConfig.{RealmConfig, end_place, link_secret, sea
 use Rattle.roam_book.specs.RealmState.{RealmState, Target, first_target, next_toward, ready_links, this_or}
 use Rattle.roam_book.specs.Rests.{after_choice, after_sign, after_silence, awake, once_chosen, once_heard, once_silent, one_more, rest_of, signs_of, stands_back, with_rest}
 use Rattle.roam_book.specs.Turn.{Turn, latest_moment, hears, refuses, state_after}
-use Rattle.roam_book.specs.OnReply.{judge, once_heard_from, shows_life, on_reply, passing_to, reply_fault, returning, to_entry, to_standing}
+use Rattle.roam_book.specs.OnReply.{reply_turn, once_heard_from, shows_life, on_reply, passing_to, reply_fault, returning, to_entry, to_standing}
 use Rattle.roam_book.specs.OnTick.{Progress, as_turn, due_each, due_entry, due_one, due_standing, given_up_at}
 use Rattle.roam_book.specs.OneRealm.{RealmEvent, one_realm_run, reply_came, request_came, tick_came}
 use Rattle.roam_book.specs.RestLaws.{IsUp}
@@ -266,13 +266,13 @@ module _ (c : RealmConfig) (l : Link) where
       subst (λ (i : ℕ). Tells c 0 (get_or (set rests (end_place c k) heard) i awake)) is
       (heard_there c rests (end_place c k) heard (heard-tells c 0 (rest_of c rests k)))
 
-  judge-wakes : (now : ℕ) (s : RealmState) (e : PlainEntry) (k : Link) (forwarded reply : Packet)
+  reply_turn-wakes : (now : ℕ) (s : RealmState) (e : PlainEntry) (k : Link) (forwarded reply : Packet)
       (why : Option Refusal) → end_place c k ≡ end_place c l
-      → Wakes s (judge c now s e k forwarded reply why)
-  judge-wakes now s e k forwarded reply (Some why) is =
+      → Wakes s (reply_turn c now s e k forwarded reply why)
+  reply_turn-wakes now s e k forwarded reply (Some why) is =
       either (Wakes s) (shows_life why) (hears why (once_heard_from c s k)) (refuses why)
       (λ sign. woken-at s.rests k is) (refuses-wakes s why)
-  judge-wakes now s e k forwarded reply None is =
+  reply_turn-wakes now s e k forwarded reply None is =
       either (Wakes s)
       (ltb 4096 (returned_length (returning c e.request k forwarded) (passing_to c e.request reply)
       (packet_of e.request.octets)))
@@ -283,7 +283,7 @@ module _ (c : RealmConfig) (l : Link) where
       → Wakes s (to_standing c now s e reply p)
   standing-wakes now s e from id reply (waiting k i forwarded sends_left deadline signs) at is =
       let same = same_place k from (both_true (same_link k from) (i == id) at) in
-      judge-wakes now s e k (packet_of forwarded) reply
+      reply_turn-wakes now s e k (packet_of forwarded) reply
       (reply_fault (link_secret c k) (seal_required c k) reply (packet_of forwarded)) (same ∙ is)
   standing-wakes now s e from id reply (done old deadline kept) at is = refuses-wakes s refusal.NoEntry
 

@@ -32,7 +32,7 @@ use Rattle.roam_book.specs.Private.Memory.{AreDues, HasBuffers, HasPlace, IsOuts
 use Rattle.roam_book.proofs.MemoryLemmas.{gathered-turned, has-place}
 use Rattle.roam_book.specs.Rooms.{dues_of, size_of, EachHasBuffers}
 use Rattle.roam_book.specs.declared.rules.due_action.DueAction.{DueAction}
-use Rattle.roam_book.specs.Private.Fates.{fate_entries}
+use Rattle.roam_book.specs.Private.DueActions.{action_entries}
 use Rattle.roam_book.proofs.RoomLemmas.{buffers-kept}
 
 -- of how many requests it is said what became of them
@@ -256,13 +256,13 @@ pub becomes-at :
     → RealmBecomes s (without t (all s)) all new
 becomes-at all new r s t is h = subst (λ (n : ℕ). RealmBecomes n (without t (all n)) all new) is h
 
--- what the entries are once an entry had its fate
+-- what the entries are once an entry was acted on
 pub becomes-found :
     {A : Type 0} (c : RealmConfig) (now r t : ℕ) (e : PlainEntry) (es : List PlainEntry)
     (old new : ℕ → List PlainEntry) (f : DueAction A)
     → Some e ≡ find_ticket t es
-    → IfSome (find_ticket t es) (λ x. RealmBecomes r (fate_entries c now x es f) old new)
-    → RealmBecomes r (fate_entries c now e es f) old new
+    → IfSome (find_ticket t es) (λ x. RealmBecomes r (action_entries c now x es f) old new)
+    → RealmBecomes r (action_entries c now e es f) old new
 becomes-found c now r t e es old new f found h =
     subst (λ (o : Option PlainEntry). IfSome o
-    (λ x. RealmBecomes r (fate_entries c now x es f) old new)) (sym found) h
+    (λ x. RealmBecomes r (action_entries c now x es f) old new)) (sym found) h

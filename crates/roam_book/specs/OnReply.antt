@@ -87,14 +87,14 @@ abbrev pub faulted : RealmConfig → RealmState → Link → Refusal → Turn
 faulted c s l why = if shows_life why then hears why (once_heard_from c s l) else refuses why
 
 -- a reply with what is wrong with it, if anything is
-abbrev pub judge : RealmConfig → ℕ → RealmState → PlainEntry → Link → Packet → Packet → Option Refusal → Turn
-judge c now s e l forwarded reply (Some why) = faulted c s l why
-judge c now s e l forwarded reply None = return_reply c now s e l forwarded reply
+abbrev pub reply_turn : RealmConfig → ℕ → RealmState → PlainEntry → Link → Packet → Packet → Option Refusal → Turn
+reply_turn c now s e l forwarded reply (Some why) = faulted c s l why
+reply_turn c now s e l forwarded reply None = return_reply c now s e l forwarded reply
 
 -- a reply to an entry that waits
 abbrev pub to_standing : RealmConfig → ℕ → RealmState → PlainEntry → Packet → PlainStanding → Turn
 to_standing c now s e reply (waiting l id forwarded sends_left deadline signs) =
-    judge c now s e l (packet_of forwarded) reply
+    reply_turn c now s e l (packet_of forwarded) reply
     (reply_fault (link_secret c l) (seal_required c l) reply (packet_of forwarded))
 to_standing c now s e reply (done old deadline from) = refuses refusal.NoEntry
 

@@ -204,13 +204,13 @@ pub record IsGone (g : Replaced) (entries : List PlainEntry) (e : PlainEntry) : 
   pub place : g.waits_at ≡ standing_place e.standing
 
 -- the ticket of the entry that counts as gone; the link where it waits
-abbrev pub gone_ticket : Option Replaced → Option ℕ
-gone_ticket gone = option_map (λ g. g.ticket) gone
+abbrev pub replaced_ticket : Option Replaced → Option ℕ
+replaced_ticket replaced = option_map (λ g. g.ticket) replaced
 
 -- an entry counts as gone, or none does
-abbrev pub CountsAsGone : Option Replaced → List PlainEntry → Type 0
-CountsAsGone None entries = Unit {0}
-CountsAsGone (Some g) entries = (e : PlainEntry) × IsGone g entries e
+abbrev pub CountsAsReplaced : Option Replaced → List PlainEntry → Type 0
+CountsAsReplaced None entries = Unit {0}
+CountsAsReplaced (Some g) entries = (e : PlainEntry) × IsGone g entries e
 
 -- every other realm's entries are as they were
 abbrev pub OthersStay : ℕ → (ℕ → List PlainEntry) → (ℕ → List PlainEntry) → Type 0

@@ -157,13 +157,13 @@ impl<'c, A: Allocator + Copy> Book<'c, A> {
     {
         let settings = RealmSettings::new(self.config, self.realm);
         let octets = job.octets.as_slice();
-        let asked = request_of_job(&settings, job, octets);
+        let request = request_of_job(&settings, job, octets);
         let mut realm = RealmBroker {
             settings: &settings,
             entries: &mut self.entries,
             numbers: &mut self.numbers,
         };
-        answer_of(realm.on_request(now, asked))
+        answer_of(realm.on_request(now, request))
     }
 
     /// A reply from a link of the realm, at a moment in milliseconds (RFC 2865, section 2.3): it is

@@ -18,7 +18,7 @@ use Rattle.roam_book.specs.Turn.{Turn, state_after}
 use Rattle.roam_book.specs.Shares.{share_taken}
 use Rattle.roam_book.specs.Conversing.{bound_target, new_target, rests_for}
 use Rattle.roam_book.specs.OnRequest.{admit, at_target, is_reverse, make_way, nak_or_new, of_key, on_request, reverse_cause, targets}
-use Rattle.roam_book.specs.OnReply.{judge, on_reply, passing_to, reply_fault, returning, shows_life, to_entry, to_standing}
+use Rattle.roam_book.specs.OnReply.{reply_turn, on_reply, passing_to, reply_fault, returning, shows_life, to_entry, to_standing}
 use Rattle.roam_book.specs.OnTick.{Progress, due_each, due_entry, due_one, due_standing, fail_over, given_up_at, once_refused}
 use Rattle.roam_book.specs.OneRealm.{RealmEvent, on_event, one_realm_run, reply_came, request_came, tick_came}
 use Rattle.roam_carry.specs.Reload.{PlacesStay}
@@ -78,10 +78,10 @@ module _ (c : RealmConfig) (n : ℕ) where
       (of_key-stays now s named q (find_client q.key s.entries) k)
 
   -- a reply
-  judge-stays : (now : ℕ) (s : RealmState) (e : PlainEntry) (l : Link) (forwarded reply : Packet)
-      (why : Option Refusal) → Has n s → After n s (judge c now s e l forwarded reply why)
-  judge-stays now s e l forwarded reply (Some why) k = either (After n s) (shows_life why) _ _ k k
-  judge-stays now s e l forwarded reply None k =
+  reply_turn-stays : (now : ℕ) (s : RealmState) (e : PlainEntry) (l : Link) (forwarded reply : Packet)
+      (why : Option Refusal) → Has n s → After n s (reply_turn c now s e l forwarded reply why)
+  reply_turn-stays now s e l forwarded reply (Some why) k = either (After n s) (shows_life why) _ _ k k
+  reply_turn-stays now s e l forwarded reply None k =
       either (After n s)
       (ltb 4096 (returned_length (returning c e.request l forwarded) (passing_to c e.request reply)
       (packet_of e.request.octets)))
@@ -90,7 +90,7 @@ module _ (c : RealmConfig) (n : ℕ) where
   to_standing-stays : (now : ℕ) (s : RealmState) (e : PlainEntry) (reply : Packet) (p : PlainStanding)
       → Has n s → After n s (to_standing c now s e reply p)
   to_standing-stays now s e reply (waiting l id forwarded sends_left deadline signs) k =
-      judge-stays now s e l (packet_of forwarded) reply
+      reply_turn-stays now s e l (packet_of forwarded) reply
       (reply_fault (link_secret c l) (seal_required c l) reply (packet_of forwarded)) k
   to_standing-stays now s e reply (done old deadline from) k = k
 

@@ -39,7 +39,7 @@ use Rattle.roam_route.specs.Admission.{PlainOut}
 use Rattle.roam_book.specs.Shapings.{removed_for, shaping_of, shaping_to}
 use Rattle.roam_book.specs.Shares.{share_taken}
 use Rattle.roam_book.specs.OneRealm.{RealmEvent, request_came, reply_came, tick_came, on_event, one_realm_run}
-use Rattle.roam_book.specs.OnReply.{counted, counted_peer, judge, on_reply, once_returned, return_reply, returned_octets, returning, to_entry, to_standing, once_heard_from, shows_life}
+use Rattle.roam_book.specs.OnReply.{counted, counted_peer, reply_turn, on_reply, once_returned, return_reply, returned_octets, returning, to_entry, to_standing, once_heard_from, shows_life}
 use Rattle.roam_book.specs.OnRequest.{admit, at_target, coa_links, first_seen, forwarded_entry, forwarded_octets, is_reverse, make_way, nak_octets, nak_or_new, new_request, of_key, on_request, once_forwarded, packet_to_link, position_after, drawn_at, packet_to_requester, held_reply, reverse_cause, targets}
 use Rattle.roam_book.specs.OnTick.{Progress, as_turn, due_each, due_entry, due_one, due_standing, fail_over, given_up, given_up_at, on_tick, once_refused, silent, without_entry}
 use Rattle.roam_book.specs.RealmConfig.{RealmConfig, end_place, later_targets, link_endpoint, link_place, link_secret, links_from, nowhere, requester_secret, seal_required, service_of, ways_to}
@@ -371,7 +371,7 @@ module _ (c : RealmConfig) where
       else sends (packet_to_requester c e.request.key (returned_same e.request l p reply i) ∷ []) (state i)
 
   judge_same : (now : ℕ) (s : RealmState) (e : PlainEntry) (l : Link) (p reply : Packet) (why : Option Refusal) →
-      judge (bare c) now s e l p reply why ≡ judge c now s e l p reply why
+      reply_turn (bare c) now s e l p reply why ≡ reply_turn c now s e l p reply why
   judge_same now s e l p reply (Some why) = λ i.
       if shows_life why then hears why (heard_same s l i) else refuses why
   judge_same now s e l p reply None = return_same now s e l p reply
@@ -382,7 +382,7 @@ module _ (c : RealmConfig) where
       let why : reply_fault (link_secret (bare c) l) (seal_required (bare c) l) reply (packet_of octets)
       ≡ reply_fault (link_secret c l) (seal_required c l) reply (packet_of octets) =
       λ i. reply_fault (secret_of l i) (seal_same l i) reply (packet_of octets) in
-      ap (judge (bare c) now s e l (packet_of octets) reply) why
+      ap (reply_turn (bare c) now s e l (packet_of octets) reply) why
       ∙ judge_same now s e l (packet_of octets) reply
       (reply_fault (link_secret c l) (seal_required c l) reply (packet_of octets))
   standing_same now s e reply (done old deadline from) = refl

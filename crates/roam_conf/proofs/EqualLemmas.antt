@@ -21,20 +21,20 @@ abbrev pub server_eq : Server → Server → Bool
 server_eq a b =
     endpoint_eq a.auth b.auth &&
     (option_eq endpoint_eq a.acct b.acct &&
-    (string_eq a.secret b.secret &&
+    (pointwise eqb a.secret b.secret &&
     (beq a.require_seal b.require_seal)))
 
 abbrev pub client_eq : CoaClient → CoaClient → Bool
 client_eq a b =
     same_address a.ip b.ip &&
-    (string_eq a.secret b.secret)
+    (pointwise eqb a.secret b.secret)
 
 abbrev pub peer_eq : Peer → Peer → Bool
 peer_eq a b =
     beq a.gone b.gone &&
     (string_eq a.name b.name &&
     (prefix_eq a.ip b.ip &&
-    (string_eq a.secret b.secret &&
+    (pointwise eqb a.secret b.secret &&
     (option_eq endpoint_eq a.coa b.coa &&
     (option_eq (pointwise eqb) a.nas_ip b.nas_ip &&
     (option_eq (pointwise eqb) a.nas_ipv6 b.nas_ipv6 &&
@@ -71,7 +71,7 @@ server_decides a b =
     ))
     (Decides-and _ _ (endpoint_decides a.auth b.auth)
     (Decides-and _ _ (whole_option_decides endpoint_eq endpoint_decides a.acct b.acct)
-    (Decides-and _ _ (text_decides a.secret b.secret)
+    (Decides-and _ _ (bytes_eq-Decides a.secret b.secret)
     (booleans_Decides a.require_seal b.require_seal))))
 
 pub client_decides : (a b : CoaClient) → Decides (client_eq a b) (shown_client a ≡ shown_client b)
@@ -85,7 +85,7 @@ client_decides a b =
     })
     (λ e. (ap (λ (x : CoaClientView). x.ip) e, ap (λ (x : CoaClientView). x.secret) e))
     (Decides-and _ _ (address_decides a.ip b.ip)
-    (text_decides a.secret b.secret))
+    (bytes_eq-Decides a.secret b.secret))
 
 pub peer_decides : (a b : Peer) → Decides (peer_eq a b) (shown_peer a ≡ shown_peer b)
 peer_decides a b =
@@ -160,7 +160,7 @@ peer_decides a b =
     (Decides-and _ _ (booleans_Decides a.gone b.gone)
     (Decides-and _ _ (text_decides a.name b.name)
     (Decides-and _ _ (prefix_decides a.ip b.ip)
-    (Decides-and _ _ (text_decides a.secret b.secret)
+    (Decides-and _ _ (bytes_eq-Decides a.secret b.secret)
     (Decides-and _ _ (whole_option_decides endpoint_eq endpoint_decides a.coa b.coa)
     (Decides-and _ _ (whole_option_decides (pointwise eqb) bytes_eq-Decides a.nas_ip b.nas_ip)
     (Decides-and _ _ (whole_option_decides (pointwise eqb) bytes_eq-Decides a.nas_ipv6 b.nas_ipv6)

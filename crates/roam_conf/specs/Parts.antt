@@ -14,12 +14,12 @@ abbrev pub shown_server : Server → ServerView
 shown_server server = record {
   auth = server.auth;
   acct = server.acct;
-  secret = string_bytes server.secret;
+  secret = server.secret;
   require_seal = server.require_seal;
 }
 
 abbrev pub shown_client : CoaClient → CoaClientView
-shown_client client = record { ip = client.ip; secret = string_bytes client.secret }
+shown_client client = record { ip = client.ip; secret = client.secret }
 
 abbrev pub shown_names : Vec (String Global) Global → List (List ℕ)
 shown_names names = map string_bytes names.items
@@ -29,7 +29,7 @@ shown_peer peer = record {
   gone = peer.gone;
   name = string_bytes peer.name;
   ip = shown_prefix peer.ip;
-  secret = string_bytes peer.secret;
+  secret = peer.secret;
   coa = peer.coa;
   nas_ip = peer.nas_ip;
   nas_ipv6 = peer.nas_ipv6;

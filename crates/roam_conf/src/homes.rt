@@ -1,6 +1,7 @@
 //! The sources of a realm's reverse requests. None of this takes memory.
 
 use crate::{Address, Config, Realm, list_search};
+use roam_auth::Secret;
 
 impl Realm {
     ghost use Rattle.std.specs.Prelude.{◌≡◌, ◌≤◌, ◌<◌, ◌+◌, length, option_map};
@@ -39,9 +40,9 @@ impl Realm {
         self.home_with_ip(ip)
     }
 
-    /// The octets of the secret shared with a source of reverse requests, 1 to 64: a server by its place or, behind
+    /// The secret shared with a source of reverse requests, of 1 to 64 octets: a server by its place or, behind
     /// the servers, a `coa_client`.
-    pub fn secret_of_home(&self, home: u8) -> &[u8]
+    pub fn secret_of_home(&self, home: u8) -> &Secret
         requires { home < homes (shown_realm self.now) }
         ensures text { result.now ≡ home_secret (shown_realm self.now) home }
         ensures at_least_one { 1 ≤ length result.now }

@@ -6,7 +6,8 @@ ghost use Rattle.roam_conf.specs.Letters.{is_nas_text, is_peer_letter};
 ghost use Rattle.std.specs.Option.{ForSome};
 ghost use Rattle.roam_wire.specs.RemovedAttributes.{is_removal_in_requests, is_removal_in_replies};
 
-use crate::{Endpoint, Prefix};
+use crate::{Endpoint, Prefix, SharedSecret};
+use roam_auth::Secret;
 use roam_wire::RemovedAttribute;
 
 /// An access server (NAS), or the proxy of a visited network, known by its address, or all that are at the addresses of
@@ -20,7 +21,7 @@ pub struct Peer {
     pub name: String,
     pub ip: Prefix,
     /// The shared secret: 1 to 64 octets.
-    pub secret: String,
+    pub secret: SharedSecret,
     /// Takes Disconnect- and CoA-Requests (RFC 5176), where the peer takes them; its port isn't 0.
     pub coa: Option<Endpoint>,
     /// The NAS-IP-Address by which a reverse request names the peer.
@@ -46,7 +47,7 @@ pub struct Peer {
     pub reply_without: Vec<RemovedAttribute>,
     ghost name_length: { (1 ≤ length (string_bytes name)) × (length (string_bytes name) ≤ 64) },
     ghost name_letters: { list_all is_peer_letter (string_bytes name) ≡ true },
-    ghost secret_length: { (1 ≤ length (string_bytes secret)) × (length (string_bytes secret) ≤ 64) },
+    ghost secret_length: { (1 ≤ length secret) × (length secret ≤ 64) },
     ghost nas_id_length: { ForSome nas_id
         (λ s. (1 ≤ length (string_bytes s)) × (length (string_bytes s) ≤ 253)) },
     ghost nas_ids_count: { vec_len nas_ids ≤ 1024 },
@@ -60,12 +61,12 @@ pub struct Peer {
 }
 
 impl Peer {
-    /// The octets of the shared secret: 1 to 64.
-    pub fn secret(&self) -> &[u8]
-        ensures text { result.now ≡ string_bytes self.now.secret }
+    /// The shared secret, as packets are sealed with it: 1 to 64 octets.
+    pub fn secret(&self) -> &Secret
+        ensures text { result.now ≡ self.now.secret }
         ensures at_least_one { 1 ≤ length result.now }
         ensures at_most_64 { length result.now ≤ 64 }
     {
-        self.secret.as_bytes()
+        self.secret.keyed()
     }
 }

@@ -1,9 +1,10 @@
 //! A home server of a realm.
 
-ghost use Rattle.std.specs.Prelude.{◌≡◌, ◌≤◌, length, string_bytes};
+ghost use Rattle.std.specs.Prelude.{◌≡◌, ◌≤◌, length};
 ghost use Rattle.std.specs.Option.{ForSome};
 
-use crate::Endpoint;
+use crate::{Endpoint, SharedSecret};
+use roam_auth::Secret;
 
 /// A home server of a realm: where it takes requests, and the secret shared with it.
 #[derive(Drop, PartialEq, Eq)]
@@ -13,20 +14,20 @@ pub struct Server {
     /// Takes Accounting-Requests (RFC 2866), where the server takes them; its port isn't 0.
     pub acct: Option<Endpoint>,
     /// The shared secret: 1 to 64 octets.
-    pub secret: String,
+    pub secret: SharedSecret,
     /// Whether each Access-Accept, -Reject and -Challenge of the server needs a Message-Authenticator.
     pub require_seal: bool,
-    ghost secret_length: { (1 ≤ length (string_bytes secret)) × (length (string_bytes secret) ≤ 64) },
+    ghost secret_length: { (1 ≤ length secret) × (length secret ≤ 64) },
     ghost ports: { (1 ≤ auth.port) × ForSome acct (λ e. 1 ≤ e.port) },
 }
 
 impl Server {
-    /// The octets of the shared secret: 1 to 64.
-    pub fn secret(&self) -> &[u8]
-        ensures text { result.now ≡ string_bytes self.now.secret }
+    /// The shared secret, as packets are sealed with it: 1 to 64 octets.
+    pub fn secret(&self) -> &Secret
+        ensures text { result.now ≡ self.now.secret }
         ensures at_least_one { 1 ≤ length result.now }
         ensures at_most_64 { length result.now ≤ 64 }
     {
-        self.secret.as_bytes()
+        self.secret.keyed()
     }
 }

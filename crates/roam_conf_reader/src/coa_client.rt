@@ -12,7 +12,7 @@ ghost use Rattle.roam_conf_reader.specs.Texts.{client_in};
 use crate::tables::{CLIENT_KEYS, has_only};
 use crate::values::{Letters, value};
 use crate::{ConfFault, keys};
-use roam_conf::{Address, CoaClient};
+use roam_conf::{Address, CoaClient, SharedSecret};
 use std::alloc::Global;
 use toml::Table;
 use toml::value::Array;
@@ -53,7 +53,7 @@ fn from_table(alloc: Global, table: &Table) -> Result<CoaClient, ConfFault>
     };
     Ok(CoaClient {
         ip: text.ip,
-        secret: String::from_str(alloc, text.secret)?,
+        secret: SharedSecret::new(alloc, text.secret)?,
     })
 }
 

@@ -13,7 +13,7 @@ ghost use Rattle.roam_conf_reader.specs.Texts.{StatesPeerBesideLists};
 use crate::tables::{PEER_KEYS, PEER_OPTIONAL_KEYS, has_only};
 use crate::values::Letters;
 use crate::{ConfFault, keys, names, removed};
-use roam_conf::{Endpoint, Peer, Prefix};
+use roam_conf::{Endpoint, Peer, Prefix, SharedSecret};
 use std::alloc::Global;
 use toml::Table;
 use toml::value::Array;
@@ -85,7 +85,6 @@ fn from_table(alloc: Global, table: &Table) -> Result<Peer, ConfFault>
         gone: false,
         name: String::from_str(alloc, text.name)?,
         ip: text.ip,
-        secret: String::from_str(alloc, text.secret)?,
         coa: text.coa,
         nas_ip: text.nas_ip,
         nas_ipv6: text.nas_ipv6,
@@ -97,6 +96,7 @@ fn from_table(alloc: Global, table: &Table) -> Result<Peer, ConfFault>
         ask_cui: text.ask_cui,
         request_without: removed::of_requests(alloc, table)?,
         reply_without: removed::of_replies(alloc, table)?,
+        secret: SharedSecret::new(alloc, text.secret)?,
     })
 }
 

@@ -11,7 +11,7 @@ ghost use Rattle.roam_conf_reader.specs.Texts.{server_in};
 use crate::tables::{SERVER_KEYS, SERVER_OPTIONAL_KEYS, has_only};
 use crate::values::Letters;
 use crate::{ConfFault, keys};
-use roam_conf::{Endpoint, Server};
+use roam_conf::{Endpoint, Server, SharedSecret};
 use std::alloc::Global;
 use toml::Table;
 use toml::value::Array;
@@ -57,7 +57,7 @@ fn from_table(alloc: Global, table: &Table) -> Result<Server, ConfFault>
     Ok(Server {
         auth: text.auth,
         acct: text.acct,
-        secret: String::from_str(alloc, text.secret)?,
+        secret: SharedSecret::new(alloc, text.secret)?,
         require_seal: text.require_seal,
     })
 }

@@ -15,14 +15,18 @@ use Rattle.roam_route.specs.LocalAnswer.{accounting_answer}
 use Rattle.roam_route.specs.Freshness.{is_fresh}
 use Rattle.roam_route.specs.LocalReject.{is_rejected, takes_of}
 use Rattle.roam_route.specs.Shapings.{sent_length}
-use Rattle.roam_route.specs.Admission.{Arrival, PlainJob, PlainOut, Admission, refused, rejected, admitted, sender, checked, job_of, forwarded_for, rejected_for, for_named_realm, accounted, accounting_in, answered_by, by_accounting, is_answered_unnamed, route_request, request_admission, packet_admission, sent_admission, read_admission, admission, is_taken, peer_secret, home_secret, has_few_attributes, is_rightly_signed, is_rightly_sealed, has_needed_seal, has_few_hops, seal_required, has_seal, is_status_request, status_admission, status_from}
+use Rattle.roam_route.specs.declared.local_answer.LocalAnswer.TheVariants as local
+use Rattle.roam_route.specs.declared.local_answer.LocalAnswer.{LocalAnswer}
+use Rattle.roam_route.specs.declared.local_answer.RejectCause.{RejectCause}
+use Rattle.roam_route.specs.RejectCauses.{reject_cause}
+use Rattle.roam_route.specs.Admission.{Arrival, PlainJob, PlainOut, Admission, refused, answered_here, admitted, sender, checked, job_of, forwarded_for, rejected_for, for_named_realm, accounted, accounting_in, answered_by, by_accounting, is_answered_unnamed, route_request, request_admission, packet_admission, sent_admission, read_admission, admission, is_taken, peer_secret, home_secret, has_few_attributes, is_rightly_signed, is_rightly_sealed, has_needed_seal, has_few_hops, seal_required, has_seal, is_status_request, status_admission, status_from}
 use Rattle.roam_route.specs.declared.job.Side.{Side}
 use Rattle.roam_route.specs.declared.job.Side.TheVariants as side
 
 -- if it is a local reject, it is for no realm
 unfoldable pub RejectsForNone : Admission → Type 0
 RejectsForNone (refused why) = Unit {0}
-RejectsForNone (rejected out) = out.realm ≡ None
+RejectsForNone (answered_here what out) = out.realm ≡ None
 RejectsForNone (admitted job) = Unit {0}
 
 refused_so : (why : Refusal) → RejectsForNone (refused why)
@@ -33,9 +37,9 @@ admitted_so : (job : PlainJob) → RejectsForNone (admitted job)
 unfolding RejectsForNone
 admitted_so job = tt
 
-rejected_so : (out : PlainOut) → out.realm ≡ None → RejectsForNone (rejected out)
+rejected_so : (what : LocalAnswer) (out : PlainOut) → out.realm ≡ None → RejectsForNone (answered_here what out)
 unfolding RejectsForNone
-rejected_so out is = is
+rejected_so what out is = is
 
 checked_so : (holds : Bool) (why : Refusal) (further : Admission) → RejectsForNone further →
     RejectsForNone (checked holds why further)
@@ -54,7 +58,7 @@ named_so config a s p (Some realm) = forwarded_so (sent_length config s p realm)
 accounting_so : (how : Accounting) (size : ℕ) (secret : List ℕ) (a : Arrival) (s : Side) (p : Packet) (realm : ℕ) →
     RejectsForNone (by_accounting size secret a s p realm how)
 accounting_so Forwarded size secret a s p realm = forwarded_so size a s p realm (Some realm)
-accounting_so Answered size secret a s p realm = rejected_so _ refl
+accounting_so Answered size secret a s p realm = rejected_so _ _ refl
 accounting_so Dropped size secret a s p realm = refused_so refusal.AccountingDropped
 
 accounted_so : (config : ConfigView) (secret : List ℕ) (a : Arrival) (s : Side) (p : Packet) (realm : Option ℕ) →
@@ -64,8 +68,9 @@ accounted_so config secret a s p (Some realm) =
     checked_so (takes_of config realm s) refusal.NotForPeer _
     (accounting_so (accounting_in config realm) (sent_length config s p realm) secret a s p realm)
 
-reject_so : (secret : List ℕ) (a : Arrival) (p : Packet) → RejectsForNone (rejected_for secret a p)
-reject_so secret a p = checked_so _ refusal.TooLong _ (rejected_so _ refl)
+reject_so : (cause : RejectCause) (secret : List ℕ) (a : Arrival) (p : Packet) →
+    RejectsForNone (rejected_for cause secret a p)
+reject_so cause secret a p = checked_so _ refusal.TooLong _ (rejected_so _ _ refl)
 
 either_so : (test : Bool) (one other : Admission) → RejectsForNone one → RejectsForNone other →
     RejectsForNone (if test then one else other)
@@ -74,11 +79,11 @@ either_so false one other this that = that
 
 -- an Accounting-Request, which the broker may answer itself
 unnamed_so : (config : ConfigView) (secret : List ℕ) (a : Arrival) (s : Side) (p : Packet) →
-    RejectsForNone (if is_answered_unnamed config p then answered_by a (accounting_answer secret p)
+    RejectsForNone (if is_answered_unnamed config p then answered_by local.Response a (accounting_answer secret p)
     else accounted config secret a s p (realm_of config p.attributes))
 unnamed_so config secret a s p =
-    either_so (is_answered_unnamed config p) (answered_by a (accounting_answer secret p))
-    (accounted config secret a s p (realm_of config p.attributes)) (rejected_so _ refl)
+    either_so (is_answered_unnamed config p) (answered_by local.Response a (accounting_answer secret p))
+    (accounted config secret a s p (realm_of config p.attributes)) (rejected_so _ _ refl)
     (accounted_so config secret a s p (realm_of config p.attributes))
 
 routed_so : (config : ConfigView) (secret : List ℕ) (a : Arrival) (s : Side) (p : Packet) (at : Place) →
@@ -87,9 +92,9 @@ routed_so config secret a s p (place.Reverse realm nth) =
     checked_so (is_fresh config.fresh a.seconds p.attributes) refusal.Stale _
     (forwarded_so (sent_length config s p realm) a s p realm (realm_of config p.attributes))
 routed_so config secret a s p (place.Auth nth) =
-    either_so (is_rejected config s p) (rejected_for secret a p)
+    either_so (is_rejected config s p) (rejected_for (reject_cause config s p) secret a p)
     (for_named_realm config a s p (realm_of config p.attributes))
-    (reject_so secret a p) (named_so config a s p (realm_of config p.attributes))
+    (reject_so (reject_cause config s p) secret a p) (named_so config a s p (realm_of config p.attributes))
 routed_so config secret a s p (place.Acct nth) = unnamed_so config secret a s p
 routed_so config secret a s p (place.Out realm nth) = unnamed_so config secret a s p
 
@@ -123,7 +128,7 @@ status_so : (most : Option ℕ) (secret : List ℕ) (a : Arrival) (p : Packet) �
 status_so most secret a p =
     checked_so (has_few_attributes most p) refusal.TooManyAttributes _
     (checked_so _ refusal.BadMessageAuthenticator _
-    (checked_so (has_seal p) refusal.MissingMessageAuthenticator _ (rejected_so _ refl)))
+    (checked_so (has_seal p) refusal.MissingMessageAuthenticator _ (rejected_so _ _ refl)))
 
 status_from_so : (config : ConfigView) (a : Arrival) (s : Side) (p : Packet) → RejectsForNone (status_from config a s p)
 status_from_so config a (side.Peer i) p = status_so config.max_attributes (peer_secret config i) a p

@@ -3,7 +3,7 @@ use Rattle.std.proofs.Common.{◌≡◌, ◌≤◌, ℕ, zero, suc, List, [], �
 use Rattle.std.specs.List.{AllByRecursion}
 use Rattle.std.proofs.lemmas.Bool.{cases_Bool}
 use Rattle.roam_conf.specs.Config.{ConfigView}
-use Rattle.roam_route.specs.Admission.{Arrival, PlainOut, Admission, refused, rejected, admitted, admission}
+use Rattle.roam_route.specs.Admission.{Arrival, PlainOut, Admission, refused, answered_here, admitted, admission}
 use Rattle.roam_book.specs.RealmConfig.{realm_config}
 use Rattle.roam_book.specs.RealmState.{RealmState}
 use Rattle.roam_book.specs.OneRealm.{one_realm_run}
@@ -54,7 +54,7 @@ module _ (config : ConfigView) (s : RealmState) (some : 1 ≤ config.shards) (on
       → packets_in_turn (answer_to config (s ∷ []) (arrives now a)) ≡ rejects_by config (arrives now a)
       ++ own-packets (arrives now a)
   of-admission now a (refused why) is = without-reject (arrives now a) (ap reject_of is)
-  of-admission now a (rejected out) is =
+  of-admission now a (answered_here what out) is =
       subst (λ (h : Admission). packets_in_turn (to_arrival config (s ∷ []) now h)
       ≡ reject_of h ++ (one_realm_run (realm_config config 0) s (given_by 0 now h)).packets)
       (sym is) refl

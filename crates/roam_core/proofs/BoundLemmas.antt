@@ -21,7 +21,7 @@ use Rattle.roam_book.specs.Rests.{after_silence}
 use Rattle.roam_book.specs.Turn.{Turn, packets_of, state_after, in_time}
 use Rattle.roam_book.specs.Shares.{share_taken}
 use Rattle.roam_book.specs.OnRequest.{make_way, at_target, is_reverse, nak_or_new, of_key, held_reply, reverse_cause, targets}
-use Rattle.roam_book.specs.OnReply.{judge, passing_to, returning, to_entry, to_standing, shows_life}
+use Rattle.roam_book.specs.OnReply.{reply_turn, passing_to, returning, to_entry, to_standing, shows_life}
 use Rattle.roam_book.specs.OnTick.{Progress, fail_over, given_up_at, due_standing, due_entry, due_one, due_each}
 use Rattle.roam_book.specs.OneRealm.{RealmEvent, request_came, reply_came, tick_came, on_event, one_realm_run}
 use Rattle.roam_book.specs.Conversing.{bound_target, new_target, rests_for}
@@ -157,10 +157,10 @@ of_key-few c now s named q (Some e) =
     either Few (pointwise nat_eq e.request.octets q.octets) _ _ (held-few c q e.standing)
     (nak_or_new-few c now s q (reverse_cause c s named q))
 
-judge-few : (c : RealmConfig) (now : ℕ) (s : RealmState) (e : PlainEntry) (l : Link) (forwarded reply : Packet)
-    (why : Option Refusal) → Few (judge c now s e l forwarded reply why)
-judge-few c now s e l forwarded reply (Some why) = either Few (shows_life why) _ _ (omega arith) (omega arith)
-judge-few c now s e l forwarded reply None =
+reply_turn-few : (c : RealmConfig) (now : ℕ) (s : RealmState) (e : PlainEntry) (l : Link) (forwarded reply : Packet)
+    (why : Option Refusal) → Few (reply_turn c now s e l forwarded reply why)
+reply_turn-few c now s e l forwarded reply (Some why) = either Few (shows_life why) _ _ (omega arith) (omega arith)
+reply_turn-few c now s e l forwarded reply None =
     either Few (ltb 4096 (returned_length (returning c e.request l forwarded) (passing_to c e.request reply)
     (packet_of e.request.octets))) _ _
     (omega arith) (omega arith)
@@ -168,7 +168,7 @@ judge-few c now s e l forwarded reply None =
 to_standing-few : (c : RealmConfig) (now : ℕ) (s : RealmState) (e : PlainEntry) (reply : Packet)
     (standing : PlainStanding) → Few (to_standing c now s e reply standing)
 to_standing-few c now s e reply (waiting l id forwarded sends_left deadline signs) =
-    judge-few c now s e l (packet_of forwarded) reply
+    reply_turn-few c now s e l (packet_of forwarded) reply
     (reply_fault (link_secret c l) (seal_required c l) reply (packet_of forwarded))
 to_standing-few c now s e reply (done old deadline from) = omega arith
 

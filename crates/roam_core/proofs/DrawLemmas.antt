@@ -24,7 +24,7 @@ use Rattle.roam_book.specs.RealmState.{RealmState, Target, opening, with_rests}
 use Rattle.roam_book.specs.Turn.{Turn, state_after}
 use Rattle.roam_book.specs.Shares.{share_taken}
 use Rattle.roam_book.specs.OnRequest.{draws, make_way, at_target, is_reverse, nak_or_new, new_request, of_key, position_after, reverse_cause}
-use Rattle.roam_book.specs.OnReply.{judge, passing_to, returning, to_entry, to_standing, shows_life}
+use Rattle.roam_book.specs.OnReply.{reply_turn, passing_to, returning, to_entry, to_standing, shows_life}
 use Rattle.roam_book.specs.OnTick.{Progress, fail_over, once_refused, due_standing, due_entry, due_one, due_each}
 use Rattle.roam_book.specs.OneRealm.{RealmEvent, request_came, reply_came, tick_came, on_event, one_realm_run}
 use Rattle.roam_book.specs.declared.state.start.Start.{Start}
@@ -90,10 +90,10 @@ request-moves c s now named q =
 abbrev Rests : RealmState → Turn → Type 0
 Rests old turn = (state_after old turn).stream_position ≡ old.stream_position
 
-judge-rests : (c : RealmConfig) (now : ℕ) (s : RealmState) (e : PlainEntry) (l : Link) (forwarded reply : Packet)
-    (why : Option Refusal) → Rests s (judge c now s e l forwarded reply why)
-judge-rests c now s e l forwarded reply (Some why) = either (Rests s) (shows_life why) _ _ refl refl
-judge-rests c now s e l forwarded reply None =
+reply_turn-rests : (c : RealmConfig) (now : ℕ) (s : RealmState) (e : PlainEntry) (l : Link) (forwarded reply : Packet)
+    (why : Option Refusal) → Rests s (reply_turn c now s e l forwarded reply why)
+reply_turn-rests c now s e l forwarded reply (Some why) = either (Rests s) (shows_life why) _ _ refl refl
+reply_turn-rests c now s e l forwarded reply None =
     either (Rests s) (ltb 4096 (returned_length (returning c e.request l forwarded) (passing_to c e.request reply)
     (packet_of e.request.octets))) _ _
     refl refl
@@ -101,7 +101,7 @@ judge-rests c now s e l forwarded reply None =
 to_standing-rests : (c : RealmConfig) (now : ℕ) (s : RealmState) (e : PlainEntry) (reply : Packet)
     (standing : PlainStanding) → Rests s (to_standing c now s e reply standing)
 to_standing-rests c now s e reply (waiting l id forwarded sends_left deadline signs) =
-    judge-rests c now s e l (packet_of forwarded) reply
+    reply_turn-rests c now s e l (packet_of forwarded) reply
     (reply_fault (link_secret c l) (seal_required c l) reply (packet_of forwarded))
 to_standing-rests c now s e reply (done old deadline from) = refl
 

@@ -23,7 +23,7 @@ use Rattle.roam_book.specs.Rests.{after_silence, after_choice, signs_of}
 use Rattle.roam_book.specs.Turn.{Turn, state_after}
 use Rattle.roam_book.specs.Shares.{share_taken}
 use Rattle.roam_book.specs.OnRequest.{forwarded_entry, make_way, at_target, is_reverse, nak_octets, nak_or_new, of_key, reverse_cause, targets}
-use Rattle.roam_book.specs.OnReply.{judge, passing_to, returned_octets, returning, to_entry, to_standing, shows_life}
+use Rattle.roam_book.specs.OnReply.{reply_turn, passing_to, returned_octets, returning, to_entry, to_standing, shows_life}
 use Rattle.roam_reverse.specs.declared.error_cause.TheConstants.{OTHER_PROXY_PROCESSING_ERROR}
 use Rattle.roam_book.specs.OnTick.{Progress, fail_over, given_up_at, once_refused, due_standing, due_entry, due_one, due_each}
 use Rattle.roam_book.specs.OneRealm.{request_came, reply_came, tick_came, on_event}
@@ -115,11 +115,11 @@ module _ (c : RealmConfig) (Kept : List PlainEntry → Type 0) (Good : PlainEntr
       (e : PlainEntry) (octets : List ℕ) (from : Option Link)
       → Good (with_standing (done octets (now + c.realm.hold) from) e)
 
-  judge-keeps :
+  reply_turn-keeps :
       (now : ℕ) (s : RealmState) (e : PlainEntry) (l : Link) (forwarded reply : Packet) (why : Option Refusal)
-      → Kept s.entries → DoneIsGood now → Keeps s (judge c now s e l forwarded reply why)
-  judge-keeps now s e l forwarded reply (Some why) old done_good = either (Keeps s) (shows_life why) _ _ old old
-  judge-keeps now s e l forwarded reply None old done_good =
+      → Kept s.entries → DoneIsGood now → Keeps s (reply_turn c now s e l forwarded reply why)
+  reply_turn-keeps now s e l forwarded reply (Some why) old done_good = either (Keeps s) (shows_life why) _ _ old old
+  reply_turn-keeps now s e l forwarded reply None old done_good =
       let octets = returned_octets c e.request l forwarded reply in
       either (Keeps s)
       (ltb 4096 (returned_length (returning c e.request l forwarded) (passing_to c e.request reply)
@@ -131,7 +131,7 @@ module _ (c : RealmConfig) (Kept : List PlainEntry → Type 0) (Good : PlainEntr
       (now : ℕ) (s : RealmState) (e : PlainEntry) (reply : Packet) (standing : PlainStanding)
       → Kept s.entries → DoneIsGood now → Keeps s (to_standing c now s e reply standing)
   to_standing-keeps now s e reply (waiting l id forwarded sends_left deadline signs) old done_good =
-      judge-keeps now s e l (packet_of forwarded) reply
+      reply_turn-keeps now s e l (packet_of forwarded) reply
       (reply_fault (link_secret c l) (seal_required c l) reply (packet_of forwarded)) old done_good
   to_standing-keeps now s e reply (done held deadline from) old done_good = old
 

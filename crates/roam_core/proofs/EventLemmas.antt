@@ -8,7 +8,7 @@ use Rattle.std.proofs.lemmas.Bool.Decides.{nat_tests}
 use Rattle.std.proofs.lemmas.List.{append-nil, length-set, get_or-set_same, get_or-set_other}
 use Rattle.roam_wire.specs.declared.refusal.Refusal.TheVariants as refusal
 use Rattle.roam_conf.specs.Config.{ConfigView}
-use Rattle.roam_route.specs.Admission.{Arrival, Admission, refused, rejected, admitted, admission}
+use Rattle.roam_route.specs.Admission.{Arrival, Admission, refused, answered_here, admitted, admission}
 use Rattle.roam_route.proofs.EventLemmas.{admitted_realm}
 use Rattle.roam_book.specs.RealmConfig.{RealmConfig, realm_config}
 use Rattle.roam_book.specs.RealmState.{RealmState}
@@ -105,7 +105,7 @@ arrival_turn : (config : ConfigView) (states : List RealmState) (realm now : ℕ
     IsOwnTurn config states realm (given_by realm now given) (to_arrival config states now given)
 unfolding RejectsForNone
 arrival_turn config states realm now (refused why) within none = record { packets = refl; state = refl }
-arrival_turn config states realm now (rejected out) within none =
+arrival_turn config states realm now (answered_here what out) within none =
     record { packets = alone_for_no_realm realm out none; state = refl }
 arrival_turn config states realm now (admitted job) within none =
     admitted_turn config states realm job.realm (event_of now job) within
@@ -186,7 +186,7 @@ turn-length states realm (sends packets state) = length-set states realm state
 arrival-length : (config : ConfigView) (states : List RealmState) (now : ℕ) (given : Admission) →
     length (states_after states (to_arrival config states now given)) ≡ length states
 arrival-length config states now (refused why) = refl
-arrival-length config states now (rejected out) = refl
+arrival-length config states now (answered_here what out) = refl
 arrival-length config states now (admitted job) =
     turn-length states job.realm (on_event (realm_config config job.realm) (state_at states job.realm)
     (event_of now job))
@@ -216,7 +216,7 @@ arrival_rejects : (config : ConfigView) (states : List RealmState) (now : ℕ) (
     RejectsForNone given → packets_for_none (packets_in_turn (to_arrival config states now given)) ≡ reject_of given
 unfolding RejectsForNone
 arrival_rejects config states now (refused why) none = refl
-arrival_rejects config states now (rejected out) none = alone_for_none out none
+arrival_rejects config states now (answered_here what out) none = alone_for_none out none
 arrival_rejects config states now (admitted job) none =
     let c = realm_config config job.realm in
     let s = state_at states job.realm in
@@ -253,7 +253,7 @@ arrival_realms : (config : ConfigView) (states : List RealmState) (now : ℕ) (a
     AllByRecursion (HasRealm (length config.realms)) (packets_in_turn (to_arrival config states now given))
 unfolding RejectsForNone
 arrival_realms config states now a (refused why) none is = tt
-arrival_realms config states now a (rejected out) none is = alone_has_realm (length config.realms) out none
+arrival_realms config states now a (answered_here what out) none is = alone_has_realm (length config.realms) out none
 arrival_realms config states now a (admitted job) none is =
     let c = realm_config config job.realm in
     let s = state_at states job.realm in

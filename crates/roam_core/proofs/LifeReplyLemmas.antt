@@ -19,7 +19,7 @@ use Rattle.roam_book.specs.RealmConfig.{RealmConfig, link_secret, seal_required}
 use Rattle.roam_book.specs.Turn.{packets_of}
 use Rattle.roam_book.specs.OnRequest.{packet_to_requester}
 use Rattle.roam_back.specs.ReplyCheck.{reply_fault}
-use Rattle.roam_book.specs.OnReply.{judge, on_reply, passing_to, return_reply, returned_octets, returning, to_entry, to_standing, shows_life}
+use Rattle.roam_book.specs.OnReply.{reply_turn, on_reply, passing_to, return_reply, returned_octets, returning, to_entry, to_standing, shows_life}
 use Rattle.roam_book.specs.OneRealm.{reply_came}
 use Rattle.roam_core.specs.Lives.{Happening, Stage, event, stage_then}
 use Rattle.roam_core.specs.LifeOrigins.{ComesFromIn, IsReturnedIn, IsSentIn, StandsFromIn, WaitsForIn, back_to}
@@ -154,22 +154,22 @@ module _ (b : Stage) (before : List Happening) (at : Stage) (is_at : stage_then 
       ]
 
   -- one that isn't taken changes no entry
-  judge-keeps :
+  reply_turn-keeps :
       (e : PlainEntry) (id : ℕ) (forwarded : List ℕ) (why : Option Refusal)
       → reply_fault (link_secret at.config from) (seal_required at.config from) (packet_of reply)
       (packet_of forwarded) ≡ why
       → (comes : ComesFromIn b before e) → WaitsForIn b before comes.came e.ticket from id forwarded
       → (packet_of reply).id ≡ id
       → AreSentIn b before (reply_came now from reply)
-      (packets_of (judge at.config now at.state e from (packet_of forwarded) (packet_of reply) why))
+      (packets_of (reply_turn at.config now at.state e from (packet_of forwarded) (packet_of reply) why))
       → TurnKeepsIn b (and_reply before now from reply) at.state
-      (judge at.config now at.state e from (packet_of forwarded) (packet_of reply) why)
-  judge-keeps e id forwarded (Some why) fault comes waits asked sent =
+      (reply_turn at.config now at.state e from (packet_of forwarded) (packet_of reply) why)
+  reply_turn-keeps e id forwarded (Some why) fault comes waits asked sent =
       elim (cases_Bool (shows_life why)) [
         | inl y ↦ rw y (record { packets = tt; entries = still })
         | inr n ↦ rw n (record { packets = tt; entries = still })
       ]
-  judge-keeps e id forwarded None fault comes waits asked sent =
+  reply_turn-keeps e id forwarded None fault comes waits asked sent =
       return_reply-keeps e id forwarded comes waits asked fault sent
 
   -- the entry waits on the link from which the reply came, with the reply's Identifier
@@ -195,7 +195,7 @@ module _ (b : Stage) (before : List Happening) (at : Stage) (is_at : stage_then 
       let why = reply_fault (link_secret at.config from) (seal_required at.config from) (packet_of reply)
       (packet_of forwarded) in
       subst kept_there (sym is)
-      (judge-keeps e id forwarded why refl comes there asked (subst of_link is sent))
+      (reply_turn-keeps e id forwarded why refl comes there asked (subst of_link is sent))
   to_standing-keeps e (done old deadline from) comes waits stands sent =
       record { packets = tt; entries = still }
 

@@ -23,6 +23,8 @@ use Rattle.roam_route.specs.Freshness.{is_fresh}
 use Rattle.roam_route.specs.LocalAnswer.{accounting_answer}
 use Rattle.roam_route.specs.LocalReject.{has_bad_password, has_too_many_hops, takes_of}
 use Rattle.roam_route.specs.Shapings.{sent_length}
+use Rattle.roam_route.specs.declared.local_answer.LocalAnswer.TheVariants as local
+use Rattle.roam_route.specs.RejectCauses.{reject_cause}
 use Rattle.roam_route.specs.Admission.{Arrival, Admission, sender, checked, forwarded_for, answered_by, accounted, accounting_in, is_answered_unnamed, route_request, request_admission, packet_admission, sent_admission, read_admission, admission, is_taken, peer_secret, home_secret, has_few_attributes, is_rightly_signed, is_rightly_sealed, has_needed_seal, has_few_hops, seal_required}
 use Rattle.roam_route.specs.declared.job.Side.{Side}
 use Rattle.roam_route.specs.declared.job.Side.TheVariants as side
@@ -58,9 +60,9 @@ module _ (one other : ConfigView) (realm now : ℕ) (agree : AgreeFor one other 
 
   -- where a request goes that isn't at another realm's place
   acct-same : (secret : List ℕ) (a : Arrival) (s : Side) (p : Packet) →
-      gives realm now (if is_answered_unnamed one p then answered_by a (accounting_answer secret p)
+      gives realm now (if is_answered_unnamed one p then answered_by local.Response a (accounting_answer secret p)
       else accounted one secret a s p (realm_of one p.attributes))
-      ≡ gives realm now (if is_answered_unnamed other p then answered_by a (accounting_answer secret p)
+      ≡ gives realm now (if is_answered_unnamed other p then answered_by local.Response a (accounting_answer secret p)
       else accounted other secret a s p (realm_of other p.attributes))
   acct-same secret a s p =
       acct-given realm now one secret a s p
@@ -79,10 +81,11 @@ module _ (one other : ConfigView) (realm now : ℕ) (agree : AgreeFor one other 
       (realm_of other p.attributes) (realm-alike p.attributes))
   route-same secret a s p (place.Auth nth) own_place =
       let bad = has_bad_password p in
-      auth-given realm now one secret a s p bad (has_too_many_hops one.max_hops p) (realm_of one p.attributes)
+      auth-given realm now (reject_cause one s p) one secret a s p bad (has_too_many_hops one.max_hops p)
+      (realm_of one p.attributes)
       ∙ (λ i. if bad || has_too_many_hops (agree.max_hops i) p then []
       else where_asked realm now (takes-same s i) (size-same s p i) a s p (realm-alike p.attributes i))
-      ∙ sym (auth-given realm now other secret a s p bad (has_too_many_hops other.max_hops p)
+      ∙ sym (auth-given realm now (reject_cause other s p) other secret a s p bad (has_too_many_hops other.max_hops p)
       (realm_of other p.attributes))
   route-same secret a s p (place.Acct nth) own_place = acct-same secret a s p
   route-same secret a s p (place.Out k nth) own_place = acct-same secret a s p

@@ -21,7 +21,7 @@ use Rattle.roam_book.specs.RealmState.{RealmState}
 use Rattle.roam_book.specs.Turn.{packets_of}
 use Rattle.roam_book.specs.OnRequest.{packet_to_requester}
 use Rattle.roam_back.specs.ReplyCheck.{reply_fault}
-use Rattle.roam_book.specs.OnReply.{judge, on_reply, passing_to, return_reply, returned_octets, returning, to_entry, to_standing, shows_life}
+use Rattle.roam_book.specs.OnReply.{reply_turn, on_reply, passing_to, return_reply, returned_octets, returning, to_entry, to_standing, shows_life}
 use Rattle.roam_book.specs.OneRealm.{RealmEvent, reply_came}
 use Rattle.roam_book.specs.declared.state.start.Start.{Start}
 use Rattle.roam_core.specs.Provenance.{IsSentBy, IsReturned, WaitsFor, StandsFrom, ComesFrom}
@@ -140,22 +140,22 @@ module _ (c : RealmConfig) (start : Start) (before : List RealmEvent) (now : ℕ
       ]
 
   -- one that isn't taken changes no entry
-  judge-keeps :
+  reply_turn-keeps :
       (e : PlainEntry) (id : ℕ) (forwarded : List ℕ) (why : Option Refusal)
       → reply_fault (link_secret c from) (seal_required c from) (packet_of reply) (packet_of forwarded) ≡ why
       → ComesFrom c start before e
       → WaitsFor c start before e.request e.ticket (record { link = from; id = id }) forwarded
       → (packet_of reply).id ≡ id
       → AreSentBy c start before (reply_came now from reply)
-      (packets_of (judge c now s e from (packet_of forwarded) (packet_of reply) why))
+      (packets_of (reply_turn c now s e from (packet_of forwarded) (packet_of reply) why))
       → TurnKeeps c start (and_reply before now from reply) s
-      (judge c now s e from (packet_of forwarded) (packet_of reply) why)
-  judge-keeps e id forwarded (Some why) fault comes waits at sent =
+      (reply_turn c now s e from (packet_of forwarded) (packet_of reply) why)
+  reply_turn-keeps e id forwarded (Some why) fault comes waits at sent =
       elim (cases_Bool (shows_life why)) [
         | inl y ↦ rw y (record { packets = tt; entries = still })
         | inr n ↦ rw n (record { packets = tt; entries = still })
       ]
-  judge-keeps e id forwarded None fault comes waits at sent =
+  reply_turn-keeps e id forwarded None fault comes waits at sent =
       return_reply-keeps e id forwarded comes waits at fault sent
 
   -- the entry waits on the link from which the reply came, with the reply's Identifier
@@ -179,7 +179,7 @@ module _ (c : RealmConfig) (start : Start) (before : List RealmEvent) (now : ℕ
       (to_standing c now s e (packet_of reply) (waiting k id forwarded sends_left deadline signs)) in
       let why = reply_fault (link_secret c from) (seal_required c from) (packet_of reply) (packet_of forwarded) in
       subst kept_there (sym is)
-      (judge-keeps e id forwarded why refl comes there asked (subst of_link is sent))
+      (reply_turn-keeps e id forwarded why refl comes there asked (subst of_link is sent))
   to_standing-keeps e (done old deadline from) comes waits at sent =
       record { packets = tt; entries = still }
 

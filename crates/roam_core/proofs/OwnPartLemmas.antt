@@ -6,7 +6,7 @@ use Rattle.std.specs.Prelude.{◌==◌, if◌then◌else◌}
 use Rattle.std.proofs.lemmas.Option.{unwrap_or-slice_get}
 use Rattle.std.specs.Option.{unwrap_or}
 use Rattle.roam_conf.specs.Config.{ConfigView, PeerView, RealmView}
-use Rattle.roam_route.specs.Admission.{Admission, PlainJob, refused, rejected, admitted, admission}
+use Rattle.roam_route.specs.Admission.{Admission, PlainJob, refused, answered_here, admitted, admission}
 use Rattle.roam_route.specs.OwnPart.{HaveSamePart, own}
 use Rattle.roam_route.proofs.OwnLemmas.{own_part_decides}
 use Rattle.roam_book.specs.RealmConfig.{RealmConfig, no_realm, realm_config}
@@ -33,7 +33,7 @@ chosen false now job = refl
 
 by-own : (realm now : ℕ) (how : Admission) → given_by realm now how ≡ of_own now (own realm how)
 by-own realm now (refused why) = refl
-by-own realm now (rejected out) = refl
+by-own realm now (answered_here what out) = refl
 by-own realm now (admitted job) = chosen (job.realm == realm) now job
 
 given-same : (one other : ConfigView) (realm : ℕ) (e : PlainEvent) → HaveSamePart one other realm →

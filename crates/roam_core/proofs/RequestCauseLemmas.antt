@@ -18,7 +18,7 @@ use Rattle.roam_book.specs.RealmState.{RealmState, Target, with_rests}
 use Rattle.roam_book.specs.Turn.{Turn, refuses, sends, packets_of, state_after, in_time, hears}
 use Rattle.roam_book.specs.Shares.{share_taken}
 use Rattle.roam_book.specs.OnRequest.{packet_to_requester, forwarded_entry, admit, make_way, at_target, nak_octets, nak_or_new, new_request, of_key, held_reply, reverse_cause, targets}
-use Rattle.roam_book.specs.OnReply.{judge, passing_to, return_reply, returned_octets, returning, to_entry, to_standing, shows_life, once_heard_from}
+use Rattle.roam_book.specs.OnReply.{reply_turn, passing_to, return_reply, returned_octets, returning, to_entry, to_standing, shows_life, once_heard_from}
 use Rattle.roam_book.specs.Rests.{signs_of}
 use Rattle.roam_book.specs.Conversing.{new_target}
 use Rattle.roam_core.specs.Amplification.{Ends, counted, counted_back, counted_links, may_cause, may_follow}
@@ -178,21 +178,21 @@ module _ (c : RealmConfig) (ends : Ends) (looked : ℕ → Bool) (tries : 1 ≤ 
       (packet_of e.request.octets))) _ _
       (heard-answers s (Some e) refusal.ReplyTooLong l) (omega (arith, replaced, sent, enough, nothing b))
 
-  judge-answers :
+  reply_turn-answers :
       (now : ℕ) (s : RealmState) (e : PlainEntry) (l : Link) (id : ℕ) (octets : List ℕ) (sends_left deadline signs : ℕ)
       (forwarded reply : Packet) (why : Option Refusal)
       → e.standing ≡ waiting l id octets sends_left deadline signs → IsIn e s.entries
-      → Answers s (Some e) (judge c now s e l forwarded reply why)
-  judge-answers now s e l id octets sends_left deadline signs forwarded reply (Some why) is at =
+      → Answers s (Some e) (reply_turn c now s e l forwarded reply why)
+  reply_turn-answers now s e l id octets sends_left deadline signs forwarded reply (Some why) is at =
       either (Answers s (Some e)) (shows_life why) _ _ (heard-answers s (Some e) why l) (refuses-answers s (Some e) why)
-  judge-answers now s e l id octets sends_left deadline signs forwarded reply None is at =
+  reply_turn-answers now s e l id octets sends_left deadline signs forwarded reply None is at =
       return-answers now s e l id octets sends_left deadline signs forwarded reply is at
 
   to_standing-answers :
       (now : ℕ) (s : RealmState) (e : PlainEntry) (reply : Packet) (standing : PlainStanding)
       → e.standing ≡ standing → IsIn e s.entries → Answers s (Some e) (to_standing c now s e reply standing)
   to_standing-answers now s e reply (waiting l id forwarded sends_left deadline signs) is at =
-      judge-answers now s e l id forwarded sends_left deadline signs (packet_of forwarded) reply
+      reply_turn-answers now s e l id forwarded sends_left deadline signs (packet_of forwarded) reply
       (reply_fault (link_secret c l) (seal_required c l) reply (packet_of forwarded)) is at
   to_standing-answers now s e reply (done old deadline from) is at = refuses-answers s (Some e) refusal.NoEntry
 

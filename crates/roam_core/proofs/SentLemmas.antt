@@ -19,7 +19,7 @@ use Rattle.roam_book.specs.RealmState.{RealmState, Target, chosen_target, with_r
 use Rattle.roam_book.specs.Turn.{Turn, refuses, sends, packets_of, in_time, hears}
 use Rattle.roam_book.specs.Shares.{share_taken}
 use Rattle.roam_book.specs.OnRequest.{packet_to_requester, admit, make_way, at_target, new_request, held_reply, first_seen, is_reverse, nak_octets, nak_or_new, of_key, on_request, reverse_cause, targets}
-use Rattle.roam_book.specs.OnReply.{return_reply, judge, to_standing, to_entry, reply_fault, on_reply, shows_life, once_heard_from}
+use Rattle.roam_book.specs.OnReply.{return_reply, reply_turn, to_standing, to_entry, reply_fault, on_reply, shows_life, once_heard_from}
 use Rattle.roam_book.specs.OnTick.{Progress, silent, fail_over, without_entry, due_standing, due_entry, due_one, due_each, as_turn, on_tick, given_up_at}
 use Rattle.roam_book.specs.OneRealm.{RealmEvent, request_came, reply_came, tick_came, on_event}
 use Rattle.roam_book.specs.Conversing.{bound_target, new_target, rests_for}
@@ -125,7 +125,7 @@ return_reply_for c now s e l forwarded reply =
     (one_for c.index _ _ refl)
 
 judge_for : (c : RealmConfig) (now : ℕ) (s : RealmState) (e : PlainEntry) (l : Link) (forwarded reply : Packet)
-    (fault : Option Refusal) → SendsFor c.index (judge c now s e l forwarded reply fault)
+    (fault : Option Refusal) → SendsFor c.index (reply_turn c now s e l forwarded reply fault)
 judge_for c now s e l forwarded reply (Some why) =
     either (SendsFor c.index) (shows_life why) _ _ (hears_for c.index why (once_heard_from c s l))
     (refuses_for c.index why)

@@ -19,7 +19,7 @@ use Rattle.roam_book.specs.Turn.{Turn, state_after, in_time}
 use Rattle.roam_book.specs.Shares.{share_taken}
 use Rattle.roam_book.specs.OnRequest.{make_way, at_target, is_reverse, nak_or_new, new_request, of_key, reverse_cause, targets}
 use Rattle.roam_back.specs.ReplyCheck.{reply_fault}
-use Rattle.roam_book.specs.OnReply.{judge, passing_to, returning, to_entry, to_standing, shows_life}
+use Rattle.roam_book.specs.OnReply.{reply_turn, passing_to, returning, to_entry, to_standing, shows_life}
 use Rattle.roam_book.specs.OnTick.{Progress, fail_over, once_refused, due_standing, due_entry, due_one, due_each, as_turn, given_up_at}
 use Rattle.roam_book.specs.OneRealm.{RealmEvent, request_came, reply_came, tick_came, on_event}
 use Rattle.roam_book.specs.declared.state.start.Start.{Start}
@@ -74,10 +74,10 @@ in_time-rises : (now : ℕ) (s : RealmState) (turn : Turn) → Rises s turn → 
 in_time-rises now s turn h = either (Rises s) (ltb (2 ^ 62) now) _ _ (stays s) h
 
 -- a reply gives no ticket
-judge-rises : (c : RealmConfig) (now : ℕ) (s : RealmState) (e : PlainEntry) (l : Link) (forwarded reply : Packet)
-    (why : Option Refusal) → Rises s (judge c now s e l forwarded reply why)
-judge-rises c now s e l forwarded reply (Some why) = either (Rises s) (shows_life why) _ _ (stays s) (stays s)
-judge-rises c now s e l forwarded reply None =
+reply_turn-rises : (c : RealmConfig) (now : ℕ) (s : RealmState) (e : PlainEntry) (l : Link) (forwarded reply : Packet)
+    (why : Option Refusal) → Rises s (reply_turn c now s e l forwarded reply why)
+reply_turn-rises c now s e l forwarded reply (Some why) = either (Rises s) (shows_life why) _ _ (stays s) (stays s)
+reply_turn-rises c now s e l forwarded reply None =
     either (Rises s) (ltb 4096 (returned_length (returning c e.request l forwarded) (passing_to c e.request reply)
     (packet_of e.request.octets))) _ _
     (stays s) (stays s)
@@ -85,7 +85,7 @@ judge-rises c now s e l forwarded reply None =
 to_standing-rises : (c : RealmConfig) (now : ℕ) (s : RealmState) (e : PlainEntry) (reply : Packet)
     (standing : PlainStanding) → Rises s (to_standing c now s e reply standing)
 to_standing-rises c now s e reply (waiting l id forwarded sends_left deadline signs) =
-    judge-rises c now s e l (packet_of forwarded) reply
+    reply_turn-rises c now s e l (packet_of forwarded) reply
     (reply_fault (link_secret c l) (seal_required c l) reply (packet_of forwarded))
 to_standing-rises c now s e reply (done old deadline from) = stays s
 

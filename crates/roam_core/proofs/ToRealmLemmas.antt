@@ -18,10 +18,12 @@ use Rattle.roam_address.specs.declared.endpoint.Endpoint.{Endpoint}
 use Rattle.roam_conf.specs.declared.place.Place.{Place}
 use Rattle.roam_conf.specs.declared.place.Place.TheVariants as place
 use Rattle.roam_route.specs.UserName.{realm_of, realm_part}
-use Rattle.roam_route.specs.LocalAnswer.{accounting_answer, answer_length, local_reject, status_answer}
+use Rattle.roam_route.specs.LocalAnswer.{accounting_answer, answer_length, local_reject, status_answer, status_code}
 use Rattle.roam_route.specs.Freshness.{is_fresh}
 use Rattle.roam_route.specs.LocalReject.{takes_of, taking}
 use Rattle.roam_route.specs.Shapings.{sent_length}
+use Rattle.roam_route.specs.declared.local_answer.LocalAnswer.TheVariants as local
+use Rattle.roam_route.specs.declared.local_answer.RejectCause.{RejectCause}
 use Rattle.roam_route.specs.Admission.{Arrival, Admission, checked, job_of, forwarded_for, answered_by, rejected_for, reversed, for_named_realm, accounted, accounting_in, by_accounting, is_answered_unnamed, is_unnamed, request_admission, packet_admission, sent_admission, status_from, is_status_request, is_taken, peer_secret, home_secret, has_few_attributes, is_rightly_signed, is_rightly_sealed, has_needed_seal, has_few_hops, has_seal, seal_required}
 use Rattle.roam_route.specs.declared.job.Side.{Side}
 use Rattle.roam_route.specs.declared.job.Side.TheVariants as side
@@ -87,9 +89,11 @@ module _ (realm now : ℕ) where
       same-checked (is_fresh most a.seconds p.attributes) refusal.Stale (forwarded_for size a s p realm m)
       (forwarded_for size a s p realm n) (own-forwarded size a s p m n same)
 
-  pub rejected-none : (secret : List ℕ) (a : Arrival) (p : Packet) → gives (rejected_for secret a p) ≡ []
-  rejected-none secret a p =
-      none-checked (nat_le (answer_length p) 4096) refusal.TooLong (answered_by a (local_reject secret p)) refl
+  pub rejected-none : (cause : RejectCause) (secret : List ℕ) (a : Arrival) (p : Packet) →
+      gives (rejected_for cause secret a p) ≡ []
+  rejected-none cause secret a p =
+      none-checked (nat_le (answer_length p) 4096) refusal.TooLong
+      (answered_by (local.Rejected cause) a (local_reject secret p)) refl
 
   pub either-none : (b : Bool) (x : List RealmEvent) → x ≡ [] → (if b then x else []) ≡ []
   either-none true x none = none
@@ -117,31 +121,33 @@ module _ (realm now : ℕ) where
       ]
 
   -- it may be answered by a local reject
-  abbrev pub route_auth : ConfigView → List ℕ → Arrival → Side → Packet → Bool → Bool → Option ℕ → Admission
-  route_auth config secret a s p bad hops named =
-      if not (is_some (taking config s named)) || bad || hops then rejected_for secret a p
+  abbrev pub route_auth :
+      RejectCause → ConfigView → List ℕ → Arrival → Side → Packet → Bool → Bool → Option ℕ → Admission
+  route_auth cause config secret a s p bad hops named =
+      if not (is_some (taking config s named)) || bad || hops then rejected_for cause secret a p
       else for_named_realm config a s p named
 
-  pub auth-by : (config : ConfigView) (secret : List ℕ) (a : Arrival) (s : Side) (p : Packet) (takes bad hops : Bool)
-      (k : ℕ) → gives (if not (is_some (if takes then Some k else None)) || bad || hops then rejected_for secret a p
+  pub auth-by : (cause : RejectCause) (config : ConfigView) (secret : List ℕ) (a : Arrival) (s : Side) (p : Packet)
+      (takes bad hops : Bool) (k : ℕ) →
+      gives (if not (is_some (if takes then Some k else None)) || bad || hops then rejected_for cause secret a p
       else for_named_realm config a s p (Some k))
       ≡ (if bad || hops then [] else if takes then gives (for_named_realm config a s p (Some k)) else [])
-  auth-by config secret a s p false true hops k = rejected-none secret a p
-  auth-by config secret a s p false false true k = rejected-none secret a p
-  auth-by config secret a s p false false false k = rejected-none secret a p
-  auth-by config secret a s p true true hops k = rejected-none secret a p
-  auth-by config secret a s p true false true k = rejected-none secret a p
-  auth-by config secret a s p true false false k = refl
+  auth-by cause config secret a s p false true hops k = rejected-none cause secret a p
+  auth-by cause config secret a s p false false true k = rejected-none cause secret a p
+  auth-by cause config secret a s p false false false k = rejected-none cause secret a p
+  auth-by cause config secret a s p true true hops k = rejected-none cause secret a p
+  auth-by cause config secret a s p true false true k = rejected-none cause secret a p
+  auth-by cause config secret a s p true false false k = refl
 
-  pub auth-given : (config : ConfigView) (secret : List ℕ) (a : Arrival) (s : Side) (p : Packet) (bad hops : Bool)
-      (named : Option ℕ) → gives (route_auth config secret a s p bad hops named)
+  pub auth-given : (cause : RejectCause) (config : ConfigView) (secret : List ℕ) (a : Arrival) (s : Side) (p : Packet)
+      (bad hops : Bool) (named : Option ℕ) → gives (route_auth cause config secret a s p bad hops named)
       ≡ (if bad || hops then [] else where_asked (takes_of config realm s) (sent_length config s p realm) a s p
       (is_realm realm named))
-  auth-given config secret a s p true hops None = rejected-none secret a p
-  auth-given config secret a s p false true None = rejected-none secret a p
-  auth-given config secret a s p false false None = rejected-none secret a p
-  auth-given config secret a s p bad hops (Some k) =
-      auth-by config secret a s p (takes_of config k s) bad hops k
+  auth-given cause config secret a s p true hops None = rejected-none cause secret a p
+  auth-given cause config secret a s p false true None = rejected-none cause secret a p
+  auth-given cause config secret a s p false false None = rejected-none cause secret a p
+  auth-given cause config secret a s p bad hops (Some k) =
+      auth-by cause config secret a s p (takes_of config k s) bad hops k
       ∙ ap (λ (given : List RealmEvent). if bad || hops then [] else given) (asked-given config a s p k)
 
   -- an Accounting-Request that goes where its name says, by whether the realm takes its peer's and what becomes of them
@@ -188,7 +194,7 @@ module _ (realm now : ℕ) where
   second-true false b both = absurd (false≢true both)
 
   pub acct-given : (config : ConfigView) (secret : List ℕ) (a : Arrival) (s : Side) (p : Packet) →
-      gives (if is_answered_unnamed config p then answered_by a (accounting_answer secret p)
+      gives (if is_answered_unnamed config p then answered_by local.Response a (accounting_answer secret p)
       else accounted config secret a s p (realm_of config p.attributes))
       ≡ where_accounted (takes_of config realm s) (accounting_in config realm) (sent_length config s p realm) secret
       a s p
@@ -211,8 +217,10 @@ module _ (realm now : ℕ) where
       let secret = peer_secret config i in
       none-checked (has_few_attributes config.max_attributes p) refusal.TooManyAttributes _
       (none-checked _ refusal.BadMessageAuthenticator
-      (checked (has_seal p) refusal.MissingMessageAuthenticator (answered_by a (status_answer a.at secret p)))
-      (none-checked (has_seal p) refusal.MissingMessageAuthenticator (answered_by a (status_answer a.at secret p))
+      (checked (has_seal p) refusal.MissingMessageAuthenticator
+      (answered_by (local.Status (status_code a.at)) a (status_answer a.at secret p)))
+      (none-checked (has_seal p) refusal.MissingMessageAuthenticator
+      (answered_by (local.Status (status_code a.at)) a (status_answer a.at secret p))
       refl))
   none-status config a (side.Link l) p = refl
   none-status config a (side.Home i) p = refl

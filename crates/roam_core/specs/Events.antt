@@ -2,7 +2,7 @@
 use Rattle.std.specs.Prelude.{ℕ, ◌+◌, ◌==◌, ◌%◌, Bool, List, [], ◌∷◌, ◌++◌, if◌then◌else◌}
 use Rattle.std.specs.List.{list_any}
 use Rattle.roam_conf.specs.Config.{ConfigView}
-use Rattle.roam_route.specs.Admission.{Arrival, PlainOut, Admission, refused, rejected, admitted, admission}
+use Rattle.roam_route.specs.Admission.{Arrival, PlainOut, Admission, refused, answered_here, admitted, admission}
 use Rattle.roam_book.specs.OneRealm.{RealmEvent, tick_came, event_of}
 
 -- an event, with its moment in milliseconds: a datagram arrives, or a shard's timer fires
@@ -13,7 +13,7 @@ pub data PlainEvent : Type 0 where
 -- what an arrival gives to the realm of an index: what is admitted for it, and nothing else
 abbrev pub given_by : ℕ → ℕ → Admission → List RealmEvent
 given_by realm now (refused why) = []
-given_by realm now (rejected out) = []
+given_by realm now (answered_here what out) = []
 given_by realm now (admitted job) = if job.realm == realm then event_of now job ∷ [] else []
 
 -- whether a realm belongs to a shard: its index modulo the number of shards is the shard's
@@ -39,7 +39,7 @@ events_of_realm config realm (e ∷ es) = given_to_realm config realm e ++ event
 -- the local reject of an arrival, if it is answered so: it needs no realm, no state and no moment
 abbrev pub reject_of : Admission → List PlainOut
 reject_of (refused why) = []
-reject_of (rejected out) = out ∷ []
+reject_of (answered_here what out) = out ∷ []
 reject_of (admitted job) = []
 
 abbrev pub rejects_by : ConfigView → PlainEvent → List PlainOut

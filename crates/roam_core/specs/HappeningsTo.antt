@@ -29,7 +29,7 @@ job_happening lines config states now job =
 -- by an arrival
 abbrev pub arrival_happening : ExchangeLines → ConfigView → List RealmState → ℕ → Admission → PlainHappening
 arrival_happening lines config states now (route.refused why) = refused why
-arrival_happening lines config states now (route.rejected out) = answered_here (code_in out.bytes)
+arrival_happening lines config states now (route.answered_here what out) = answered_here (code_in out.bytes)
 arrival_happening lines config states now (route.admitted job) = job_happening lines config states now job
 
 -- what became of the requests that were due, where it says that

@@ -4,7 +4,7 @@ use Rattle.std.specs.Prelude.{ℕ, ◌+◌, nat_lt, List, [], ◌∷◌, ◌++�
 use Rattle.roam_wire.specs.declared.refusal.Refusal.{Refusal}
 use Rattle.roam_wire.specs.declared.refusal.Refusal.TheVariants as refusal
 use Rattle.roam_conf.specs.Config.{ConfigView}
-use Rattle.roam_route.specs.Admission.{PlainOut, Admission, refused, rejected, admitted, admission}
+use Rattle.roam_route.specs.Admission.{PlainOut, Admission, refused, answered_here, admitted, admission}
 use Rattle.roam_book.specs.RealmConfig.{realm_config}
 use Rattle.roam_book.specs.RealmState.{RealmState}
 use Rattle.roam_book.specs.Turn.{Turn, latest_moment, refuses, hears, sends, packets_of, state_after}
@@ -58,7 +58,7 @@ turn_of_one states realm (sends packets state) = sends_all packets (slice_set st
 -- what an arrival is answered with
 abbrev pub to_arrival : ConfigView → List RealmState → ℕ → Admission → BrokerTurn
 to_arrival config states now (refused why) = refuses_it why
-to_arrival config states now (rejected out) = sends_all (out ∷ []) states
+to_arrival config states now (answered_here what out) = sends_all (out ∷ []) states
 to_arrival config states now (admitted job) =
     turn_of_one states job.realm
     (on_event (realm_config config job.realm) (state_at states job.realm) (event_of now job))

@@ -124,7 +124,7 @@ impl<'c, A: Allocator + Copy> Broker<'c, A> {
     {
         match prepare(self.alloc, self.config, datagram) {
             Ok(Prepared::Job(job)) => self.give(now, &job),
-            Ok(Prepared::Reject(out)) => Ok(one_packet(self.alloc, out)),
+            Ok(Prepared::Answered(_, out)) => Ok(one_packet(self.alloc, out)),
             Err(Refusal::NoMemory) => Err(NoMemory),
             Err(why) => Ok(refused(self.alloc, why)),
         }

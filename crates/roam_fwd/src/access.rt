@@ -81,7 +81,7 @@ pub(crate) fn rewrite_access(octets: &mut [u8], len: usize, forwarding: &Forward
         authenticator: &requesters,
     };
     let to = HidingKey {
-        secret: forwarding.to_secret,
+        secret: forwarding.to_secret.octets(),
         authenticator: &forwarding.authenticator,
     };
     rehide_packet(octets, Hidden::UserPassword, from, to);

@@ -12,7 +12,7 @@ use crate::access::rewrite_access;
 use crate::length::forwarded_len;
 use crate::places::{front_packet, put_header, put_ticket};
 use crate::terms::Forwarding;
-use roam_auth::{ZERO_OCTETS, seal, sign_request};
+use roam_auth::{Secret, ZERO_OCTETS, seal, sign_request};
 use roam_wire::code::ACCESS_REQUEST;
 use roam_wire::writing::{append_octets, append_zeros};
 use roam_wire::{NoMemory, View};
@@ -30,7 +30,7 @@ fn rewrite_signed(octets: &mut [u8], len: usize, forwarding: &Forwarding<'_>)
     put_ticket(octets, len, forwarding.ticket);
     put_header(octets, forwarding.id, &ZERO_OCTETS);
     seal(octets, forwarding.to_secret, ZERO_OCTETS);
-    sign_request(octets, forwarding.to_secret);
+    sign_request(octets, forwarding.to_secret.octets());
 }
 
 /// Rewrites a request's octets to those of the packet that is forwarded for it (RFC 2865, section 2.3),
@@ -56,7 +56,7 @@ pub fn rewrite(octets: &mut [u8], len: usize, forwarding: &Forwarding<'_>)
 pub fn forward_reserved<A: Allocator>(
     request: &View<'_>,
     from_secret: &[u8],
-    to_secret: &[u8],
+    to_secret: &Secret,
     id: u8,
     authenticator: [u8; 16],
     ticket: u64,
@@ -94,7 +94,7 @@ pub fn forward_reserved<A: Allocator>(
 pub fn forward<A: Allocator>(
     request: &View<'_>,
     from_secret: &[u8],
-    to_secret: &[u8],
+    to_secret: &Secret,
     id: u8,
     authenticator: [u8; 16],
     ticket: u64,

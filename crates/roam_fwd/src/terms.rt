@@ -1,5 +1,7 @@
 //! With what a request is forwarded.
 
+use roam_auth::Secret;
+
 /// With what a request is forwarded: the secret shared with the requester and the one shared with the
 /// link, the new Identifier, the Authenticator, and the ticket.
 ///
@@ -7,7 +9,7 @@
 #[derive(Drop)]
 pub struct Forwarding<'a> {
     pub from_secret: &'a [u8],
-    pub to_secret: &'a [u8],
+    pub to_secret: &'a Secret,
     pub id: u8,
     pub authenticator: [u8; 16],
     pub ticket: u64,

@@ -1,7 +1,7 @@
 pub mod PeerLemmas
 pub mod KindLemmas
 pub mod DifferenceLemmas
-pub mod FateLemmas
+pub mod AfterReloadLemmas
 pub mod KeptLemmas
 pub mod LayingLemmas
 pub mod SameTableLemmas

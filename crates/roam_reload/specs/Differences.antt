@@ -5,8 +5,8 @@ use Rattle.roam_conf.specs.Duplicates.{is_among}
 use Rattle.roam_address.specs.declared.endpoint.Endpoint.{Endpoint}
 use Rattle.roam_reload.specs.Numbers.{KeepsNumbers, is_here}
 use Rattle.roam_reload.specs.Reload.{IsCarried, IsUntouched, endpoints_of, peer_part}
-use Rattle.roam_reload.specs.declared.fate.Fate.{Fate}
-use Rattle.roam_reload.specs.declared.fate.Fate.TheVariants as fate
+use Rattle.roam_reload.specs.declared.carrying.AfterReload.{AfterReload}
+use Rattle.roam_reload.specs.declared.carrying.AfterReload.TheVariants as after
 use Rattle.roam_reload.specs.declared.hindrance.Hindrance.{Hindrance}
 use Rattle.roam_reload.specs.declared.hindrance.Hindrance.TheVariants as hindrance
 use Rattle.roam_reload.specs.declared.keys.PeerKey.{PeerKey}
@@ -61,12 +61,12 @@ pub record IsOtherPeer (old new : List PeerView) (peer : ℕ) : Type 0 where
   pub differs : slice_get (map peer_part new) peer ≢ slice_get (map peer_part old) peer
 
 -- what becomes of the realm of a number: it goes on, untouched or not; it begins; it went; or there is none in either
-abbrev pub IsFate : ConfigView → ConfigView → ℕ → Fate → Type 0
-IsFate old new realm fate.Unchanged = IsUntouched old new realm
-IsFate old new realm fate.Carried = IsCarried old new realm × ¬ IsUntouched old new realm
-IsFate old new realm fate.New = (is_here old realm ≡ false) × (is_here new realm ≡ true)
-IsFate old new realm fate.Gone = (is_here old realm ≡ true) × (is_here new realm ≡ false)
-IsFate old new realm fate.Away = (is_here old realm ≡ false) × (is_here new realm ≡ false)
+abbrev pub IsAfterReload : ConfigView → ConfigView → ℕ → AfterReload → Type 0
+IsAfterReload old new realm after.Unchanged = IsUntouched old new realm
+IsAfterReload old new realm after.Carried = IsCarried old new realm × ¬ IsUntouched old new realm
+IsAfterReload old new realm after.New = (is_here old realm ≡ false) × (is_here new realm ≡ true)
+IsAfterReload old new realm after.Gone = (is_here old realm ≡ true) × (is_here new realm ≡ false)
+IsAfterReload old new realm after.Away = (is_here old realm ≡ false) × (is_here new realm ≡ false)
 
 -- an endpoint is at places of two kinds
 pub record HasMoved (old new : ConfigView) (endpoint : Endpoint) : Type 0 where

@@ -4,7 +4,7 @@ ghost use Rattle.std.specs.Prelude.{◌≡◌, IfOk};
 ghost use Rattle.roam_conf.specs.Parts.{shown_peer, shown_realm};
 ghost use Rattle.roam_reload.specs.Numbers.{gone_peer, gone_realm};
 
-use roam_conf::{Endpoint, Peer, Realm};
+use roam_conf::{Endpoint, Peer, Realm, SharedSecret};
 use std::alloc::{AllocError, Global};
 
 /// What stands where a peer went: its name and address, which nothing means any more.
@@ -12,7 +12,7 @@ pub(crate) fn gone_peer(alloc: Global, peer: &Peer) -> Result<Peer, AllocError>
     ensures { IfOk result (λ gone. shown_peer gone ≡ gone_peer (shown_peer peer.now)) }
 {
     let name = String::from_str(alloc, peer.name.as_str())?;
-    let secret = String::from_str(alloc, "-")?;
+    let secret = SharedSecret::new(alloc, "-")?;
     Ok(Peer {
         gone: true,
         name,

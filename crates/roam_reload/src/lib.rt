@@ -10,13 +10,13 @@
 //!   where it stood, leaves the place of one that went empty, and has new ones behind; what is here in it is what
 //!   stands in the file | `lay_out`, laws `laid_out_keeps_numbers`, `laid_out_holds_file`
 //! - which realms go on, which of them are untouched, which begin and which went; whether it may follow, and if not,
-//!   why | `fate_of`, `is_carried`, `is_untouched`, `hindrance_of`
+//!   why | `after_reload`, `is_carried`, `is_untouched`, `hindrance_of`
 //! - whether a peer's requests, what waits at its `coa` and its sessions stay; where a server stands then, and a
 //!   source of reverse requests | `peer_keeps_requests`, `peer_keeps_coa`, `peer_keeps_sessions`, `server_then`,
 //!   `home_then`
 #![tactic(auto)]
 
-mod fate;
+mod carrying;
 mod gone;
 mod hindrance;
 mod kept;
@@ -31,7 +31,7 @@ mod peers;
 mod realms;
 mod sources;
 
-pub use fate::{Fate, fate_of, is_carried, is_here, is_untouched};
+pub use carrying::{AfterReload, after_reload, is_carried, is_here, is_untouched};
 pub use hindrance::{Hindrance, hindrance_of};
 pub use kept::{
     has_same_outs, has_same_servers, is_same_out, peer_keeps_coa, peer_keeps_requests,

@@ -27,7 +27,7 @@ fn server_source(server: &Server) -> SourceRef<'_>
     SourceRef {
         ip: server.auth.ip,
         other_ip,
-        secret: server.secret(),
+        secret: server.secret().octets(),
     }
 }
 
@@ -37,7 +37,7 @@ fn client_source(client: &CoaClient) -> SourceRef<'_>
     SourceRef {
         ip: client.ip,
         other_ip: None,
-        secret: client.secret(),
+        secret: client.secret().octets(),
     }
 }
 

@@ -18,7 +18,10 @@ use Rattle.roam_fwd.specs.Forwarded.{HasPasswordBlocks}
 use Rattle.roam_route.specs.UserName.{realm_of}
 use Rattle.roam_route.specs.LocalAnswer.{accounting_answer, answer_length, local_reject}
 use Rattle.roam_route.specs.LocalReject.{takes_of}
-use Rattle.roam_route.specs.Admission.{Arrival, PlainJob, PlainOut, Admission, refused, rejected, admitted, sender, checked, accounted, accounting_in, by_accounting, job_of, forwarded_for, answered_by, rejected_for, for_named_realm, route_request, request_admission, is_taken, has_few_attributes, is_rightly_signed, is_rightly_sealed, has_needed_seal, has_few_hops, seal_required}
+use Rattle.roam_route.specs.declared.local_answer.LocalAnswer.TheVariants as local
+use Rattle.roam_route.specs.declared.local_answer.LocalAnswer.{LocalAnswer}
+use Rattle.roam_route.specs.declared.local_answer.RejectCause.{RejectCause}
+use Rattle.roam_route.specs.Admission.{Arrival, PlainJob, PlainOut, Admission, refused, answered_here, admitted, sender, checked, accounted, accounting_in, by_accounting, job_of, forwarded_for, answered_by, rejected_for, for_named_realm, route_request, request_admission, is_taken, has_few_attributes, is_rightly_signed, is_rightly_sealed, has_needed_seal, has_few_hops, seal_required}
 use Rattle.roam_route.specs.Events.{arrival_of, IsConfigured, IsForwardable, IsNamed}
 use Rattle.roam_route.specs.Shapings.{sent_length}
 use Rattle.roam_route.specs.declared.job.Side.{Side}
@@ -43,7 +46,7 @@ pub record IsAdmitted (config : ConfigView) (a : Arrival) (p : Packet) (job : Pl
 
 unfoldable pub Admits : ConfigView → Arrival → Packet → Admission → Type 0
 Admits config a p (refused why) = Unit {0}
-Admits config a p (rejected out) = Unit {0}
+Admits config a p (answered_here what out) = Unit {0}
 Admits config a p (admitted job) = IsAdmitted config a p job
 
 pub refused_admits : (config : ConfigView) (a : Arrival) (p : Packet) (why : Refusal)
@@ -51,10 +54,10 @@ pub refused_admits : (config : ConfigView) (a : Arrival) (p : Packet) (why : Ref
 unfolding Admits
 refused_admits config a p why = tt
 
-pub rejected_admits : (config : ConfigView) (a : Arrival) (p : Packet) (out : PlainOut)
-    → Admits config a p (rejected out)
+pub rejected_admits : (config : ConfigView) (a : Arrival) (p : Packet) (what : LocalAnswer) (out : PlainOut)
+    → Admits config a p (answered_here what out)
 unfolding Admits
-rejected_admits config a p out = tt
+rejected_admits config a p what out = tt
 
 pub checked_admits : (config : ConfigView) (a : Arrival) (p : Packet) (holds : Bool) (why : Refusal)
     (further : Admission)
@@ -138,20 +141,20 @@ pub either_admits : (config : ConfigView) (a : Arrival) (p : Packet) (rejects : 
 either_admits config a p true reject further first second = first
 either_admits config a p false reject further first second = second refl
 
-pub reject_admits : (config : ConfigView) (secret : List ℕ) (a : Arrival) (p : Packet)
-    → Admits config a p (rejected_for secret a p)
-reject_admits config secret a p =
+pub reject_admits : (config : ConfigView) (cause : RejectCause) (secret : List ℕ) (a : Arrival) (p : Packet)
+    → Admits config a p (rejected_for cause secret a p)
+reject_admits config cause secret a p =
     let bytes : List ℕ = packet_text (local_reject secret p) in
     let out : PlainOut = record { realm = None; from = a.at; to = a.from; bytes = bytes } in
-    checked_admits config a p (nat_le (answer_length p) 4096) refusal.TooLong (rejected out)
-    (λ _. rejected_admits config a p out)
+    checked_admits config a p (nat_le (answer_length p) 4096) refusal.TooLong
+    (answered_here (local.Rejected cause) out) (λ _. rejected_admits config a p (local.Rejected cause) out)
 
 -- an answer of the broker itself
 pub answer_admits : (config : ConfigView) (secret : List ℕ) (a : Arrival) (p : Packet)
-    → Admits config a p (answered_by a (accounting_answer secret p))
+    → Admits config a p (answered_by local.Response a (accounting_answer secret p))
 answer_admits config secret a p =
     let bytes : List ℕ = packet_text (accounting_answer secret p) in
-    rejected_admits config a p (record { realm = None; from = a.at; to = a.from; bytes = bytes })
+    rejected_admits config a p local.Response (record { realm = None; from = a.at; to = a.from; bytes = bytes })
 
 -- an Accounting-Request, by what becomes of the realm's accounting
 accounting_admits : (config : ConfigView) (secret : List ℕ) (a : Arrival) (i : ℕ) (p : Packet) (realm : ℕ)

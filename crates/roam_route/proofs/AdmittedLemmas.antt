@@ -14,7 +14,8 @@ use Rattle.roam_conf.specs.declared.place.Link.{Link}
 use Rattle.roam_conf.specs.declared.place.Place.{Place}
 use Rattle.roam_conf.specs.declared.place.Place.TheVariants as place
 use Rattle.roam_route.specs.UserName.{realm_of}
-use Rattle.roam_route.specs.LocalAnswer.{status_answer}
+use Rattle.roam_route.specs.LocalAnswer.{status_answer, status_code}
+use Rattle.roam_route.specs.declared.local_answer.LocalAnswer.TheVariants as local
 use Rattle.roam_route.specs.Admission.{Arrival, PlainJob, Admission, refused, admitted, sender, checked, answered_by, route_request, packet_admission, sent_admission, read_admission, admission, is_taken, has_few_attributes, has_few_hops, has_seal, is_status_request, status_from, peer_secret, home_secret}
 use Rattle.roam_route.specs.AdmittedRequests.{IsRequestAt, IsRightRequest, IsJobOf, IsOfRequest, AdmittedIsRight}
 use Rattle.roam_route.specs.declared.job.Side.{Side}
@@ -96,7 +97,7 @@ status_never config a (side.Link l) p job h = absurd (cc h)
 status_never config a (side.Home i) p job h = absurd (cc h)
 status_never config a (side.Peer i) p job h =
     let secret : List ℕ = peer_secret config i in
-    let answer : Admission = answered_by a (status_answer a.at secret p) in
+    let answer : Admission = answered_by (local.Status (status_code a.at)) a (status_answer a.at secret p) in
     let sealed : Bool = is_well_sealed secret (p.authenticator ∷ []) p in
     let rest : Admission = checked (has_seal p) refusal.MissingMessageAuthenticator answer in
     let counted : Admission = checked sealed refusal.BadMessageAuthenticator rest in

@@ -1,5 +1,5 @@
 -- What an arrival gives to one realm: nothing of another one's, and the same where configurations look alike.
-use Rattle.std.proofs.Common.{◌≡◌, ℕ, zero, suc, Bool, true, false, List, [], ◌∷◌, length, slice_get, Option, Some, None, option_map, refl, ap, ◌∙◌, inl, inr, arith}
+use Rattle.std.proofs.Common.{◌≡◌, ℕ, zero, suc, Bool, true, false, List, [], ◌∷◌, length, slice_get, Option, Some, None, option_map, refl, ap, ◌∙◌, inl, inr, arith, sym}
 use Rattle.std.specs.Prelude.{◌==◌, ◌&&◌, ◌||◌, not, is_some, if◌then◌else◌, nat_le}
 use Rattle.std.proofs.lemmas.Bool.{cases_Bool}
 use Rattle.std.proofs.lemmas.Bool.Decides.{nat_tests}
@@ -21,9 +21,11 @@ use Rattle.roam_conf.specs.declared.place.Place.{Place}
 use Rattle.roam_conf.specs.declared.place.Place.TheVariants as place
 use Rattle.roam_route.specs.UserName.{realm_of, realm_part}
 use Rattle.roam_route.specs.Freshness.{is_fresh}
-use Rattle.roam_route.specs.LocalAnswer.{answer_length, local_reject, status_answer}
+use Rattle.roam_route.specs.LocalAnswer.{answer_length, local_reject, status_answer, status_code}
 use Rattle.roam_route.specs.LocalReject.{has_bad_password, has_too_many_hops, takes_of}
 use Rattle.roam_route.specs.Shapings.{sent_length}
+use Rattle.roam_route.specs.declared.local_answer.LocalAnswer.TheVariants as local
+use Rattle.roam_route.specs.declared.local_answer.RejectCause.{RejectCause}
 use Rattle.roam_route.specs.Admission.{Arrival, Admission, checked, accounted, accounting_in, by_accounting, job_of, forwarded_for, answered_by, rejected_for, reversed, for_named_realm, request_admission, packet_admission, sent_admission, status_from, is_status_request, is_taken, peer_secret, home_secret, is_rightly_signed, is_rightly_sealed, has_needed_seal, has_few_hops, has_seal, seal_required, has_few_attributes}
 use Rattle.roam_route.specs.declared.job.Side.{Side}
 use Rattle.roam_route.specs.declared.job.Side.TheVariants as side
@@ -66,9 +68,10 @@ none-status realm config a (side.Peer i) p =
     let secret = peer_secret config i in
     none-checked realm (has_few_attributes config.max_attributes p) refusal.TooManyAttributes _
     (none-checked realm (is_well_sealed secret (p.authenticator ∷ []) p) refusal.BadMessageAuthenticator
-    (checked (has_seal p) refusal.MissingMessageAuthenticator (answered_by a (status_answer a.at secret p)))
+    (checked (has_seal p) refusal.MissingMessageAuthenticator
+    (answered_by (local.Status (status_code a.at)) a (status_answer a.at secret p)))
     (none-checked realm (has_seal p) refusal.MissingMessageAuthenticator
-    (answered_by a (status_answer a.at secret p)) refl))
+    (answered_by (local.Status (status_code a.at)) a (status_answer a.at secret p)) refl))
 none-status realm config a (side.Link l) p = refl
 none-status realm config a (side.Home i) p = refl
 
@@ -110,9 +113,11 @@ sent-own realm config a p s =
     ]
 
 -- no local reject is a realm's
-none-rejected : (realm : ℕ) (secret : List ℕ) (a : Arrival) (p : Packet) → own realm (rejected_for secret a p) ≡ None
-none-rejected realm secret a p =
-    none-checked realm (nat_le (answer_length p) 4096) refusal.TooLong (answered_by a (local_reject secret p)) refl
+none-rejected : (realm : ℕ) (cause : RejectCause) (secret : List ℕ) (a : Arrival) (p : Packet) →
+    own realm (rejected_for cause secret a p) ≡ None
+none-rejected realm cause secret a p =
+    none-checked realm (nat_le (answer_length p) 4096) refusal.TooLong
+    (answered_by (local.Rejected cause) a (local_reject secret p)) refl
 
 -- nor is an Accounting-Request of another realm
 none-by : (realm k size : ℕ) (way : Accounting) (secret : List ℕ) (a : Arrival) (s : Side) (p : Packet)
@@ -129,22 +134,41 @@ none-accounted realm k config secret a s p differs =
     (by_accounting size secret a s p k (accounting_in config k))
     (none-by realm k size (accounting_in config k) secret a s p differs)
 
--- an Access-Request, by the realm that it asks and the one that it names
-abbrev pub access_by : ConfigView → List ℕ → Arrival → Side → Packet → Option ℕ → Option ℕ → Option ℕ → Admission
-access_by config secret a s p most asks named =
-    if not (is_some asks) || has_bad_password p || has_too_many_hops most p then rejected_for secret a p
+-- an Access-Request, by the cause for which it would be rejected, the realm that it asks and the one that it names
+abbrev pub access_by :
+    RejectCause → ConfigView → List ℕ → Arrival → Side → Packet → Option ℕ → Option ℕ → Option ℕ → Admission
+access_by cause config secret a s p most asks named =
+    if not (is_some asks) || has_bad_password p || has_too_many_hops most p then rejected_for cause secret a p
     else for_named_realm config a s p named
+
+-- whatever the cause, a local reject is no realm's
+own-cause : (realm : ℕ) (one other : RejectCause) (secret : List ℕ) (a : Arrival) (p : Packet) (b : Bool)
+    (further : Admission)
+    → own realm (if b then rejected_for one secret a p else further)
+    ≡ own realm (if b then rejected_for other secret a p else further)
+own-cause realm one other secret a p true further =
+    none-rejected realm one secret a p ∙ sym (none-rejected realm other secret a p)
+own-cause realm one other secret a p false further = refl
+
+pub own-access_by : (realm : ℕ) (one other : RejectCause) (config : ConfigView) (secret : List ℕ) (a : Arrival)
+    (s : Side) (p : Packet) (most asks named : Option ℕ)
+    → own realm (access_by one config secret a s p most asks named)
+    ≡ own realm (access_by other config secret a s p most asks named)
+own-access_by realm one other config secret a s p most asks named =
+    own-cause realm one other secret a p (not (is_some asks) || has_bad_password p || has_too_many_hops most p)
+    (for_named_realm config a s p named)
 
 pub either-none : (realm : ℕ) (b : Bool) (x y : Admission) → own realm x ≡ None → own realm y ≡ None
     → own realm (if b then x else y) ≡ None
 either-none realm true x y first second = first
 either-none realm false x y first second = second
 
-pub none-access : (realm k : ℕ) (config : ConfigView) (secret : List ℕ) (a : Arrival) (s : Side) (p : Packet)
-    (most asks : Option ℕ) → (k == realm) ≡ false → own realm (access_by config secret a s p most asks (Some k)) ≡ None
-none-access realm k config secret a s p most asks differs =
-    either-none realm (not (is_some asks) || has_bad_password p || has_too_many_hops most p) (rejected_for secret a p)
-    (for_named_realm config a s p (Some k)) (none-rejected realm secret a p)
+pub none-access : (realm k : ℕ) (cause : RejectCause) (config : ConfigView) (secret : List ℕ) (a : Arrival) (s : Side)
+    (p : Packet) (most asks : Option ℕ) → (k == realm) ≡ false →
+    own realm (access_by cause config secret a s p most asks (Some k)) ≡ None
+none-access realm k cause config secret a s p most asks differs =
+    either-none realm (not (is_some asks) || has_bad_password p || has_too_many_hops most p)
+    (rejected_for cause secret a p) (for_named_realm config a s p (Some k)) (none-rejected realm cause secret a p)
     (none-forwarded realm k (sent_length config s p k) a s p (Some k) differs)
 
 -- at another realm's places nothing is the realm's

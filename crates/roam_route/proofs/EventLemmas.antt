@@ -69,7 +69,7 @@ prepared_of_sent config a p s (Ok (prepared.Job j)) packet read from answers =
       | inl none ↦ absurd (cc none)
       | inr is ↦ own_arrival config a p (shown_job j) packet (sent ∙ sym is)
     ]
-prepared_of_sent config a p s (Ok (prepared.Reject out)) packet read from answers =
+prepared_of_sent config a p s (Ok (prepared.Answered what out)) packet read from answers =
     let sent = ap (sent_admission config a p) from in
     elim answers [
       | inl none ↦ absurd (cc none)

@@ -18,9 +18,12 @@ use Rattle.roam_conf.specs.declared.place.Place.TheVariants as place
 use Rattle.roam_conf.specs.Lookup.{asker_at, link_in, home_in}
 use Rattle.roam_route.specs.UserName.{realm_of}
 use Rattle.roam_route.specs.Freshness.{is_fresh}
-use Rattle.roam_route.specs.LocalAnswer.{accounting_answer}
+use Rattle.roam_route.specs.LocalAnswer.{accounting_answer, answer_length, local_reject}
 use Rattle.roam_route.specs.LocalReject.{has_bad_password, has_too_many_hops, takes_of, taking}
 use Rattle.roam_route.specs.Shapings.{sent_length}
+use Rattle.roam_route.specs.declared.local_answer.LocalAnswer.TheVariants as local
+use Rattle.roam_route.specs.declared.local_answer.RejectCause.{RejectCause}
+use Rattle.roam_route.specs.RejectCauses.{reject_cause}
 use Rattle.roam_route.specs.Admission.{Arrival, Admission, sender, checked, accounted, accounting_in, answered_by, by_accounting, for_named_realm, is_unnamed, rejected_for, reversed, route_request, job_of, forwarded_for, request_admission, sent_admission, status_admission, status_from, read_admission, admission, is_taken, peer_secret, home_secret, is_rightly_signed, is_rightly_sealed, has_needed_seal, has_few_hops, seal_required, has_few_attributes}
 use Rattle.roam_route.specs.declared.job.Side.{Side}
 use Rattle.roam_route.specs.declared.job.Side.TheVariants as side
@@ -42,6 +45,16 @@ answered-either : (b : Bool) (first x y : Admission) → answered x ≡ answered
     → answered (if b then first else x) ≡ answered (if b then first else y)
 answered-either true first x y same = refl
 answered-either false first x y same = same
+
+-- whatever the cause, a local reject is the same packet
+answered-cause : (one other : RejectCause) (secret : List ℕ) (a : Arrival) (p : Packet) (b : Bool) (x : Admission)
+    → answered (if b then rejected_for one secret a p else x)
+    ≡ answered (if b then rejected_for other secret a p else x)
+answered-cause one other secret a p true x =
+    answered-checked (nat_le (answer_length p) MAX_PACKET_LENGTH) refusal.TooLong
+    (answered_by (local.Rejected one) a (local_reject secret p))
+    (answered_by (local.Rejected other) a (local_reject secret p)) refl
+answered-cause one other secret a p false x = refl
 
 answered-asked : (secret : List ℕ) (p : Packet) (required : Bool) (most : Option ℕ) (x y : Admission)
     → answered x ≡ answered y
@@ -155,19 +168,20 @@ module _ (one other : ConfigView) (same : AnswerAlike one other) where
       ≡ answered (route_request other secret a s p (place.Auth nth))
   access-same nth secret a s p =
       let o : Option ℕ = realm_of other p.attributes in
-      let asks : Option ℕ = taking other s o in
-      ap (λ (n : Option ℕ). answered (access_by one secret a s p one.max_hops (taking one s n) n))
+      let cause : RejectCause = reject_cause one s p in
+      let bad : Bool = not (is_some (taking other s o)) || has_bad_password p || has_too_many_hops other.max_hops p in
+      ap (λ (n : Option ℕ). answered (access_by cause one secret a s p one.max_hops (taking one s n) n))
       (realm-same one other alike p.attributes)
-      ∙ ap (λ (most : Option ℕ). answered (access_by one secret a s p most (taking one s o) o)) same.max_hops
-      ∙ ap (λ (x : Option ℕ). answered (access_by one secret a s p other.max_hops x o)) (taking-same s o)
-      ∙ answered-either (not (is_some asks) || has_bad_password p || has_too_many_hops other.max_hops p)
-      (rejected_for secret a p) (for_named_realm one a s p o) (for_named_realm other a s p o)
-      (named-same one other a s p o)
+      ∙ ap (λ (most : Option ℕ). answered (access_by cause one secret a s p most (taking one s o) o)) same.max_hops
+      ∙ ap (λ (x : Option ℕ). answered (access_by cause one secret a s p other.max_hops x o)) (taking-same s o)
+      ∙ answered-either bad (rejected_for cause secret a p) (for_named_realm one a s p o)
+      (for_named_realm other a s p o) (named-same one other a s p o)
+      ∙ answered-cause cause (reject_cause other s p) secret a p bad (for_named_realm other a s p o)
 
   -- what an Accounting-Request gives, by whether unnamed ones are answered
   abbrev account_by : List ℕ → Arrival → Packet → Bool → Admission → Admission
   account_by secret a p answers further =
-      if answers && is_unnamed p.attributes then answered_by a (accounting_answer secret p) else further
+      if answers && is_unnamed p.attributes then answered_by local.Response a (accounting_answer secret p) else further
 
   account-same : (nth : ℕ) (secret : List ℕ) (a : Arrival) (s : Side) (p : Packet)
       → answered (route_request one secret a s p (place.Acct nth))
@@ -178,7 +192,8 @@ module _ (one other : ConfigView) (same : AnswerAlike one other) where
       same.answer_unnamed
       ∙ ap (λ (n : Option ℕ). answered (account_by secret a p other.answer_unnamed (accounted one secret a s p n)))
       (realm-same one other alike p.attributes)
-      ∙ answered-either (other.answer_unnamed && is_unnamed p.attributes) (answered_by a (accounting_answer secret p))
+      ∙ answered-either (other.answer_unnamed && is_unnamed p.attributes)
+      (answered_by local.Response a (accounting_answer secret p))
       (accounted one secret a s p o) (accounted other secret a s p o) (accounted-same secret a s p o)
 
   route_request-same : (secret : List ℕ) (a : Arrival) (s : Side) (p : Packet) (at : Place)

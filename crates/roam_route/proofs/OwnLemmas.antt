@@ -25,11 +25,14 @@ use Rattle.roam_route.specs.Freshness.{is_fresh}
 use Rattle.roam_route.specs.LocalAnswer.{accounting_answer}
 use Rattle.roam_route.specs.LocalReject.{has_bad_password, has_too_many_hops, takes_of, taking}
 use Rattle.roam_route.specs.Shapings.{sent_length, shaping_between}
+use Rattle.roam_route.specs.declared.local_answer.LocalAnswer.TheVariants as local
+use Rattle.roam_route.specs.declared.local_answer.RejectCause.{RejectCause}
+use Rattle.roam_route.specs.RejectCauses.{reject_cause}
 use Rattle.roam_route.specs.Admission.{Arrival, Admission, sender, checked, accounted, accounting_in, by_accounting, is_answered_unnamed, is_unnamed, forwarded_for, answered_by, rejected_for, reversed, route_request, request_admission, packet_admission, sent_admission, read_admission, admission, is_taken, peer_secret, home_secret, is_rightly_signed, is_rightly_sealed, has_needed_seal, has_few_hops, seal_required, has_few_attributes}
 use Rattle.roam_route.specs.declared.job.Side.{Side}
 use Rattle.roam_route.specs.declared.job.Side.TheVariants as side
 use Rattle.roam_route.specs.OwnPart.{own, HaveSamePart, OwnPartDecides}
-use Rattle.roam_route.proofs.AlikeLemmas.{LooksAlike, access_by, and-false, asked, asker-found, either-none, none-access, none-accounted, none-reversed, not-unnamed, own-checked, realm-same, seal-same, secret-same, sent-own, out-none, reverse-none, counted}
+use Rattle.roam_route.proofs.AlikeLemmas.{LooksAlike, access_by, and-false, asked, asker-found, either-none, none-access, none-accounted, none-reversed, not-unnamed, own-checked, realm-same, seal-same, secret-same, sent-own, out-none, reverse-none, counted, own-access_by}
 
 module _ (one other : ConfigView) (realm : ℕ) (same : HaveSamePart one other realm) where
   alike : LooksAlike one other
@@ -58,17 +61,17 @@ module _ (one other : ConfigView) (realm : ℕ) (same : HaveSamePart one other r
   sent-same (side.Home i) p = refl
 
   -- what an Access-Request gives that names a realm, by whether that takes it and how many octets it is sent
-  abbrev access_to : List ℕ → Arrival → Side → Packet → Option ℕ → ℕ → Bool → ℕ → Admission
-  access_to secret a s p most k takes size =
+  abbrev access_to : RejectCause → List ℕ → Arrival → Side → Packet → Option ℕ → ℕ → Bool → ℕ → Admission
+  access_to cause secret a s p most k takes size =
       if not (is_some (if takes then Some k else None)) || has_bad_password p || has_too_many_hops most p
-      then rejected_for secret a p
+      then rejected_for cause secret a p
       else forwarded_for size a s p k (Some k)
 
-  own-access-of : (secret : List ℕ) (a : Arrival) (s : Side) (p : Packet) (most o : Option ℕ)
-      → own realm (access_by one secret a s p most (taking one s o) o)
-      ≡ own realm (access_by other secret a s p most (taking other s o) o)
-  own-access-of secret a s p most None = refl
-  own-access-of secret a s p most (Some k) =
+  own-access-of : (cause : RejectCause) (secret : List ℕ) (a : Arrival) (s : Side) (p : Packet) (most o : Option ℕ)
+      → own realm (access_by cause one secret a s p most (taking one s o) o)
+      ≡ own realm (access_by cause other secret a s p most (taking other s o) o)
+  own-access-of cause secret a s p most None = refl
+  own-access-of cause secret a s p most (Some k) =
       elim (cases_Bool (k == realm)) [
         | inl yes' ↦ (
             let here : k ≡ realm = (Decides-eqb k realm).0 yes' in
@@ -76,9 +79,9 @@ module _ (one other : ConfigView) (realm : ℕ) (same : HaveSamePart one other r
             subst (λ (j : ℕ). takes_of one j s ≡ takes_of other j s) (sym here) (takes-same s) in
             let size : sent_length one s p k ≡ sent_length other s p k =
             subst (λ (j : ℕ). sent_length one s p j ≡ sent_length other s p j) (sym here) (sent-same s p) in
-            ap₂ (λ (b : Bool) (n : ℕ). own realm (access_to secret a s p most k b n)) takes size)
-        | inr no' ↦ none-access realm k one secret a s p most (taking one s (Some k)) no'
-            ∙ sym (none-access realm k other secret a s p most (taking other s (Some k)) no')
+            ap₂ (λ (b : Bool) (n : ℕ). own realm (access_to cause secret a s p most k b n)) takes size)
+        | inr no' ↦ none-access realm k cause one secret a s p most (taking one s (Some k)) no'
+            ∙ sym (none-access realm k cause other secret a s p most (taking other s (Some k)) no')
       ]
 
   own-access : (nth : ℕ) (secret : List ℕ) (a : Arrival) (s : Side) (p : Packet)
@@ -86,10 +89,12 @@ module _ (one other : ConfigView) (realm : ℕ) (same : HaveSamePart one other r
       ≡ own realm (route_request other secret a s p (place.Auth nth))
   own-access nth secret a s p =
       let o : Option ℕ = realm_of other p.attributes in
-      ap (λ (n : Option ℕ). own realm (access_by one secret a s p one.max_hops (taking one s n) n))
+      let cause : RejectCause = reject_cause one s p in
+      ap (λ (n : Option ℕ). own realm (access_by cause one secret a s p one.max_hops (taking one s n) n))
       (realm-same one other alike p.attributes)
-      ∙ ap (λ (most : Option ℕ). own realm (access_by one secret a s p most (taking one s o) o)) same.max_hops
-      ∙ own-access-of secret a s p other.max_hops o
+      ∙ ap (λ (most : Option ℕ). own realm (access_by cause one secret a s p most (taking one s o) o)) same.max_hops
+      ∙ own-access-of cause secret a s p other.max_hops o
+      ∙ own-access_by realm cause (reject_cause other s p) other secret a s p other.max_hops (taking other s o) o
 
   -- an Accounting-Request that names a realm
   own-accounted : (secret : List ℕ) (a : Arrival) (s : Side) (p : Packet) (k : ℕ)
@@ -109,15 +114,15 @@ module _ (one other : ConfigView) (realm : ℕ) (same : HaveSamePart one other r
       ]
 
   -- or none
-  own-account-of : (secret : List ℕ) (a : Arrival) (s : Side) (p : Packet) (o : Option ℕ) (first second : Bool)
+  own-account-of : (secret : List ℕ) (a : Arrival) (s : Side) (p : Packet) (answer : Admission) (o : Option ℕ)
+      (first second : Bool) → own realm answer ≡ None
       → ((k : ℕ) → o ≡ Some k → (first ≡ false) × (second ≡ false))
-      → own realm (if first then answered_by a (accounting_answer secret p) else accounted one secret a s p o)
-      ≡ own realm (if second then answered_by a (accounting_answer secret p) else accounted other secret a s p o)
-  own-account-of secret a s p None first second named =
-      either-none realm first (answered_by a (accounting_answer secret p)) (accounted one secret a s p None) refl refl
-      ∙ sym (either-none realm second (answered_by a (accounting_answer secret p))
-      (accounted other secret a s p None) refl refl)
-  own-account-of secret a s p (Some k) first second named =
+      → own realm (if first then answer else accounted one secret a s p o)
+      ≡ own realm (if second then answer else accounted other secret a s p o)
+  own-account-of secret a s p answer None first second none named =
+      either-none realm first answer (accounted one secret a s p None) none refl
+      ∙ sym (either-none realm second answer (accounted other secret a s p None) none refl)
+  own-account-of secret a s p answer (Some k) first second none named =
       rw ((named k refl).0, (named k refl).1) (own-accounted secret a s p k)
 
   unnamed-not : (config : ConfigView) (p : Packet) (k : ℕ) → realm_of config p.attributes ≡ Some k
@@ -133,10 +138,10 @@ module _ (one other : ConfigView) (realm : ℕ) (same : HaveSamePart one other r
   own-account nth secret a s p =
       let o : Option ℕ = realm_of other p.attributes in
       let same_realm = realm-same one other alike p.attributes in
-      ap (λ (n : Option ℕ). own realm
-      (if is_answered_unnamed one p then answered_by a (accounting_answer secret p) else accounted one secret a s
-      p n)) same_realm
-      ∙ own-account-of secret a s p o (is_answered_unnamed one p) (is_answered_unnamed other p)
+      let answer : Admission = answered_by local.Response a (accounting_answer secret p) in
+      ap (λ (n : Option ℕ). own realm (if is_answered_unnamed one p then answer else accounted one secret a s p n))
+      same_realm
+      ∙ own-account-of secret a s p answer o (is_answered_unnamed one p) (is_answered_unnamed other p) refl
       (λ k is. (unnamed-not one p k (same_realm ∙ is), unnamed-not other p k is))
 
   -- a reverse request at a realm's place
@@ -235,8 +240,7 @@ module _ (one other : ConfigView) (realm : ℕ) (same : HaveSamePart one other r
   known-same a p (Some s) own_place =
       sent-own realm one a p s
       ∙ own-checked realm (is_taken a.at s p.code) refusal.WrongCode (packet_admission one a s p a.at)
-      (packet_admission other a s p a.at)
-      (own-packet a s p a.at own_place)
+      (packet_admission other a s p a.at) (own-packet a s p a.at own_place)
       ∙ sym (sent-own realm other a p s)
 
   -- and who sent it is the same
@@ -280,8 +284,7 @@ module _ (one other : ConfigView) (realm : ℕ) (same : HaveSamePart one other r
             subst (λ (j : ℕ). option_map (λ i. side.Home i) (home_in one j nth from.ip)
             ≡ option_map (λ i. side.Home i) (home_in other j nth from.ip)) (sym here)
             (ap (λ o. option_map (λ i. side.Home i) o) (home-found nth from.ip)) in
-            known-same a p (sender one a (place.Reverse k nth)) (λ j m is. (let at_k : k ≡ j = cc is in sym at_k
-            ∙ here))
+            known-same a p (sender one a (place.Reverse k nth)) (λ j m is. (let at : k ≡ j = cc is in sym at ∙ here))
             ∙ ap (λ (s : Option Side). own realm (sent_admission other a p s)) found_by)
         | inr no' ↦ reverse-none realm one k nth from octets seconds p (home_in one k nth from.ip) no'
             ∙ sym (reverse-none realm other k nth from octets seconds p (home_in other k nth from.ip) no')

@@ -19,6 +19,9 @@ use Rattle.roam_route.specs.Freshness.{IsFresh, is_fresh}
 use Rattle.roam_route.specs.LocalAnswer.{answer_length, local_reject}
 use Rattle.roam_route.specs.LocalReject.{is_rejected, takes_of}
 use Rattle.roam_route.specs.Shapings.{sent_length}
+use Rattle.roam_route.specs.declared.local_answer.LocalAnswer.TheVariants as local
+use Rattle.roam_route.specs.declared.local_answer.RejectCause.{RejectCause}
+use Rattle.roam_route.specs.RejectCauses.{reject_cause}
 use Rattle.roam_route.specs.Admission.{Arrival, Admission, refused, checked, accounted, accounting_in, by_accounting, is_answered_unnamed, job_of, forwarded_for, answered_by, rejected_for, for_named_realm, route_request, request_admission, packet_admission, sent_admission, admission, has_few_attributes, is_rightly_signed, is_rightly_sealed, has_needed_seal, has_few_hops, seal_required, peer_secret, home_secret}
 use Rattle.roam_route.specs.AdmittedRequests.{IsRequestAt, HasFewAttributes, IsRightlySigned, sealing_authenticator, HasNeededSeal, FailsFirst, NothingFails, IsPassedOn, FailsToAccount, FailsForSize, FailsInRealm, FailsNamed, FailsToGo, FailsFor, RefusedFailsFirst}
 use Rattle.roam_route.specs.declared.job.Side.{Side}
@@ -86,12 +89,13 @@ named_fails config a s p (Some realm) why there =
     size_fails (sent_length config s p realm) a s p realm (Some realm) why
 
 -- the size of a local reject
-answer_fails : (secret : List ℕ) (a : Arrival) (p : Packet) (why : Refusal)
-    → (rejected_for secret a p ≡ refused why)
+answer_fails : (cause : RejectCause) (secret : List ℕ) (a : Arrival) (p : Packet) (why : Refusal)
+    → (rejected_for cause secret a p ≡ refused why)
     ↔ FailsFirst (answer_length p ≤ MAX_PACKET_LENGTH) refusal.TooLong NothingFails why
-answer_fails secret a p why =
+answer_fails cause secret a p why =
     fails NothingFails (nat_le (answer_length p) MAX_PACKET_LENGTH) refusal.TooLong
-    (answered_by a (local_reject secret p)) why (size_by (answer_length p)) (λ h. absurd (cc h), λ h. absurd h)
+    (answered_by (local.Rejected cause) a (local_reject secret p)) why (size_by (answer_length p))
+    (λ h. absurd (cc h), λ h. absurd h)
 
 -- an Access-Request
 access_fails : (nth : ℕ) (config : ConfigView) (secret : List ℕ) (a : Arrival) (s : Side) (p : Packet) (why : Refusal)
@@ -101,7 +105,7 @@ access_fails nth config secret a s p why =
     let passed = passed_decided config s p in
     elim (cases_Bool (is_rejected config s p)) [
       | inl rejects ↦ (
-          let size = answer_fails secret a p why in
+          let size = answer_fails (reject_cause config s p) secret a p why in
           let never : IsPassedOn config s p → ⊥ = λ h. absurd (cc (sym rejects ∙ passed.1 h)) in
           rw rejects (
             λ h. inr (never, size.0 h),

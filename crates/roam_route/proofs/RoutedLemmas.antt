@@ -17,6 +17,9 @@ use Rattle.roam_route.specs.UserName.{realm_of, realm_part}
 use Rattle.roam_route.specs.LocalAnswer.{answer_length, local_reject}
 use Rattle.roam_route.specs.LocalReject.{is_rejected, takes_of, taking}
 use Rattle.roam_route.specs.Shapings.{sent_length}
+use Rattle.roam_route.specs.declared.local_answer.LocalAnswer.TheVariants as local
+use Rattle.roam_route.specs.declared.local_answer.RejectCause.{RejectCause}
+use Rattle.roam_route.specs.RejectCauses.{reject_cause}
 use Rattle.roam_route.specs.Admission.{Arrival, PlainJob, Admission, refused, admitted, checked, accounted, accounting_in, by_accounting, is_answered_unnamed, job_of, forwarded_for, answered_by, rejected_for, for_named_realm, route_request}
 use Rattle.roam_route.specs.AdmittedRequests.{FailsFirst, IsPassedOn}
 use Rattle.roam_route.specs.declared.job.Side.{Side}
@@ -125,11 +128,12 @@ named_admitted config a s p (Some realm) job =
     )
 
 -- no local answer is a job
-rejected_never : (secret : List ℕ) (a : Arrival) (p : Packet) (job : PlainJob)
-    → rejected_for secret a p ≡ admitted job → ⊥
-rejected_never secret a p job h =
+rejected_never : (cause : RejectCause) (secret : List ℕ) (a : Arrival) (p : Packet) (job : PlainJob)
+    → rejected_for cause secret a p ≡ admitted job → ⊥
+rejected_never cause secret a p job h =
     elim (cases_Bool (nat_le (answer_length p) MAX_PACKET_LENGTH)) [
-      | inl fits ↦ (let k : answered_by a (local_reject secret p) ≡ admitted job = rw fits at h in cc k)
+      | inl fits ↦
+          (let k : answered_by (local.Rejected cause) a (local_reject secret p) ≡ admitted job = rw fits at h in cc k)
       | inr long ↦ (let k : refused refusal.TooLong ≡ admitted job = rw long at h in cc k)
     ]
 
@@ -145,7 +149,7 @@ access_admitted nth config secret a s p job =
     let further = named_admitted config a s p (realm_of config p.attributes) job in
     elim (cases_Bool (is_rejected config s p)) [
       | inl rejects ↦ rw rejects (
-        λ h. absurd (rejected_never secret a p job h),
+        λ h. absurd (rejected_never (reject_cause config s p) secret a p job h),
         λ h. absurd (cc (sym rejects ∙ passed.1 h.0)),
       )
       | inr passes ↦ rw passes (

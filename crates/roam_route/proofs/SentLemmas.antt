@@ -14,9 +14,11 @@ use Rattle.roam_conf.specs.declared.place.Place.{Place}
 use Rattle.roam_conf.specs.declared.place.Place.TheVariants as place
 use Rattle.roam_route.specs.UserName.{realm_of}
 use Rattle.roam_route.specs.Freshness.{is_fresh}
-use Rattle.roam_route.specs.LocalAnswer.{accounting_answer, status_answer}
+use Rattle.roam_route.specs.LocalAnswer.{accounting_answer, status_answer, status_code}
 use Rattle.roam_route.specs.LocalReject.{is_rejected}
 use Rattle.roam_route.specs.Shapings.{sent_length}
+use Rattle.roam_route.specs.declared.local_answer.LocalAnswer.TheVariants as local
+use Rattle.roam_route.specs.RejectCauses.{reject_cause}
 use Rattle.roam_route.specs.Admission.{Arrival, PlainOut, Admission, sender, checked, accounted, is_answered_unnamed, answered_by, forwarded_for, rejected_for, for_named_realm, route_request, packet_admission, sent_admission, is_taken, has_seal, is_status_request, status_admission, status_from, peer_secret, home_secret, has_few_attributes}
 use Rattle.roam_route.specs.declared.job.Side.{Side}
 use Rattle.roam_route.specs.declared.job.Side.TheVariants as side
@@ -44,15 +46,16 @@ peer_admits : (config : ConfigView) (secret : List ℕ) (a : Arrival) (i : ℕ) 
 unfolding IsFromPeer
 peer_admits config secret a i p (place.Auth nth) test h seal =
     let named_one : Admission = for_named_realm config a (side.Peer i) p (realm_of config p.attributes) in
-    either_admits config a p (is_rejected config (side.Peer i) p) (rejected_for secret a p) named_one
-    (reject_admits config secret a p)
+    either_admits config a p (is_rejected config (side.Peer i) p)
+    (rejected_for (reject_cause config (side.Peer i) p) secret a p) named_one
+    (reject_admits config (reject_cause config (side.Peer i) p) secret a p)
     (λ passes. own_realm_admits config a i p h (record {
       seal = seal;
       passwords = λ _. unrejected_blocks config (side.Peer i) p passes;
     }))
 peer_admits config secret a i p (place.Acct nth) test h seal =
     let named : Option ℕ = realm_of config p.attributes in
-    either_admits config a p (is_answered_unnamed config p) (answered_by a (accounting_answer secret p))
+    either_admits config a p (is_answered_unnamed config p) (answered_by local.Response a (accounting_answer secret p))
     (accounted config secret a (side.Peer i) p named) (answer_admits config secret a p)
     (λ _. accounted_admits config secret a i p named refl (λ x is. h x (realm_of_within config p.attributes x is))
     (record {
@@ -144,7 +147,7 @@ packet_admits config a (side.Link l) p (place.Reverse realm nth) is from test = 
 status_admits : (config : ConfigView) (most : Option ℕ) (secret : List ℕ) (a : Arrival) (p : Packet)
     → Admits config a p (status_admission most secret a p)
 status_admits config most secret a p =
-    let answer : Admission = answered_by a (status_answer a.at secret p) in
+    let answer : Admission = answered_by (local.Status (status_code a.at)) a (status_answer a.at secret p) in
     let bytes : List ℕ = packet_text (status_answer a.at secret p) in
     let out : PlainOut = record { realm = None; from = a.at; to = a.from; bytes = bytes } in
     let has : Admission = checked (has_seal p) refusal.MissingMessageAuthenticator answer in
@@ -153,7 +156,7 @@ status_admits config most secret a p =
     (checked sealed refusal.BadMessageAuthenticator has) (λ _.
     checked_admits config a p sealed refusal.BadMessageAuthenticator has (λ _.
     checked_admits config a p (has_seal p) refusal.MissingMessageAuthenticator answer (λ _.
-    rejected_admits config a p out)))
+    rejected_admits config a p (local.Status (status_code a.at)) out)))
 
 status_from_admits : (config : ConfigView) (a : Arrival) (s : Side) (p : Packet)
     → Admits config a p (status_from config a s p)

@@ -25,17 +25,20 @@ use Rattle.roam_conf.specs.declared.place.Place.TheVariants as place
 pub use Rattle.roam_route.specs.Arrivals.{Arrival, PlainJob, PlainOut}
 use Rattle.roam_route.specs.Freshness.{is_fresh}
 use Rattle.roam_route.specs.UserName.{realm_of}
-use Rattle.roam_route.specs.LocalAnswer.{accounting_answer, answer_length, local_reject, status_answer}
+use Rattle.roam_route.specs.LocalAnswer.{accounting_answer, answer_length, local_reject, status_answer, status_code}
 use Rattle.roam_route.specs.LocalReject.{has_too_many_hops, is_rejected, takes_of}
+use Rattle.roam_route.specs.RejectCauses.{reject_cause}
 use Rattle.roam_route.specs.Shapings.{sent_length}
 use Rattle.roam_route.specs.declared.job.Side.{Side}
 use Rattle.roam_route.specs.declared.job.Side.TheVariants as side
+use Rattle.roam_route.specs.declared.local_answer.LocalAnswer.{LocalAnswer}
+use Rattle.roam_route.specs.declared.local_answer.LocalAnswer.TheVariants as local
+use Rattle.roam_route.specs.declared.local_answer.RejectCause.{RejectCause}
 
--- what an arrival gives; what is rejected is answered by the broker itself, by a local reject or as a
--- Status-Server
+-- what an arrival gives; what is answered here is answered by the broker itself, as what that says
 pub data Admission : Type 0 where
   refused : Refusal → Admission
-  rejected : PlainOut → Admission
+  answered_here : LocalAnswer → PlainOut → Admission
   admitted : PlainJob → Admission
 
 -- who the source is at a place, if it shares a secret with the broker there: a peer by its address, a
@@ -157,9 +160,9 @@ forwarded_for size a s p realm names =
     checked (nat_le size MAX_PACKET_LENGTH) refusal.TooLong (job_of a s p realm names)
 
 -- an answer of the broker itself: it carries no realm, and goes back to where the request came from
-abbrev pub answered_by : Arrival → Packet → Admission
-answered_by a answer =
-    rejected (record { realm = None; from = a.at; to = a.from; bytes = packet_text answer })
+abbrev pub answered_by : LocalAnswer → Arrival → Packet → Admission
+answered_by what a answer =
+    answered_here what (record { realm = None; from = a.at; to = a.from; bytes = packet_text answer })
 
 -- ## Local reject as sent
 -- It leaves from the place where the request came, goes back to its source, and carries no realm's tag. It is
@@ -171,9 +174,10 @@ answered_by a answer =
 -- `local_rejects`; `run` (`rejects`)
 --
 -- the local reject, where it has at most 4096 octets
-abbrev pub rejected_for : List ℕ → Arrival → Packet → Admission
-rejected_for secret a p =
-    checked (nat_le (answer_length p) MAX_PACKET_LENGTH) refusal.TooLong (answered_by a (local_reject secret p))
+abbrev pub rejected_for : RejectCause → List ℕ → Arrival → Packet → Admission
+rejected_for why secret a p =
+    checked (nat_le (answer_length p) MAX_PACKET_LENGTH) refusal.TooLong
+    (answered_by (local.Rejected why) a (local_reject secret p))
 
 -- a request that names its realm, or none
 abbrev pub for_named_realm : ConfigView → Arrival → Side → Packet → Option ℕ → Admission
@@ -187,7 +191,7 @@ accounting_in config realm = option_map_or (λ r. r.accounting) (slice_get confi
 -- an Accounting-Request of a realm, by what becomes of that, and by the size of what is forwarded
 abbrev pub by_accounting : ℕ → List ℕ → Arrival → Side → Packet → ℕ → Accounting → Admission
 by_accounting size secret a s p realm Forwarded = forwarded_for size a s p realm (Some realm)
-by_accounting size secret a s p realm Answered = answered_by a (accounting_answer secret p)
+by_accounting size secret a s p realm Answered = answered_by local.Response a (accounting_answer secret p)
 by_accounting size secret a s p realm Dropped = refused refusal.AccountingDropped
 
 -- an Accounting-Request that names its realm, or none: the realm has to take the sender's requests
@@ -216,10 +220,10 @@ reversed config a s p realm =
 abbrev pub route_request : ConfigView → List ℕ → Arrival → Side → Packet → Place → Admission
 route_request config secret a s p (place.Reverse realm nth) = reversed config a s p realm
 route_request config secret a s p (place.Auth nth) =
-    if is_rejected config s p then rejected_for secret a p
+    if is_rejected config s p then rejected_for (reject_cause config s p) secret a p
     else for_named_realm config a s p (realm_of config p.attributes)
 route_request config secret a s p _ =
-    if is_answered_unnamed config p then answered_by a (accounting_answer secret p)
+    if is_answered_unnamed config p then answered_by local.Response a (accounting_answer secret p)
     else accounted config secret a s p (realm_of config p.attributes)
 
 -- what a request gives
@@ -260,7 +264,7 @@ status_admission most secret a p =
     checked (has_few_attributes most p) refusal.TooManyAttributes
     (checked (is_well_sealed secret (p.authenticator ∷ []) p) refusal.BadMessageAuthenticator
     (checked (has_seal p) refusal.MissingMessageAuthenticator
-    (answered_by a (status_answer a.at secret p))))
+    (answered_by (local.Status (status_code a.at)) a (status_answer a.at secret p))))
 
 -- the same of a sender, of whom the peers alone have it answered
 abbrev pub status_from : ConfigView → Arrival → Side → Packet → Admission

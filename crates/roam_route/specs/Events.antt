@@ -10,7 +10,7 @@ use Rattle.roam_route.specs.declared.job.Prepared.{Prepared}
 use Rattle.roam_route.specs.declared.job.Prepared.TheVariants as prepared
 use Rattle.roam_route.specs.declared.job.Side.{Side}
 use Rattle.roam_route.specs.declared.job.Side.TheVariants as side
-use Rattle.roam_route.specs.Admission.{Arrival, PlainJob, admitted, rejected, admission, is_taken}
+use Rattle.roam_route.specs.Admission.{Arrival, PlainJob, admitted, answered_here, admission, is_taken}
 use Rattle.roam_route.specs.Shapings.{shaping_of}
 use Rattle.roam_route.specs.Shown.{shown_job, shown_out}
 use Rattle.roam_route.specs.UserName.{realm_of}
@@ -36,8 +36,8 @@ IsEvent config job = admission config (arrival_of job) ≡ admitted job
 -- what is prepared of an arrival: such a job, or the local answer of just this arrival
 abbrev pub IsPrepared : {A : Type 0} → ConfigView → Arrival → Prepared A → Type 0
 IsPrepared config a (prepared.Job j) = IsEvent config (shown_job j)
-IsPrepared config a (prepared.Reject out) =
-    admission config a ≡ rejected (shown_out out)
+IsPrepared config a (prepared.Answered what out) =
+    admission config a ≡ answered_here what (shown_out out)
 
 -- who sent a packet of a realm is configured, so it shares a secret with the broker (RFC 2865,
 -- section 3)

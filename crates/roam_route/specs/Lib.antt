@@ -8,6 +8,7 @@ pub mod LocalAnswer
 pub mod LocalReject
 pub mod NameLaws
 pub mod OwnPart
+pub mod RejectCauses
 pub mod RejectLaws
 pub mod Shapings
 pub mod Shown

@@ -3,12 +3,12 @@ use Rattle.std.specs.Prelude.{◌≡◌, ℕ, ◌==◌, List, length, Option, So
 use Rattle.roam_conf.specs.Asking.{takes_in}
 use Rattle.roam_conf.specs.Config.{ConfigView}
 use Rattle.roam_conf.specs.Lookup.{realm_named}
-use Rattle.roam_route.specs.Admission.{Arrival, PlainJob, PlainOut, Admission, accounting_in, refused, rejected, admitted, admission}
+use Rattle.roam_route.specs.Admission.{Arrival, PlainJob, PlainOut, Admission, accounting_in, refused, answered_here, admitted, admission}
 
 -- what an admission gives to the realm of an index
 abbrev pub own : ℕ → Admission → Option PlainJob
 own realm (refused why) = None
-own realm (rejected out) = None
+own realm (answered_here what out) = None
 own realm (admitted job) = if job.realm == realm then Some job else None
 
 -- two configurations have as many `auth` and `acct`, the same peers, the same meaning of each name, the same limits of
@@ -33,7 +33,7 @@ OwnPartDecides = (one other : ConfigView) (realm : ℕ) (a : Arrival) →
 -- what the broker answers itself, if it does
 abbrev pub answered : Admission → Option PlainOut
 answered (refused why) = None
-answered (rejected out) = Some out
+answered (answered_here what out) = Some out
 answered (admitted job) = None
 
 -- two configurations have as many `auth` and `acct`, the same peers, the same meaning of each name, the same limits of

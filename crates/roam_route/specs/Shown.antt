@@ -10,7 +10,7 @@ use Rattle.roam_route.specs.declared.datagram.Out.{Out}
 use Rattle.roam_route.specs.declared.job.Job.{Job}
 use Rattle.roam_route.specs.declared.job.Prepared.{Prepared}
 use Rattle.roam_route.specs.declared.job.Prepared.TheVariants as prepared
-use Rattle.roam_route.specs.Admission.{Arrival, PlainJob, PlainOut, Admission, refused, rejected, admitted}
+use Rattle.roam_route.specs.Admission.{Arrival, PlainJob, PlainOut, Admission, refused, answered_here, admitted}
 
 -- a datagram
 abbrev pub shown_arrival : {A : Type 0} → Datagram A → Arrival
@@ -35,7 +35,7 @@ shown_out o = record { realm = o.realm; from = o.from; to = o.to; bytes = o.byte
 -- what `prepare` answers
 abbrev pub shown : {A : Type 0} → Result (Prepared A) Refusal → Admission
 shown (Ok (prepared.Job j)) = admitted (shown_job j)
-shown (Ok (prepared.Reject o)) = rejected (shown_out o)
+shown (Ok (prepared.Answered what o)) = answered_here what (shown_out o)
 shown (Err why) = refused why
 
 -- an answer of `prepare` is this admission, or NoMemory, since a growth may be refused
@@ -51,7 +51,7 @@ IsAdmission result admission = (result ≡ Err refusal.NoMemory) ⊎ (shown resu
 -- memory is wanted for octets that are handed on, so for no arrival that is refused
 abbrev pub WantsMemory : Admission → Type 0
 WantsMemory (refused why) = ⊥
-WantsMemory (rejected out) = Unit {0}
+WantsMemory (answered_here what out) = Unit {0}
 WantsMemory (admitted job) = Unit {0}
 
 -- a source of a configured realm's reverse requests

@@ -8,17 +8,19 @@ ghost use Rattle.roam_route.specs.Admission.{status_admission, status_from};
 ghost use Rattle.roam_route.specs.Events.{IsPrepared};
 ghost use Rattle.roam_route.specs.Shown.{IsAdmission, IsHome, Prepares, WantsMemory, shown_arrival};
 
-use crate::answering::status_answer;
+use crate::answering::{status_answer, status_code};
 use crate::checks::{
     has_few_attributes, has_few_hops, has_needed_seal, has_seal, is_rightly_sealed,
     is_rightly_signed, is_sealed_over,
 };
-use crate::datagram::{Datagram, Out};
+use crate::datagram::Datagram;
 use crate::job::{Prepared, Side};
-use crate::routing::{SentPacket, job_of, route_request};
+use crate::local_answer::LocalAnswer;
+use crate::routing::{SentPacket, answer_to, job_of, route_request};
 use crate::source::{
     is_status_request, is_taken, seal_required, secret_of_home, secret_of_peer, sender,
 };
+use roam_auth::Secret;
 use roam_conf::{Config, Place};
 use roam_wire::{Refusal, View};
 use std::alloc::Allocator;
@@ -28,7 +30,7 @@ use std::alloc::Allocator;
 fn request<A: Allocator + Copy>(
     config: &Config,
     packet: &SentPacket<'_, A>,
-    secret: &[u8],
+    secret: &Secret,
 ) -> Result<Prepared<A>, Refusal>
     requires secret { IsSecret secret.now }
     requires peer { (i : ℕ) → packet.now.side ≡ Side.Peer i → i < vec_len config.now.peers }
@@ -91,7 +93,7 @@ fn admit_packet<A: Allocator + Copy>(
 fn status<A: Allocator + Copy>(
     packet: &SentPacket<'_, A>,
     most: Option<u16>,
-    secret: &[u8],
+    secret: &Secret,
 ) -> Result<Prepared<A>, Refusal>
     requires secret { IsSecret secret.now }
     ensures { Prepares result (status_admission most secret.now
@@ -107,13 +109,10 @@ fn status<A: Allocator + Copy>(
     if !has_seal(view) {
         return Err(Refusal::MissingMessageAuthenticator);
     }
-    let bytes = status_answer(packet.alloc, packet.datagram.at, view, secret)?;
-    Ok(Prepared::Reject(Out {
-        realm: None,
-        from: packet.datagram.at,
-        to: packet.datagram.from,
-        bytes,
-    }))
+    let at = packet.datagram.at;
+    let bytes = status_answer(packet.alloc, at, view, secret)?;
+    let out = answer_to(packet.datagram, bytes);
+    Ok(Prepared::Answered(LocalAnswer::Status(status_code(at)), out))
 }
 
 /// What a Status-Server of a sender gives: of a peer alone it is answered.

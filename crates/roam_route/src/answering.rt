@@ -11,7 +11,7 @@ ghost use Rattle.roam_route.specs.LocalAnswer.{answer_length, local_answer, loca
 ghost use Rattle.roam_route.specs.LocalAnswer.{unsealed_answer};
 
 use crate::checks::has_seal;
-use roam_auth::{ZERO_OCTETS, seal_and_sign};
+use roam_auth::{Secret, ZERO_OCTETS, seal_and_sign};
 use roam_conf::Place;
 use roam_wire::attribute_type::{MESSAGE_AUTHENTICATOR, PROXY_STATE};
 use roam_wire::code::{ACCESS_ACCEPT, ACCESS_REJECT, ACCOUNTING_RESPONSE};
@@ -57,7 +57,7 @@ fn answer<A: Allocator>(
     alloc: A,
     code: u8,
     request: &View<'_>,
-    secret: &[u8],
+    secret: &Secret,
 ) -> Result<Octets<A>, Refusal>
     requires secret { IsSecret secret.now }
     ensures ok { IfOk result (λ o. o ≡ packet_text (local_answer code secret.now request.now)) }
@@ -81,7 +81,7 @@ fn answer<A: Allocator>(
 pub fn reject<A: Allocator>(
     alloc: A,
     request: &View<'_>,
-    secret: &[u8],
+    secret: &Secret,
 ) -> Result<Octets<A>, Refusal>
     requires secret { IsSecret secret.now }
     ensures ok { IfOk result (λ o. o ≡ packet_text (local_reject secret.now request.now)) }
@@ -92,7 +92,7 @@ pub fn reject<A: Allocator>(
 }
 
 /// The code that answers a Status-Server at a place (RFC 5997, section 3).
-fn status_code(at: Place) -> u8
+pub(crate) fn status_code(at: Place) -> u8
     ensures { result ≡ status_code at }
 {
     match at {
@@ -109,7 +109,7 @@ pub fn status_answer<A: Allocator>(
     alloc: A,
     at: Place,
     request: &View<'_>,
-    secret: &[u8],
+    secret: &Secret,
 ) -> Result<Octets<A>, Refusal>
     requires sealed { HasOneMessageAuthenticator request.now }
     requires secret { IsSecret secret.now }
@@ -178,7 +178,7 @@ fn unsealed_accounting<A: Allocator>(alloc: A, request: &View<'_>) -> Result<Vec
 pub fn accounting_answer<A: Allocator>(
     alloc: A,
     request: &View<'_>,
-    secret: &[u8],
+    secret: &Secret,
 ) -> Result<Octets<A>, NoMemory>
     requires sealed { HasAtMostOneMessageAuthenticator request.now }
     requires secret { IsSecret secret.now }

@@ -9,7 +9,7 @@ ghost use Rattle.roam_route.specs.Admission.{has_few_attributes, has_few_hops, h
 ghost use Rattle.roam_route.specs.Admission.{is_rightly_sealed, is_rightly_signed, is_unnamed};
 ghost use Rattle.roam_route.specs.LocalReject.{has_bad_password, has_too_many_hops};
 
-use roam_auth::{ZERO_OCTETS, message_ok, request_ok};
+use roam_auth::{Secret, ZERO_OCTETS, message_ok, request_ok};
 use roam_hide::password_fits;
 use roam_wire::View;
 use roam_wire::attribute_type::{
@@ -19,15 +19,15 @@ use roam_wire::code::ACCESS_REQUEST;
 
 /// Whether a request is signed where its code says that it is (RFC 2866, section 3; RFC 5176, section
 /// 2.3).
-pub(crate) fn is_rightly_signed(request: &View<'_>, secret: &[u8]) -> bool
+pub(crate) fn is_rightly_signed(request: &View<'_>, secret: &Secret) -> bool
     requires secret { IsSecret secret.now }
     ensures { result ≡ is_rightly_signed secret.now request.now }
 {
-    request.code() == ACCESS_REQUEST || request_ok(request, secret)
+    request.code() == ACCESS_REQUEST || request_ok(request, secret.octets())
 }
 
 /// Whether a request is well sealed over an Authenticator (RFC 3579, section 3.2).
-pub(crate) fn is_sealed_over(request: &View<'_>, secret: &[u8], authenticator: [u8; 16]) -> bool
+pub(crate) fn is_sealed_over(request: &View<'_>, secret: &Secret, authenticator: [u8; 16]) -> bool
     requires secret { IsSecret secret.now }
     ensures { result ≡ is_well_sealed secret.now (authenticator ∷ []) request.now }
 {
@@ -36,7 +36,7 @@ pub(crate) fn is_sealed_over(request: &View<'_>, secret: &[u8], authenticator: [
 
 /// Whether a request is well sealed: over its own Authenticator in an Access-Request, over zeros in
 /// any other (RFC 3579, section 3.2).
-pub(crate) fn is_rightly_sealed(request: &View<'_>, secret: &[u8]) -> bool
+pub(crate) fn is_rightly_sealed(request: &View<'_>, secret: &Secret) -> bool
     requires secret { IsSecret secret.now }
     ensures { result ≡ is_rightly_sealed secret.now request.now }
 {

@@ -1,6 +1,7 @@
 //! What a realm is given: a request or a reply.
 
 use crate::datagram::Out;
+use crate::local_answer::LocalAnswer;
 use roam_conf::{Endpoint, Link, Place};
 use roam_wire::Octets;
 use std::alloc::Allocator;
@@ -40,7 +41,6 @@ pub struct Job<A: Allocator> {
 pub enum Prepared<A: Allocator> {
     /// An event of a realm.
     Job(Job<A>),
-    /// An answer of the broker itself, which needs no realm and no state: a local reject, or the answer
-    /// to a Status-Server.
-    Reject(Out<A>),
+    /// An answer of the broker itself, which needs no realm and no state, and what it is.
+    Answered(LocalAnswer, Out<A>),
 }

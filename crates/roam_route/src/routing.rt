@@ -1,6 +1,6 @@
 //! Where a request goes that passed the checks of its signature and seal.
 
-ghost use Rattle.std.specs.Prelude.{◌≡◌, is_some};
+ghost use Rattle.std.specs.Prelude.{◌≡◌, None, is_some};
 ghost use Rattle.roam_auth.specs.MessageAuthenticator.{HasAtMostOneMessageAuthenticator};
 ghost use Rattle.roam_wire.specs.Secret.{IsSecret};
 ghost use Rattle.roam_conf.specs.Shown.{shown};
@@ -17,9 +17,11 @@ use crate::checks::{has_bad_password, has_too_many_hops, is_unnamed};
 use crate::datagram::{Datagram, Out};
 use crate::freshness::is_fresh;
 use crate::job::{Job, Prepared, Side};
+use crate::local_answer::{LocalAnswer, RejectCause, reject_cause};
 use crate::shapings::sent_len;
 use crate::source::{accounting_of, takes_of};
 use crate::user_name::realm_of;
+use roam_auth::Secret;
 use roam_conf::{Accounting, Config, Place};
 use roam_wire::{MAX_PACKET_LENGTH, Octets, Refusal, View};
 use std::alloc::Allocator;
@@ -85,22 +87,31 @@ fn for_named_realm<A: Allocator + Copy>(
     }
 }
 
-/// The local reject of an Access-Request, where it has at most 4096 octets.
+/// The packet of the broker's own that answers a datagram.
+pub(crate) fn answer_to<A: Allocator>(datagram: &Datagram<A>, bytes: Octets<A>) -> Out<A>
+    ensures { result ≡ record { realm = None; from = datagram.now.at; to = datagram.now.from; bytes = bytes } }
+{
+    Out {
+        realm: None,
+        from: datagram.at,
+        to: datagram.from,
+        bytes,
+    }
+}
+
+/// The local reject of an Access-Request for this cause, where it has at most 4096 octets.
 fn rejected_for<A: Allocator + Copy>(
     packet: &SentPacket<'_, A>,
-    secret: &[u8],
+    secret: &Secret,
+    why: RejectCause,
 ) -> Result<Prepared<A>, Refusal>
     requires secret { IsSecret secret.now }
-    ensures { Prepares result (rejected_for secret.now (shown_arrival packet.now.datagram.now)
+    ensures { Prepares result (rejected_for why secret.now (shown_arrival packet.now.datagram.now)
         packet.now.view) }
 {
     let bytes = reject(packet.alloc, &packet.view, secret)?;
-    Ok(Prepared::Reject(Out {
-        realm: None,
-        from: packet.datagram.at,
-        to: packet.datagram.from,
-        bytes,
-    }))
+    let out = answer_to(packet.datagram, bytes);
+    Ok(Prepared::Answered(LocalAnswer::Rejected(why), out))
 }
 
 /// Whether an Access-Request is answered by a local reject: the realm that it names, if it names one, doesn't take
@@ -131,27 +142,23 @@ fn is_asked(config: &Config, side: Side, realm: Option<u16>) -> bool
 /// The broker's own answer to an Accounting-Request.
 fn accounting_answered<A: Allocator + Copy>(
     packet: &SentPacket<'_, A>,
-    secret: &[u8],
+    secret: &Secret,
 ) -> Result<Prepared<A>, Refusal>
     requires secret { IsSecret secret.now }
     requires sealed { HasAtMostOneMessageAuthenticator packet.now.view }
-    ensures { Prepares result (answered_by (shown_arrival packet.now.datagram.now)
+    ensures { Prepares result (answered_by LocalAnswer.Response (shown_arrival packet.now.datagram.now)
         (accounting_answer secret.now packet.now.view)) }
 {
     let bytes = accounting_answer(packet.alloc, &packet.view, secret)?;
-    Ok(Prepared::Reject(Out {
-        realm: None,
-        from: packet.datagram.at,
-        to: packet.datagram.from,
-        bytes,
-    }))
+    let out = answer_to(packet.datagram, bytes);
+    Ok(Prepared::Answered(LocalAnswer::Response, out))
 }
 
 /// What an Accounting-Request gives that names its realm, or none.
 fn accounted<A: Allocator + Copy>(
     config: &Config,
     packet: &SentPacket<'_, A>,
-    secret: &[u8],
+    secret: &Secret,
     realm: Option<u16>,
 ) -> Result<Prepared<A>, Refusal>
     requires secret { IsSecret secret.now }
@@ -196,7 +203,7 @@ fn reversed<A: Allocator + Copy>(
 pub(crate) fn route_request<A: Allocator + Copy>(
     config: &Config,
     packet: &SentPacket<'_, A>,
-    secret: &[u8],
+    secret: &Secret,
 ) -> Result<Prepared<A>, Refusal>
     requires secret { IsSecret secret.now }
     requires sealed { HasAtMostOneMessageAuthenticator packet.now.view }
@@ -211,7 +218,8 @@ pub(crate) fn route_request<A: Allocator + Copy>(
     }
     if let Place::Auth(_) = packet.datagram.at {
         return if is_rejected(config, packet, realm) {
-            rejected_for(packet, secret)
+            let why = reject_cause(config, packet.side, view, realm);
+            rejected_for(packet, secret, why)
         } else {
             for_named_realm(config, packet, realm)
         };

@@ -12,6 +12,7 @@ ghost use Rattle.roam_route.specs.Shown.{IsHome, shown_arrival};
 
 use crate::datagram::Datagram;
 use crate::job::Side;
+use roam_auth::Secret;
 use roam_conf::{Accounting, Config, Link, Peer, Place};
 use roam_wire::View;
 use roam_wire::attribute_type::PROXY_STATE;
@@ -55,7 +56,7 @@ pub(crate) fn sender<A: Allocator>(config: &Config, datagram: &Datagram<A>) -> O
 }
 
 /// The secret shared with a peer.
-pub(crate) fn secret_of_peer(config: &Config, peer: u16) -> &[u8]
+pub(crate) fn secret_of_peer(config: &Config, peer: u16) -> &Secret
     requires { peer < vec_len config.now.peers }
     ensures text { result.now ≡ peer_secret (shown config.now) peer }
     ensures secret { IsSecret result.now }
@@ -64,7 +65,7 @@ pub(crate) fn secret_of_peer(config: &Config, peer: u16) -> &[u8]
 }
 
 /// The secret shared with a source of a realm's reverse requests: a home server, or a `coa_client`.
-pub(crate) fn secret_of_home(config: &Config, realm: u16, server: u8) -> &[u8]
+pub(crate) fn secret_of_home(config: &Config, realm: u16, server: u8) -> &Secret
     requires { IsHome config.now realm server }
     ensures text { result.now ≡ home_secret (shown config.now) realm server }
     ensures secret { IsSecret result.now }

@@ -101,7 +101,7 @@ impl<'c, A: Allocator + Copy> Shards<'c, A> {
     {
         match prepare(self.alloc, self.config, datagram) {
             Ok(Prepared::Job(job)) => self.give(now, &job),
-            Ok(Prepared::Reject(out)) => Ok(one_packet(self.alloc, out)),
+            Ok(Prepared::Answered(_, out)) => Ok(one_packet(self.alloc, out)),
             Err(why) => lost_or_refused(self.alloc, why),
         }
     }

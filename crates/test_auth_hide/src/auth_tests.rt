@@ -5,7 +5,7 @@
 //! section 7.1.
 
 use md5::{Digest, Md5};
-use roam_auth::{Secret, hmac_md5, message_auth, message_ok, message_ok_by, response_ok};
+use roam_auth::{Secret, hmac_md5, message_auth, message_ok, response_ok};
 use roam_wire::View;
 use std::process::Abort;
 use test_fixtures::{octets, octets_mut};
@@ -199,11 +199,12 @@ fn seal_facts(text: &str, over: [u8; 16], seal: [u8; 16], place: usize, bit: u8)
     let Ok(view) = View::read(packet) else {
         return [false; 4];
     };
+    let secret = Secret::new(&SECRET);
     [
-        message_auth(&view, &SECRET, over) == Some(seal),
-        message_ok_by(&view, &Secret::new(&SECRET), over) == (bit == 0),
-        !message_ok(&view, b"xyzzy5462", over),
-        !message_ok(&view, &SECRET, [1; 16]),
+        message_auth(&view, &secret, over) == Some(seal),
+        message_ok(&view, &secret, over) == (bit == 0),
+        !message_ok(&view, &Secret::new(b"xyzzy5462"), over),
+        !message_ok(&view, &secret, [1; 16]),
     ]
 }
 

@@ -71,7 +71,7 @@ impl<'h, 'c, A: Allocator + Copy, N: Opened> Caller<'h, 'c, A, N> {
     ) -> Result<Given<A, N>, HubFault> {
         match prepare(self.alloc, self.config, datagram) {
             Ok(Prepared::Job(job)) => Ok(Given::Recorded(self.submit(rt, now, &job)?)),
-            Ok(Prepared::Reject(out)) => Ok(Given::Unrecorded(one_packet(self.alloc, out))),
+            Ok(Prepared::Answered(_, out)) => Ok(Given::Unrecorded(one_packet(self.alloc, out))),
             Err(why) => Ok(Given::Unrecorded(lost_or_refused(self.alloc, why)?)),
         }
     }

@@ -123,7 +123,7 @@ impl<'c, A: Allocator + Copy> Traces<'c, A> {
     fn arrive(&mut self, now: u64, datagram: &Datagram<A>) -> Result<Answer<A>, HubFault> {
         match prepare(self.alloc, self.config, datagram) {
             Ok(Prepared::Job(job)) => self.give(now, &job),
-            Ok(Prepared::Reject(out)) => Ok(one_packet(self.alloc, out)),
+            Ok(Prepared::Answered(_, out)) => Ok(one_packet(self.alloc, out)),
             Err(why) => lost_or_refused(self.alloc, why),
         }
     }

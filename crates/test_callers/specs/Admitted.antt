@@ -1,9 +1,9 @@
 -- What a caller concludes of an arrival that is some realm's event.
 use Rattle.std.specs.Prelude.{◌≡◌, ℕ}
-use Rattle.roam_route.specs.Admission.{Admission, refused, rejected, admitted}
+use Rattle.roam_route.specs.Admission.{Admission, refused, answered_here, admitted}
 
 -- it is admitted for the realm of this index
 abbrev pub IsAdmittedFor : ℕ → Admission → Type 0
 IsAdmittedFor realm (refused why) = ⊥
-IsAdmittedFor realm (rejected out) = ⊥
+IsAdmittedFor realm (answered_here what out) = ⊥
 IsAdmittedFor realm (admitted job) = job.realm ≡ realm

@@ -14,6 +14,7 @@ ghost use Rattle.roam_pending.specs.EntryList.{IsNew, put};
 ghost use Rattle.roam_pending.specs.Shown.{shown as shown_entry};
 ghost use Rattle.test_callers.specs.Admitted.{IsAdmittedFor};
 
+use roam_auth::Secret;
 use roam_back::check_reply;
 use roam_book::{Book, Outs};
 use roam_conf::Config;
@@ -36,7 +37,7 @@ pub fn realm_of_arrival<A: Allocator + Copy>(
 {
     match prepare(alloc, config, datagram) {
         Ok(Prepared::Job(job)) => Some(job.realm),
-        Ok(Prepared::Reject(_)) | Err(_) => None,
+        Ok(Prepared::Answered(..)) | Err(_) => None,
     }
 }
 
@@ -120,7 +121,7 @@ pub fn octets_to_home<A: Allocator>(
     forward(
         request,
         peer_secret,
-        home_secret,
+        &Secret::new(home_secret),
         id,
         authenticator,
         ticket,
@@ -135,5 +136,5 @@ pub fn is_answer(reply: &View<'_>, forwarded: &View<'_>, secret: &[u8]) -> bool
     requires at_most_64 { length secret.now ≤ 64 }
     ensures { OnTrue result (IsTaken secret.now true reply.now forwarded.now) }
 {
-    check_reply(reply, forwarded, secret, true).is_ok()
+    check_reply(reply, forwarded, &Secret::new(secret), true).is_ok()
 }

@@ -1,7 +1,7 @@
 //! A caller for each crate, as a server above would write it: proved from the crates' contracts
 //! alone.
 
-ghost use Rattle.std.specs.Prelude.{◌≡◌, ◌↔◌, ◌≤◌, [], ◌∷◌, IsTrue, length, option_map, string_bytes};
+ghost use Rattle.std.specs.Prelude.{◌≡◌, ◌↔◌, ◌≤◌, [], ◌∷◌, IsTrue, length, option_map};
 ghost use Rattle.std.specs.Bool.{OnTrue};
 ghost use Rattle.roam_wire.specs.Packet.{Packet};
 ghost use Rattle.roam_wire.specs.Reading.{ReadsAs};
@@ -13,7 +13,7 @@ ghost use Rattle.roam_hide.specs.HidingKeys.{password_key};
 ghost use Rattle.roam_ids.specs.LaneState.{is_used};
 ghost use Rattle.roam_ids.specs.NextIdentifier.{next_identifier};
 
-use roam_auth::{message_ok, request_ok, response_ok};
+use roam_auth::{Secret, message_ok, request_ok, response_ok};
 use roam_conf::{Address, Config, Peer};
 use roam_hide::{HidingKey, password_fits, rehide_password};
 use roam_ids::Lane;
@@ -40,7 +40,8 @@ pub fn answers(reply: &View<'_>, request: &View<'_>, secret: &[u8]) -> bool
         × IsWellSealed secret.now (request.now.authenticator ∷ []) reply.now) }
 {
     let authenticator = request.authenticator();
-    response_ok(reply, authenticator, secret) && message_ok(reply, secret, authenticator)
+    response_ok(reply, authenticator, secret)
+        && message_ok(reply, &Secret::new(secret), authenticator)
 }
 
 /// Hides a User-Password for the next hop, if it has a size that a User-Password may have.
@@ -76,7 +77,7 @@ pub fn is_signed_by_peer(config: &Config, ip: Address, request: &View<'_>) -> bo
 
 /// Whether an accounting request is signed with a peer's secret.
 fn is_signed_by(peer: &Peer, request: &View<'_>) -> bool
-    ensures { IsTrue result ↔ IsSignedRequest (string_bytes peer.now.secret) request.now }
+    ensures { IsTrue result ↔ IsSignedRequest peer.now.secret request.now }
 {
-    request_ok(request, peer.secret.as_bytes())
+    request_ok(request, peer.secret().octets())
 }

@@ -50,7 +50,7 @@ impl<'c, A: Allocator + Copy> Realm<'c, A> {
                 }
                 Ok(job)
             }
-            Prepared::Reject(_) => Err(Refusal::NoRealm),
+            Prepared::Answered(..) => Err(Refusal::NoRealm),
         }
     }
 

@@ -15,14 +15,14 @@ use Rattle.roam_book.specs.Shapings.{forwarded_size}
 use Rattle.roam_book.specs.Turn.{Turn, refuses}
 use Rattle.roam_book.specs.Turned.{IsTurned}
 use Rattle.roam_book.specs.OnRequest.{admit, new_request, targets}
-use Rattle.roam_book.specs.Sound.{CountsAsGone, IsRequest, chosen_link, gone_ticket, is_sought}
+use Rattle.roam_book.specs.Sound.{CountsAsReplaced, IsRequest, chosen_link, replaced_ticket, is_sought}
 use Rattle.roam_book.specs.Private.Memory.{HasBuffers}
 use Rattle.roam_book.specs.declared.state.link_rests.Wanted.TheVariants as wanted
 use Rattle.roam_book.specs.declared.state.rest.Rest.{Rest}
 use Rattle.roam_book.specs.declared.rules.admit.Supplies.{Supplies}
 use Rattle.roam_book.specs.declared.rules.replaced.Replaced.{Replaced}
 use Rattle.roam_book.specs.declared.rules.requests.RequestPlan.{RequestPlan}
-use Rattle.roam_book.specs.declared.rules.requests.RequestPlan.TheVariants as plan
+use Rattle.roam_book.specs.declared.rules.requests.RequestPlan.TheVariants as request_plan
 use Rattle.roam_book.specs.declared.rules.admit_plan.AdmitPlan.{AdmitPlan}
 use Rattle.roam_book.specs.declared.rules.targets.Targets.{Targets}
 use Rattle.roam_book.specs.declared.rules.targets.Targets.TheVariants as kind
@@ -47,33 +47,33 @@ MakesWay None entries = Unit {0}
 MakesWay (Some ticket) entries = first_done entries ≡ Some ticket
 
 -- the entries once the one that counts as gone is gone, and once the done one that makes way is too
-abbrev pub once_gone : Option Replaced → List PlainEntry → List PlainEntry
-once_gone gone entries = besides (gone_ticket gone) entries
+abbrev pub once_replaced : Option Replaced → List PlainEntry → List PlainEntry
+once_replaced replaced entries = besides (replaced_ticket replaced) entries
 
 abbrev pub left_by : AdmitPlan → List PlainEntry → List PlainEntry
-left_by way entries = besides way.done (once_gone way.gone entries)
+left_by plan entries = besides plan.done (once_replaced plan.replaced entries)
 
 -- a way to a link where no entry has to go, or the one that counts as gone alone; a way once those
 -- that had to go are gone
 abbrev pub straight_to : Link → Bool → AdmitPlan
-straight_to link bound = record { gone = None; done = None; link = link; bound = bound }
+straight_to link bound = record { replaced = None; done = None; link = link; bound = bound }
 
 abbrev pub straight_after : Option Replaced → Link → Bool → AdmitPlan
-straight_after gone link bound = record { gone = gone; done = None; link = link; bound = bound }
+straight_after replaced link bound = record { replaced = replaced; done = None; link = link; bound = bound }
 
 abbrev pub cleared : AdmitPlan → AdmitPlan
-cleared way = straight_to way.link way.bound
+cleared plan = straight_to plan.link plan.bound
 
 -- a new request can go this way: what counts as gone and what makes way are there, the request's
 -- key is free then, and its link has a free Identifier
-pub record IsWay (c : RealmConfig) (s : RealmState) (q : PlainRequest) (way : AdmitPlan) : Type 0 where
+pub record IsAdmitPlan (c : RealmConfig) (s : RealmState) (q : PlainRequest) (plan : AdmitPlan) : Type 0 where
   pub request : IsRequest c q
   pub ticket : s.ticket < 2 ^ 63
-  pub gone : CountsAsGone way.gone s.entries
-  pub key : find_client q.key (once_gone way.gone s.entries) ≡ None
-  pub done : MakesWay way.done (once_gone way.gone s.entries)
-  pub link : IsLink c way.link
-  pub free : HasNext c s.cursors (once_gone way.gone s.entries) way.link
+  pub replaced : CountsAsReplaced plan.replaced s.entries
+  pub key : find_client q.key (once_replaced plan.replaced s.entries) ≡ None
+  pub done : MakesWay plan.done (once_replaced plan.replaced s.entries)
+  pub link : IsLink c plan.link
+  pub free : HasNext c s.cursors (once_replaced plan.replaced s.entries) plan.link
 
 -- what a new request does that goes to a link, where no entry has to go and the link was chosen
 abbrev pub forwards : RealmConfig → ℕ → RealmState → PlainRequest → Link → Turn
@@ -81,9 +81,9 @@ forwards c now s q l = admit c now s s.entries q (target_at c s.cursors s.entrie
 
 -- what a new request does that goes this way
 abbrev pub admits : RealmConfig → ℕ → RealmState → PlainRequest → AdmitPlan → Turn
-admits c now s q way =
-    admit c now (with_rests s (rests_chosen c now s.rests way.bound way.link)) (left_by way s.entries) q
-    (target_at c s.cursors (once_gone way.gone s.entries) way.link)
+admits c now s q plan =
+    admit c now (with_rests s (rests_chosen c now s.rests plan.bound plan.link)) (left_by plan s.entries) q
+    (target_at c s.cursors (once_replaced plan.replaced s.entries) plan.link)
 
 -- the links of targets, in the order of their use
 abbrev pub links_of : RealmConfig → Targets → List Link
@@ -123,31 +123,31 @@ AreConfigured c (kind.HomeServers service) = Unit {0}
 AreConfigured c (kind.AccessServer peer) = peer < length c.peers
 
 -- a request is new that has these targets, while an entry counts as gone: no entry has its key then
-pub record IsNew (c : RealmConfig) (entries : List PlainEntry) (gone : Option Replaced) (found : Targets)
+pub record IsNew (c : RealmConfig) (entries : List PlainEntry) (replaced : Option Replaced) (found : Targets)
     (q : PlainRequest) : Type 0 where
   pub request : IsRequest c q
-  pub key : find_client q.key (once_gone gone entries) ≡ None
+  pub key : find_client q.key (once_replaced replaced entries) ≡ None
   pub targets : links_of c found ≡ targets c q
 
 -- the way that was chosen for a new request at a moment does this turn; or it is refused in it
 pub record IsChosen (c : RealmConfig) (now : ℕ) (s : RealmState) (q : PlainRequest) (chosen : AdmitPlan)
     (turn : Turn) : Type 0 where
-  pub way : IsWay c s q chosen
+  pub plan : IsAdmitPlan c s q chosen
   pub does : turn ≡ admits c now s q chosen
 
 abbrev pub Chooses :
     RealmConfig → ℕ → RealmState → PlainRequest → Result AdmitPlan Refusal → Turn → Type 0
-Chooses c now s q (Ok way) turn = IsChosen c now s q way turn
+Chooses c now s q (Ok plan) turn = IsChosen c now s q plan turn
 Chooses c now s q (Err why) turn = turn ≡ refuses why
 
 -- the entry that counts as gone
-abbrev pub gone_entry : Option Replaced → List PlainEntry → Option PlainEntry
-gone_entry None entries = None
-gone_entry (Some g) entries = find_ticket g.ticket entries
+abbrev pub replaced_entry : Option Replaced → List PlainEntry → Option PlainEntry
+replaced_entry None entries = None
+replaced_entry (Some g) entries = find_ticket g.ticket entries
 
 -- what happened where a new request goes this way
 abbrev pub admitted_by : RealmState → AdmitPlan → PlainHappening
-admitted_by s way = forwarded s.ticket way.link (replaced_by (gone_entry way.gone s.entries))
+admitted_by s plan = forwarded s.ticket plan.link (replaced_by (replaced_entry plan.replaced s.entries))
 
 -- the link of the target of a new request beside these entries
 abbrev pub target_link : RealmConfig → ℕ → RealmState → List PlainEntry → PlainRequest → Option Link
@@ -155,23 +155,23 @@ target_link c now s entries q = option_map (λ (t : Target). t.link) (new_target
 
 -- what happened by a new request, while an entry counts as gone
 abbrev pub new_happening : RealmConfig → ℕ → RealmState → Option Replaced → PlainRequest → PlainHappening
-new_happening c now s gone q =
-    by_turn (new_request c now s (once_gone gone s.entries) q)
-    (to_target s.ticket (gone_entry gone s.entries)
-    (new_target c now s (once_gone gone s.entries) q (targets c q)))
+new_happening c now s replaced q =
+    by_turn (new_request c now s (once_replaced replaced s.entries) q)
+    (to_target s.ticket (replaced_entry replaced s.entries)
+    (new_target c now s (once_replaced replaced s.entries) q (targets c q)))
 
 -- a way that was chosen while an entry counts as gone: that goes, and the link is the target's
 pub record IsByTarget (c : RealmConfig) (now : ℕ) (s : RealmState) (out : Option Replaced) (q : PlainRequest)
-    (way : AdmitPlan) : Type 0 where
-  pub gone : way.gone ≡ out
-  pub link : target_link c now s (once_gone out s.entries) q ≡ Some way.link
+    (plan : AdmitPlan) : Type 0 where
+  pub replaced : plan.replaced ≡ out
+  pub link : target_link c now s (once_replaced out s.entries) q ≡ Some plan.link
 
 -- what a request is to do: it is answered, and nothing changes, or it is admitted on a way; and what happened then
 abbrev pub IsRequestPlan :
     {A : Type 0} → RealmConfig → ℕ → RealmState → PlainRequest → RequestPlan A → Turn → PlainHappening → Type 0
-IsRequestPlan c now s q (plan.Answered turned) turn happening = IsTurned turned s s turn happening
-IsRequestPlan c now s q (plan.Admitted way) turn happening =
-    IsChosen c now s q way turn × (admitted_by s way ≡ happening)
+IsRequestPlan c now s q (request_plan.Answered turned) turn happening = IsTurned turned s s turn happening
+IsRequestPlan c now s q (request_plan.Admitted plan) turn happening =
+    IsChosen c now s q plan turn × (admitted_by s plan ≡ happening)
 
 -- all the memory of a new request toward a link, besides its place among the entries: buffers of the size of the
 -- packet that is forwarded for it

@@ -20,12 +20,12 @@ sum_below (suc n) f = sum_below n f + f n
 
 -- an entry that isn't the one that counts as gone passes a test
 abbrev pub is_kept_as : (PlainEntry → Bool) → Option ℕ → PlainEntry → Bool
-is_kept_as test gone e = is_beside gone e.ticket && test e
+is_kept_as test replaced e = is_beside replaced e.ticket && test e
 
 -- such a one waits on a link with an Identifier
 abbrev pub held_as : (PlainEntry → Bool) → Option ℕ → Link → ℕ → List PlainEntry → Bool
-held_as test gone l id es = option_map_or (is_kept_as test gone) (find_link l id es) false
+held_as test replaced l id es = option_map_or (is_kept_as test replaced) (find_link l id es) false
 
 -- on a link with Identifiers below a number, how many
 abbrev pub held_below : ℕ → (PlainEntry → Bool) → Option ℕ → Link → List PlainEntry → ℕ
-held_below n test gone l es = sum_below n (λ id. if held_as test gone l id es then 1 else 0)
+held_below n test replaced l es = sum_below n (λ id. if held_as test replaced l id es then 1 else 0)

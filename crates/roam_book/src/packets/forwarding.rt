@@ -26,7 +26,7 @@ use crate::state::realm_settings::RealmSettings;
 use roam_conf::{Link, Place};
 use roam_fwd::{Forwarding, forward_shaped_reserved};
 use roam_pending::{Key, Requester, Waiting};
-use roam_random::{next_position, request_authenticator};
+use roam_random::{KeptWords, next_position};
 use roam_route::Out;
 use roam_wire::code::ACCESS_REQUEST;
 use roam_wire::{Octets, View};
@@ -46,7 +46,7 @@ pub struct RequestRef<'a> {
 /// A request that is forwarded: the ticket that it has, and the link to which it goes.
 #[derive(Clone, Copy)]
 pub(crate) struct Hop<'a> {
-    pub asked: RequestRef<'a>,
+    pub request: RequestRef<'a>,
     pub ticket: u64,
     pub link: Link,
 }
@@ -94,23 +94,28 @@ fn draws(octets: &[u8]) -> bool
 
 /// The Authenticator that is drawn for a forwarded packet: the four words of the realm's stream from
 /// this position on (RFC 2865, section 3), and zeros where none is drawn.
-fn drawn_at(settings: &RealmSettings<'_>, asked: RequestRef<'_>, position: u128) -> [u8; 16]
-    requires { IsPacketText asked.octets.now }
-    ensures { result ≡ drawn_at settings.now (shown_request asked.entry) position }
+fn drawn_at(
+    settings: &RealmSettings<'_>,
+    request: RequestRef<'_>,
+    position: u128,
+    words: &mut KeptWords,
+) -> [u8; 16]
+    requires { IsPacketText request.octets.now }
+    ensures { result ≡ drawn_at settings.now (shown_request request.entry) position }
 {
-    if draws(asked.octets) {
-        request_authenticator(settings.seed(), u64::from(settings.index()), position)
+    if draws(request.octets) {
+        words.request_authenticator(settings.seed(), u64::from(settings.index()), position)
     } else {
         [0; 16]
     }
 }
 
 /// The position of the realm's stream after it.
-fn position_after(asked: RequestRef<'_>, position: u128) -> u128
-    requires { IsPacketText asked.octets.now }
-    ensures { result ≡ position_after (shown_request asked.entry) position }
+fn position_after(request: RequestRef<'_>, position: u128) -> u128
+    requires { IsPacketText request.octets.now }
+    ensures { result ≡ position_after (shown_request request.entry) position }
 {
-    if draws(asked.octets) {
+    if draws(request.octets) {
         next_position(position)
     } else {
         position
@@ -118,13 +123,13 @@ fn position_after(asked: RequestRef<'_>, position: u128) -> u128
 }
 
 /// What is forwarded for a request has at most 304 octets more than it. It does nothing when it runs.
-pub(crate) fn gains_few(settings: &RealmSettings<'_>, asked: RequestRef<'_>, link: Link)
-    requires request { IsRequest settings.now (shown_request asked) }
+pub(crate) fn gains_few(settings: &RealmSettings<'_>, request: RequestRef<'_>, link: Link)
+    requires request { IsRequest settings.now (shown_request request) }
     requires link { IsLink settings.now link }
-    ensures { forwarded_size settings.now (shown_request asked.entry) link ≤ length asked.entry.octets.now + 304 }
+    ensures { forwarded_size settings.now (shown_request request.entry) link ≤ length request.entry.octets.now + 304 }
 {
-    let code = View::of_packet(asked.octets).code();
-    let _shaping = settings.shaping_of(asked.requester, code, link);
+    let code = View::of_packet(request.octets).code();
+    let _shaping = settings.shaping_of(request.requester, code, link);
 }
 
 /// Writes the forwarded packet of a request, as it is shaped, into an empty buffer that has room for it, with
@@ -133,29 +138,30 @@ fn forward_into<A: Allocator>(
     settings: &RealmSettings<'_>,
     hop: Hop<'_>,
     position: u128,
+    words: &mut KeptWords,
     id: u8,
     out: &mut Vec<u8, A>,
 )
-    requires request { IsRequest settings.now (shown_request hop.asked) }
+    requires request { IsRequest settings.now (shown_request hop.request) }
     requires link { IsLink settings.now hop.link }
-    requires room { HasRoom (forwarded_size settings.now (shown_request hop.asked) hop.link) out.old }
+    requires room { HasRoom (forwarded_size settings.now (shown_request hop.request) hop.link) out.old }
     ensures octets { out.new.items
-        ≡ forwarded_octets settings.now (shown_request hop.entry.asked) position hop.entry.ticket
+        ≡ forwarded_octets settings.now (shown_request hop.entry.request) position hop.entry.ticket
         (record { link = hop.entry.link; id = id }) }
-    ensures waiting { IsWaiting settings.now (shown_request hop.entry.asked) hop.entry.link id out.new.items }
+    ensures waiting { IsWaiting settings.now (shown_request hop.entry.request) hop.entry.link id out.new.items }
     ensures size { length out.new.items
-        ≡ forwarded_size settings.now (shown_request hop.entry.asked) hop.entry.link }
+        ≡ forwarded_size settings.now (shown_request hop.entry.request) hop.entry.link }
 {
-    let request = View::of_packet(hop.asked.octets);
-    let shaping = settings.shaping_of(hop.asked.requester, request.code(), hop.link);
+    let view = View::of_packet(hop.request.octets);
+    let shaping = settings.shaping_of(hop.request.requester, view.code(), hop.link);
     let forwarding = Forwarding {
-        from_secret: settings.secret_of_requester(hop.asked.requester),
+        from_secret: settings.secret_of_requester(hop.request.requester).octets(),
         to_secret: settings.secret_of_link(hop.link),
         id,
-        authenticator: drawn_at(settings, hop.asked, position),
+        authenticator: drawn_at(settings, hop.request, position, words),
         ticket: hop.ticket,
     };
-    forward_shaped_reserved(&request, &shaping, &forwarding, out);
+    forward_shaped_reserved(&view, &shaping, &forwarding, out);
 }
 
 /// Forwards a request to a link that has a free Identifier: the next one is its Identifier there,
@@ -169,24 +175,24 @@ pub(crate) fn send_new<A: Allocator + Copy>(
     buffers: Buffers<A>,
 ) -> (Out<A>, Waiting<A>)
     requires moment { now ≤ 2 ^ 62 }
-    requires request { IsRequest settings.now (shown_request hop.asked) }
+    requires request { IsRequest settings.now (shown_request hop.request) }
     requires link { IsLink settings.now hop.link }
     requires count { length numbers.old.lanes.items ≡ link_count settings.now }
     requires free { has_free (lane_of settings.now numbers.old.lanes.items hop.link) ≡ true }
     requires made { (lane_of settings.now numbers.old.lanes.items hop.link).made ≡ true }
-    requires buffers { HasBuffers (forwarded_size settings.now (shown_request hop.asked) hop.link) buffers }
+    requires buffers { HasBuffers (forwarded_size settings.now (shown_request hop.request) hop.link) buffers }
     ensures next { (es : List PlainEntry) → IsEntryList es
         → LanesTell settings.now es numbers.old.lanes.items
         → next_toward settings.now (cursors_of numbers.old.lanes.items) es hop.entry.link ≡ Some result.1.id }
     ensures out { shown_out result.0 ≡ packet_to_link settings.now hop.entry.link
         (forwarded_octets settings.now
-        (shown_request hop.entry.asked) numbers.old.stream_position hop.entry.ticket
+        (shown_request hop.entry.request) numbers.old.stream_position hop.entry.ticket
         (record { link = hop.entry.link; id = result.1.id })) }
     ensures standing { shown_standing (standing.Waiting result.1)
         ≡ (forwarded_entry settings.now now (signs_of settings.now numbers.old.rests.items hop.entry.link)
-        (shown_request hop.entry.asked)
+        (shown_request hop.entry.request)
         numbers.old.stream_position hop.entry.ticket (record { link = hop.entry.link; id = result.1.id })).standing }
-    ensures waiting { IsWaiting settings.now (shown_request hop.entry.asked) hop.entry.link result.1.id
+    ensures waiting { IsWaiting settings.now (shown_request hop.entry.request) hop.entry.link result.1.id
         result.1.forwarded }
     ensures cursors { cursors_of numbers.new.lanes.items
         ≡ slice_set (cursors_of numbers.old.lanes.items) (link_place settings.now hop.entry.link)
@@ -197,14 +203,14 @@ pub(crate) fn send_new<A: Allocator + Copy>(
         → find_ticket hop.entry.ticket es ≡ None
         → LanesTell settings.now
         (put (forwarded_entry settings.now now (signs_of settings.now numbers.old.rests.items hop.entry.link)
-        (shown_request hop.entry.asked)
+        (shown_request hop.entry.request)
         numbers.old.stream_position hop.entry.ticket (record { link = hop.entry.link; id = result.1.id })) es)
         numbers.new.lanes.items }
     ensures marks { marks_of numbers.new.lanes.items ≡ marks_of numbers.old.lanes.items }
     ensures count { length numbers.new.lanes.items ≡ length numbers.old.lanes.items }
     ensures ticket { numbers.new.ticket ≡ numbers.old.ticket }
     ensures stream_position { numbers.new.stream_position
-        ≡ position_after (shown_request hop.entry.asked) numbers.old.stream_position }
+        ≡ position_after (shown_request hop.entry.request) numbers.old.stream_position }
     ensures sessions { numbers.new.sessions ≡ numbers.old.sessions }
     ensures rests { numbers.new.rests.items ≡ numbers.old.rests.items }
 {
@@ -214,8 +220,8 @@ pub(crate) fn send_new<A: Allocator + Copy>(
     };
     let Buffers { mut sent, kept } = buffers;
     let position = numbers.stream_position;
-    forward_into(settings, hop, position, id, &mut sent);
-    numbers.stream_position = position_after(hop.asked, position);
+    forward_into(settings, hop, position, &mut numbers.words, id, &mut sent);
+    numbers.stream_position = position_after(hop.request, position);
     let forwarded = copied_into(kept, sent.as_slice());
     let waiting = Waiting {
         link: hop.link,

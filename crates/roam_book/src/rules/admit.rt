@@ -11,12 +11,12 @@ ghost use Rattle.roam_book.specs.HappeningsShown.{shown_happening, shown_replace
 ghost use Rattle.roam_book.specs.Private.Memory.{HasBuffers};
 ghost use Rattle.roam_book.specs.RealmConfig.{IsLink};
 ghost use Rattle.roam_book.specs.Shapings.{forwarded_size};
-ghost use Rattle.roam_book.specs.Private.NewEntry.{AreSupplies, IsWay, MakesWay, admits, admitted_by, cleared, forwards, gone_entry};
+ghost use Rattle.roam_book.specs.Private.NewEntry.{AreSupplies, IsAdmitPlan, MakesWay, admits, admitted_by, cleared, forwards, replaced_entry};
 ghost use Rattle.roam_book.specs.Private.NewEntry.{straight_to};
 ghost use Rattle.roam_book.specs.Conversing.{rests_chosen};
 ghost use Rattle.roam_book.specs.RealmState.{with_rests};
 ghost use Rattle.roam_book.specs.RealmTurn.{IsRealm, Keeps, entries, room, state};
-ghost use Rattle.roam_book.specs.Sound.{CountsAsGone, IsRequest, IsSameButSlots, gone_ticket, lane_of, marks_of, shown_request};
+ghost use Rattle.roam_book.specs.Sound.{CountsAsReplaced, IsRequest, IsSameButSlots, replaced_ticket, lane_of, marks_of, shown_request};
 ghost use Rattle.roam_book.specs.Turn.{Answers, packets_of, state_after};
 
 use crate::happening::{Happening, Waited};
@@ -48,18 +48,18 @@ impl<A: Allocator + Copy> Supplies<A> {
     fn new(
         alloc: A,
         settings: &RealmSettings<'_>,
-        asked: RequestRef<'_>,
+        request: RequestRef<'_>,
         link: Link,
     ) -> Result<Supplies<A>, NoMemory>
-        requires request { IsRequest settings.now (shown_request asked) }
+        requires request { IsRequest settings.now (shown_request request) }
         requires link { IsLink settings.now link }
-        ensures { IfOk result (λ s. AreSupplies settings.now (shown_request asked.entry) link s) }
+        ensures { IfOk result (λ s. AreSupplies settings.now (shown_request request.entry) link s) }
     {
-        let request = View::of_packet(asked.octets);
-        let shaping = settings.shaping_of(asked.requester, request.code(), link);
-        let size = forwarded_shaped_len(&request, &shaping);
+        let view = View::of_packet(request.octets);
+        let shaping = settings.shaping_of(request.requester, view.code(), link);
+        let size = forwarded_shaped_len(&view, &shaping);
         let buffers = Buffers::new(alloc, size)?;
-        let octets = Octets::copy_of(alloc, asked.octets)?;
+        let octets = Octets::copy_of(alloc, request.octets)?;
         Ok(Supplies { octets, buffers })
     }
 }
@@ -67,23 +67,23 @@ impl<A: Allocator + Copy> Supplies<A> {
 impl<A: Allocator + Copy, E: Entries<A>> RealmBroker<'_, '_, '_, '_, A, E> {
     /// Takes away the entry that counts as gone: the Identifier with which it waits is free again. Gives the request
     /// that waited, if it did.
-    fn take_away_gone(&mut self, gone: Option<Replaced>) -> Option<Waited<A>>
+    fn take_away_replaced(&mut self, replaced: Option<Replaced>) -> Option<Waited<A>>
         requires realm { IsRealm E.Entries self.old }
-        requires gone { CountsAsGone gone (entries E.Entries self.old) }
+        requires replaced { CountsAsReplaced replaced (entries E.Entries self.old) }
         ensures entries { entries E.Entries self.new
-            ≡ besides (gone_ticket gone) (entries E.Entries self.old) }
+            ≡ besides (replaced_ticket replaced) (entries E.Entries self.old) }
         ensures replaced { shown_replaced result
-            ≡ replaced_by (gone_entry gone (entries E.Entries self.old)) }
+            ≡ replaced_by (replaced_entry replaced (entries E.Entries self.old)) }
         ensures numbers { IsSameButSlots self.old.numbers.now self.new.numbers.now }
         ensures room { room E.Entries self.old ≤ room E.Entries self.new }
         ensures keeps { Keeps E.Entries self.old self.new }
     {
-        let Some(gone) = gone else {
+        let Some(replaced) = replaced else {
             return None;
         };
-        let removed = self.entries.remove(self.settings.index(), gone.ticket);
+        let removed = self.entries.remove(self.settings.index(), replaced.ticket);
         let waited = waited_in(removed);
-        if let Some((link, id)) = gone.waits_at {
+        if let Some((link, id)) = replaced.waits_at {
             self.numbers.give_back(self.settings, link, id);
             return waited;
         }
@@ -106,28 +106,28 @@ impl<A: Allocator + Copy, E: Entries<A>> RealmBroker<'_, '_, '_, '_, A, E> {
 
     /// Makes way for a new request: the entry that counts as gone goes, and the done one that makes
     /// way, where there are such. Gives the request that waited until then, if one did.
-    fn make_way(&mut self, way: AdmitPlan) -> Option<Waited<A>>
+    fn make_way(&mut self, plan: AdmitPlan) -> Option<Waited<A>>
         requires realm { IsRealm E.Entries self.old }
-        requires gone { CountsAsGone way.gone (entries E.Entries self.old) }
-        requires done { MakesWay way.done
-            (besides (gone_ticket way.gone) (entries E.Entries self.old)) }
-        ensures way { (q : PlainRequest)
-            → IsWay self.old.settings.now (state E.Entries self.old) q way
-            → IsWay self.old.settings.now (state E.Entries self.new) q (cleared way) }
+        requires replaced { CountsAsReplaced plan.replaced (entries E.Entries self.old) }
+        requires done { MakesWay plan.done
+            (besides (replaced_ticket plan.replaced) (entries E.Entries self.old)) }
+        ensures plan { (q : PlainRequest)
+            → IsAdmitPlan self.old.settings.now (state E.Entries self.old) q plan
+            → IsAdmitPlan self.old.settings.now (state E.Entries self.new) q (cleared plan) }
         ensures turn { (now : ℕ) (q : PlainRequest)
-            → IsWay self.old.settings.now (state E.Entries self.old) q way
-            → admits self.old.settings.now now (state E.Entries self.new) q (cleared way)
-            ≡ admits self.old.settings.now now (state E.Entries self.old) q way }
+            → IsAdmitPlan self.old.settings.now (state E.Entries self.old) q plan
+            → admits self.old.settings.now now (state E.Entries self.new) q (cleared plan)
+            ≡ admits self.old.settings.now now (state E.Entries self.old) q plan }
         ensures replaced { shown_replaced result
-            ≡ replaced_by (gone_entry way.gone (entries E.Entries self.old)) }
+            ≡ replaced_by (replaced_entry plan.replaced (entries E.Entries self.old)) }
         ensures ticket { self.new.numbers.now.ticket ≡ self.old.numbers.now.ticket }
         ensures marks { marks_of self.new.numbers.now.lanes.items
             ≡ marks_of self.old.numbers.now.lanes.items }
         ensures room { room E.Entries self.old ≤ room E.Entries self.new }
         ensures keeps { Keeps E.Entries self.old self.new }
     {
-        let replaced = self.take_away_gone(way.gone);
-        self.take_away_done(way.done);
+        let replaced = self.take_away_replaced(plan.replaced);
+        self.take_away_done(plan.done);
         replaced
     }
 
@@ -163,36 +163,36 @@ impl<A: Allocator + Copy, E: Entries<A>> RealmBroker<'_, '_, '_, '_, A, E> {
     fn forward_new(
         &mut self,
         now: u64,
-        asked: RequestRef<'_>,
+        request: RequestRef<'_>,
         link: Link,
         octets: Octets<A>,
         buffers: Buffers<A>,
     ) -> Out<A>
         requires realm { IsRealm E.Entries self.old }
         requires moment { now ≤ 2 ^ 62 }
-        requires way { IsWay self.old.settings.now (state E.Entries self.old) (shown_request asked)
+        requires plan { IsAdmitPlan self.old.settings.now (state E.Entries self.old) (shown_request request)
             (straight_to link false) }
         requires made { (lane_of self.old.settings.now self.old.numbers.now.lanes.items link).made
             ≡ true }
         requires room { 0 < room E.Entries self.old }
-        requires octets { octets ≡ asked.octets.now }
-        requires buffers { HasBuffers (forwarded_size self.old.settings.now (shown_request asked) link) buffers }
+        requires octets { octets ≡ request.octets.now }
+        requires buffers { HasBuffers (forwarded_size self.old.settings.now (shown_request request) link) buffers }
         ensures out { shown_out result ∷ [] ≡ packets_of (forwards self.old.settings.now now
-            (state E.Entries self.old) (shown_request asked.entry) link) }
+            (state E.Entries self.old) (shown_request request.entry) link) }
         ensures state { state E.Entries self.new ≡ state_after (state E.Entries self.old)
-            (forwards self.old.settings.now now (state E.Entries self.old) (shown_request asked.entry) link) }
+            (forwards self.old.settings.now now (state E.Entries self.old) (shown_request request.entry) link) }
         ensures keeps { Keeps E.Entries self.old self.new }
     {
         let ticket = self.numbers.ticket;
         let hop = Hop {
-            asked,
+            request,
             ticket,
             link,
         };
         let (sent, waiting) = send_new(self.settings, self.numbers, now, hop, buffers);
         let request = Request {
-            key: asked.key,
-            requester: asked.requester,
+            key: request.key,
+            requester: request.requester,
             octets,
             came: now,
         };
@@ -210,34 +210,34 @@ impl<A: Allocator + Copy, E: Entries<A>> RealmBroker<'_, '_, '_, '_, A, E> {
     fn admit_reserved(
         &mut self,
         now: u64,
-        asked: RequestRef<'_>,
-        way: AdmitPlan,
+        request: RequestRef<'_>,
+        plan: AdmitPlan,
         supplies: Supplies<A>,
     ) -> Turned<A>
         requires realm { IsRealm E.Entries self.old }
         requires moment { now ≤ 2 ^ 62 }
-        requires way { IsWay self.old.settings.now (state E.Entries self.old)
-            (shown_request asked) way }
-        requires made { (lane_of self.old.settings.now self.old.numbers.now.lanes.items way.link).made
+        requires plan { IsAdmitPlan self.old.settings.now (state E.Entries self.old)
+            (shown_request request) plan }
+        requires made { (lane_of self.old.settings.now self.old.numbers.now.lanes.items plan.link).made
             ≡ true }
         requires room { 0 < room E.Entries self.old }
-        requires supplies { AreSupplies self.old.settings.now (shown_request asked) way.link supplies }
+        requires supplies { AreSupplies self.old.settings.now (shown_request request) plan.link supplies }
         ensures turn { Answers result.answer (state E.Entries self.old)
             (state E.Entries self.new) (admits self.old.settings.now now (state E.Entries self.old)
-            (shown_request asked.entry) way) }
-        ensures happening { shown_happening result.happening ≡ admitted_by (state E.Entries self.old) way }
+            (shown_request request.entry) plan) }
+        ensures happening { shown_happening result.happening ≡ admitted_by (state E.Entries self.old) plan }
         ensures keeps { Keeps E.Entries self.old self.new }
     {
         let ticket = self.numbers.ticket;
-        let replaced = self.make_way(way);
+        let replaced = self.make_way(plan);
         let Supplies { octets, buffers } = supplies;
-        self.choose(now, way.link, way.bound);
-        let sent = self.forward_new(now, asked, way.link, octets, buffers);
+        self.choose(now, plan.link, plan.bound);
+        let sent = self.forward_new(now, request, plan.link, octets, buffers);
         Turned {
             answer: one_packet(self.numbers.alloc, sent),
             happening: Happening::Forwarded {
                 ticket,
-                link: way.link,
+                link: plan.link,
                 replaced,
             },
         }
@@ -248,25 +248,25 @@ impl<A: Allocator + Copy, E: Entries<A>> RealmBroker<'_, '_, '_, '_, A, E> {
     pub(crate) fn admit(
         &mut self,
         now: u64,
-        asked: RequestRef<'_>,
-        way: AdmitPlan,
+        request: RequestRef<'_>,
+        plan: AdmitPlan,
     ) -> Result<Turned<A>, NoMemory>
         requires realm { IsRealm E.Entries self.old }
         requires moment { now ≤ 2 ^ 62 }
-        requires way { IsWay self.old.settings.now (state E.Entries self.old)
-            (shown_request asked) way }
+        requires plan { IsAdmitPlan self.old.settings.now (state E.Entries self.old)
+            (shown_request request) plan }
         ensures turn { IfOk result (λ t. Answers t.answer (state E.Entries self.old)
             (state E.Entries self.new) (admits self.old.settings.now now (state E.Entries self.old)
-            (shown_request asked.entry) way)) }
+            (shown_request request.entry) plan)) }
         ensures happening { IfOk result (λ t. shown_happening t.happening
-            ≡ admitted_by (state E.Entries self.old) way) }
+            ≡ admitted_by (state E.Entries self.old) plan) }
         ensures no_memory { IfErr result (λ e.
             state E.Entries self.new ≡ state E.Entries self.old) }
         ensures keeps { Keeps E.Entries self.old self.new }
     {
-        let supplies = Supplies::new(self.numbers.alloc, self.settings, asked, way.link)?;
-        self.make_lane(way.link)?;
+        let supplies = Supplies::new(self.numbers.alloc, self.settings, request, plan.link)?;
+        self.make_lane(plan.link)?;
         self.entries.reserve(self.settings.index())?;
-        Ok(self.admit_reserved(now, asked, way, supplies))
+        Ok(self.admit_reserved(now, request, plan, supplies))
     }
 }

@@ -7,7 +7,7 @@ use roam_conf::Link;
 /// where there are such, and it is forwarded to a link.
 #[derive(Clone, Copy)]
 pub(crate) struct AdmitPlan {
-    pub gone: Option<Replaced>,
+    pub replaced: Option<Replaced>,
     pub done: Option<u64>,
     pub link: Link,
     /// Whether its conversation goes on there: its link's rest stays as it is then.

@@ -37,12 +37,12 @@ fn state_in<'a>(packet: &View<'a>) -> Option<&'a [u8]>
 }
 
 /// That of a request, in a realm whose conversations stay where they are.
-fn asked_state<'a>(settings: &RealmSettings<'_>, asked: RequestRef<'a>) -> Option<&'a [u8]>
-    requires request { IsRequest settings.now (shown_request asked) }
-    ensures { option_map (λ state. state.now) result ≡ asked_state settings.now (shown_request asked.entry) }
+fn asked_state<'a>(settings: &RealmSettings<'_>, request: RequestRef<'a>) -> Option<&'a [u8]>
+    requires request { IsRequest settings.now (shown_request request) }
+    ensures { option_map (λ state. state.now) result ≡ asked_state settings.now (shown_request request.entry) }
 {
     if settings.keeps_conversations() {
-        state_in(&View::of_packet(asked.octets))
+        state_in(&View::of_packet(request.octets))
     } else {
         None
     }
@@ -64,15 +64,15 @@ impl<A: Allocator + Copy, E: Entries<A>> RealmBroker<'_, '_, '_, '_, A, E> {
     }
 
     /// The link that goes on with a request's conversation, if it has one.
-    fn bound_link(&self, asked: RequestRef<'_>) -> Option<Link>
+    fn bound_link(&self, request: RequestRef<'_>) -> Option<Link>
         requires realm { IsRealm E.Entries self.now }
-        requires request { IsRequest self.now.settings.now (shown_request asked) }
-        ensures bound { result ≡ bound_link self.now.settings.now (shown_request asked.entry)
+        requires request { IsRequest self.now.settings.now (shown_request request) }
+        ensures bound { result ≡ bound_link self.now.settings.now (shown_request request.entry)
             (entries E.Entries self.now) }
     {
-        match asked_state(self.settings, asked) {
+        match asked_state(self.settings, request) {
             None => None,
-            Some(state) => self.round_link(asked.requester, state),
+            Some(state) => self.round_link(request.requester, state),
         }
     }
 
@@ -115,19 +115,19 @@ impl<A: Allocator + Copy, E: Entries<A>> RealmBroker<'_, '_, '_, '_, A, E> {
     /// free Identifier, or is `freed`, whether it stands back or not.
     fn bound_way(
         &self,
-        asked: RequestRef<'_>,
+        request: RequestRef<'_>,
         targets: Targets,
         freed: Option<Link>,
     ) -> Option<Link>
         requires realm { IsRealm E.Entries self.now }
-        requires request { IsRequest self.now.settings.now (shown_request asked) }
+        requires request { IsRequest self.now.settings.now (shown_request request) }
         requires targets { AreConfigured self.now.settings.now targets }
         ensures bound { result ≡ bound_way self.now.settings.now self.now.numbers.now.rests.items
-            self.now.numbers.now.lanes.items freed (shown_request asked.entry) (entries E.Entries self.now)
+            self.now.numbers.now.lanes.items freed (shown_request request.entry) (entries E.Entries self.now)
             (links_of self.now.settings.now targets) }
         ensures link { IfSome result (λ l. IsLink self.now.settings.now l) }
     {
-        match self.bound_link(asked) {
+        match self.bound_link(request) {
             None => None,
             Some(link) => self.way_of_end(targets, link, freed),
         }
@@ -137,19 +137,19 @@ impl<A: Allocator + Copy, E: Entries<A>> RealmBroker<'_, '_, '_, '_, A, E> {
     /// with a conversation.
     fn untried_way(
         &self,
-        asked: RequestRef<'_>,
+        request: RequestRef<'_>,
         targets: Targets,
         freed: Option<Link>,
     ) -> Option<Link>
         requires realm { IsRealm E.Entries self.now }
-        requires request { IsRequest self.now.settings.now (shown_request asked) }
+        requires request { IsRequest self.now.settings.now (shown_request request) }
         requires targets { AreConfigured self.now.settings.now targets }
         ensures untried { result ≡ untried_way self.now.settings.now self.now.numbers.now.rests.items
-            self.now.numbers.now.lanes.items freed (shown_request asked.entry)
+            self.now.numbers.now.lanes.items freed (shown_request request.entry)
             (links_of self.now.settings.now targets) }
         ensures link { IfSome result (λ l. IsLink self.now.settings.now l) }
     {
-        match asked_state(self.settings, asked) {
+        match asked_state(self.settings, request) {
             None => None,
             Some(_) => self.first_sought(targets, Wanted::Untried, freed),
         }
@@ -161,27 +161,27 @@ impl<A: Allocator + Copy, E: Entries<A>> RealmBroker<'_, '_, '_, '_, A, E> {
     pub(crate) fn chosen_way(
         &self,
         now: u64,
-        asked: RequestRef<'_>,
+        request: RequestRef<'_>,
         targets: Targets,
         freed: Option<Link>,
     ) -> Option<LinkChoice>
         requires realm { IsRealm E.Entries self.now }
-        requires request { IsRequest self.now.settings.now (shown_request asked) }
+        requires request { IsRequest self.now.settings.now (shown_request request) }
         requires targets { AreConfigured self.now.settings.now targets }
         ensures chosen { option_map (λ choice. choice.link) result
             ≡ way_link self.now.settings.now now self.now.numbers.now.rests.items
-            self.now.numbers.now.lanes.items freed (shown_request asked.entry) (entries E.Entries self.now)
+            self.now.numbers.now.lanes.items freed (shown_request request.entry) (entries E.Entries self.now)
             (links_of self.now.settings.now targets) }
         ensures bound { IfSome result (λ choice. choice.bound
             ≡ is_some (bound_way self.now.settings.now self.now.numbers.now.rests.items
-            self.now.numbers.now.lanes.items freed (shown_request asked.entry) (entries E.Entries self.now)
+            self.now.numbers.now.lanes.items freed (shown_request request.entry) (entries E.Entries self.now)
             (links_of self.now.settings.now targets))) }
         ensures link { IfSome result (λ choice. IsLink self.now.settings.now choice.link) }
     {
-        if let Some(link) = self.bound_way(asked, targets, freed) {
+        if let Some(link) = self.bound_way(request, targets, freed) {
             return Some(LinkChoice { link, bound: true });
         }
-        if let Some(link) = self.untried_way(asked, targets, freed) {
+        if let Some(link) = self.untried_way(request, targets, freed) {
             return Some(LinkChoice { link, bound: false });
         }
         match self.chosen_target(now, targets, freed) {

@@ -14,7 +14,7 @@ ghost use Rattle.roam_book.specs.OnTick.{due_standing, fail_over, given_up_at};
 ghost use Rattle.roam_book.specs.declared.happening.Became.TheVariants as became;
 ghost use Rattle.roam_book.specs.Sound.{AreOwnLanes, IsEntry, IsRequest, cursors_of, chosen_link, has_free, lane_of};
 ghost use Rattle.roam_book.specs.Sound.{marks_of, state_of};
-ghost use Rattle.roam_book.specs.Private.Fates.{GivesUp, HoldsNoLink, held_for, IsHeld, IsFate, KeepsNoLink};
+ghost use Rattle.roam_book.specs.Private.DueActions.{GivesUp, HoldsNoLink, held_for, IsHeld, IsDueAction, KeepsNoLink};
 ghost use Rattle.roam_book.specs.Private.Dues.{became_by, became_of};
 ghost use Rattle.roam_book.specs.Private.Memory.{HasBuffers};
 
@@ -130,12 +130,14 @@ fn refuse<A: Allocator>(
     requires request { IsRequest settings.now (shown entry.now).request }
     requires reverse { is_reverse (shown entry.now).request ≡ true }
     requires buffers { HasBuffers (length entry.now.request.octets + 304) buffers }
-    ensures fate { GivesUp settings.now now (shown entry.now) result }
+    ensures action { GivesUp settings.now now (shown entry.now) result }
     ensures became { became_by result ≡ became.GivenUp true }
     ensures no_link { KeepsNoLink result }
 {
     let request = View::of_packet(entry.request.octets.as_slice());
-    let secret = settings.secret_of_requester(entry.request.requester);
+    let secret = settings
+        .secret_of_requester(entry.request.requester)
+        .octets();
     let Buffers { mut sent, kept } = buffers;
     nak_reserved(&request, OTHER_PROXY_PROCESSING_ERROR, secret, &mut sent);
     let held = held_for(settings, now, copied_into(kept, sent.as_slice()));
@@ -153,7 +155,7 @@ fn give_up<A: Allocator>(
     requires moment { now ≤ 2 ^ 62 }
     requires request { IsRequest settings.now (shown entry.now).request }
     requires buffers { HasBuffers (length entry.now.request.octets + 304) buffers }
-    ensures fate { GivesUp settings.now now (shown entry.now) result }
+    ensures action { GivesUp settings.now now (shown entry.now) result }
     ensures became { became_by result ≡ became.GivenUp (is_reverse (shown entry.now).request) }
     ensures no_link { KeepsNoLink result }
 {
@@ -184,8 +186,8 @@ fn fail_over<A: Allocator + Copy>(
     requires link { IsLink settings.now link }
     requires waits { waits_at link id (shown entry.now) ≡ true }
     requires buffers { HasBuffers (length entry.now.request.octets + 304) buffers }
-    ensures fate { (es : List PlainEntry) → IsHeld settings.now es (shown entry.now) numbers.old
-        → IsFate settings.now now es (shown entry.now) numbers.new result
+    ensures action { (es : List PlainEntry) → IsHeld settings.now es (shown entry.now) numbers.old
+        → IsDueAction settings.now now es (shown entry.now) numbers.new result
         (fail_over settings.now now
         (given_up_at settings.now now link signs (state_of es numbers.old) (shown entry.now))
         (shown entry.now)
@@ -206,18 +208,18 @@ fn fail_over<A: Allocator + Copy>(
     let Some(target) = later_target(settings, numbers, now, link) else {
         return give_up(settings, now, entry, buffers);
     };
-    let asked = RequestRef {
+    let request = RequestRef {
         key: entry.request.key,
         requester: entry.request.requester,
         named: None,
         octets: entry.request.octets.as_slice(),
     };
     let hop = Hop {
-        asked,
+        request,
         ticket: entry.ticket,
         link: target,
     };
-    gains_few(settings, asked, target);
+    gains_few(settings, request, target);
     numbers.put_off(settings, now, target);
     let (sent, waiting) = send_new(settings, numbers, now, hop, buffers);
     DueAction::Forwarded(sent, waiting)
@@ -236,8 +238,8 @@ pub(crate) fn act_on_due<A: Allocator + Copy>(
     requires lanes { AreOwnLanes settings.now (marks_of numbers.old.lanes.items) }
     requires entry { IsEntry settings.now numbers.old.ticket (shown entry.now) }
     requires buffers { HasBuffers (length entry.now.request.octets + 304) buffers }
-    ensures fate { (es : List PlainEntry) → IsHeld settings.now es (shown entry.now) numbers.old
-        → IsFate settings.now now es (shown entry.now) numbers.new result
+    ensures action { (es : List PlainEntry) → IsHeld settings.now es (shown entry.now) numbers.old
+        → IsDueAction settings.now now es (shown entry.now) numbers.new result
         (due_standing settings.now now (state_of es numbers.old) (shown entry.now)
         (shown entry.now).standing) }
     ensures became { (es : List PlainEntry) → IsHeld settings.now es (shown entry.now) numbers.old

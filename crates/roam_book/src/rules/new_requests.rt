@@ -2,14 +2,14 @@
 
 ghost use Rattle.std.specs.Prelude.{◌≡◌, ℕ, Some, IfOk, IfSome, length};
 ghost use Rattle.roam_pending.specs.PlainEntry.{PlainRequest};
-ghost use Rattle.roam_book.specs.Private.NewEntry.{AreConfigured, Chooses, IsByTarget, IsNew, IsWay, freed_link, links_of};
-ghost use Rattle.roam_book.specs.Private.NewEntry.{once_gone, straight_after, target_at};
+ghost use Rattle.roam_book.specs.Private.NewEntry.{AreConfigured, Chooses, IsByTarget, IsNew, IsAdmitPlan, freed_link, links_of};
+ghost use Rattle.roam_book.specs.Private.NewEntry.{once_replaced, straight_after, target_at};
 ghost use Rattle.roam_book.specs.Conversing.{rests_chosen};
 ghost use Rattle.roam_book.specs.OnRequest.{at_target, new_request};
 ghost use Rattle.roam_book.specs.RealmConfig.{IsLink};
 ghost use Rattle.roam_book.specs.RealmState.{with_rests};
 ghost use Rattle.roam_book.specs.RealmTurn.{IsRealm, entries, state};
-ghost use Rattle.roam_book.specs.Sound.{CountsAsGone, chosen_link, gone_ticket, shown_request};
+ghost use Rattle.roam_book.specs.Sound.{CountsAsReplaced, chosen_link, replaced_ticket, shown_request};
 
 use crate::packets::forwarding::RequestRef;
 use crate::rules::admit_plan::{AdmitPlan, LinkChoice};
@@ -23,31 +23,31 @@ use roam_wire::Refusal;
 use std::alloc::Allocator;
 
 /// The link where an Identifier becomes free once an entry is gone.
-fn freed_link(gone: Option<Replaced>) -> Option<Link>
-    ensures { result ≡ freed_link gone }
+fn freed_link(replaced: Option<Replaced>) -> Option<Link>
+    ensures { result ≡ freed_link replaced }
 {
-    let (link, _) = gone?.waits_at?;
+    let (link, _) = replaced?.waits_at?;
     Some(link)
 }
 
 /// The ticket of the entry that counts as gone.
-pub(crate) fn gone_ticket(gone: Option<Replaced>) -> Option<u64>
-    ensures { result ≡ gone_ticket gone }
+pub(crate) fn replaced_ticket(replaced: Option<Replaced>) -> Option<u64>
+    ensures { result ≡ replaced_ticket replaced }
 {
-    match gone {
+    match replaced {
         None => None,
-        Some(gone) => Some(gone.ticket),
+        Some(replaced) => Some(replaced.ticket),
     }
 }
 
 impl<A: Allocator + Copy, E: Entries<A>> RealmBroker<'_, '_, '_, '_, A, E> {
     /// How many entries there are, besides one that counts as gone.
-    fn held_besides(&self, gone: Option<Replaced>) -> usize
-        requires { CountsAsGone gone (entries E.Entries self.now) }
-        ensures { result ≡ length (once_gone gone (entries E.Entries self.now)) }
+    fn held_besides(&self, replaced: Option<Replaced>) -> usize
+        requires { CountsAsReplaced replaced (entries E.Entries self.now) }
+        ensures { result ≡ length (once_replaced replaced (entries E.Entries self.now)) }
     {
         let held = self.entries.len(self.settings.index());
-        match gone {
+        match replaced {
             None => held,
             Some(_) => held - 1,
         }
@@ -55,25 +55,25 @@ impl<A: Allocator + Copy, E: Entries<A>> RealmBroker<'_, '_, '_, '_, A, E> {
 
     /// A new request for which a link has a free Identifier: it is admitted where there is a place,
     /// or where a done entry makes way.
-    fn plan_at(&self, gone: Option<Replaced>, choice: LinkChoice) -> Result<AdmitPlan, Refusal>
-        requires { CountsAsGone gone (entries E.Entries self.now) }
-        ensures gone { IfOk result (λ way. way.gone ≡ gone) }
-        ensures link { IfOk result (λ way. way.link ≡ choice.link) }
+    fn plan_at(&self, replaced: Option<Replaced>, choice: LinkChoice) -> Result<AdmitPlan, Refusal>
+        requires { CountsAsReplaced replaced (entries E.Entries self.now) }
+        ensures replaced { IfOk result (λ plan. plan.replaced ≡ replaced) }
+        ensures link { IfOk result (λ plan. plan.link ≡ choice.link) }
         ensures chooses { (now : ℕ) (q : PlainRequest)
-            → IsWay self.now.settings.now (state E.Entries self.now) q
-            (straight_after gone choice.link choice.bound)
+            → IsAdmitPlan self.now.settings.now (state E.Entries self.now) q
+            (straight_after replaced choice.link choice.bound)
             → Chooses self.now.settings.now now (state E.Entries self.now) q result
             (at_target self.now.settings.now now (with_rests (state E.Entries self.now)
             (rests_chosen self.now.settings.now now (state E.Entries self.now).rests choice.bound choice.link))
-            (once_gone gone (entries E.Entries self.now)) q
+            (once_replaced replaced (entries E.Entries self.now)) q
             (Some (target_at self.now.settings.now (state E.Entries self.now).cursors
-            (once_gone gone (entries E.Entries self.now)) choice.link))) }
+            (once_replaced replaced (entries E.Entries self.now)) choice.link))) }
     {
         let LinkChoice { link, bound } = choice;
         let most = usize::from(self.settings.max_pending());
-        if self.held_besides(gone) < most {
+        if self.held_besides(replaced) < most {
             return Ok(AdmitPlan {
-                gone,
+                replaced,
                 done: None,
                 link,
                 bound,
@@ -81,12 +81,12 @@ impl<A: Allocator + Copy, E: Entries<A>> RealmBroker<'_, '_, '_, '_, A, E> {
         }
         match self
             .entries
-            .first_done(self.settings.index(), gone_ticket(gone))
+            .first_done(self.settings.index(), replaced_ticket(replaced))
         {
             None => Err(Refusal::Busy),
             Some(ticket) => {
                 Ok(AdmitPlan {
-                    gone,
+                    replaced,
                     done: Some(ticket),
                     link,
                     bound,
@@ -124,30 +124,30 @@ impl<A: Allocator + Copy, E: Entries<A>> RealmBroker<'_, '_, '_, '_, A, E> {
     pub(crate) fn plan_admit(
         &self,
         now: u64,
-        asked: RequestRef<'_>,
-        gone: Option<Replaced>,
+        request: RequestRef<'_>,
+        replaced: Option<Replaced>,
         targets: Targets,
     ) -> Result<AdmitPlan, Refusal>
         requires realm { IsRealm E.Entries self.now }
-        requires gone { CountsAsGone gone (entries E.Entries self.now) }
+        requires replaced { CountsAsReplaced replaced (entries E.Entries self.now) }
         requires targets { AreConfigured self.now.settings.now targets }
-        requires new { IsNew self.now.settings.now (entries E.Entries self.now) gone targets
-            (shown_request asked) }
+        requires new { IsNew self.now.settings.now (entries E.Entries self.now) replaced targets
+            (shown_request request) }
         ensures chooses { Chooses self.now.settings.now now (state E.Entries self.now)
-            (shown_request asked.entry) result (new_request self.now.settings.now now (state E.Entries self.now)
-            (once_gone gone (entries E.Entries self.now)) (shown_request asked.entry)) }
-        ensures target { IfOk result (IsByTarget self.now.settings.now now (state E.Entries self.now) gone
-            (shown_request asked.entry)) }
+            (shown_request request.entry) result (new_request self.now.settings.now now (state E.Entries self.now)
+            (once_replaced replaced (entries E.Entries self.now)) (shown_request request.entry)) }
+        ensures target { IfOk result (IsByTarget self.now.settings.now now (state E.Entries self.now) replaced
+            (shown_request request.entry)) }
     {
         if self.numbers.ticket == 1 << 63 {
             return Err(Refusal::Exhausted);
         }
-        if self.is_share_taken(asked, gone) {
+        if self.is_share_taken(request, replaced) {
             return Err(Refusal::ShareTaken);
         }
-        match self.chosen_way(now, asked, targets, freed_link(gone)) {
+        match self.chosen_way(now, request, targets, freed_link(replaced)) {
             None => Err(Refusal::NoIdentifier),
-            Some(choice) => self.plan_at(gone, choice),
+            Some(choice) => self.plan_at(replaced, choice),
         }
     }
 }

@@ -5,7 +5,7 @@ ghost use Rattle.roam_pending.specs.PlainEntry.{PlainEntry};
 ghost use Rattle.roam_book.specs.Happenings as happenings;
 ghost use Rattle.roam_book.specs.HappeningsShown.{shown_happening};
 ghost use Rattle.roam_book.specs.OnReply.{faulted, once_heard_from, shows_life};
-ghost use Rattle.roam_book.specs.Private.Judged.{IsVerdict};
+ghost use Rattle.roam_book.specs.Private.Outcomes.{IsOutcome};
 ghost use Rattle.roam_book.specs.RealmConfig.{RealmConfig};
 ghost use Rattle.roam_book.specs.Turn.{hears, refuses};
 
@@ -18,8 +18,8 @@ use std::alloc::Allocator;
 
 /// A reply that isn't taken. Takes no memory.
 pub(crate) fn not_taken<A: Allocator>(alloc: A, why: Refusal) -> ReplyOutcome<A>
-    ensures verdict { (c : RealmConfig) (e : PlainEntry) (l : Link)
-        → IsVerdict c result e l (λ s. refuses why) }
+    ensures outcome { (c : RealmConfig) (e : PlainEntry) (l : Link)
+        → IsOutcome c result e l (λ s. refuses why) }
     ensures happening { shown_happening result.happening ≡ happenings.refused why }
 {
     ReplyOutcome {
@@ -33,8 +33,8 @@ pub(crate) fn not_taken<A: Allocator>(alloc: A, why: Refusal) -> ReplyOutcome<A>
 
 /// A reply that isn't taken, and is a sign of life of its link. Takes no memory.
 pub(crate) fn only_heard<A: Allocator>(alloc: A, why: Refusal) -> ReplyOutcome<A>
-    ensures verdict { (c : RealmConfig) (e : PlainEntry) (l : Link)
-        → IsVerdict c result e l (λ s. hears why (once_heard_from c s l)) }
+    ensures outcome { (c : RealmConfig) (e : PlainEntry) (l : Link)
+        → IsOutcome c result e l (λ s. hears why (once_heard_from c s l)) }
     ensures happening { shown_happening result.happening ≡ happenings.refused why }
 {
     ReplyOutcome {
@@ -55,8 +55,8 @@ fn shows_life(why: Refusal) -> bool
 
 /// A reply of which this is wrong. Takes no memory.
 pub(crate) fn faulted<A: Allocator>(alloc: A, why: Refusal) -> ReplyOutcome<A>
-    ensures verdict { (c : RealmConfig) (e : PlainEntry) (l : Link)
-        → IsVerdict c result e l (λ s. faulted c s l why) }
+    ensures outcome { (c : RealmConfig) (e : PlainEntry) (l : Link)
+        → IsOutcome c result e l (λ s. faulted c s l why) }
     ensures happening { shown_happening result.happening ≡ happenings.refused why }
 {
     if shows_life(why) {

@@ -15,12 +15,12 @@ ghost use Rattle.roam_book.specs.Turn.{packets_of};
 ghost use Rattle.roam_book.specs.Happenings as happenings;
 ghost use Rattle.roam_book.specs.Happenings.{by_turn, keeps_octets, kept_octets, returned_for, returned_to, waited_at};
 ghost use Rattle.roam_book.specs.HappeningsShown.{shown_happening, shown_waited};
-ghost use Rattle.roam_book.specs.OnReply.{counted_peer, faulted, judge, passing_to, reply_fault};
+ghost use Rattle.roam_book.specs.OnReply.{counted_peer, faulted, reply_turn, passing_to, reply_fault};
 ghost use Rattle.roam_book.specs.OnReply.{return_reply, returned_octets};
 ghost use Rattle.roam_book.specs.OnReply.{returning};
 ghost use Rattle.roam_book.specs.OnReply.{to_standing};
 ghost use Rattle.roam_book.specs.Sound.{IsRequest, IsWaiting, StandsWell};
-ghost use Rattle.roam_book.specs.Private.Judged.{IsVerdict, returns_octets};
+ghost use Rattle.roam_book.specs.Private.Outcomes.{IsOutcome, returns_octets};
 
 use crate::happening::{Happening, Waited};
 use crate::packets::answer::{Answer, one_packet};
@@ -28,6 +28,7 @@ use crate::packets::forwarding::packet_to_requester;
 use crate::rules::kept_request::answered_request;
 use crate::rules::refused_reply::{faulted, not_taken, only_heard};
 use crate::state::realm_settings::RealmSettings;
+use roam_auth::Secret;
 use roam_back::{back_passing, check_reply};
 use roam_conf::{ExchangeLines, Link};
 use roam_pending::{Done, Entry, Request, Requester, Standing, Waiting};
@@ -52,7 +53,7 @@ pub(crate) struct ReplyOutcome<A: Allocator> {
 fn fault_of(
     reply: &View<'_>,
     forwarded: &View<'_>,
-    secret: &[u8],
+    secret: &Secret,
     seal_required: bool,
 ) -> Option<Refusal>
     requires secret { IsSecret secret.now }
@@ -64,7 +65,7 @@ fn fault_of(
 
 /// A reply, and with what it is judged.
 #[derive(Drop)]
-struct Judging<'s, 'c, 'r, 'd, A: Allocator> {
+struct ReplyContext<'s, 'c, 'r, 'd, A: Allocator> {
     alloc: A,
     settings: &'s RealmSettings<'c>,
     moment: u64,
@@ -77,34 +78,34 @@ struct Judging<'s, 'c, 'r, 'd, A: Allocator> {
 ///
 /// Refused in this order: `ReplyTooLong`, looked at before memory is asked for; `NoMemory`.
 fn returned_packet<A: Allocator + Copy>(
-    judging: &Judging<'_, '_, '_, '_, A>,
+    context: &ReplyContext<'_, '_, '_, '_, A>,
     request: &Request<A>,
     link: Link,
     forwarded: &View<'_>,
 ) -> Result<Vec<u8, A>, Refusal>
-    requires request { IsRequest judging.now.settings.now (shown_request request.now) }
-    requires link { IsLink judging.now.settings.now link }
-    requires taken { IsTaken (link_secret judging.now.settings.now link)
-        (seal_required judging.now.settings.now link) judging.now.reply.now forwarded.now }
+    requires request { IsRequest context.now.settings.now (shown_request request.now) }
+    requires link { IsLink context.now.settings.now link }
+    requires taken { IsTaken (link_secret context.now.settings.now link)
+        (seal_required context.now.settings.now link) context.now.reply.now forwarded.now }
     ensures octets { IfOk result (λ packet. packet.items
-        ≡ returned_octets judging.now.settings.now (shown_request request.now) link forwarded.now
-        judging.now.reply.now) }
+        ≡ returned_octets context.now.settings.now (shown_request request.now) link forwarded.now
+        context.now.reply.now) }
     ensures too_long { IsErrOf result Refusal.ReplyTooLong ↔ (4096 < returned_length
-        (returning judging.now.settings.now (shown_request request.now) link forwarded.now)
-        (passing_to judging.now.settings.now (shown_request request.now) judging.now.reply.now)
+        (returning context.now.settings.now (shown_request request.now) link forwarded.now)
+        (passing_to context.now.settings.now (shown_request request.now) context.now.reply.now)
         (packet_of request.now.octets)) }
     ensures causes { IfErr result (λ e. (e ≡ Refusal.ReplyTooLong) ⊎ (e ≡ Refusal.NoMemory)) }
 {
-    let removal = judging.settings.removal_for(request.requester);
-    let mut packet = Vec::new(judging.alloc);
+    let removal = context.settings.removal_for(request.requester);
+    let mut packet = Vec::new(context.alloc);
     match back_passing(
-        judging.reply,
+        context.reply,
         &View::of_packet(request.octets.as_slice()),
         &removal,
-        judging.settings.own_names(),
+        context.settings.own_names(),
         forwarded.authenticator(),
-        judging.settings.secret_of_link(link),
-        judging.settings.secret_of_requester(request.requester),
+        context.settings.secret_of_link(link).octets(),
+        context.settings.secret_of_requester(request.requester),
         &mut packet,
     ) {
         Ok(()) => Ok(packet),
@@ -132,27 +133,27 @@ fn counted_peer(requester: Requester, reply: &View<'_>) -> Option<u16>
 /// A packet goes back to the sender of a request, and is held until `hold` after the moment, with the link that its
 /// reply came from.
 fn return_packet<A: Allocator + Copy>(
-    judging: &Judging<'_, '_, '_, '_, A>,
+    context: &ReplyContext<'_, '_, '_, '_, A>,
     waited: Waited<A>,
     counted: Option<u16>,
     packet: Vec<u8, A>,
 ) -> Result<ReplyOutcome<A>, NoMemory>
-    requires moment { judging.now.moment ≤ 2 ^ 62 }
-    ensures verdict { IfOk result (λ v. (e : PlainEntry) → IsVerdict judging.now.settings.now v e waited.link
-        (λ s. returns_octets judging.now.settings.now judging.now.moment waited.key counted packet.items e
+    requires moment { context.now.moment ≤ 2 ^ 62 }
+    ensures outcome { IfOk result (λ v. (e : PlainEntry) → IsOutcome context.now.settings.now v e waited.link
+        (λ s. returns_octets context.now.settings.now context.now.moment waited.key counted packet.items e
         waited.link s)) }
     ensures happening { IfOk result (λ v. shown_happening v.happening
-        ≡ happenings.returned judging.now.reply.now.code (shown_waited waited)) }
+        ≡ happenings.returned context.now.reply.now.code (shown_waited waited)) }
 {
     let link = waited.link;
-    let reply = Octets::copy_of(judging.alloc, packet.as_slice())?;
-    let deadline = judging.moment + u64::from(judging.settings.hold());
-    let out = packet_to_requester(judging.settings, waited.key, Octets::from_vec(packet));
-    let answer = one_packet(judging.alloc, out);
+    let reply = Octets::copy_of(context.alloc, packet.as_slice())?;
+    let deadline = context.moment + u64::from(context.settings.hold());
+    let out = packet_to_requester(context.settings, waited.key, Octets::from_vec(packet));
+    let answer = one_packet(context.alloc, out);
     Ok(ReplyOutcome {
         answer,
         happening: Happening::Returned {
-            code: judging.reply.code(),
+            code: context.reply.code(),
             waited,
         },
         heard: true,
@@ -167,81 +168,81 @@ fn return_packet<A: Allocator + Copy>(
 
 /// A reply that was taken, for the entry that waits for it.
 fn return_reply<A: Allocator + Copy>(
-    judging: &Judging<'_, '_, '_, '_, A>,
+    context: &ReplyContext<'_, '_, '_, '_, A>,
     entry: &Entry<A>,
     waiting: &Waiting<A>,
     forwarded: &View<'_>,
 ) -> Result<ReplyOutcome<A>, NoMemory>
-    requires moment { judging.now.moment ≤ 2 ^ 62 }
-    requires request { IsRequest judging.now.settings.now (shown entry.now).request }
-    requires link { IsLink judging.now.settings.now waiting.now.link }
-    requires taken { IsTaken (link_secret judging.now.settings.now waiting.now.link)
-        (seal_required judging.now.settings.now waiting.now.link) judging.now.reply.now forwarded.now }
-    ensures turn { IfOk result (λ v. IsVerdict judging.now.settings.now v (shown entry.now) waiting.now.link
-        (λ s. return_reply judging.now.settings.now judging.now.moment s (shown entry.now) waiting.now.link
-        forwarded.now judging.now.reply.now)) }
+    requires moment { context.now.moment ≤ 2 ^ 62 }
+    requires request { IsRequest context.now.settings.now (shown entry.now).request }
+    requires link { IsLink context.now.settings.now waiting.now.link }
+    requires taken { IsTaken (link_secret context.now.settings.now waiting.now.link)
+        (seal_required context.now.settings.now waiting.now.link) context.now.reply.now forwarded.now }
+    ensures turn { IfOk result (λ v. IsOutcome context.now.settings.now v (shown entry.now) waiting.now.link
+        (λ s. return_reply context.now.settings.now context.now.moment s (shown entry.now) waiting.now.link
+        forwarded.now context.now.reply.now)) }
     ensures happening { (s : RealmState) → IfOk result (λ v. shown_happening v.happening
-        ≡ by_turn (return_reply judging.now.settings.now judging.now.moment s (shown entry.now)
-        waiting.now.link forwarded.now judging.now.reply.now)
-        (returned_for judging.now.reply.now.code (waited_at (shown entry.now)
-        (kept_octets (keeps_octets judging.now.lines judging.now.reply.now.code) entry.now.request.octets)
+        ≡ by_turn (return_reply context.now.settings.now context.now.moment s (shown entry.now)
+        waiting.now.link forwarded.now context.now.reply.now)
+        (returned_for context.now.reply.now.code (waited_at (shown entry.now)
+        (kept_octets (keeps_octets context.now.lines context.now.reply.now.code) entry.now.request.octets)
         (shown_standing (standing.Waiting waiting.now))))) }
-    ensures succeeds { (s : RealmState) → packets_of (return_reply judging.now.settings.now
-        judging.now.moment s (shown entry.now) waiting.now.link forwarded.now judging.now.reply.now) ≡ []
+    ensures succeeds { (s : RealmState) → packets_of (return_reply context.now.settings.now
+        context.now.moment s (shown entry.now) waiting.now.link forwarded.now context.now.reply.now) ≡ []
         → IsOk result }
 {
-    match returned_packet(judging, &entry.request, waiting.link, forwarded) {
+    match returned_packet(context, &entry.request, waiting.link, forwarded) {
         Ok(packet) => {
-            let counted = counted_peer(entry.request.requester, judging.reply);
-            let code = judging.reply.code();
-            let waited = answered_request(judging.alloc, judging.lines, code, entry, waiting)?;
-            return_packet(judging, waited, counted, packet)
+            let counted = counted_peer(entry.request.requester, context.reply);
+            let code = context.reply.code();
+            let waited = answered_request(context.alloc, context.lines, code, entry, waiting)?;
+            return_packet(context, waited, counted, packet)
         }
-        Err(Refusal::ReplyTooLong) => Ok(only_heard(judging.alloc, Refusal::ReplyTooLong)),
+        Err(Refusal::ReplyTooLong) => Ok(only_heard(context.alloc, Refusal::ReplyTooLong)),
         Err(_) => Err(NoMemory),
     }
 }
 
 /// A reply to an entry that waits.
 fn outcome_of<A: Allocator + Copy>(
-    judging: &Judging<'_, '_, '_, '_, A>,
+    context: &ReplyContext<'_, '_, '_, '_, A>,
     entry: &Entry<A>,
     waiting: &Waiting<A>,
 ) -> Result<ReplyOutcome<A>, NoMemory>
-    requires moment { judging.now.moment ≤ 2 ^ 62 }
-    requires request { IsRequest judging.now.settings.now (shown entry.now).request }
-    requires waiting { IsWaiting judging.now.settings.now (shown entry.now).request waiting.now.link
+    requires moment { context.now.moment ≤ 2 ^ 62 }
+    requires request { IsRequest context.now.settings.now (shown entry.now).request }
+    requires waiting { IsWaiting context.now.settings.now (shown entry.now).request waiting.now.link
         waiting.now.id waiting.now.forwarded }
     ensures turn { IfOk result (λ v.
-        IsVerdict judging.now.settings.now v (shown entry.now) waiting.now.link
-        (λ s. judge judging.now.settings.now judging.now.moment s (shown entry.now)
-        waiting.now.link (packet_of waiting.now.forwarded) judging.now.reply.now
-        (reply_fault (link_secret judging.now.settings.now waiting.now.link)
-        (seal_required judging.now.settings.now waiting.now.link) judging.now.reply.now
+        IsOutcome context.now.settings.now v (shown entry.now) waiting.now.link
+        (λ s. reply_turn context.now.settings.now context.now.moment s (shown entry.now)
+        waiting.now.link (packet_of waiting.now.forwarded) context.now.reply.now
+        (reply_fault (link_secret context.now.settings.now waiting.now.link)
+        (seal_required context.now.settings.now waiting.now.link) context.now.reply.now
         (packet_of waiting.now.forwarded)))) }
     ensures happening { (s : RealmState) → IfOk result (λ v. shown_happening v.happening
-        ≡ by_turn (judge judging.now.settings.now judging.now.moment s (shown entry.now)
-        waiting.now.link (packet_of waiting.now.forwarded) judging.now.reply.now
-        (reply_fault (link_secret judging.now.settings.now waiting.now.link)
-        (seal_required judging.now.settings.now waiting.now.link) judging.now.reply.now
+        ≡ by_turn (reply_turn context.now.settings.now context.now.moment s (shown entry.now)
+        waiting.now.link (packet_of waiting.now.forwarded) context.now.reply.now
+        (reply_fault (link_secret context.now.settings.now waiting.now.link)
+        (seal_required context.now.settings.now waiting.now.link) context.now.reply.now
         (packet_of waiting.now.forwarded)))
-        (returned_for judging.now.reply.now.code (waited_at (shown entry.now)
-        (kept_octets (keeps_octets judging.now.lines judging.now.reply.now.code) entry.now.request.octets)
+        (returned_for context.now.reply.now.code (waited_at (shown entry.now)
+        (kept_octets (keeps_octets context.now.lines context.now.reply.now.code) entry.now.request.octets)
         (shown_standing (standing.Waiting waiting.now))))) }
-    ensures succeeds { (s : RealmState) → packets_of (judge judging.now.settings.now
-        judging.now.moment s (shown entry.now) waiting.now.link (packet_of waiting.now.forwarded)
-        judging.now.reply.now (reply_fault (link_secret judging.now.settings.now waiting.now.link)
-        (seal_required judging.now.settings.now waiting.now.link) judging.now.reply.now
+    ensures succeeds { (s : RealmState) → packets_of (reply_turn context.now.settings.now
+        context.now.moment s (shown entry.now) waiting.now.link (packet_of waiting.now.forwarded)
+        context.now.reply.now (reply_fault (link_secret context.now.settings.now waiting.now.link)
+        (seal_required context.now.settings.now waiting.now.link) context.now.reply.now
         (packet_of waiting.now.forwarded))) ≡ [] → IsOk result }
 {
     let link = waiting.link;
     let forwarded = View::of_packet(waiting.forwarded.as_slice());
-    let secret = judging.settings.secret_of_link(link);
-    let seal_required = judging.settings.seal_required(link);
-    if let Some(why) = fault_of(judging.reply, &forwarded, secret, seal_required) {
-        return Ok(faulted(judging.alloc, why));
+    let secret = context.settings.secret_of_link(link);
+    let seal_required = context.settings.seal_required(link);
+    if let Some(why) = fault_of(context.reply, &forwarded, secret, seal_required) {
+        return Ok(faulted(context.alloc, why));
     }
-    return_reply(judging, entry, waiting, &forwarded)
+    return_reply(context, entry, waiting, &forwarded)
 }
 
 /// A reply to an entry, as it stands. A reply that isn't taken wants no memory.
@@ -257,7 +258,7 @@ pub(crate) fn to_standing<A: Allocator + Copy>(
     requires request { IsRequest settings.now (shown entry.now).request }
     requires standing { StandsWell settings.now (shown entry.now).request (shown entry.now).standing }
     ensures turn { IfOk result (λ v. (l : Link) (i : ℕ) → waits_at l i (shown entry.now) ≡ true
-        → IsVerdict settings.now v (shown entry.now) l
+        → IsOutcome settings.now v (shown entry.now) l
         (λ s. to_standing settings.now now s (shown entry.now) reply.now
         (shown entry.now).standing)) }
     ensures happening { (s : RealmState) → IfOk result (λ v. shown_happening v.happening
@@ -266,7 +267,7 @@ pub(crate) fn to_standing<A: Allocator + Copy>(
     ensures succeeds { (s : RealmState) → packets_of (to_standing settings.now now s
         (shown entry.now) reply.now (shown entry.now).standing) ≡ [] → IsOk result }
 {
-    let judging = Judging {
+    let context = ReplyContext {
         alloc,
         settings,
         moment: now,
@@ -274,7 +275,7 @@ pub(crate) fn to_standing<A: Allocator + Copy>(
         lines,
     };
     match &entry.standing {
-        Standing::Waiting(waiting) => outcome_of(&judging, entry, waiting),
+        Standing::Waiting(waiting) => outcome_of(&context, entry, waiting),
         Standing::Done(_) => Ok(not_taken(alloc, Refusal::NoEntry)),
     }
 }

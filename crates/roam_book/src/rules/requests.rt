@@ -8,7 +8,7 @@ ghost use Rattle.std.specs.Result.{result_err};
 ghost use Rattle.roam_wire.specs.Reading.{IsPacketText};
 ghost use Rattle.roam_pending.specs.EntryList.{find_client, without_client};
 ghost use Rattle.roam_pending.specs.Shown.{shown_standing};
-ghost use Rattle.roam_book.specs.Private.NewEntry.{AreConfigured, IsNew, IsRequestPlan, gone_entry, links_of, new_happening, once_gone};
+ghost use Rattle.roam_book.specs.Private.NewEntry.{AreConfigured, IsNew, IsRequestPlan, replaced_entry, links_of, new_happening, once_replaced};
 ghost use Rattle.roam_book.specs.OnRequest.{first_seen, held_reply, is_reverse, nak_octets, new_request, of_key};
 ghost use Rattle.roam_book.specs.OnRequest.{on_request, packet_to_requester, reverse_cause, targets};
 ghost use Rattle.roam_book.specs.Happenings as happenings;
@@ -16,7 +16,7 @@ ghost use Rattle.roam_book.specs.Happenings.{by_turn, first_sent, of_duplicate, 
 ghost use Rattle.roam_book.specs.HappeningsShown.{shown_happening};
 ghost use Rattle.roam_book.specs.RealmTurn.{IsRealm, entries, state};
 ghost use Rattle.roam_book.specs.Turned.{TurnsTelling};
-ghost use Rattle.roam_book.specs.Sound.{CountsAsGone, IsRequest, shown_request};
+ghost use Rattle.roam_book.specs.Sound.{CountsAsReplaced, IsRequest, shown_request};
 ghost use Rattle.roam_book.specs.Turn.{packets_of, shown_outs};
 
 use crate::happening::Happening;
@@ -84,21 +84,21 @@ fn held_reply<A: Allocator + Copy>(
 fn refused_by_nak<A: Allocator + Copy>(
     alloc: A,
     settings: &RealmSettings<'_>,
-    asked: RequestRef<'_>,
+    request: RequestRef<'_>,
     cause: u32,
 ) -> Result<Turned<A>, NoMemory>
-    requires request { IsRequest settings.now (shown_request asked) }
-    requires reverse { is_reverse (shown_request asked) ≡ true }
+    requires request { IsRequest settings.now (shown_request request) }
+    requires reverse { is_reverse (shown_request request) ≡ true }
     ensures outs { IfOk result (λ t. shown_outs t.answer.outs
-        ≡ packet_to_requester settings.now asked.entry.key
-        (nak_octets settings.now (shown_request asked.entry) cause) ∷ []) }
+        ≡ packet_to_requester settings.now request.entry.key
+        (nak_octets settings.now (shown_request request.entry) cause) ∷ []) }
     ensures refusal { IfOk result (λ t. t.answer.refusal ≡ None) }
     ensures happening { IfOk result (λ t. shown_happening t.happening ≡ happenings.nak cause) }
 {
-    let request = View::of_packet(asked.octets);
-    let secret = settings.secret_of_requester(asked.requester);
-    let octets = Octets::from_vec(nak(alloc, &request, cause, secret)?);
-    let out = packet_to_requester(settings, asked.key, octets);
+    let view = View::of_packet(request.octets);
+    let secret = settings.secret_of_requester(request.requester).octets();
+    let octets = Octets::from_vec(nak(alloc, &view, cause, secret)?);
+    let out = packet_to_requester(settings, request.key, octets);
     Ok(Turned {
         answer: one_packet(alloc, out),
         happening: Happening::Nak { cause },
@@ -110,44 +110,44 @@ impl<A: Allocator + Copy, E: Entries<A>> RealmBroker<'_, '_, '_, '_, A, E> {
     fn plan_new(
         &self,
         now: u64,
-        asked: RequestRef<'_>,
-        gone: Option<Replaced>,
+        request: RequestRef<'_>,
+        replaced: Option<Replaced>,
         targets: Targets,
     ) -> RequestPlan<A>
         requires realm { IsRealm E.Entries self.now }
-        requires gone { CountsAsGone gone (entries E.Entries self.now) }
+        requires replaced { CountsAsReplaced replaced (entries E.Entries self.now) }
         requires targets { AreConfigured self.now.settings.now targets }
-        requires new { IsNew self.now.settings.now (entries E.Entries self.now) gone targets
-            (shown_request asked) }
-        ensures { IsRequestPlan self.now.settings.now now (state E.Entries self.now) (shown_request asked.entry)
+        requires new { IsNew self.now.settings.now (entries E.Entries self.now) replaced targets
+            (shown_request request) }
+        ensures { IsRequestPlan self.now.settings.now now (state E.Entries self.now) (shown_request request.entry)
             result (new_request self.now.settings.now now (state E.Entries self.now)
-            (once_gone gone (entries E.Entries self.now)) (shown_request asked.entry))
-            (new_happening self.now.settings.now now (state E.Entries self.now) gone
-            (shown_request asked.entry)) }
+            (once_replaced replaced (entries E.Entries self.now)) (shown_request request.entry))
+            (new_happening self.now.settings.now now (state E.Entries self.now) replaced
+            (shown_request request.entry)) }
     {
-        match self.plan_admit(now, asked, gone, targets) {
-            Ok(way) => RequestPlan::Admitted(way),
+        match self.plan_admit(now, request, replaced, targets) {
+            Ok(plan) => RequestPlan::Admitted(plan),
             Err(why) => RequestPlan::Answered(refused_turn(self.numbers.alloc, why)),
         }
     }
 
     /// The targets of a request, or why it is a reverse request that can't be forwarded.
-    fn targets_of(&self, asked: RequestRef<'_>) -> Result<Targets, u32>
-        requires { IsPacketText asked.octets.now }
+    fn targets_of(&self, request: RequestRef<'_>) -> Result<Targets, u32>
+        requires { IsPacketText request.octets.now }
         ensures cause { result_err result ≡ reverse_cause self.now.settings.now
-            (state E.Entries self.now) asked.entry.named (shown_request asked.entry) }
-        ensures reverse { IfErr result (λ cause. is_reverse (shown_request asked.entry) ≡ true) }
+            (state E.Entries self.now) request.entry.named (shown_request request.entry) }
+        ensures reverse { IfErr result (λ cause. is_reverse (shown_request request.entry) ≡ true) }
         ensures targets { IfOk result (λ found. links_of self.now.settings.now found
-            ≡ targets self.now.settings.now (shown_request asked.entry)) }
+            ≡ targets self.now.settings.now (shown_request request.entry)) }
         ensures configured { IfOk result (λ found. AreConfigured self.now.settings.now found) }
     {
-        let request = View::of_packet(asked.octets);
-        if is_reverse_request(request.code()) {
+        let view = View::of_packet(request.octets);
+        if is_reverse_request(view.code()) {
             let sessions = &self.numbers.sessions;
-            let peer = self.settings.route_of(asked.named, &request, sessions)?;
+            let peer = self.settings.route_of(request.named, &view, sessions)?;
             return Ok(Targets::AccessServer(peer));
         }
-        Ok(Targets::HomeServers(Service::of_code(request.code())))
+        Ok(Targets::HomeServers(Service::of_code(view.code())))
     }
 
     /// A request that is no duplicate: a reverse request that can't be forwarded is answered by a
@@ -155,66 +155,69 @@ impl<A: Allocator + Copy, E: Entries<A>> RealmBroker<'_, '_, '_, '_, A, E> {
     fn plan_first_seen(
         &self,
         now: u64,
-        asked: RequestRef<'_>,
-        gone: Option<Replaced>,
+        request: RequestRef<'_>,
+        replaced: Option<Replaced>,
     ) -> Result<RequestPlan<A>, NoMemory>
         requires realm { IsRealm E.Entries self.now }
-        requires request { IsRequest self.now.settings.now (shown_request asked) }
-        requires gone { CountsAsGone gone (entries E.Entries self.now) }
-        requires key { find_client asked.key (once_gone gone (entries E.Entries self.now)) ≡ None }
-        requires rest { once_gone gone (entries E.Entries self.now)
-            ≡ without_client asked.key (entries E.Entries self.now) }
+        requires request { IsRequest self.now.settings.now (shown_request request) }
+        requires replaced { CountsAsReplaced replaced (entries E.Entries self.now) }
+        requires key { find_client request.key (once_replaced replaced (entries E.Entries self.now)) ≡ None }
+        requires rest { once_replaced replaced (entries E.Entries self.now)
+            ≡ without_client request.key (entries E.Entries self.now) }
         ensures plan { IfOk result (λ p. IsRequestPlan self.now.settings.now now
-            (state E.Entries self.now) (shown_request asked.entry) p
-            (first_seen self.now.settings.now now (state E.Entries self.now) asked.entry.named
-            (shown_request asked.entry))
-            (by_turn (first_seen self.now.settings.now now (state E.Entries self.now) asked.entry.named
-            (shown_request asked.entry))
-            (first_sent self.now.settings.now now (state E.Entries self.now) (shown_request asked.entry)
-            (gone_entry gone (entries E.Entries self.now))
-            (reverse_cause self.now.settings.now (state E.Entries self.now) asked.entry.named
-            (shown_request asked.entry))))) }
+            (state E.Entries self.now) (shown_request request.entry) p
+            (first_seen self.now.settings.now now (state E.Entries self.now) request.entry.named
+            (shown_request request.entry))
+            (by_turn (first_seen self.now.settings.now now (state E.Entries self.now) request.entry.named
+            (shown_request request.entry))
+            (first_sent self.now.settings.now now (state E.Entries self.now) (shown_request request.entry)
+            (replaced_entry replaced (entries E.Entries self.now))
+            (reverse_cause self.now.settings.now (state E.Entries self.now) request.entry.named
+            (shown_request request.entry))))) }
         ensures succeeds { packets_of (first_seen self.now.settings.now now
-            (state E.Entries self.now) asked.entry.named (shown_request asked.entry)) ≡ []
+            (state E.Entries self.now) request.entry.named (shown_request request.entry)) ≡ []
             → IsOk result }
     {
-        match self.targets_of(asked) {
+        match self.targets_of(request) {
             Err(cause) => {
-                let turned = refused_by_nak(self.numbers.alloc, self.settings, asked, cause)?;
+                let turned = refused_by_nak(self.numbers.alloc, self.settings, request, cause)?;
                 Ok(RequestPlan::Answered(turned))
             }
-            Ok(targets) => Ok(self.plan_new(now, asked, gone, targets)),
+            Ok(targets) => Ok(self.plan_new(now, request, replaced, targets)),
         }
     }
 
     /// A request in time: a duplicate where the entry of its key has its octets too, else a new
     /// one.
-    fn plan_of_key(&self, now: u64, asked: RequestRef<'_>) -> Result<RequestPlan<A>, NoMemory>
+    fn plan_of_key(&self, now: u64, request: RequestRef<'_>) -> Result<RequestPlan<A>, NoMemory>
         requires realm { IsRealm E.Entries self.now }
-        requires request { IsRequest self.now.settings.now (shown_request asked) }
+        requires request { IsRequest self.now.settings.now (shown_request request) }
         ensures plan { IfOk result (λ p. IsRequestPlan self.now.settings.now now
-            (state E.Entries self.now) (shown_request asked.entry) p
-            (of_key self.now.settings.now now (state E.Entries self.now) asked.entry.named
-            (shown_request asked.entry)
-            (find_client asked.entry.key (entries E.Entries self.now)))
-            (by_turn (of_key self.now.settings.now now (state E.Entries self.now) asked.entry.named
-            (shown_request asked.entry)
-            (find_client asked.entry.key (entries E.Entries self.now)))
-            (sent_for self.now.settings.now now (state E.Entries self.now) asked.entry.named
-            (shown_request asked.entry)
-            (find_client asked.entry.key (entries E.Entries self.now))))) }
+            (state E.Entries self.now) (shown_request request.entry) p
+            (of_key self.now.settings.now now (state E.Entries self.now) request.entry.named
+            (shown_request request.entry)
+            (find_client request.entry.key (entries E.Entries self.now)))
+            (by_turn (of_key self.now.settings.now now (state E.Entries self.now) request.entry.named
+            (shown_request request.entry)
+            (find_client request.entry.key (entries E.Entries self.now)))
+            (sent_for self.now.settings.now now (state E.Entries self.now) request.entry.named
+            (shown_request request.entry)
+            (find_client request.entry.key (entries E.Entries self.now))))) }
         ensures succeeds { packets_of (of_key self.now.settings.now now
-            (state E.Entries self.now) asked.entry.named (shown_request asked.entry)
-            (find_client asked.entry.key (entries E.Entries self.now))) ≡ [] → IsOk result }
+            (state E.Entries self.now) request.entry.named (shown_request request.entry)
+            (find_client request.entry.key (entries E.Entries self.now))) ≡ [] → IsOk result }
     {
-        match self.entries.find_client(self.settings.index(), &asked.key) {
-            None => self.plan_first_seen(now, asked, None),
+        match self
+            .entries
+            .find_client(self.settings.index(), &request.key)
+        {
+            None => self.plan_first_seen(now, request, None),
             Some(entry) => {
-                if entry.request.octets.as_slice() == asked.octets {
+                if entry.request.octets.as_slice() == request.octets {
                     let turned = held_reply(self.numbers.alloc, self.settings, entry)?;
                     return Ok(RequestPlan::Answered(turned));
                 }
-                self.plan_first_seen(now, asked, Some(Replaced::of(entry)))
+                self.plan_first_seen(now, request, Some(Replaced::of(entry)))
             }
         }
     }
@@ -225,21 +228,21 @@ impl<A: Allocator + Copy, E: Entries<A>> RealmBroker<'_, '_, '_, '_, A, E> {
     /// Refused in this order: `Moment`, `Exhausted`, `ShareTaken`, `NoIdentifier`, `Busy`. `NoMemory` comes where
     /// a growth was refused; the realm is then as it was. A refused request and a duplicate of one
     /// that waits want no memory.
-    pub fn on_request(&mut self, now: u64, asked: RequestRef<'_>) -> Result<Turned<A>, NoMemory>
+    pub fn on_request(&mut self, now: u64, request: RequestRef<'_>) -> Result<Turned<A>, NoMemory>
         requires realm { IsRealm E.Entries self.old }
-        requires request { IsRequest self.old.settings.now (shown_request asked) }
+        requires request { IsRequest self.old.settings.now (shown_request request) }
         ensures turn { TurnsTelling E.Entries self.old self.new result
-            (λ s. on_request self.old.settings.now now s asked.entry.named
-            (shown_request asked.entry))
-            (λ s. request_happening self.old.settings.now now s asked.entry.named
-            (shown_request asked.entry)) }
+            (λ s. on_request self.old.settings.now now s request.entry.named
+            (shown_request request.entry))
+            (λ s. request_happening self.old.settings.now now s request.entry.named
+            (shown_request request.entry)) }
     {
         if now > LATEST {
             return Ok(refused_turn(self.numbers.alloc, Refusal::Moment));
         }
-        match self.plan_of_key(now, asked)? {
+        match self.plan_of_key(now, request)? {
             RequestPlan::Answered(turned) => Ok(turned),
-            RequestPlan::Admitted(way) => self.admit(now, asked, way),
+            RequestPlan::Admitted(plan) => self.admit(now, request, plan),
         }
     }
 }

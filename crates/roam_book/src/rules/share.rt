@@ -8,15 +8,15 @@ ghost use Rattle.std.specs.Prelude.{◌≡◌, ◌≤◌, length, option_map, if
 ghost use Rattle.roam_pending.specs.Shown.{shown};
 ghost use Rattle.roam_wire.specs.Reading.{IsPacketText};
 ghost use Rattle.roam_pending.specs.EntryList.{is_beside};
-ghost use Rattle.roam_book.specs.Private.NewEntry.{once_gone};
+ghost use Rattle.roam_book.specs.Private.NewEntry.{once_replaced};
 ghost use Rattle.roam_book.specs.Private.Sharing.{held_as, held_below, is_sharer, sum_below};
 ghost use Rattle.roam_book.specs.RealmConfig.{server_link};
 ghost use Rattle.roam_book.specs.RealmTurn.{IsRealm, entries};
 ghost use Rattle.roam_book.specs.Shares.{name_part, name_taken, peer_taken, same_part, same_peer, share_taken};
-ghost use Rattle.roam_book.specs.Sound.{CountsAsGone, IsRequest, shown_request};
+ghost use Rattle.roam_book.specs.Sound.{CountsAsReplaced, IsRequest, shown_request};
 
 use crate::packets::forwarding::RequestRef;
-use crate::rules::new_requests::gone_ticket;
+use crate::rules::new_requests::replaced_ticket;
 use crate::rules::replaced::Replaced;
 use crate::state::realm_broker::RealmBroker;
 use crate::state::service::Service;
@@ -78,12 +78,12 @@ fn is_sharer<A: Allocator>(entry: &Entry<A>, sharer: Sharer<'_>) -> bool
 }
 
 /// Whether a ticket isn't the one that counts as gone.
-fn is_beside(gone: Option<u64>, ticket: u64) -> bool
-    ensures { result ≡ is_beside gone ticket }
+fn is_beside(replaced: Option<u64>, ticket: u64) -> bool
+    ensures { result ≡ is_beside replaced ticket }
 {
-    match gone {
+    match replaced {
         None => true,
-        Some(gone) => ticket != gone,
+        Some(replaced) => ticket != replaced,
     }
 }
 
@@ -97,25 +97,25 @@ fn one_if(is_so: bool) -> usize
 
 impl<A: Allocator + Copy, E: Entries<A>> RealmBroker<'_, '_, '_, '_, A, E> {
     /// Whether a request of this share waits on a link with an Identifier, besides the one that counts as gone.
-    fn holds_sharer(&self, link: Link, id: u8, sharer: Sharer<'_>, gone: Option<u64>) -> bool
+    fn holds_sharer(&self, link: Link, id: u8, sharer: Sharer<'_>, replaced: Option<u64>) -> bool
         requires realm { IsRealm E.Entries self.now }
-        ensures { result ≡ held_as (is_sharer sharer.entry) gone link id (entries E.Entries self.now) }
+        ensures { result ≡ held_as (is_sharer sharer.entry) replaced link id (entries E.Entries self.now) }
     {
         match self.waiting_at(link, id) {
             None => false,
-            Some(entry) => is_beside(gone, entry.ticket) && is_sharer(entry, sharer),
+            Some(entry) => is_beside(replaced, entry.ticket) && is_sharer(entry, sharer),
         }
     }
 
     /// How many requests of this share wait on a link.
-    fn sharers_at(&self, link: Link, sharer: Sharer<'_>, gone: Option<u64>) -> usize
+    fn sharers_at(&self, link: Link, sharer: Sharer<'_>, replaced: Option<u64>) -> usize
         requires realm { IsRealm E.Entries self.now }
-        ensures count { result ≡ held_below 256 (is_sharer sharer.entry) gone link (entries E.Entries self.now) }
+        ensures count { result ≡ held_below 256 (is_sharer sharer.entry) replaced link (entries E.Entries self.now) }
         ensures few { result ≤ 256 }
     {
         let mut count = 0;
         for id in 0..256u16 {
-            count += one_if(self.holds_sharer(link, id as u8, sharer, gone));
+            count += one_if(self.holds_sharer(link, id as u8, sharer, replaced));
         }
         count
     }
@@ -126,83 +126,83 @@ impl<A: Allocator + Copy, E: Entries<A>> RealmBroker<'_, '_, '_, '_, A, E> {
         service: Service,
         server: u8,
         sharer: Sharer<'_>,
-        gone: Option<u64>,
+        replaced: Option<u64>,
     ) -> usize
         requires realm { IsRealm E.Entries self.now }
         ensures count { result ≡ sum_below (length self.now.settings.now.realm.out) (λ out.
-            held_below 256 (is_sharer sharer.entry) gone
+            held_below 256 (is_sharer sharer.entry) replaced
             (server_link service server out) (entries E.Entries self.now)) }
         ensures few { result ≤ 4096 }
     {
         let mut count = 0;
         for out in 0..self.settings.out_count() {
-            count += self.sharers_at(service.link(server, out as u8), sharer, gone);
+            count += self.sharers_at(service.link(server, out as u8), sharer, replaced);
         }
         count
     }
 
     /// How many requests of this share wait for a service.
-    fn sharers_for(&self, service: Service, sharer: Sharer<'_>, gone: Option<u64>) -> usize
+    fn sharers_for(&self, service: Service, sharer: Sharer<'_>, replaced: Option<u64>) -> usize
         requires realm { IsRealm E.Entries self.now }
         ensures count { result ≡ sum_below (length self.now.settings.now.realm.servers) (λ server.
-            sum_below (length self.now.settings.now.realm.out) (λ out. held_below 256 (is_sharer sharer.entry) gone
+            sum_below (length self.now.settings.now.realm.out) (λ out. held_below 256 (is_sharer sharer.entry) replaced
             (server_link service server out) (entries E.Entries self.now))) }
         ensures few { result ≤ 32768 }
     {
         let mut count = 0;
         for server in 0..self.settings.server_count() {
-            count += self.sharers_to(service, server as u8, sharer, gone);
+            count += self.sharers_to(service, server as u8, sharer, replaced);
         }
         count
     }
 
     /// Whether the share of a new request's name is taken, while an entry counts as gone.
-    fn is_name_taken(&self, asked: RequestRef<'_>, gone: Option<Replaced>) -> bool
+    fn is_name_taken(&self, request: RequestRef<'_>, replaced: Option<Replaced>) -> bool
         requires realm { IsRealm E.Entries self.now }
-        requires request { IsRequest self.now.settings.now (shown_request asked) }
+        requires request { IsRequest self.now.settings.now (shown_request request) }
         ensures { result ≡ name_taken self.now.settings.now
-            (once_gone gone (entries E.Entries self.now)) (shown_request asked.entry) }
+            (once_replaced replaced (entries E.Entries self.now)) (shown_request request.entry) }
     {
         match self.settings.share() {
             None => false,
             Some(share) => {
-                let service = Service::of_code(View::of_packet(asked.octets).code());
-                let sharer = Sharer::Name(name_part(asked.octets));
-                let count = self.sharers_for(service, sharer, gone_ticket(gone));
+                let service = Service::of_code(View::of_packet(request.octets).code());
+                let sharer = Sharer::Name(name_part(request.octets));
+                let count = self.sharers_for(service, sharer, replaced_ticket(replaced));
                 count >= usize::from(share)
             }
         }
     }
 
     /// Whether the share of a new request's peer is taken, while an entry counts as gone.
-    fn is_peer_taken(&self, asked: RequestRef<'_>, gone: Option<Replaced>) -> bool
+    fn is_peer_taken(&self, request: RequestRef<'_>, replaced: Option<Replaced>) -> bool
         requires realm { IsRealm E.Entries self.now }
         ensures { result ≡ peer_taken self.now.settings.now
-            (once_gone gone (entries E.Entries self.now)) (shown_request asked.entry) }
+            (once_replaced replaced (entries E.Entries self.now)) (shown_request request.entry) }
     {
         match self.settings.peer_share() {
             None => false,
             Some(share) => {
-                let sharer = Sharer::Peer(asked.requester);
-                let gone = gone_ticket(gone);
-                let first = self.sharers_for(Service::Authentication, sharer, gone);
-                let second = self.sharers_for(Service::Accounting, sharer, gone);
+                let sharer = Sharer::Peer(request.requester);
+                let replaced = replaced_ticket(replaced);
+                let first = self.sharers_for(Service::Authentication, sharer, replaced);
+                let second = self.sharers_for(Service::Accounting, sharer, replaced);
                 first + second >= usize::from(share)
             }
         }
     }
 
     /// Whether the share of a new request's name or of its peer is taken, while an entry counts as gone.
-    pub(crate) fn is_share_taken(&self, asked: RequestRef<'_>, gone: Option<Replaced>) -> bool
+    pub(crate) fn is_share_taken(&self, request: RequestRef<'_>, replaced: Option<Replaced>) -> bool
         requires realm { IsRealm E.Entries self.now }
-        requires request { IsRequest self.now.settings.now (shown_request asked) }
-        requires gone { CountsAsGone gone (entries E.Entries self.now) }
+        requires request { IsRequest self.now.settings.now (shown_request request) }
+        requires replaced { CountsAsReplaced replaced (entries E.Entries self.now) }
         ensures { result ≡ share_taken self.now.settings.now
-            (once_gone gone (entries E.Entries self.now)) (shown_request asked.entry) }
+            (once_replaced replaced (entries E.Entries self.now)) (shown_request request.entry) }
     {
-        if is_reverse_request(View::of_packet(asked.octets).code()) {
+        if is_reverse_request(View::of_packet(request.octets).code()) {
             return false;
         }
-        self.is_name_taken(asked, gone) || self.is_peer_taken(asked, gone)
+        self.is_name_taken(request, replaced) || self.is_peer_taken(request, replaced)
     }
 }

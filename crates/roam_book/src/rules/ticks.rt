@@ -14,7 +14,7 @@ ghost use Rattle.roam_book.specs.Private.Memory.{AreDues, HasBuffers, HasPlace, 
 ghost use Rattle.roam_book.specs.RealmTurn.{IsRealm, Keeps, KeepsLoans, entries, state};
 ghost use Rattle.roam_book.specs.Rooms.{IsRoomFor, size_of};
 ghost use Rattle.roam_book.specs.Turned.{TurnsTelling};
-ghost use Rattle.roam_book.specs.Private.Fates.{HoldsNoLink, KeepsNoLink, fate_packets, fate_entries, once_held};
+ghost use Rattle.roam_book.specs.Private.DueActions.{HoldsNoLink, KeepsNoLink, action_packets, action_entries, once_held};
 
 use crate::packets::answer::Turned;
 use crate::packets::answer_builder::AnswerBuilder;
@@ -50,24 +50,24 @@ impl<A: Allocator + Copy, E: Entries<A>> RealmBroker<'_, '_, '_, '_, A, E> {
         }
     }
 
-    /// Lets an entry have its fate: what is sent for it goes to the packets, where there is a
+    /// Does what becomes of an entry: what is sent for it goes to the packets, where there is a
     /// place.
     fn apply_action(
         &mut self,
         now: u64,
         ticket: u64,
-        fate: DueAction<A>,
+        action: DueAction<A>,
         outs: &mut AnswerBuilder<A>,
     )
         requires moment { now ≤ 2 ^ 62 }
         requires place { vec_len outs.old.sent < vec_capacity outs.old.sent }
-        requires no_link { KeepsNoLink fate }
+        requires no_link { KeepsNoLink action }
         ensures outs { (places : ℕ) (packets : List PlainOut) → IsOuts (places + 1) packets outs.old.sent
-            → IsOuts places (packets ++ fate_packets fate) outs.new.sent }
+            → IsOuts places (packets ++ action_packets action) outs.new.sent }
         ensures dues { outs.new.dues ≡ outs.old.dues }
         ensures entries { IfSome (find_ticket ticket (entries E.Entries self.old))
             (λ e. RealmBecomes self.old.settings.now.index
-            (fate_entries self.old.settings.now now e (entries E.Entries self.old) fate)
+            (action_entries self.old.settings.now now e (entries E.Entries self.old) action)
             (E.entries_of self.old.entries.now) (E.entries_of self.new.entries.now)) }
         ensures count { length outs.new.sent.items ≤ length outs.old.sent.items + 1 }
         ensures numbers { self.new.numbers.now ≡ self.old.numbers.now }
@@ -75,7 +75,7 @@ impl<A: Allocator + Copy, E: Entries<A>> RealmBroker<'_, '_, '_, '_, A, E> {
     {
         let realm = self.settings.index();
         let alloc = self.numbers.alloc;
-        match fate {
+        match action {
             DueAction::Expired => self.hold(ticket, None),
             DueAction::SentAgain(sent) => {
                 outs.push(sent);
@@ -128,9 +128,9 @@ impl<A: Allocator + Copy, E: Entries<A>> RealmBroker<'_, '_, '_, '_, A, E> {
         let Some(entry) = self.entries.find_ticket(self.settings.index(), due.ticket) else {
             return;
         };
-        let fate = act_on_due(self.settings, self.numbers, now, entry, buffers);
-        outs.note(happening_of(self.settings, entry, &fate, request));
-        self.apply_action(now, due.ticket, fate, outs);
+        let action = act_on_due(self.settings, self.numbers, now, entry, buffers);
+        outs.note(happening_of(self.settings, entry, &action, request));
+        self.apply_action(now, due.ticket, action, outs);
     }
 
     /// A tick, in the room that was made for this state and this moment. Takes no memory.

@@ -20,6 +20,7 @@ use crate::state::rest::Rest;
 use crate::state::start::Start;
 use roam_conf::Link;
 use roam_ids::LazyLane;
+use roam_random::KeptWords;
 use roam_reverse::{PreparedChange, Sessions};
 use roam_wire::{NoMemory, View};
 use std::alloc::Allocator;
@@ -41,6 +42,8 @@ pub struct RealmNumbers<A: Allocator> {
     pub sessions: Sessions<A>,
     /// How the servers' links rest that keep silent, in the order of their places.
     pub rests: Vec<Rest, A>,
+    /// Random words of the realm's stream that are made and not drawn yet.
+    pub words: KeptWords,
 }
 
 // By hand, so that a proof sees one call wherever a realm's numbers end.
@@ -53,10 +56,12 @@ impl<A: Allocator> Drop for RealmNumbers<A> {
             stream_position: _,
             sessions,
             rests,
+            words,
         } = self;
         drop(lanes);
         drop(sessions);
         drop(rests);
+        drop(words);
         drop(alloc);
     }
 }
@@ -144,6 +149,7 @@ impl<A: Allocator + Copy> RealmNumbers<A> {
             stream_position: start.place,
             sessions,
             rests,
+            words: KeptWords::new(),
         })
     }
 

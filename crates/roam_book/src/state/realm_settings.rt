@@ -11,6 +11,7 @@ ghost use Rattle.roam_book.specs.RealmConfig.{realm_config, server_secret, peer_
 ghost use Rattle.roam_book.specs.RealmConfig.{seal_required, IsLink, IsRequester};
 
 use crate::state::hash_key::hash_key;
+use roam_auth::Secret;
 use roam_conf::{Config, Link, Peer, Realm, Server};
 use roam_hash::HashKey;
 use roam_pending::Requester;
@@ -201,7 +202,7 @@ impl<'c> RealmSettings<'c> {
     }
 
     /// The secret shared with a link of the realm, of 1 to 64 octets.
-    pub(crate) fn secret_of_link(&self, link: Link) -> &[u8]
+    pub(crate) fn secret_of_link(&self, link: Link) -> &Secret
         requires { IsLink self.now link }
         ensures text { result.now ≡ link_secret self.now link }
         ensures secret { IsSecret result.now }
@@ -224,7 +225,7 @@ impl<'c> RealmSettings<'c> {
     }
 
     /// The secret shared with the sender of a request, of 1 to 64 octets.
-    pub(crate) fn secret_of_requester(&self, requester: Requester) -> &[u8]
+    pub(crate) fn secret_of_requester(&self, requester: Requester) -> &Secret
         requires { IsRequester self.now requester }
         ensures text { result.now ≡ requester_secret self.now requester }
         ensures secret { IsSecret result.now }

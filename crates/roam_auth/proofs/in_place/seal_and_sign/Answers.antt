@@ -1,4 +1,4 @@
-use Rattle.std.proofs.Common.{◌≡◌, ◌∙◌, ap}
+use Rattle.std.proofs.Common.{◌≡◌, ◌∙◌, ap, List, ℕ}
 use Rattle.roam_wire.specs.Packet.{Packet, packet_text}
 use Rattle.roam_wire.specs.Reading.{packet_of}
 use Rattle.roam_auth.specs.Authenticators.{signed_reply}
@@ -20,5 +20,7 @@ returns c =
     ≡ with_message_authenticator c.args.secret.now c.args.request_authenticator p =
     packet_of-sealed c.args.secret.now c.args.request_authenticator c.seal.new.octets p c.requires.at_most_one
     c.requires.packet.packet c.seal.ensures in
-    c.sign_reply.ensures ∙ ap (λ (q : Packet). packet_text
+    c.sign_reply.ensures
+    ∙ ap (λ (s : List ℕ). packet_text (signed_reply s c.args.request_authenticator (packet_of c.seal.new.octets)))
+    c.octets.ensures ∙ ap (λ (q : Packet). packet_text
     (signed_reply c.args.secret.now c.args.request_authenticator q)) sealed

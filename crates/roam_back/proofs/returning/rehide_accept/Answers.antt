@@ -23,6 +23,9 @@ returns-then-code-eq-ACCESS_ACCEPT c =
     let accept : (c.args.reply.now.code == ACCESS_ACCEPT) ≡ true =
     eq-eqb c.args.reply.now.code ACCESS_ACCEPT (sym c.code.ensures ∙ c.if-code-eq-ACCESS_ACCEPT.true) in
     c.rehide_packet.ensures
+    ∙ ap (λ (secret : List ℕ). packet_text
+    (packet_anew SaltedStrings (from_key r) (record { secret = secret; first = c.authenticator.result })
+    (packet_of c.args.octets.now))) c.octets.ensures
     ∙ ap (λ (first : List ℕ). packet_text
     (packet_anew SaltedStrings (from_key r) (record { secret = r.client_secret; first = first })
     (packet_of c.args.octets.now))) c.authenticator.ensures

@@ -1,7 +1,7 @@
 use Rattle.std.proofs.Common.{ap}
 use Rattle.roam_pending.specs.PlainEntry.{stands_done}
 use Rattle.roam_pending.specs.Shown.{shown, shown_standing}
-use Rattle.roam_book.proofs.LaneLemmas.{tells-gone}
+use Rattle.roam_book.proofs.LaneLemmas.{tells-replaced}
 use Rattle.roam_carry.proofs.EntriesOverLemmas.{on_link, waits_here}
 use Rattle.roam_carry.proofs.entries.give_back.Goals as goal
 
@@ -19,5 +19,5 @@ returns-in-Waiting-clause-tells g c = λ es tells at.
 -- an answered one waits nowhere
 pub returns-in-Done-clause-tells : goal.returns-in-Done-clause-tells
 returns-in-Done-clause-tells g c = λ es tells at.
-    tells-gone c.args.old.now es c.args.numbers.now.lanes.items (shown c.args.entry.now).ticket
+    tells-replaced c.args.old.now es c.args.numbers.now.lanes.items (shown c.args.entry.now).ticket
     (shown c.args.entry.now) tells at (ap stands_done (ap shown_standing c.in-Done.is))

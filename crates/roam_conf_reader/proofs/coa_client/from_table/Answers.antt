@@ -3,11 +3,16 @@ use Rattle.std.proofs.Common.{codes}
 use Rattle.roam_conf_reader.proofs.RangeLemmas.{text_at}
 use Rattle.roam_conf_reader.proofs.coa_client.from_table.Goals as goal
 
+-- A secret that is stated is short.
+pub new-requires : goal.new-requires
+new-requires c =
+    (text_at 64 _ (codes "secret") (table_view c.args.table.now) _ c.in-Some.ensures.secret).size.1
+
 -- What is stated is in its range.
 pub invariant_of-result : goal.invariant_of-result
 invariant_of-result c =
     let members = table_view c.args.table.now in
     record {
-      secret_length = rw c.in_ok-from_str.ensures.ok (text_at 64 _ (codes "secret") members _
+      secret_length = rw c.in_ok-new.ensures (text_at 64 _ (codes "secret") members _
           c.in-Some.ensures.secret).size;
     }

@@ -10,6 +10,16 @@ use Rattle.roam_conf_reader.proofs.ListLemmas.{is_list_of, stated_nas_text, stat
 use Rattle.roam_conf_reader.proofs.RangeLemmas.{text_at, optional_port_at, optional_text_at}
 use Rattle.roam_conf_reader.proofs.peer.from_table.Goals as goal
 
+-- A secret that is stated is short.
+pub new-requires : goal.new-requires
+new-requires c =
+    let members = table_view c.args.table.now in
+    let request = c.in_ok-of_requests.field-0 in
+    let reply = c.in_ok-of_replies.field-0 in
+    let stated = c.in-Some.ensures (map string_bytes c.in_ok-of_access_servers.field-0.items) request.items reply.items
+    c.in_ok-of_access_servers.ensures.ok c.in_ok-of_requests.ensures.ok c.in_ok-of_replies.ensures.ok in
+    (text_at 64 _ (codes "secret") members _ stated.secret).size.1
+
 -- What is stated is in its range.
 pub invariant_of-result : goal.invariant_of-result
 invariant_of-result c =
@@ -31,7 +41,7 @@ invariant_of-result c =
     record {
       name_length = rw c.in_ok-from_str.ensures.ok name.size;
       name_letters = rw c.in_ok-from_str.ensures.ok name.letters_only;
-      secret_length = rw c.in_ok-from_str-2.ensures.ok (text_at 64 _ (codes "secret") members _ stated.secret).size;
+      secret_length = rw c.in_ok-new.ensures (text_at 64 _ (codes "secret") members _ stated.secret).size;
       nas_id_length = optional_text_at 253 _ (codes "nas_id") members _ c.in_ok-copied.field-0 stated.nas_id
           c.in_ok-copied.ensures.ok;
       nas_ids_count = omega (arith, of_identifiers.count, identifiers.ok, length-map identifiers.items string_bytes);
@@ -51,7 +61,7 @@ returns-clause-ok c =
     let reply = c.in_ok-of_replies.field-0 in
     rw (
       c.in_ok-from_str.ensures.ok,
-      c.in_ok-from_str-2.ensures.ok,
+      c.in_ok-new.ensures,
       c.in_ok-copied.ensures.ok,
       c.in_ok-copied-2.ensures.ok,
     ) (c.in-Some.ensures (map string_bytes c.in_ok-of_access_servers.field-0.items) request.items reply.items

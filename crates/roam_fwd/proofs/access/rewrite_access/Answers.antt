@@ -73,8 +73,12 @@ seal-requires-clause-packet c =
     ≡ packet_text (packet_anew UserPassword (from_key f q) (to_key f) (packet_of c.put_header.new.octets)) =
     c.rehide_packet.ensures
     ∙ ap (λ (first : List ℕ). packet_text
-    (packet_anew UserPassword (record { secret = f.from_secret; first = first }) (to_key f)
-    (packet_of c.put_header.new.octets))) requesters in
+    (packet_anew UserPassword (record { secret = f.from_secret; first = first })
+    (record { secret = c.octets.result.now; first = f.authenticator })
+    (packet_of c.put_header.new.octets))) requesters
+    ∙ ap (λ (secret : List ℕ). packet_text
+    (packet_anew UserPassword (from_key f q) (record { secret = secret; first = f.authenticator })
+    (packet_of c.put_header.new.octets))) c.octets.ensures in
     let hidden : AreTextOf (access_unsealed f q) c.rehide_packet.new.octets =
     unsealed_access f c.args.len octets c.put_header.new.octets c.rehide_packet.new.octets h id sixteen headed
     anew in
@@ -100,8 +104,12 @@ seal-requires-clause-at_most_one c =
     ≡ packet_text (packet_anew UserPassword (from_key f q) (to_key f) (packet_of c.put_header.new.octets)) =
     c.rehide_packet.ensures
     ∙ ap (λ (first : List ℕ). packet_text
-    (packet_anew UserPassword (record { secret = f.from_secret; first = first }) (to_key f)
-    (packet_of c.put_header.new.octets))) requesters in
+    (packet_anew UserPassword (record { secret = f.from_secret; first = first })
+    (record { secret = c.octets.result.now; first = f.authenticator })
+    (packet_of c.put_header.new.octets))) requesters
+    ∙ ap (λ (secret : List ℕ). packet_text
+    (packet_anew UserPassword (from_key f q) (record { secret = secret; first = f.authenticator })
+    (packet_of c.put_header.new.octets))) c.octets.ensures in
     let hidden : AreTextOf (access_unsealed f q) c.rehide_packet.new.octets =
     unsealed_access f c.args.len octets c.put_header.new.octets c.rehide_packet.new.octets h id sixteen headed
     anew in
@@ -127,8 +135,12 @@ returns c =
     ≡ packet_text (packet_anew UserPassword (from_key f q) (to_key f) (packet_of c.put_header.new.octets)) =
     c.rehide_packet.ensures
     ∙ ap (λ (first : List ℕ). packet_text
-    (packet_anew UserPassword (record { secret = f.from_secret; first = first }) (to_key f)
-    (packet_of c.put_header.new.octets))) requesters in
+    (packet_anew UserPassword (record { secret = f.from_secret; first = first })
+    (record { secret = c.octets.result.now; first = f.authenticator })
+    (packet_of c.put_header.new.octets))) requesters
+    ∙ ap (λ (secret : List ℕ). packet_text
+    (packet_anew UserPassword (from_key f q) (record { secret = secret; first = f.authenticator })
+    (packet_of c.put_header.new.octets))) c.octets.ensures in
     let hidden : AreTextOf (access_unsealed f q) c.rehide_packet.new.octets =
     unsealed_access f c.args.len octets c.put_header.new.octets c.rehide_packet.new.octets h id sixteen headed
     anew in

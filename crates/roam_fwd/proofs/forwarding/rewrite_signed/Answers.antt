@@ -1,5 +1,7 @@
-use Rattle.std.proofs.Common.{ℕ, ◌<◌, List, take, subst, sym}
+use Rattle.std.proofs.Common.{ℕ, ◌<◌, ◌∙◌, List, take, ap, subst, sym}
+use Rattle.roam_wire.specs.Packet.{packet_text}
 use Rattle.roam_wire.specs.Reading.{packet_of}
+use Rattle.roam_auth.specs.Authenticators.{request_authenticator, with_authenticator}
 use Rattle.roam_auth.specs.MessageAuthenticator.{HasAtMostOneMessageAuthenticator}
 use Rattle.roam_fwd.specs.Forwarded.{Forwarding}
 use Rattle.roam_fwd.specs.Rewriting.{shown}
@@ -67,4 +69,8 @@ returns c =
     c.put_ticket.ensures c.put_header.ensures.header in
     let sealed_is = resealed_text f len octets c.put_header.new.octets c.seal.new.octets id h unsealed_is
     c.seal.ensures in
-    forwarded_text f len octets c.seal.new.octets c.sign_request.new.octets h sealed_is c.sign_request.ensures
+    let before = packet_of c.seal.new.octets in
+    forwarded_text f len octets c.seal.new.octets c.sign_request.new.octets h sealed_is
+    (c.sign_request.ensures
+    ∙ ap (λ (secret : List ℕ). packet_text (with_authenticator (request_authenticator secret before) before))
+    c.octets.ensures)

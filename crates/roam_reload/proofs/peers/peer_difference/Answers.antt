@@ -99,7 +99,7 @@ returns-else-ne-11-clause-none c =
     let ip : shown_prefix new.ip ≡ shown_prefix old.ip =
     agrees (shown_prefix old.ip) (shown_prefix new.ip) (prefix_eq old.ip new.ip) c.ne-else-ne.result
     (prefix_decides old.ip new.ip) c.ne-else-ne.ensures c.if-ne-2.false in
-    let secret : string_bytes new.secret ≡ string_bytes old.secret = search rules in
+    let secret : new.secret ≡ old.secret = search rules in
     let coa : new.coa ≡ old.coa =
     agrees old.coa new.coa (option_eq endpoint_eq old.coa new.coa) c.ne-else-ne-3.result
     (whole_option_decides endpoint_eq endpoint_decides old.coa new.coa) c.ne-else-ne-3.ensures c.if-ne-4.false in

@@ -10,8 +10,8 @@ use Rattle.roam_book.proofs.BookLemmas.{own-succeeds, realm-gives}
 use Rattle.roam_book.proofs.book.Book.request.Goals as goal
 
 -- an event of the configuration is a job that the realm takes
-pub request_of_job-asked-requires-clause-taken : goal.request_of_job-asked-requires-clause-taken
-request_of_job-asked-requires-clause-taken g c =
+pub request_of_job-request-requires-clause-taken : goal.request_of_job-request-requires-clause-taken
+request_of_job-request-requires-clause-taken g c =
     let b = c.self.inside in
     let job = shown_job c.args.job.now in
     let config : ConfigView = shown b.config.now in
@@ -27,7 +27,7 @@ returns-clause-turn g c =
     let b = c.self.inside in
     let turn = c.on_request.ensures.turn in
     let new = c.on_request.new.self in
-    let event = c.request_of_job-asked.ensures.event c.args.now in
+    let event = c.request_of_job-request.ensures.event c.args.now in
     let given = c.answer_of.ensures.gives _ _ _ _ turn.gives in
     realm-gives (λ k s. on_event k s (event_of c.args.now (shown_job c.args.job.now)))
     c.answer_of.result c.args.self.now (shown b.config.now) b.realm b.entries new.entries.now
@@ -38,7 +38,7 @@ returns-clause-turn g c =
 pub returns-clause-succeeds : goal.returns-clause-succeeds
 returns-clause-succeeds g c =
     let b = c.self.inside in
-    let event = c.request_of_job-asked.ensures.event c.args.now in
+    let event = c.request_of_job-request.ensures.event c.args.now in
     own-succeeds (λ k s. on_event k s (event_of c.args.now (shown_job c.args.job.now)))
     c.answer_of.result c.args.self.now (shown b.config.now) b.realm b.entries b.numbers
     c.new-settings.result (sym c.self.view_is) c.new-settings.ensures c.self.invariant.own_entries

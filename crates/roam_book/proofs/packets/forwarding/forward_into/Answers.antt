@@ -15,8 +15,8 @@ use Rattle.roam_book.proofs.packets.forwarding.forward_into.Goals as goal
 -- the buffer has room for the forwarded packet
 pub forward_shaped_reserved-requires-clause-room : goal.forward_shaped_reserved-requires-clause-room
 forward_shaped_reserved-requires-clause-room g c =
-    let q : PlainRequest = shown_request c.args.hop.asked in
-    let read : c.of_packet-request.result ≡ packet_of q.octets = c.of_packet-request.ensures in
+    let q : PlainRequest = shown_request c.args.hop.request in
+    let read : c.of_packet-view.result ≡ packet_of q.octets = c.of_packet-view.ensures in
     let code : c.code.result ≡ (packet_of q.octets).code = c.code.ensures ∙ ap (λ (x : Packet). x.code) read in
     let shape : shown_shaping c.shaping_of-shaping.result ≡ shaping c.args.settings.now q c.args.hop.link =
     c.shaping_of-shaping.ensures.shaping
@@ -26,8 +26,8 @@ forward_shaped_reserved-requires-clause-room g c =
 -- the request can be forwarded as it is shaped
 pub forward_shaped_reserved-requires-clause-can_be_shaped : goal.forward_shaped_reserved-requires-clause-can_be_shaped
 forward_shaped_reserved-requires-clause-can_be_shaped g c =
-    let q : PlainRequest = shown_request c.args.hop.asked in
-    let read : c.of_packet-request.result ≡ packet_of q.octets = c.of_packet-request.ensures in
+    let q : PlainRequest = shown_request c.args.hop.request in
+    let read : c.of_packet-view.result ≡ packet_of q.octets = c.of_packet-view.ensures in
     let code : c.code.result ≡ (packet_of q.octets).code = c.code.ensures ∙ ap (λ (x : Packet). x.code) read in
     let shape : shown_shaping c.shaping_of-shaping.result ≡ shaping c.args.settings.now q c.args.hop.link =
     c.shaping_of-shaping.ensures.shaping
@@ -40,25 +40,25 @@ forward_shaped_reserved-requires-clause-can_be_shaped g c =
 pub returns-clause-octets : goal.returns-clause-octets
 returns-clause-octets g c =
     let config : RealmConfig = c.args.settings.now in
-    let q : PlainRequest = shown_request c.args.hop.asked in
+    let q : PlainRequest = shown_request c.args.hop.request in
     let target : Target = record { link = c.args.hop.link; id = c.args.id } in
-    let read : c.of_packet-request.result ≡ packet_of q.octets = c.of_packet-request.ensures in
+    let read : c.of_packet-view.result ≡ packet_of q.octets = c.of_packet-view.ensures in
     let code : c.code.result ≡ (packet_of q.octets).code = c.code.ensures ∙ ap (λ (x : Packet). x.code) read in
     let shape : shown_shaping c.shaping_of-shaping.result ≡ shaping config q c.args.hop.link =
     c.shaping_of-shaping.ensures.shaping
     ∙ ap (λ (k : ℕ). shaping_of config q.requester k c.args.hop.link) code in
     octets-written config q c.args.position c.args.hop.ticket target c.drawn_at.result c.args.out.now.items
-    c.forward_shaped_reserved.new.out.items c.secret_of_requester.result.now c.secret_of_link.result.now
-    (shown_shaping c.shaping_of-shaping.result) c.of_packet-request.result
+    c.forward_shaped_reserved.new.out.items c.octets.result.now c.secret_of_link.result.now
+    (shown_shaping c.shaping_of-shaping.result) c.of_packet-view.result
     (record { octets = c.forward_shaped_reserved.ensures.octets }) c.requires.room.empty c.drawn_at.ensures
-    c.secret_of_requester.ensures.text c.secret_of_link.ensures.text shape read
+    (c.octets.ensures ∙ c.secret_of_requester.ensures.text) c.secret_of_link.ensures.text shape read
 
 pub returns-clause-waiting : goal.returns-clause-waiting
 returns-clause-waiting g c =
     let config : RealmConfig = c.args.settings.now in
-    let q : PlainRequest = shown_request c.args.hop.asked in
+    let q : PlainRequest = shown_request c.args.hop.request in
     let target : Target = record { link = c.args.hop.link; id = c.args.id } in
-    let read : c.of_packet-request.result ≡ packet_of q.octets = c.of_packet-request.ensures in
+    let read : c.of_packet-view.result ≡ packet_of q.octets = c.of_packet-view.ensures in
     let code : c.code.result ≡ (packet_of q.octets).code = c.code.ensures ∙ ap (λ (x : Packet). x.code) read in
     let shape : shown_shaping c.shaping_of-shaping.result ≡ shaping config q c.args.hop.link =
     c.shaping_of-shaping.ensures.shaping
@@ -69,10 +69,10 @@ returns-clause-waiting g c =
     let written : c.forward_shaped_reserved.new.out.items
     ≡ forwarded_octets config q c.args.position c.args.hop.ticket target =
     octets-written config q c.args.position c.args.hop.ticket target c.drawn_at.result c.args.out.now.items
-    c.forward_shaped_reserved.new.out.items c.secret_of_requester.result.now c.secret_of_link.result.now
-    (shown_shaping c.shaping_of-shaping.result) c.of_packet-request.result
+    c.forward_shaped_reserved.new.out.items c.octets.result.now c.secret_of_link.result.now
+    (shown_shaping c.shaping_of-shaping.result) c.of_packet-view.result
     (record { octets = c.forward_shaped_reserved.ensures.octets }) c.requires.room.empty c.drawn_at.ensures
-    c.secret_of_requester.ensures.text c.secret_of_link.ensures.text shape read in
+    (c.octets.ensures ∙ c.secret_of_requester.ensures.text) c.secret_of_link.ensures.text shape read in
     let waits = IsWaiting-forwarded config q c.args.position c.args.hop.ticket target c.requires.request c.requires.link
     spelt in
     subst (IsWaiting config q c.args.hop.link c.args.id) (sym written) (waits (omega arith))
@@ -81,9 +81,9 @@ returns-clause-waiting g c =
 pub returns-clause-size : goal.returns-clause-size
 returns-clause-size g c =
     let config : RealmConfig = c.args.settings.now in
-    let q : PlainRequest = shown_request c.args.hop.asked in
+    let q : PlainRequest = shown_request c.args.hop.request in
     let target : Target = record { link = c.args.hop.link; id = c.args.id } in
-    let read : c.of_packet-request.result ≡ packet_of q.octets = c.of_packet-request.ensures in
+    let read : c.of_packet-view.result ≡ packet_of q.octets = c.of_packet-view.ensures in
     let code : c.code.result ≡ (packet_of q.octets).code = c.code.ensures ∙ ap (λ (x : Packet). x.code) read in
     let shape : shown_shaping c.shaping_of-shaping.result ≡ shaping config q c.args.hop.link =
     c.shaping_of-shaping.ensures.shaping
@@ -94,9 +94,9 @@ returns-clause-size g c =
     let written : c.forward_shaped_reserved.new.out.items
     ≡ forwarded_octets config q c.args.position c.args.hop.ticket target =
     octets-written config q c.args.position c.args.hop.ticket target c.drawn_at.result c.args.out.now.items
-    c.forward_shaped_reserved.new.out.items c.secret_of_requester.result.now c.secret_of_link.result.now
-    (shown_shaping c.shaping_of-shaping.result) c.of_packet-request.result
+    c.forward_shaped_reserved.new.out.items c.octets.result.now c.secret_of_link.result.now
+    (shown_shaping c.shaping_of-shaping.result) c.of_packet-view.result
     (record { octets = c.forward_shaped_reserved.ensures.octets }) c.requires.room.empty c.drawn_at.ensures
-    c.secret_of_requester.ensures.text c.secret_of_link.ensures.text shape read in
+    (c.octets.ensures ∙ c.secret_of_requester.ensures.text) c.secret_of_link.ensures.text shape read in
     let foretold = length-forwarded_octets config q c.args.position c.args.hop.ticket target c.requires.request spelt in
     ap length written ∙ foretold (omega arith)

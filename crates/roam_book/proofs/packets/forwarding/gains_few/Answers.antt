@@ -10,7 +10,7 @@ use Rattle.roam_book.proofs.packets.forwarding.gains_few.Goals as goal
 -- its Operator-Name is short
 pub returns : goal.returns
 returns c =
-    let q = shown_request c.args.asked in
+    let q = shown_request c.args.request in
     let code : c.code-code.result ≡ (packet_of q.octets).code =
     c.code-code.ensures ∙ ap (λ (x : Packet). x.code) c.of_packet.ensures in
     let shape : shown_shaping c.shaping_of-shaping.result ≡ shaping c.args.settings.now q c.args.link =

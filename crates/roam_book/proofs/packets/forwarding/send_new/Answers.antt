@@ -10,7 +10,7 @@ use Rattle.roam_book.proofs.packets.forwarding.send_new.Goals as goal
 pub returns-clause-tells : goal.returns-clause-tells
 returns-clause-tells g c =
     λ es tells none.
-    let q : PlainRequest = shown_request c.args.hop.asked in
+    let q : PlainRequest = shown_request c.args.hop.request in
     let target : Target = record { link = c.args.hop.link; id = c.in-Some.id } in
     let signs = signs_of c.args.settings.now c.args.numbers.now.rests.items c.args.hop.link in
     let e : PlainEntry = forwarded_entry c.args.settings.now c.args.now signs q c.args.numbers.now.stream_position

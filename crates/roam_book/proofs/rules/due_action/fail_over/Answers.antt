@@ -6,13 +6,13 @@ use Rattle.roam_pending.proofs.OrderLemmas.{list-without}
 use Rattle.roam_pending.proofs.ChangeLemmas.{find-without}
 use Rattle.roam_book.specs.Sound.{LanesTell}
 use Rattle.roam_book.proofs.BecameLemmas.{became-forwarded, became-gone}
-use Rattle.roam_book.proofs.FateLemmas.{IsSent, gone-freed, forwarded-freed, was-freed}
+use Rattle.roam_book.proofs.DueActionLemmas.{IsSent, gone-freed, forwarded-freed, was-freed}
 use Rattle.roam_book.proofs.RoomLemmas.{buffers-smaller}
 use Rattle.roam_book.proofs.rules.due_action.fail_over.Goals as goal
 
 -- no later target has a free Identifier
-pub returns-in_default-clause-fate : goal.returns-in_default-clause-fate
-returns-in_default-clause-fate g c =
+pub returns-in_default-clause-action : goal.returns-in_default-clause-action
+returns-in_default-clause-action g c =
     λ es held.
     let e = shown c.args.entry.now in
     let freed = was-freed c.args.settings.now c.args.now c.args.link c.args.id c.args.signs es e c.args.numbers.now
@@ -36,11 +36,11 @@ returns-in_default-clause-fate g c =
     }) in
     gone-freed c.args.settings.now c.args.now es e c.args.numbers.now c.count_silence.new.self
     c.args.link c.args.signs c.give_up.result held freed c.in_default.ensures.chosen
-    c.give_up.ensures.fate c.give_up.ensures.no_link
+    c.give_up.ensures.action c.give_up.ensures.no_link
 
 -- the request goes to the target that was found
-pub returns-clause-fate : goal.returns-clause-fate
-returns-clause-fate g c =
+pub returns-clause-action : goal.returns-clause-action
+returns-clause-action g c =
     λ es held.
     let e = shown c.args.entry.now in
     let others = without e.ticket es in

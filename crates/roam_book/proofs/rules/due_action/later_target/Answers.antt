@@ -1,4 +1,4 @@
-use Rattle.roam_book.proofs.FateLemmas.{free-target}
+use Rattle.roam_book.proofs.DueActionLemmas.{free-target}
 use Rattle.roam_book.proofs.rules.due_action.later_target.Goals as goal
 
 -- the target that is found has a free Identifier

@@ -3,7 +3,7 @@ use Rattle.roam_pending.specs.Shown.{shown}
 use Rattle.roam_reverse.specs.declared.error_cause.TheConstants.{OTHER_PROXY_PROCESSING_ERROR}
 use Rattle.roam_wire.specs.Reading.{packet_of}
 use Rattle.roam_book.specs.OnRequest.{packet_to_requester}
-use Rattle.roam_book.specs.Private.Fates.{held_for}
+use Rattle.roam_book.specs.Private.DueActions.{held_for}
 use Rattle.roam_book.proofs.NakLemmas.{gives-up, length-nak_octets, nak-written, refused-fits, room-for-nak, room-less}
 use Rattle.roam_book.proofs.rules.due_action.refuse.Goals as goal
 
@@ -28,19 +28,19 @@ copied_into-requires g c =
     OTHER_PROXY_PROCESSING_ERROR c.requires.request c.requires.reverse in
     let is = c.as_slice-2.ensures.value ∙ nak-written c.args.settings.now (shown c.args.entry.now).request
     OTHER_PROXY_PROCESSING_ERROR c.args.buffers.sent.items c.nak_reserved.new.out.items
-    c.secret_of_requester-secret.result.now c.of_packet-request.result c.nak_reserved.ensures.octets
-    c.requires.buffers.sent.empty c.secret_of_requester-secret.ensures.text
+    c.octets-secret.result.now c.of_packet-request.result c.nak_reserved.ensures.octets
+    c.requires.buffers.sent.empty (c.octets-secret.ensures ∙ c.secret_of_requester.ensures.text)
     (c.of_packet-request.ensures ∙ ap packet_of c.as_slice.ensures) in
     rw is (room-less _ _ c.args.buffers.kept c.requires.buffers.kept fits)
 
-pub returns-clause-fate : goal.returns-clause-fate
-returns-clause-fate g c =
+pub returns-clause-action : goal.returns-clause-action
+returns-clause-action g c =
     let e = shown c.args.entry.now in
     let config = c.args.settings.now in
     let is = nak-written c.args.settings.now (shown c.args.entry.now).request
     OTHER_PROXY_PROCESSING_ERROR c.args.buffers.sent.items c.nak_reserved.new.out.items
-    c.secret_of_requester-secret.result.now c.of_packet-request.result c.nak_reserved.ensures.octets
-    c.requires.buffers.sent.empty c.secret_of_requester-secret.ensures.text
+    c.octets-secret.result.now c.of_packet-request.result c.nak_reserved.ensures.octets
+    c.requires.buffers.sent.empty (c.octets-secret.ensures ∙ c.secret_of_requester.ensures.text)
     (c.of_packet-request.ensures ∙ ap packet_of c.as_slice.ensures) in
     let out = c.packet_to_requester-out.ensures
     ∙ ap (packet_to_requester config e.request.key) (c.from_vec.ensures ∙ is) in

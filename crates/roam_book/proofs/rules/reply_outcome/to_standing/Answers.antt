@@ -24,7 +24,7 @@ pub returns-in-Done-clause-turn : goal.returns-in-Done-clause-turn
 returns-in-Done-clause-turn g c =
     let e : PlainEntry = shown c.args.entry.now in
     λ l i waits s. same-verdict c.args.settings.now c.not_taken.result e l s _ _
-    (c.not_taken.ensures.verdict c.args.settings.now e l s)
+    (c.not_taken.ensures.outcome c.args.settings.now e l s)
     (ap (λ (st : PlainStanding). to_standing c.args.settings.now c.args.now s e c.args.reply.now st)
     (ap shown_standing (sym c.in-Done.is)))
 

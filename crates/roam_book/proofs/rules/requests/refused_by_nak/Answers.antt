@@ -5,6 +5,6 @@ use Rattle.roam_book.proofs.rules.requests.refused_by_nak.Goals as goal
 -- the NAK fits into a packet
 pub nak-requires-clause-short : goal.nak-requires-clause-short
 nak-requires-clause-short g c =
-    rw c.of_packet-request.ensures
-    (refused-fits c.args.settings.now (shown_request c.args.asked) c.requires.request
+    rw c.of_packet-view.ensures
+    (refused-fits c.args.settings.now (shown_request c.args.request) c.requires.request
     c.requires.reverse)

@@ -15,8 +15,8 @@ returns-in-Ok-Job-clause-whole g c =
     whole_across (shown c.self.inside.config.now) c.self.inside.shards.items c.args.self.now
     c.self.view_is
 
-pub returns-in-Ok-Reject-clause-whole : goal.returns-in-Ok-Reject-clause-whole
-returns-in-Ok-Reject-clause-whole g c =
+pub returns-in-Ok-Answered-clause-whole : goal.returns-in-Ok-Answered-clause-whole
+returns-in-Ok-Answered-clause-whole g c =
     whole_across (shown c.self.inside.config.now) c.self.inside.shards.items c.args.self.now
     c.self.view_is
 

@@ -13,15 +13,15 @@ use Rattle.roam_book.specs.RealmTurn.{entries, state}
 use Rattle.roam_book.specs.OnTick.{Progress, due_standing, due_one}
 use Rattle.roam_book.specs.Private.Memory.{AreDues, IsOuts}
 use Rattle.roam_book.specs.Sound.{IsSound, state_of}
-use Rattle.roam_book.specs.Private.Fates.{IsFate, fate_entries}
+use Rattle.roam_book.specs.Private.DueActions.{IsDueAction, action_entries}
 use Rattle.roam_book.proofs.SoundLemmas.{kept-ticket}
-use Rattle.roam_book.proofs.FateListLemmas.{list-after, size-after}
+use Rattle.roam_book.proofs.ActionListLemmas.{list-after, size-after}
 use Rattle.roam_book.proofs.TickLemmas.{due_one-found, own-ticket, becomes-found}
 use Rattle.roam_book.proofs.state.realm_broker.RealmBroker.due_one.Goals as goal
 
 -- the entry of the ticket is sound
-pub act_on_due-fate-requires-clause-entry : goal.act_on_due-fate-requires-clause-entry
-act_on_due-fate-requires-clause-entry g c =
+pub act_on_due-action-requires-clause-entry : goal.act_on_due-action-requires-clause-entry
+act_on_due-action-requires-clause-entry g c =
     let r = c.args.self.now in
     let found = rw c.index.ensures at c.in-Some.ensures.found in
     kept-ticket r.settings.now r.numbers.now.ticket c.args.slot.due.ticket (shown c.in-Some.entry.now)
@@ -49,12 +49,12 @@ step g c =
     due_standing c.args.self.now.settings.now c.args.now (state g.E.Entries c.args.self.now)
     (entry g c) (entry g c).standing
 
-fate :
+action :
     (g : _) (c : goal.After-apply_action g)
-    → IsFate c.args.self.now.settings.now c.args.now (held g c) (entry g c)
-    c.act_on_due-fate.new.numbers c.act_on_due-fate.result (step g c)
-fate g c =
-    c.act_on_due-fate.ensures.fate (held g c) (record {
+    → IsDueAction c.args.self.now.settings.now c.args.now (held g c) (entry g c)
+    c.act_on_due-action.new.numbers c.act_on_due-action.result (step g c)
+action g c =
+    c.act_on_due-action.ensures.action (held g c) (record {
       sound = c.requires.realm.sound;
       list = c.requires.realm.list;
       found = own g c;
@@ -72,7 +72,7 @@ one g c =
 becomes :
     (g : _) (c : goal.After-apply_action g)
     → RealmBecomes c.args.self.now.settings.now.index
-    (fate_entries c.args.self.now.settings.now c.args.now (entry g c) (held g c) c.act_on_due-fate.result)
+    (action_entries c.args.self.now.settings.now c.args.now (entry g c) (held g c) c.act_on_due-action.result)
     (g.E.Entries.entries_of c.args.self.now.entries.now)
     (g.E.Entries.entries_of c.apply_action.new.self.entries.now)
 becomes g c =
@@ -80,36 +80,36 @@ becomes g c =
     let all = g.E.Entries.entries_of in
     becomes-found r.settings.now c.args.now r.settings.now.index c.args.slot.due.ticket
     (entry g c) (held g c) (all r.entries.now) (all c.apply_action.new.self.entries.now)
-    c.act_on_due-fate.result (found g c) c.apply_action.ensures.entries
+    c.act_on_due-action.result (found g c) c.apply_action.ensures.entries
 
 -- the realm's entries then, under the settings that it has then
 here :
     (g : _) (c : goal.After-apply_action g)
     → entries g.E.Entries c.apply_action.new.self
-    ≡ fate_entries c.args.self.now.settings.now c.args.now (entry g c) (held g c) c.act_on_due-fate.result
+    ≡ action_entries c.args.self.now.settings.now c.args.now (entry g c) (held g c) c.act_on_due-action.result
 here g c =
     ap (λ k. g.E.Entries.entries_of c.apply_action.new.self.entries.now k.index)
     c.apply_action.ensures.loans.settings ∙ (becomes g c).here
 
 pub returns-clause-outs : goal.returns-clause-outs
 returns-clause-outs g c = λ places packets h.
-    let sent = (fate g c).packets ∙ ap (λ (p : Progress). p.packets) (one g c) in
+    let sent = (action g c).packets ∙ ap (λ (p : Progress). p.packets) (one g c) in
     subst (λ (ps : List PlainOut). IsOuts places (packets ++ ps) c.apply_action.new.outs.sent) sent
     (c.apply_action.ensures.outs places packets
     (subst (λ v. IsOuts (places + 1) packets v) (sym c.note.ensures.outs) h))
 
 pub returns-clause-state : goal.returns-clause-state
 returns-clause-state g c =
-    let stands = (fate g c).state ∙ ap (λ (p : Progress). p.state) (one g c) in
+    let stands = (action g c).state ∙ ap (λ (p : Progress). p.state) (one g c) in
     let numbers = c.apply_action.ensures.numbers in
     ap (λ n. state_of (entries g.E.Entries c.apply_action.new.self) n) numbers
-    ∙ ap (λ (es : List PlainEntry). state_of es c.act_on_due-fate.new.numbers) (here g c) ∙ stands
+    ∙ ap (λ (es : List PlainEntry). state_of es c.act_on_due-action.new.numbers) (here g c) ∙ stands
 
 -- no entry grew
 pub returns-clause-sizes : goal.returns-clause-sizes
 returns-clause-sizes g c =
     λ t. rw (here g c) (size-after c.args.self.now.settings.now c.args.now t (entry g c) (held g c)
-    c.act_on_due-fate.result c.requires.realm.list.in_order (own g c))
+    c.act_on_due-action.result c.requires.realm.list.in_order (own g c))
 
 pub returns-clause-keeps : goal.returns-clause-keeps
 returns-clause-keeps g c =
@@ -118,10 +118,10 @@ returns-clause-keeps g c =
     let loans = c.apply_action.ensures.loans in
     let kept = c.requires.realm in
     let list : IsEntryList (entries g.E.Entries new) =
-    rw (here g c) (list-after config c.args.now (entry g c) (held g c) c.act_on_due-fate.result kept.list
+    rw (here g c) (list-after config c.args.now (entry g c) (held g c) c.act_on_due-action.result kept.list
     (own g c)) in
     let sound : IsSound config (entries g.E.Entries new) new.numbers.now =
-    rw (here g c, c.apply_action.ensures.numbers) ((fate g c).sound) in
+    rw (here g c, c.apply_action.ensures.numbers) ((action g c).sound) in
     record {
       realm = record {
         kept_here = rw (loans.keeps, loans.settings) kept.kept_here;
@@ -146,7 +146,7 @@ noted :
 noted g c lines kept =
     let config = c.args.self.now.settings.now in
     let s = state g.E.Entries c.args.self.now in
-    let became = c.act_on_due-fate.ensures.became (held g c) (record {
+    let became = c.act_on_due-action.ensures.became (held g c) (record {
       sound = c.requires.realm.sound;
       list = c.requires.realm.list;
       found = own g c;

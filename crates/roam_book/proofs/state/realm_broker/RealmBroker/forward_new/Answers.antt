@@ -18,8 +18,8 @@ send_new-sent-requires-clause-free g c =
     let old = c.args.self.now in
     let kept = c.requires.realm in
     let next = next-tells old.settings.now (entries g.E.Entries old) old.numbers.now.lanes.items
-    c.args.link kept.list kept.sound.lanes_tell c.requires.way.link in
-    ap is_some (sym next) ∙ c.requires.way.free
+    c.args.link kept.list kept.sound.lanes_tell c.requires.plan.link in
+    ap is_some (sym next) ∙ c.requires.plan.free
 
 -- neither the ticket nor the key is held
 pub insert_entry-requires-clause-new : goal.insert_entry-requires-clause-new
@@ -28,7 +28,7 @@ insert_entry-requires-clause-new g c =
     rw c.index.ensures (record {
       ticket = unheld-ticket old.settings.now old.numbers.now.ticket (entries g.E.Entries old)
           c.requires.realm.sound.each;
-      key = c.requires.way.key;
+      key = c.requires.plan.key;
     })
 
 -- the entry is that of a request that was forwarded
@@ -38,7 +38,7 @@ returns-clause-keeps g c =
     let config = old.settings.now in
     let es = entries g.E.Entries old in
     let kept = c.requires.realm in
-    let q = shown_request c.args.asked in
+    let q = shown_request c.args.request in
     let sent = c.send_new-sent.ensures in
     let w = c.send_new-sent.result.1 in
     let target : Target = record { link = c.args.link; id = w.id } in
@@ -52,12 +52,12 @@ returns-clause-keeps g c =
     let well = waits-well config q c.args.link w.link w.id w.sends_left w.deadline w.signs w.forwarded
     e.standing sent.standing refl sent.waiting in
     let unheld = unheld-ticket config old.numbers.now.ticket es kept.sound.each in
-    let new : IsNew e es = record { ticket = unheld; key = c.requires.way.key } in
+    let new : IsNew e es = record { ticket = unheld; key = c.requires.plan.key } in
     record {
       realm = record {
         kept_here = rw c.insert_entry.ensures.keeps kept.kept_here;
-        sound = new-sound config es _ old.numbers.now _ e kept.sound refl c.requires.way.request well
-            (sent.tells es kept.sound.lanes_tell unheld) c.requires.way.ticket
+        sound = new-sound config es _ old.numbers.now _ e kept.sound refl c.requires.plan.request well
+            (sent.tells es kept.sound.lanes_tell unheld) c.requires.plan.ticket
             (ap (λ (n : ℕ). n + 1) sent.ticket) sent.stream_position sent.sessions sent.count
             sent.marks here;
         list = rw here (list-new e es kept.list new);

@@ -9,4 +9,4 @@ returns-in-Some g c =
     let es = entries g.E.Entries c.args.self.now in
     let len = rw c.index.ensures at c.len-held.ensures.len in
     let list = rw c.index.ensures at c.len-held.ensures.list in
-    omega (arith, len, length-besides es c.args.gone _ list c.requires c.in-Some.is)
+    omega (arith, len, length-besides es c.args.replaced _ list c.requires c.in-Some.is)

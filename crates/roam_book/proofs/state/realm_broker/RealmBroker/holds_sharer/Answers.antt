@@ -19,25 +19,25 @@ is_sharer-requires g c =
 -- none waits there
 pub returns-in-None : goal.returns-in-None
 returns-in-None g c =
-    ap (λ (o : Option PlainEntry). option_map_or (is_kept_as (is_sharer c.args.sharer) c.args.gone) o false)
+    ap (λ (o : Option PlainEntry). option_map_or (is_kept_as (is_sharer c.args.sharer) c.args.replaced) o false)
     c.in-None.ensures.found
 
 -- one waits there that doesn't count as gone
 pub returns-then-is_beside : goal.returns-then-is_beside
 returns-then-is_beside g c =
     let e : PlainEntry = shown c.in-Some.entry.now in
-    let beside : is_beside c.args.gone e.ticket ≡ true = sym c.is_beside.ensures ∙ c.if-is_beside.true in
-    let whole : is_sharer c.args.sharer e ≡ is_kept_as (is_sharer c.args.sharer) c.args.gone e = rw beside refl in
+    let beside : is_beside c.args.replaced e.ticket ≡ true = sym c.is_beside.ensures ∙ c.if-is_beside.true in
+    let whole : is_sharer c.args.sharer e ≡ is_kept_as (is_sharer c.args.sharer) c.args.replaced e = rw beside refl in
     c.is_sharer.ensures ∙ whole
-    ∙ ap (λ (o : Option PlainEntry). option_map_or (is_kept_as (is_sharer c.args.sharer) c.args.gone) o false)
+    ∙ ap (λ (o : Option PlainEntry). option_map_or (is_kept_as (is_sharer c.args.sharer) c.args.replaced) o false)
     c.in-Some.ensures.found
 
 -- or that does
 pub returns-else-is_beside : goal.returns-else-is_beside
 returns-else-is_beside g c =
     let e : PlainEntry = shown c.in-Some.entry.now in
-    let gone : is_beside c.args.gone e.ticket ≡ false = sym c.is_beside.ensures ∙ c.if-is_beside.false in
-    let whole : false ≡ is_kept_as (is_sharer c.args.sharer) c.args.gone e = rw gone refl in
+    let replaced : is_beside c.args.replaced e.ticket ≡ false = sym c.is_beside.ensures ∙ c.if-is_beside.false in
+    let whole : false ≡ is_kept_as (is_sharer c.args.sharer) c.args.replaced e = rw replaced refl in
     c.if-is_beside.false ∙ whole
-    ∙ ap (λ (o : Option PlainEntry). option_map_or (is_kept_as (is_sharer c.args.sharer) c.args.gone) o false)
+    ∙ ap (λ (o : Option PlainEntry). option_map_or (is_kept_as (is_sharer c.args.sharer) c.args.replaced) o false)
     c.in-Some.ensures.found

@@ -1,7 +1,7 @@
 use Rattle.std.proofs.Common.{refl}
 use Rattle.roam_book.specs.RealmTurn.{state}
 use Rattle.roam_book.specs.Sound.{shown_request}
-use Rattle.roam_book.proofs.WayLemmas.{admitted-plan, refusal-plan}
+use Rattle.roam_book.proofs.AdmitPlanLemmas.{admitted-plan, refusal-plan}
 use Rattle.roam_book.proofs.state.realm_broker.RealmBroker.plan_new.Goals as goal
 
 -- it is admitted on the way that was chosen
@@ -10,8 +10,8 @@ returns-in-Ok g c =
     let r = c.args.self.now in
     let chosen = c.in-Ok.ensures.chooses in (
       chosen,
-      admitted-plan r.settings.now c.args.now (state g.E.Entries r) (shown_request c.args.asked) c.args.gone
-          c.in-Ok.way _ refl chosen c.in-Ok.ensures.target,
+      admitted-plan r.settings.now c.args.now (state g.E.Entries r) (shown_request c.args.request) c.args.replaced
+          c.in-Ok.plan _ refl chosen c.in-Ok.ensures.target,
     )
 
 -- it is refused

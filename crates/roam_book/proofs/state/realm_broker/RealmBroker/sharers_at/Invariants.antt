@@ -6,5 +6,5 @@ use Rattle.roam_book.proofs.state.realm_broker.RealmBroker.sharers_at.Given as g
 -- those that were looked at
 abbrev pub invariant-loop-id : goal.invariant-loop-id
 invariant-loop-id g l =
-    (l.count ≡ held_below l.id (is_sharer l.sharer) l.gone l.link (entries g.E.Entries l.self))
+    (l.count ≡ held_below l.id (is_sharer l.sharer) l.replaced l.link (entries g.E.Entries l.self))
     × (l.count ≤ l.id)

@@ -12,7 +12,7 @@ loop-server-init g c =
     let es = entries g.E.Entries c.args.self.now in
     let outs = length c.args.self.now.settings.now.realm.out in (
       sym (sum-none (λ server. sum_below outs
-          (λ out. held_below 256 test c.args.gone (server_link c.args.service server out) es))),
+          (λ out. held_below 256 test c.args.replaced (server_link c.args.service server out) es))),
       omega arith,
     )
 
@@ -23,7 +23,8 @@ loop-server-preserved g c =
     let es = entries g.E.Entries c.args.self.now in
     let outs = length c.args.self.now.settings.now.realm.out in
     let more = sum-more c.loop-server.server
-    (λ server. sum_below outs (λ out. held_below 256 test c.args.gone (server_link c.args.service server out) es)) in (
+    (λ server. sum_below outs
+    (λ out. held_below 256 test c.args.replaced (server_link c.args.service server out) es)) in (
       omega (arith, more, c.sharers_to-count.ensures.count, c.loop-server.invariant.0),
       omega (arith, c.sharers_to-count.ensures.few, c.loop-server.invariant.1),
     )

@@ -8,6 +8,6 @@ use Rattle.roam_book.proofs.state.realm_broker.RealmBroker.sharers_for.Given as 
 abbrev pub invariant-loop-server : goal.invariant-loop-server
 invariant-loop-server g l =
     (l.count ≡ sum_below l.server (λ server. sum_below (length l.self.settings.now.realm.out) (λ out.
-    held_below 256 (is_sharer l.sharer) l.gone (server_link l.service server out)
+    held_below 256 (is_sharer l.sharer) l.replaced (server_link l.service server out)
     (entries g.E.Entries l.self))))
     × (l.count ≤ 4096 * l.server)

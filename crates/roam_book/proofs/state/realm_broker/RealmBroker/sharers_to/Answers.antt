@@ -10,7 +10,7 @@ pub loop-out-init : goal.loop-out-init
 loop-out-init g c =
     let test = is_sharer c.args.sharer in
     let es = entries g.E.Entries c.args.self.now in (
-      sym (sum-none (λ out. held_below 256 test c.args.gone (server_link c.args.service c.args.server out) es)),
+      sym (sum-none (λ out. held_below 256 test c.args.replaced (server_link c.args.service c.args.server out) es)),
       omega arith,
     )
 
@@ -21,7 +21,7 @@ loop-out-preserved g c =
     let es = entries g.E.Entries c.args.self.now in
     let count = rw c.link.ensures at c.sharers_at-count.ensures.count in
     let more = sum-more c.loop-out.out
-    (λ out. held_below 256 test c.args.gone (server_link c.args.service c.args.server out) es) in (
+    (λ out. held_below 256 test c.args.replaced (server_link c.args.service c.args.server out) es) in (
       omega (arith, more, count, c.loop-out.invariant.0),
       omega (arith, c.sharers_at-count.ensures.few, c.loop-out.invariant.1),
     )

@@ -8,6 +8,6 @@ use Rattle.roam_book.proofs.state.realm_broker.RealmBroker.sharers_to.Given as g
 abbrev pub invariant-loop-out : goal.invariant-loop-out
 invariant-loop-out g l =
     (l.count ≡ sum_below l.out (λ out.
-    held_below 256 (is_sharer l.sharer) l.gone (server_link l.service l.server out)
+    held_below 256 (is_sharer l.sharer) l.replaced (server_link l.service l.server out)
     (entries g.E.Entries l.self)))
     × (l.count ≤ 256 * l.out)

@@ -1,7 +1,7 @@
 use Rattle.std.proofs.Common.{Some, refl}
 use Rattle.roam_pending.proofs.OrderLemmas.{list-without}
 use Rattle.roam_book.specs.RealmTurn.{entries}
-use Rattle.roam_book.proofs.AdmissionLemmas.{way-sound}
+use Rattle.roam_book.proofs.AdmissionLemmas.{plan-sound}
 use Rattle.roam_book.proofs.state.realm_broker.RealmBroker.take_away_done.Goals as goal
 
 -- a done entry holds no Identifier
@@ -15,7 +15,7 @@ returns-in-Some-clause-keeps g c =
     record {
       realm = record {
         kept_here = rw c.remove-done.ensures.keeps kept.kept_here;
-        sound = rw become.here (way-sound old.settings.now es old.numbers.now (Some c.in-Some.ticket)
+        sound = rw become.here (plan-sound old.settings.now es old.numbers.now (Some c.in-Some.ticket)
             kept.sound kept.list done);
         list = rw become.here (list-without c.in-Some.ticket es kept.list);
       };

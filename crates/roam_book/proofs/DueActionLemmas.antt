@@ -18,7 +18,7 @@ use Rattle.roam_route.specs.Admission.{PlainOut}
 use Rattle.roam_route.specs.Shown.{shown_out}
 use Rattle.roam_ids.specs.LaneState.{LaneState}
 use Rattle.roam_book.specs.declared.rules.due_action.DueAction.{DueAction}
-use Rattle.roam_book.specs.declared.rules.due_action.DueAction.TheVariants as fate
+use Rattle.roam_book.specs.declared.rules.due_action.DueAction.TheVariants as action
 use Rattle.roam_reverse.specs.Shown.{Ledger}
 use Rattle.roam_book.specs.declared.state.realm_numbers.RealmNumbers.{RealmNumbers}
 use Rattle.roam_route.specs.declared.datagram.Out.{Out}
@@ -31,10 +31,10 @@ use Rattle.roam_book.specs.OnRequest.{packet_to_link, position_after, forwarded_
 use Rattle.roam_book.specs.OnTick.{fail_over, given_up_at, due_standing}
 use Rattle.roam_book.specs.Stays.{RestsBecome}
 use Rattle.roam_book.specs.Sound.{AreOwnLanes, IsEntry, IsWaiting, StandsWell, IsSound, LanesTell, state_of, cursors_of, lane_of, has_free, chosen_link, marks_of}
-use Rattle.roam_book.specs.Private.Fates.{GivesUp, HoldsNoLink, IsHeld, IsFate, KeepsNoLink, fate_entries, once_held}
+use Rattle.roam_book.specs.Private.DueActions.{GivesUp, HoldsNoLink, IsHeld, IsDueAction, KeepsNoLink, action_entries, once_held}
 use Rattle.roam_book.proofs.SendingLemmas.{position-below}
 use Rattle.roam_book.proofs.SoundLemmas.{kept-put, kept-without, kept-ticket}
-use Rattle.roam_book.proofs.LaneLemmas.{tells-done, tells-gone, tells-again, chosen-open, target-tells, target-next}
+use Rattle.roam_book.proofs.LaneLemmas.{tells-done, tells-replaced, tells-again, chosen-open, target-tells, target-next}
 use Rattle.roam_book.proofs.WaysToLemmas.{links-are}
 
 -- A realm whose entries change
@@ -80,12 +80,12 @@ same-numbers n =
 pub gone-done :
     {A : Type 0} (c : RealmConfig) (now : ℕ) (es : List PlainEntry) (e : PlainEntry) (n : RealmNumbers A)
     (reply : List ℕ) (deadline : ℕ) (from : Option Link) → e.standing ≡ done reply deadline from → IsHeld c es e n
-    → IsFate c now es e n fate.Expired (due_standing c now (state_of es n) e e.standing)
+    → IsDueAction c now es e n action.Expired (due_standing c now (state_of es n) e e.standing)
 gone-done {A} c now es e n reply deadline from stands held =
     let is : is_done e ≡ true = ap stands_done stands in
     let each = kept-without c n.ticket e.ticket es held.sound.each in
-    let tells = tells-gone c es n.lanes.items e.ticket e held.sound.lanes_tell held.found is in
-    subst (λ (p : PlainStanding). IsFate c now es e n fate.Expired
+    let tells = tells-replaced c es n.lanes.items e.ticket e held.sound.lanes_tell held.found is in
+    subst (λ (p : PlainStanding). IsDueAction c now es e n action.Expired
     (due_standing c now (state_of es n) e p)) (sym stands) (record {
       packets = refl;
       state = refl;
@@ -112,7 +112,7 @@ pub again :
     (l : Link) (id : ℕ) (forwarded : List ℕ) (sends_left deadline signs : ℕ) (sent : Out A)
     → e.standing ≡ waiting l id forwarded sends_left deadline signs → 0 < sends_left
     → shown_out sent ≡ packet_to_link c l forwarded → IsHeld c es e n
-    → IsFate c now es e n (fate.SentAgain sent) (due_standing c now (state_of es n) e e.standing)
+    → IsDueAction c now es e n (action.SentAgain sent) (due_standing c now (state_of es n) e e.standing)
 again c now es e n l id forwarded sends_left deadline signs sent stands some is held =
     let d = now + c.realm.wait in
     let left : ltb 0 sends_left ≡ true = grind (arith, nat_tests) in
@@ -122,7 +122,7 @@ again c now es e n l id forwarded sends_left deadline signs sent stands some is 
     let tells = tells-again c es n.lanes.items e.ticket e d held.sound.lanes_tell held.found in
     let sound = sound-changed c es (put (sent_again d e) es) n n held.sound (same-numbers n) each
     tells in
-    subst (λ (p : PlainStanding). IsFate c now es e n (fate.SentAgain sent)
+    subst (λ (p : PlainStanding). IsDueAction c now es e n (action.SentAgain sent)
     (due_standing c now (state_of es n) e p)) (sym stands)
     (rw left (record { packets = ap (λ (p : PlainOut). p ∷ []) is; state = refl; sound = sound }))
 
@@ -247,13 +247,13 @@ given-sound :
     {A : Type 0} (c : RealmConfig) (now : ℕ) (es : List PlainEntry) (e : PlainEntry)
     (n m : RealmNumbers A) (l : Link) (signs : ℕ) (f : DueAction A) → IsHeld c es e n
     → IsFreed c now l signs (without e.ticket es) n m → GivesUp c now e f → KeepsNoLink f
-    → IsSound c (fate_entries c now e es f) m
-given-sound c now es e n m l signs fate.Expired held freed given none =
+    → IsSound c (action_entries c now e es f) m
+given-sound c now es e n m l signs action.Expired held freed given none =
     held-done c es e n m None now l signs held freed tt
-given-sound c now es e n m l signs (fate.Refused sent d) held freed given none =
+given-sound c now es e n m l signs (action.Refused sent d) held freed given none =
     held-done c es e n m d now l signs held freed none
-given-sound c now es e n m l signs (fate.SentAgain sent) held freed given none = absurd (given.ends)
-given-sound c now es e n m l signs (fate.Forwarded sent w) held freed given none = absurd (given.ends)
+given-sound c now es e n m l signs (action.SentAgain sent) held freed given none = absurd (given.ends)
+given-sound c now es e n m l signs (action.Forwarded sent w) held freed given none = absurd (given.ends)
 
 -- no later target has a free Identifier: no one answers the request
 pub gone-freed :
@@ -262,12 +262,12 @@ pub gone-freed :
     → IsHeld c es e n → IsFreed c now l signs (without e.ticket es) n m
     → None ≡ chosen_link c now m.rests.items m.lanes.items None (later_targets c l)
     → GivesUp c now e f → KeepsNoLink f
-    → IsFate c now es e m f (fail_over c now (given_up_at c now l signs (state_of es n) e) e
+    → IsDueAction c now es e m f (fail_over c now (given_up_at c now l signs (state_of es n) e) e
     (next_target c now es e n l signs))
 gone-freed c now es e n m l signs f held freed none given no_link =
     let first = no_target (next_target c now es e n l signs) (target-is c now es e n m l signs held freed ∙ sym none) in
     let old = given_up_at c now l signs (state_of es n) e in
-    let state : state_of (fate_entries c now e es f) m ≡ with_entries old (fate_entries c now e es f) =
+    let state : state_of (action_entries c now e es f) m ≡ with_entries old (action_entries c now e es f) =
     rw (freed.cursors, freed.same.ticket, freed.same.stream_position, freed.same.sessions, freed.rests)
     refl in
     rw first (record {
@@ -319,7 +319,7 @@ pub forwarded-freed :
     → Some to ≡ chosen_link c now m.rests.items m.lanes.items None (later_targets c l)
     → RestsBecome (after_choice c now m.rests.items to) m p
     → IsSent c now (without e.ticket es) e.request e.ticket to p k o w
-    → IsFate c now es e k (fate.Forwarded o w)
+    → IsDueAction c now es e k (action.Forwarded o w)
     (fail_over c now (given_up_at c now l signs (state_of es n) e) e (next_target c now es e n l signs))
 forwarded-freed c now es e n m p k l to signs o w held freed some off sent =
     let others = without e.ticket es in

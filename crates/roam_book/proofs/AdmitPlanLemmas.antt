@@ -8,7 +8,7 @@ use Rattle.roam_conf.specs.declared.place.Link.{Link}
 use Rattle.roam_route.specs.Admission.{PlainOut}
 use Rattle.roam_pending.specs.PlainEntry.{PlainEntry, PlainRequest}
 use Rattle.roam_pending.specs.EntryList.{find_client, first_done}
-use Rattle.roam_book.specs.Private.NewEntry.{Chooses, HasNext, IsByTarget, IsChosen, IsWay, admits, admitted_by, cleared, gone_entry, new_happening, once_gone, straight_after, straight_to, target_at, target_link}
+use Rattle.roam_book.specs.Private.NewEntry.{Chooses, HasNext, IsByTarget, IsChosen, IsAdmitPlan, admits, admitted_by, cleared, replaced_entry, new_happening, once_replaced, straight_after, straight_to, target_at, target_link}
 use Rattle.roam_book.specs.OnRequest.{at_target, make_way, new_request, targets}
 use Rattle.roam_book.specs.RealmConfig.{RealmConfig, IsLink}
 use Rattle.roam_book.specs.Conversing.{new_target, rests_chosen}
@@ -17,7 +17,7 @@ use Rattle.roam_book.specs.HappeningsShown.{shown_happening}
 use Rattle.roam_book.specs.Turned.{IsTurned}
 use Rattle.roam_book.specs.RealmState.{RealmState, Target, with_rests}
 use Rattle.roam_book.specs.declared.state.rest.Rest.{Rest}
-use Rattle.roam_book.specs.Sound.{CountsAsGone, IsRequest}
+use Rattle.roam_book.specs.Sound.{CountsAsReplaced, IsRequest}
 use Rattle.roam_book.specs.Turn.{Turn, refuses, sends, shown_outs}
 use Rattle.roam_book.specs.declared.packets.answer.Turned.{Turned}
 use Rattle.roam_book.specs.declared.rules.replaced.Replaced.{Replaced}
@@ -26,13 +26,13 @@ use Rattle.roam_book.proofs.RequestLemmas.{in-else}
 
 -- a target with this link
 to-link :
-    (ticket : ℕ) (gone : Option PlainEntry) (o : Option Target) (l : Link)
+    (ticket : ℕ) (replaced : Option PlainEntry) (o : Option Target) (l : Link)
     → option_map (λ (t : Target). t.link) o ≡ Some l
-    → to_target ticket gone o ≡ forwarded ticket l (replaced_by gone)
-to-link ticket gone None l h = absurd (let k : None ≡ Some l = h in cc)
-to-link ticket gone (Some t) l h =
+    → to_target ticket replaced o ≡ forwarded ticket l (replaced_by replaced)
+to-link ticket replaced None l h = absurd (let k : None ≡ Some l = h in cc)
+to-link ticket replaced (Some t) l h =
     let k : Some t.link ≡ Some l = h in
-    let is : t.link ≡ l = cc in ap (λ (x : Link). forwarded ticket x (replaced_by gone)) is
+    let is : t.link ≡ l = cc in ap (λ (x : Link). forwarded ticket x (replaced_by replaced)) is
 
 -- The way of a new request
 
@@ -47,26 +47,26 @@ no-place c now s q es t full none =
 
 -- there is none, and one does
 pub place-made :
-    (c : RealmConfig) (now : ℕ) (s : RealmState) (q : PlainRequest) (gone : Option Replaced) (l : Link)
+    (c : RealmConfig) (now : ℕ) (s : RealmState) (q : PlainRequest) (replaced : Option Replaced) (l : Link)
     (bound : Bool) (t : ℕ)
-    → c.realm.max_pending ≤ length (once_gone gone s.entries)
-    → first_done (once_gone gone s.entries) ≡ Some t → IsWay c s q (straight_after gone l bound)
-    → IsChosen c now s q (record { gone = gone; done = Some t; link = l; bound = bound })
-    (at_target c now (with_rests s (rests_chosen c now s.rests bound l)) (once_gone gone s.entries) q
-    (Some (target_at c s.cursors (once_gone gone s.entries) l)))
-place-made c now s q gone l bound t full some way =
-    let es = once_gone gone s.entries in
+    → c.realm.max_pending ≤ length (once_replaced replaced s.entries)
+    → first_done (once_replaced replaced s.entries) ≡ Some t → IsAdmitPlan c s q (straight_after replaced l bound)
+    → IsChosen c now s q (record { replaced = replaced; done = Some t; link = l; bound = bound })
+    (at_target c now (with_rests s (rests_chosen c now s.rests bound l)) (once_replaced replaced s.entries) q
+    (Some (target_at c s.cursors (once_replaced replaced s.entries) l)))
+place-made c now s q replaced l bound t full some plan =
+    let es = once_replaced replaced s.entries in
     let target = target_at c s.cursors es l in
     let no : ltb (length es) c.realm.max_pending ≡ false = grind (arith, nat_tests, full) in
     record {
-      way = record {
-        request = way.request;
-        ticket = way.ticket;
-        gone = way.gone;
-        key = way.key;
+      plan = record {
+        request = plan.request;
+        ticket = plan.ticket;
+        replaced = plan.replaced;
+        key = plan.key;
         done = some;
-        link = way.link;
-        free = way.free;
+        link = plan.link;
+        free = plan.free;
       };
       does = in-else _ _ _ no ∙ ap (make_way c now (with_rests s (rests_chosen c now s.rests bound l)) es q target)
           some;
@@ -76,28 +76,29 @@ place-made c now s q gone l bound t full some way =
 pub chosen-same :
     (c : RealmConfig) (now : ℕ) (s : RealmState) (q : PlainRequest) (r : Result AdmitPlan Refusal)
     (turn other : Turn) → other ≡ turn → Chooses c now s q r turn → Chooses c now s q r other
-chosen-same c now s q (Ok way) turn other is h = record { way = h.way; does = is ∙ h.does }
+chosen-same c now s q (Ok plan) turn other is h = record { plan = h.plan; does = is ∙ h.does }
 chosen-same c now s q (Err why) turn other is h = is ∙ h
 
 -- and goes to the target's link
 pub by-target :
     (c : RealmConfig) (now : ℕ) (s : RealmState) (out : Option Replaced) (q : PlainRequest) (l : Link)
     (r : Result AdmitPlan Refusal)
-    → target_link c now s (once_gone out s.entries) q ≡ Some l
-    → IfOk r (λ way. way.gone ≡ out) → IfOk r (λ way. way.link ≡ l) → IfOk r (IsByTarget c now s out q)
-by-target c now s out q l (Ok way) at goes to = record { gone = goes; link = at ∙ ap (λ (x : Link). Some x) (sym to) }
+    → target_link c now s (once_replaced out s.entries) q ≡ Some l
+    → IfOk r (λ plan. plan.replaced ≡ out) → IfOk r (λ plan. plan.link ≡ l) → IfOk r (IsByTarget c now s out q)
+by-target c now s out q l (Ok plan) at goes to =
+    record { replaced = goes; link = at ∙ ap (λ (x : Link). Some x) (sym to) }
 by-target c now s out q l (Err why) at goes to = tt
 
 -- a link has a free Identifier for a request whose key is free once an entry is gone
-pub straight-way :
-    (c : RealmConfig) (s : RealmState) (q : PlainRequest) (gone : Option Replaced) (l : Link) (bound : Bool)
-    → IsRequest c q → s.ticket ≤ 2 ^ 63 → s.ticket ≢ 2 ^ 63 → CountsAsGone gone s.entries
-    → find_client q.key (once_gone gone s.entries) ≡ None → IsLink c l
-    → HasNext c s.cursors (once_gone gone s.entries) l → IsWay c s q (straight_after gone l bound)
-straight-way c s q gone l bound request most below counts key link free = record {
+pub straight-plan :
+    (c : RealmConfig) (s : RealmState) (q : PlainRequest) (replaced : Option Replaced) (l : Link) (bound : Bool)
+    → IsRequest c q → s.ticket ≤ 2 ^ 63 → s.ticket ≢ 2 ^ 63 → CountsAsReplaced replaced s.entries
+    → find_client q.key (once_replaced replaced s.entries) ≡ None → IsLink c l
+    → HasNext c s.cursors (once_replaced replaced s.entries) l → IsAdmitPlan c s q (straight_after replaced l bound)
+straight-plan c s q replaced l bound request most below counts key link free = record {
   request = request;
   ticket = omega (arith, most, below);
-  gone = counts;
+  replaced = counts;
   key = key;
   done = tt;
   link = link;
@@ -105,13 +106,13 @@ straight-way c s q gone l bound request most below counts key link free = record
 }
 
 -- once its link was chosen, and those that had to go are gone, the way is straight
-pub way-chosen :
-    (c : RealmConfig) (s : RealmState) (q : PlainRequest) (way : AdmitPlan) (rests : List Rest)
-    → IsWay c s q (cleared way) → IsWay c (with_rests s rests) q (straight_to way.link false)
-way-chosen c s q way rests h = record {
+pub plan-chosen :
+    (c : RealmConfig) (s : RealmState) (q : PlainRequest) (plan : AdmitPlan) (rests : List Rest)
+    → IsAdmitPlan c s q (cleared plan) → IsAdmitPlan c (with_rests s rests) q (straight_to plan.link false)
+plan-chosen c s q plan rests h = record {
   request = h.request;
   ticket = h.ticket;
-  gone = tt;
+  replaced = tt;
   key = h.key;
   done = tt;
   link = h.link;
@@ -144,13 +145,14 @@ held-plan t s packets turn sent outs refusal happened is =
 
 -- what happens by an admission is that it is forwarded to the way's link
 pub admitted-plan :
-    (c : RealmConfig) (now : ℕ) (s : RealmState) (q : PlainRequest) (gone : Option Replaced) (way : AdmitPlan)
-    (turn : Turn) → turn ≡ new_request c now s (once_gone gone s.entries) q → IsChosen c now s q way turn
-    → IsByTarget c now s gone q way → admitted_by s way ≡ new_happening c now s gone q
-admitted-plan c now s q gone way turn new chosen by =
-    let sends_it : new_request c now s (once_gone gone s.entries) q ≡ admits c now s q way = sym new ∙ chosen.does in
-    let target = new_target c now s (once_gone gone s.entries) q (targets c q) in
-    let to : to_target s.ticket (gone_entry gone s.entries) target
-    ≡ forwarded s.ticket way.link (replaced_by (gone_entry gone s.entries)) =
-    to-link s.ticket (gone_entry gone s.entries) target way.link by.link in
-    rw (sends_it, by.gone) (sym to)
+    (c : RealmConfig) (now : ℕ) (s : RealmState) (q : PlainRequest) (replaced : Option Replaced) (plan : AdmitPlan)
+    (turn : Turn) → turn ≡ new_request c now s (once_replaced replaced s.entries) q → IsChosen c now s q plan turn
+    → IsByTarget c now s replaced q plan → admitted_by s plan ≡ new_happening c now s replaced q
+admitted-plan c now s q replaced plan turn new chosen by =
+    let sends_it : new_request c now s (once_replaced replaced s.entries) q ≡ admits c now s q plan =
+    sym new ∙ chosen.does in
+    let target = new_target c now s (once_replaced replaced s.entries) q (targets c q) in
+    let to : to_target s.ticket (replaced_entry replaced s.entries) target
+    ≡ forwarded s.ticket plan.link (replaced_by (replaced_entry replaced s.entries)) =
+    to-link s.ticket (replaced_entry replaced s.entries) target plan.link by.link in
+    rw (sends_it, by.replaced) (sym to)

@@ -2,7 +2,7 @@
 
 ghost use Rattle.std.specs.Prelude.{◌≡◌, ◌↔◌, IsTrue};
 ghost use Rattle.roam_conf.specs.Shown.{shown};
-ghost use Rattle.roam_reload.specs.Differences.{IsFate};
+ghost use Rattle.roam_reload.specs.Differences.{IsAfterReload};
 ghost use Rattle.roam_reload.specs.Numbers.{is_here};
 ghost use Rattle.roam_reload.specs.Reload.{IsCarried, IsUntouched};
 
@@ -12,7 +12,7 @@ use roam_conf::Config;
 
 /// What becomes of the realm of an index when a configuration follows another.
 #[derive(Clone, Copy, PartialEq, Eq)]
-pub enum Fate {
+pub enum AfterReload {
     /// It goes on, and nothing that it depends on has changed.
     Unchanged,
     /// It goes on: its own table has changed, or a peer's.
@@ -60,19 +60,19 @@ pub fn is_untouched(old: &Config, new: &Config, realm: u16) -> bool
 }
 
 /// What becomes of the realm of an index when `new` follows `old`.
-pub fn fate_of(old: &Config, new: &Config, realm: u16) -> Fate
-    ensures { IsFate (shown old.now) (shown new.now) realm result }
+pub fn after_reload(old: &Config, new: &Config, realm: u16) -> AfterReload
+    ensures { IsAfterReload (shown old.now) (shown new.now) realm result }
 {
     match (is_here(old, realm), is_here(new, realm)) {
         (true, true) => {
             if is_untouched(old, new, realm) {
-                Fate::Unchanged
+                AfterReload::Unchanged
             } else {
-                Fate::Carried
+                AfterReload::Carried
             }
         }
-        (false, true) => Fate::New,
-        (true, false) => Fate::Gone,
-        (false, false) => Fate::Away,
+        (false, true) => AfterReload::New,
+        (true, false) => AfterReload::Gone,
+        (false, false) => AfterReload::Away,
     }
 }

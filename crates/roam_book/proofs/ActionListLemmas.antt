@@ -1,4 +1,4 @@
--- The list of entries once an entry had its fate.
+-- The list of entries once an entry was acted on.
 use Rattle.std.proofs.Common.{◌≡◌, ℕ, ◌+◌, ◌≤◌, List, Some, None, refl, ap, sym, arith, inl, inr}
 use Rattle.std.proofs.lemmas.Bool.{cases_eq}
 use Rattle.roam_pending.specs.declared.entry.Standing.TheVariants as standing
@@ -9,10 +9,10 @@ use Rattle.roam_pending.specs.Shown.{shown_standing}
 use Rattle.roam_pending.proofs.OrderLemmas.{list-changed, list-without}
 use Rattle.roam_pending.proofs.ChangeLemmas.{find-put, find-put_other, find-without, find-without_other}
 use Rattle.roam_book.specs.declared.rules.due_action.DueAction.{DueAction}
-use Rattle.roam_book.specs.declared.rules.due_action.DueAction.TheVariants as fate
+use Rattle.roam_book.specs.declared.rules.due_action.DueAction.TheVariants as action
 use Rattle.roam_book.specs.RealmConfig.{RealmConfig}
 use Rattle.roam_book.specs.Rooms.{size_of}
-use Rattle.roam_book.specs.Private.Fates.{fate_entries}
+use Rattle.roam_book.specs.Private.DueActions.{action_entries}
 
 -- No entry grows
 
@@ -40,14 +40,14 @@ size-without t s es =
 pub size-after :
     {A : Type 0} (c : RealmConfig) (now t : ℕ) (e : PlainEntry) (es : List PlainEntry) (f : DueAction A)
     → IsInOrder es → find_ticket e.ticket es ≡ Some e
-    → size_of (find_ticket t (fate_entries c now e es f)) ≤ size_of (find_ticket t es)
-size-after c now t e es fate.Expired order found = size-without t e.ticket es
-size-after c now t e es (fate.SentAgain sent) order found = size-put t
+    → size_of (find_ticket t (action_entries c now e es f)) ≤ size_of (find_ticket t es)
+size-after c now t e es action.Expired order found = size-without t e.ticket es
+size-after c now t e es (action.SentAgain sent) order found = size-put t
     (sent_again (now + c.realm.wait) e) e es order refl refl found
-size-after c now t e es (fate.Forwarded sent w) order found = size-put t
+size-after c now t e es (action.Forwarded sent w) order found = size-put t
     (with_standing (shown_standing (standing.Waiting w)) e) e es order refl refl found
-size-after c now t e es (fate.Refused sent None) order found = size-without t e.ticket es
-size-after c now t e es (fate.Refused sent (Some d)) order found =
+size-after c now t e es (action.Refused sent None) order found = size-without t e.ticket es
+size-after c now t e es (action.Refused sent (Some d)) order found =
     size-put t (with_standing (done d.reply d.deadline d.from) e) e es order refl refl found
 
 -- the list stays one
@@ -60,12 +60,12 @@ list-put x e es list at is found =
 
 pub list-after :
     {A : Type 0} (c : RealmConfig) (now : ℕ) (e : PlainEntry) (es : List PlainEntry) (f : DueAction A)
-    → IsEntryList es → find_ticket e.ticket es ≡ Some e → IsEntryList (fate_entries c now e es f)
-list-after c now e es fate.Expired list found = list-without e.ticket es list
-list-after c now e es (fate.SentAgain sent) list found =
+    → IsEntryList es → find_ticket e.ticket es ≡ Some e → IsEntryList (action_entries c now e es f)
+list-after c now e es action.Expired list found = list-without e.ticket es list
+list-after c now e es (action.SentAgain sent) list found =
     list-put (sent_again (now + c.realm.wait) e) e es list refl refl found
-list-after c now e es (fate.Forwarded sent w) list found =
+list-after c now e es (action.Forwarded sent w) list found =
     list-put (with_standing (shown_standing (standing.Waiting w)) e) e es list refl refl found
-list-after c now e es (fate.Refused sent None) list found = list-without e.ticket es list
-list-after c now e es (fate.Refused sent (Some d)) list found =
+list-after c now e es (action.Refused sent None) list found = list-without e.ticket es list
+list-after c now e es (action.Refused sent (Some d)) list found =
     list-put (with_standing (done d.reply d.deadline d.from) e) e es list refl refl found

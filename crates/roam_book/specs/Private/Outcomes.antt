@@ -27,15 +27,15 @@ once_done c s e l heard (Some d) peer = record s {
 }
 
 -- a verdict on an entry's reply from a link does this turn; where nothing is sent the entry isn't done
-pub record Judges {A : Type 0} (c : RealmConfig) (v : ReplyOutcome A) (e : PlainEntry) (l : Link)
+pub record HasOutcome {A : Type 0} (c : RealmConfig) (v : ReplyOutcome A) (e : PlainEntry) (l : Link)
     (s : RealmState) (turn : Turn) : Type 0 where
   pub answers : Answers v.answer s (once_done c s e l v.heard v.done v.counted) turn
   pub silent : packets_of turn ≡ [] → v.done ≡ None
 
 -- it does this turn whatever else the realm holds
-abbrev pub IsVerdict :
+abbrev pub IsOutcome :
     {A : Type 0} → RealmConfig → ReplyOutcome A → PlainEntry → Link → (RealmState → Turn) → Type 0
-IsVerdict c v e l turn = (s : RealmState) → Judges c v e l s (turn s)
+IsOutcome c v e l turn = (s : RealmState) → HasOutcome c v e l s (turn s)
 
 -- these octets are returned to the sender of the request, and held until `now + hold`; a peer's
 -- sessions are counted, if they are, and the link gave a sign of life

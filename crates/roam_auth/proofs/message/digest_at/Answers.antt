@@ -2,7 +2,7 @@ use Rattle.std.proofs.Common.{List, ℕ, ◌++◌, ap, ◌∙◌}
 use Rattle.md5.specs.Md5.{md5}
 use Rattle.roam_auth.specs.Hmac.{key_with_pad, hmac_md5}
 use Rattle.roam_auth.specs.MessageAuthenticator.{message_authenticator}
-use Rattle.roam_auth.proofs.keyed.digest_at.Goals as goal
+use Rattle.roam_auth.proofs.message.digest_at.Goals as goal
 
 -- the packet that was hashed is the one with that Authenticator and zeros
 pub returns : goal.returns

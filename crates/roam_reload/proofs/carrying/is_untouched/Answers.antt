@@ -4,8 +4,8 @@ use Rattle.roam_conf.specs.Parts.{shown_peer, shown_realm}
 use Rattle.roam_conf.specs.Shown.{shown}
 use Rattle.roam_conf.proofs.OneLinkLemmas.{realm_there}
 use Rattle.roam_reload.specs.Reload.{KeepsPeers}
-use Rattle.roam_reload.proofs.FateLemmas.{given, none_told, no_other, somewhere, untouched}
-use Rattle.roam_reload.proofs.fate.is_untouched.Goals as goal
+use Rattle.roam_reload.proofs.AfterReloadLemmas.{given, none_told, no_other, somewhere, untouched}
+use Rattle.roam_reload.proofs.carrying.is_untouched.Goals as goal
 
 -- no key of its table differs, and the peers tell
 pub returns-then-is_none : goal.returns-then-is_none
