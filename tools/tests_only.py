@@ -15,7 +15,7 @@ import sys
 ROOT = pathlib.Path(__file__).resolve().parent.parent
 LEFT = {
     "roam_address/src/prefix.rt length", "roam_address/src/prefix_index.rt look_ups", "roam_audit/src/report.rt audit",
-    "roam_audit/src/seat.rt tallies", "roam_auth/src/keyed.rt message_ok_by", "roam_auth/src/keyed.rt seal_and_sign_by", "roam_carry/src/reload.rt carry_book_over", "roam_fwd/src/forwardable.rt can_be_forwarded",
+    "roam_audit/src/seat.rt tallies", "roam_carry/src/reload.rt carry_book_over", "roam_fwd/src/forwardable.rt can_be_forwarded",
     "roam_fwd/src/forwarding.rt forward", "roam_ids/src/slot.rt tag", "roam_port/src/outbox.rt account",
     "roam_tables/src/tables/round_search.rt round_looks", "roam_trace/src/traced.rt steps",
 }

@@ -57,43 +57,43 @@ index_of (holder.Realm realm) = realm
 index_of (holder.Peer peer) = peer
 
 -- counts of subjects have places of their own
-pub subjects-apart : (s t : Subject) (a b : CountedEvent) → HasPlace s → HasPlace t →
-    holder_of s ≡ holder_of t → cell_of s a ≡ cell_of t b → (s ≡ t) × (a ≡ b)
-subjects-apart subject.All subject.All a b f g same is = (refl, events-apart a b (omega (arith, is)))
-subjects-apart subject.All (subject.Realm r) a b f g same is =
+pub subjects-apart : (s t : Subject) (a b : CountedEvent) → holder_of s ≡ holder_of t → cell_of s a ≡ cell_of t b →
+    (s ≡ t) × (a ≡ b)
+subjects-apart subject.All subject.All a b same is = (refl, events-apart a b (omega (arith, is)))
+subjects-apart subject.All (subject.Realm r) a b same is =
     absurd (let k = ap kind_of same in omega (arith, k))
-subjects-apart subject.All (subject.Server r n) a b f g same is =
+subjects-apart subject.All (subject.Server r n) a b same is =
     absurd (let k = ap kind_of same in omega (arith, k))
-subjects-apart subject.All (subject.Peer p) a b f g same is =
+subjects-apart subject.All (subject.Peer p) a b same is =
     absurd (let k = ap kind_of same in omega (arith, k))
-subjects-apart (subject.Realm r) subject.All a b f g same is =
+subjects-apart (subject.Realm r) subject.All a b same is =
     absurd (let k = ap kind_of same in omega (arith, k))
-subjects-apart (subject.Realm r) (subject.Realm q) a b f g same is =
+subjects-apart (subject.Realm r) (subject.Realm q) a b same is =
     (ap subject.Realm (ap index_of same), events-apart a b (omega (arith, is)))
-subjects-apart (subject.Realm r) (subject.Server q n) a b f g same is =
+subjects-apart (subject.Realm r) (subject.Server q n) a b same is =
     absurd (let small = event-below a in omega (arith, is, small))
-subjects-apart (subject.Realm r) (subject.Peer p) a b f g same is =
+subjects-apart (subject.Realm r) (subject.Peer p) a b same is =
     absurd (let k = ap kind_of same in omega (arith, k))
-subjects-apart (subject.Server r m) subject.All a b f g same is =
+subjects-apart (subject.Server r m) subject.All a b same is =
     absurd (let k = ap kind_of same in omega (arith, k))
-subjects-apart (subject.Server r m) (subject.Realm q) a b f g same is =
+subjects-apart (subject.Server r m) (subject.Realm q) a b same is =
     absurd (let small = event-below b in omega (arith, is, small))
-subjects-apart (subject.Server r m) (subject.Server q n) a b f g same is =
+subjects-apart (subject.Server r m) (subject.Server q n) a b same is =
     let both = ninety_eight-apart (m + 1) (n + 1) (event_place a) (event_place b) (event-below a) (event-below b)
     (omega (arith, is)) in
     let server : m ≡ n = let one_more = both.0 in omega (arith, one_more) in (
       ap (λ (k : ℕ). subject.Server k m) (ap index_of same) ∙ ap (λ (k : ℕ). subject.Server q k) server,
       events-apart a b both.1,
     )
-subjects-apart (subject.Server r m) (subject.Peer p) a b f g same is =
+subjects-apart (subject.Server r m) (subject.Peer p) a b same is =
     absurd (let k = ap kind_of same in omega (arith, k))
-subjects-apart (subject.Peer p) subject.All a b f g same is =
+subjects-apart (subject.Peer p) subject.All a b same is =
     absurd (let k = ap kind_of same in omega (arith, k))
-subjects-apart (subject.Peer p) (subject.Realm q) a b f g same is =
+subjects-apart (subject.Peer p) (subject.Realm q) a b same is =
     absurd (let k = ap kind_of same in omega (arith, k))
-subjects-apart (subject.Peer p) (subject.Server q n) a b f g same is =
+subjects-apart (subject.Peer p) (subject.Server q n) a b same is =
     absurd (let k = ap kind_of same in omega (arith, k))
-subjects-apart (subject.Peer p) (subject.Peer q) a b f g same is =
+subjects-apart (subject.Peer p) (subject.Peer q) a b same is =
     (ap subject.Peer (ap index_of same), events-apart a b (omega (arith, is)))
 
 -- none stands where the server's own do

@@ -1,2 +1,4 @@
 pub mod ApartLemmas
+pub mod OwnCountLemmas
 pub mod Places
+pub mod SumLemmas

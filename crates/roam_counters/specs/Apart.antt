@@ -9,8 +9,8 @@ use Rattle.roam_counters.specs.declared.process.Process.{Process}
 -- two counts of subjects stand at one place of one list only where they are one; no count of a subject stands where one
 -- of the server does; and all are among the counts that the list has
 pub record CellsAreApart : Type 0 where
-  pub subjects : (s t : Subject) (a b : CountedEvent) → HasPlace s → HasPlace t →
-      holder_of s ≡ holder_of t → cell_of s a ≡ cell_of t b → (s ≡ t) × (a ≡ b)
+  pub subjects : (s t : Subject) (a b : CountedEvent) → holder_of s ≡ holder_of t → cell_of s a ≡ cell_of t b →
+      (s ≡ t) × (a ≡ b)
   pub processes : (p q : Process) → process_cell p ≡ process_cell q → p ≡ q
   pub both : (s : Subject) (a : CountedEvent) (p : Process) → holder_of s ≡ holder.Server →
       cell_of s a ≢ process_cell p

@@ -1,4 +1,5 @@
 pub mod Apart
+pub mod Arrivals
 pub mod Cells
 pub mod Datagrams
 pub mod Delays
@@ -6,5 +7,7 @@ pub mod Ends
 pub mod Events
 pub mod Increments
 pub mod Kinds
+pub mod OwnCounts
 pub mod Process
+pub mod Sums
 pub mod Turns

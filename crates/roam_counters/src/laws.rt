@@ -1,8 +1,20 @@
-//! That counts are told apart.
+//! That counts are told apart, and what they are sums of.
 
 ghost use Rattle.roam_counters.specs.Apart.{CellsAreApart};
+ghost use Rattle.roam_counters.specs.OwnCounts.{CountsAreSums};
+ghost use Rattle.roam_counters.specs.Sums.{SumsAreOfEvents};
 
 /// Two counts stand at one place of one list only where they are one.
 pub fn cells_are_apart()
     ensures { CellsAreApart }
+{}
+
+/// What increments come to where an event of a subject is counted, is what of them is of that event and that subject.
+pub fn sums_are_of_events()
+    ensures { SumsAreOfEvents }
+{}
+
+/// The counts that a thread raised by increments are the sums of those of their event and their subject.
+pub fn counts_are_sums()
+    ensures { CountsAreSums }
 {}

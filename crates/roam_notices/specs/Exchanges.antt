@@ -11,8 +11,8 @@ use Rattle.roam_notices.specs.declared.exchange.RequestWord.TheVariants as asked
 use Rattle.roam_notices.specs.declared.exchange.Exchange.{Exchange}
 use Rattle.roam_notices.specs.declared.exchange.ExchangeEnd.{ExchangeEnd}
 use Rattle.roam_notices.specs.declared.exchange.ExchangeEnd.TheVariants as outcome
-use Rattle.roam_notices.specs.declared.exchange.RejectCause.{RejectCause}
-use Rattle.roam_notices.specs.declared.exchange.RejectCause.TheVariants as cause
+use Rattle.roam_route.specs.declared.local_answer.RejectCause.{RejectCause}
+use Rattle.roam_route.specs.declared.local_answer.RejectCause.TheVariants as cause
 use Rattle.roam_notices.specs.Details.{details_text}
 use Rattle.roam_notices.specs.Values.{digits_text, octets_if, value_text}
 use Rattle.roam_stations.specs.Hashes.{hash_of}

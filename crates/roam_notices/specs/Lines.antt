@@ -102,7 +102,7 @@ hint_text _ at = []
 -- Rules out: a line that a packet's octets forge; the name of another peer than the source's
 -- Stands in: `roam_notices` `Lines.antt`: `refused_text`; `Senders.antt`: `who_sent`; `RefusedText::new`, what its
 -- `Display` writes;
--- `roam_telling` `Causes.antt`: `origin_of`
+-- `roam_telling` `Origins.antt`: `origin_of`
 --
 -- the line: no octet of a packet stands in it
 abbrev pub refused_text : RefusalCount → List ℕ → Sender → List ℕ

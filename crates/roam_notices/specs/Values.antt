@@ -1,8 +1,8 @@
 -- How a value of a packet stands in a line: between quotation marks, and whatever octets it has printable. Ours.
 use Rattle.std.specs.Prelude.{ℕ, ◌+◌, ◌==◌, ◌&&◌, ◌/◌, ◌%◌, Bool, not, nat_le, nat_lt, min, take, List, [], ◌∷◌, ◌++◌, Option, Some, None, option_map, if◌then◌else◌, codes}
-use Rattle.std.specs.Borrow.{Bor}
 use Rattle.std.specs.List.{flat_map}
 use Rattle.roam_notices.specs.declared.exchange.Value.{Value}
+pub use Rattle.roam_route.specs.RejectCauses.{shown_value}
 
 -- the octets of a value
 abbrev pub octets_of : Value → List ℕ
@@ -10,12 +10,6 @@ octets_of value = take (min value.len 253) value.octets
 
 abbrev pub octets_if : Option Value → Option (List ℕ)
 octets_if value = option_map octets_of value
-
-abbrev pub shown_octets : Bor (List ℕ) → List ℕ
-shown_octets octets = octets.now
-
-abbrev pub shown_value : Option (Bor (List ℕ)) → Option (List ℕ)
-shown_value value = option_map shown_octets value
 
 -- a hexadecimal digit, in lower case: 48 is `0`, and 97 is `a`
 abbrev pub digit : ℕ → ℕ

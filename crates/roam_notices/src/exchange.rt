@@ -7,6 +7,7 @@ ghost use Rattle.roam_notices.specs.Values.{octets_of};
 
 use crate::details::Details;
 use roam_conf::{Endpoint, ExchangeLines};
+use roam_route::RejectCause;
 use roam_wire::code;
 
 /// How many octets an attribute's value has at most (RFC 2865, section 5).
@@ -28,23 +29,6 @@ pub enum ExchangeEnd {
     Replaced,
     /// The broker rejected it by itself.
     LocalReject,
-}
-
-/// Why the broker rejected an Access-Request by itself.
-#[derive(Clone, Copy, PartialEq, Eq)]
-pub enum RejectCause {
-    /// It has no User-Name.
-    NoUserName,
-    /// Its User-Name has no `@`.
-    NoRealmPart,
-    /// No realm is configured that what follows the `@` means.
-    UnknownRealm,
-    /// The realm takes no requests of the peer.
-    NotForPeer,
-    /// Its passwords can't be carried (RFC 2865, sections 4.1 and 5.2).
-    Passwords,
-    /// More proxies forwarded it than may.
-    TooManyHops,
 }
 
 /// A request's code, as a line names it.

@@ -8,10 +8,11 @@ ghost use Rattle.roam_notices.specs.Exchanges as spec;
 ghost use Rattle.roam_notices.specs.Values.{digit, is_plain, octets_if, quoted_octet, quoted_octets, shown_value, value_text};
 
 use crate::details::push_details;
-use crate::exchange::{Exchange, ExchangeEnd, RejectCause, RequestWord, Value};
+use crate::exchange::{Exchange, ExchangeEnd, RequestWord, Value};
 use crate::station_text::push_station;
 use itoa::Buffer;
 use roam_conf::{Config, Endpoint};
+use roam_route::RejectCause;
 use roam_stations::StationForm;
 use std::alloc::AllocError;
 use std::io::Write;

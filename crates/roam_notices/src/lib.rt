@@ -39,7 +39,7 @@ mod turned_away;
 pub use details::Details;
 pub use dropped_text::{DropCause, DroppedText};
 pub use ended_exchange::{exchange_of, server_endpoint};
-pub use exchange::{Exchange, ExchangeEnd, RejectCause, RequestWord, Value};
+pub use exchange::{Exchange, ExchangeEnd, RequestWord, Value};
 pub use exchange_line::push_exchange;
 pub use folded::FoldedLines;
 pub use origin::{Origin, OriginKind};

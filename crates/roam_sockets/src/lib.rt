@@ -44,7 +44,7 @@ pub use listener::listen_at;
 pub use one_socket::open_beside;
 pub use options::{RECEIVE_BUFFER, widen};
 pub use place_sockets::PlaceSockets;
-pub use polls::{Polls, make_polls, make_wakers};
+pub use polls::{Polls, make_polls, make_waker};
 pub use receiver::{Receiver, WAIT_AFTER_FAULT};
 pub use seed::with_drawn_seed;
 pub use socket::Socket;

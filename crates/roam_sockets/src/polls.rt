@@ -6,7 +6,6 @@ ghost use Rattle.roam_sockets.specs.Faults.{IsAfterBinding};
 use crate::fault::{ServeFault, reason_of};
 use mio::unix::SourceFd;
 use mio::{Interest, Poll, Token, Waker};
-use std::alloc::Global;
 use std::io;
 use std::net::Net;
 use std::os::fd::AsRawFd;
@@ -54,35 +53,22 @@ fn fault_of(error: &io::Error, wanted: u32) -> ServeFault
     }
 }
 
-/// What each of so many threads waits with, where the server wants so many descriptors.
-pub fn make_polls<R: Net>(
-    rt: &R,
-    alloc: Global,
-    count: u16,
-    wanted: u32,
-) -> Result<Vec<Polls>, ServeFault>
+/// What a thread waits with, where the server wants so many descriptors.
+pub fn make_polls<R: Net>(rt: &R, wanted: u32) -> Result<Polls, ServeFault>
     ensures { IfErr result IsAfterBinding }
 {
-    let mut polls = Vec::new(alloc);
-    for _ in 0..count {
-        match Polls::new(rt) {
-            Ok(one) => polls.push(one)?,
-            Err(error) => return Err(fault_of(&error, wanted)),
-        }
+    match Polls::new(rt) {
+        Ok(polls) => Ok(polls),
+        Err(error) => Err(fault_of(&error, wanted)),
     }
-    Ok(polls)
 }
 
-/// What ends the wait of each, from another thread.
-pub fn make_wakers(alloc: Global, polls: &[Polls], wanted: u32) -> Result<Vec<Waker>, ServeFault>
+/// What ends the wait of a thread, from another one.
+pub fn make_waker(polls: &Polls, wanted: u32) -> Result<Waker, ServeFault>
     ensures { IfErr result IsAfterBinding }
 {
-    let mut wakers = Vec::new(alloc);
-    for one in polls {
-        match Waker::new(one.arrivals.registry(), Token(WAKE)) {
-            Ok(waker) => wakers.push(waker)?,
-            Err(error) => return Err(fault_of(&error, wanted)),
-        }
+    match Waker::new(polls.arrivals.registry(), Token(WAKE)) {
+        Ok(waker) => Ok(waker),
+        Err(error) => Err(fault_of(&error, wanted)),
     }
-    Ok(wakers)
 }

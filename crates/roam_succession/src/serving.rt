@@ -34,18 +34,20 @@ use std::time::{Clock, Duration};
 /// How long it waits, in milliseconds, before what serves is started again that couldn't be.
 const BEFORE_NEXT_TRY: u64 = 100;
 
-/// Nothing was served: what serves is to be started again.
+/// Nothing was served, for this fault: what serves is to be started again.
 fn not_started(
+    fault: ServeFault,
     shards: Vec<Paused<Global>>,
     outboxes: Vec<Outbox<Global>>,
     rests: Option<Rests>,
     handover: Handover,
 ) -> Served
+    requires { IsAfterBinding fault }
     ensures { (config : ConfigView) → ArePaused config shards.items
         → IsServedOn config shards.items result }
 {
     Served {
-        end: HubEnd::Failed(ServeFault::Memory, handover),
+        end: HubEnd::Failed(fault, handover),
         outboxes,
         rests,
         shards,
@@ -75,7 +77,8 @@ fn serve_once<
         Err(Unserved::Fault(fault)) => Err(fault),
         Err(Unserved::Closed(shards, means)) => {
             let (_kits, outboxes, rests, handover) = means.into_parts();
-            Ok(not_started(shards, outboxes, Some(rests), handover))
+            let fault = ServeFault::Memory;
+            Ok(not_started(fault, shards, outboxes, Some(rests), handover))
         }
     }
 }
@@ -113,7 +116,7 @@ fn serve_again<
             };
             serve_once(parts, configured, shards, blanks, means)
         }
-        Err(_) => Ok(not_started(shards, outboxes, told, handover)),
+        Err(fault) => Ok(not_started(fault, shards, outboxes, told, handover)),
     }
 }
 
@@ -225,7 +228,10 @@ fn serve_changed<
             };
             serve_once(parts, configured, shards, blanks, means)
         }
-        None => Ok(not_started(shards, outboxes, told, handover)),
+        None => {
+            let fault = ServeFault::Memory;
+            Ok(not_started(fault, shards, outboxes, told, handover))
+        }
     }
 }
 

@@ -1,4 +1,5 @@
-pub mod Causes
+pub mod Counting
 pub mod Notices
+pub mod Origins
 pub mod Packets
 pub mod SaidLately

@@ -1,6 +1,7 @@
 //! What is seen of packets where they are counted.
 
 ghost use Rattle.std.specs.Prelude.{◌≡◌};
+ghost use Rattle.roam_route.specs.Shown.{shown_job};
 ghost use Rattle.roam_telling.specs.Packets as spec;
 
 use roam_counters::CountedTurn;
@@ -8,7 +9,7 @@ use roam_route::Job;
 use std::alloc::Global;
 
 /// The code of a packet (RFC 2865, section 3).
-pub fn code_of(octets: &[u8]) -> u8
+fn code_of(octets: &[u8]) -> u8
     ensures { result ≡ spec.code_of octets.now }
 {
     match octets {
@@ -19,9 +20,7 @@ pub fn code_of(octets: &[u8]) -> u8
 
 /// A job, as what comes of it is counted.
 pub fn turn_of(job: &Job<Global>) -> CountedTurn
-    ensures realm { result.realm ≡ job.now.realm }
-    ensures side { result.side ≡ job.now.side }
-    ensures code { result.code ≡ spec.code_of job.now.octets }
+    ensures { result ≡ spec.turn_of (shown_job job.now) }
 {
     CountedTurn {
         realm: job.realm,

@@ -1,9 +1,11 @@
 //! What a server counts: each of its threads apart.
 
+use crate::event_counts::EventCounts;
 use crate::sheet::{Sheet, zeros};
 use roam_conf::{Config, Realm};
 use roam_counters::{CountedEvent, EVENTS, Holder, Process, Subject};
 use roam_metrics::{Counts, Gauge};
+use roam_port::Account;
 use roam_reload::{realm_difference, server_then};
 use std::alloc::{AllocError, Global};
 use std::sync::atomic::{AtomicU64, Ordering};
@@ -118,7 +120,19 @@ impl Counters {
         }
     }
 
-    /// The counts of one thread.
+    /// What one thread counts of events, which goes on from what it counted before.
+    pub fn events_of_thread(
+        &self,
+        alloc: Global,
+        number: usize,
+    ) -> Result<EventCounts<'_>, AllocError> {
+        match self.threads.get(number) {
+            Some(sheet) => EventCounts::new(alloc, sheet),
+            None => Ok(EventCounts::none(alloc)),
+        }
+    }
+
+    /// What one thread counts of the whole server.
     pub fn of_thread(&self, number: usize) -> Option<ThreadCounts<'_>> {
         match self.threads.get(number) {
             Some(sheet) => Some(ThreadCounts {
@@ -144,7 +158,7 @@ impl Counts for Counters {
     }
 }
 
-/// The counts of one thread.
+/// What one thread counts of the whole server. Others may count beside it there.
 #[derive(Clone, Copy)]
 pub struct ThreadCounts<'t> {
     sheet: &'t Sheet,
@@ -152,23 +166,6 @@ pub struct ThreadCounts<'t> {
 }
 
 impl ThreadCounts<'_> {
-    /// Adds to a count.
-    fn add(&self, holder: Holder, place: usize, more: u64) {
-        if let Some(count) = self.sheet.count(holder, place) {
-            count.fetch_add(more, Ordering::SeqCst);
-        }
-    }
-
-    /// One more of this of a subject.
-    pub fn event(&self, subject: Subject, event: CountedEvent) {
-        self.add(subject.holder(), subject.cell(event), 1);
-    }
-
-    /// So many more of this of a subject.
-    pub fn more(&self, subject: Subject, event: CountedEvent, more: u64) {
-        self.add(subject.holder(), subject.cell(event), more);
-    }
-
     /// The stored steps of a shard have so many octets.
     pub fn history_is(&self, shard: u16, octets: u64) {
         if let Some(history) = self.history.get(usize::from(shard)) {
@@ -179,7 +176,19 @@ impl ThreadCounts<'_> {
     /// So many more of this of the whole server.
     pub fn process(&self, process: Process, more: u64) {
         if more > 0 {
-            self.add(Holder::Server, process.cell(), more);
+            if let Some(count) = self.sheet.count(Holder::Server, process.cell()) {
+                count.fetch_add(more, Ordering::SeqCst);
+            }
         }
+    }
+
+    /// What became of packets since this was counted last.
+    pub fn sent(&self, account: Account) {
+        let losses = account.losses;
+        self.process(Process::Sent, account.sent);
+        self.process(Process::LostFullRing, losses.full_ring);
+        self.process(Process::LostUnreachable, losses.unreachable);
+        self.process(Process::LostNotPermitted, losses.not_permitted);
+        self.process(Process::LostOther, losses.other);
     }
 }

@@ -1,34 +1,43 @@
 //! What a thread counts of what it does.
 
+ghost use Rattle.std.specs.Prelude.{◌≡◌};
+ghost use Rattle.roam_book.specs.Happenings.{ticked};
+ghost use Rattle.roam_book.specs.HappeningsShown.{shown_dues, shown_happening};
+ghost use Rattle.roam_conf.specs.Shown.{shown};
+ghost use Rattle.roam_counters.specs.Arrivals as arrivals;
+ghost use Rattle.roam_counters.specs.Ends.{end_at};
+ghost use Rattle.roam_counters.specs.Increments as increments;
+ghost use Rattle.roam_telling.specs.Counting as spec;
+ghost use Rattle.roam_telling.specs.Counting.{IsCounted};
+
 use crate::counters::ThreadCounts;
+use crate::event_counts::EventCounts;
 use roam_conf::{Config, Endpoint, Place};
 use roam_counters::{
-    CountedEvent, CountedTurn, Handling, Increments, Process, Subject, due_increments, end_at,
-    job_increments, local_increments,
+    CountedTurn, Handling, Increment, Process, arrival_increments, due_increments, end_at,
+    failed_increments, job_increments, local_increments, refused_here_increments,
+    refused_increments,
 };
-use roam_hub::Happening;
-use roam_port::Account;
+use roam_hub::{DueHappening, Happening};
 use roam_wire::Refusal;
 use std::alloc::Global;
 
 /// What a thread counts of what it does; nothing where nobody reads it.
-#[derive(Clone, Copy)]
+#[derive(Drop)]
 pub struct Counting<'s> {
-    pub config: &'s Config,
+    /// Of the whole server.
     pub counts: Option<ThreadCounts<'s>>,
+    /// Of realms, home servers and peers, and of all refusals.
+    pub events: EventCounts<'s>,
 }
 
-impl ThreadCounts<'_> {
-    /// Counts an event, if it is one, of its subjects.
-    fn event_of(&self, subjects: &[Option<Subject>], event: Option<CountedEvent>) {
-        let Some(event) = event else {
-            return;
-        };
-        for subject in subjects {
-            if let Some(subject) = subject {
-                self.event(*subject, event);
-            }
-        }
+/// How long a request of a realm waits for a server, in milliseconds.
+fn wait_of(config: &Config, realm: u16) -> u32
+    ensures { result ≡ spec.wait_of (shown config.now) realm }
+{
+    match config.realms.get(usize::from(realm)) {
+        Some(realm) => realm.wait,
+        None => 0,
     }
 }
 
@@ -47,88 +56,83 @@ impl Counting<'_> {
         }
     }
 
+    /// Counts what rises.
+    fn add(&mut self, increments: &[Option<Increment>])
+        ensures { IsCounted self.old self.new increments.now }
+    {
+        self.events.add(increments);
+    }
+
     /// A packet came that is for a realm.
-    pub fn came(&self, turn: CountedTurn) {
-        if let Some(counts) = &self.counts {
-            let subjects = [Some(Subject::Realm(turn.realm)), Some(turn.sender())];
-            counts.event_of(&subjects, turn.arrival());
-        }
-    }
-
-    /// Counts what rises by what happened.
-    fn add(&self, increments: Increments) {
-        let Some(counts) = &self.counts else {
-            return;
-        };
-        for increment in &increments {
-            if let Some(one) = increment {
-                counts.more(one.subject, one.event, one.count);
-            }
-        }
-    }
-
-    /// How long a request of a realm waits for a server, in milliseconds.
-    fn wait_of(&self, realm: u16) -> u32 {
-        match self.config.realms.get(usize::from(realm)) {
-            Some(realm) => realm.wait,
-            None => 0,
-        }
+    pub fn came(&mut self, turn: CountedTurn)
+        ensures { IsCounted self.old self.new (arrivals.arrival_increments turn) }
+    {
+        self.add(&arrival_increments(turn));
     }
 
     /// What happened by a packet that was given to a realm at this moment.
-    pub fn gave(&self, turn: CountedTurn, happening: &Happening<Global>, now: u64) {
-        let wait = self.wait_of(turn.realm);
-        self.add(job_increments(turn, happening, now, wait));
+    pub fn gave(
+        &mut self,
+        config: &Config,
+        turn: CountedTurn,
+        happening: &Happening<Global>,
+        now: u64,
+    )
+        ensures { IsCounted self.old self.new (increments.job_increments turn (shown_happening happening.now) now
+            (spec.wait_of (shown config.now) turn.realm)) }
+    {
+        let wait = wait_of(config, turn.realm);
+        self.add(&job_increments(turn, happening, now, wait));
     }
 
     /// A call for a packet isn't recorded.
-    pub fn failed(&self, turn: CountedTurn, refusal: Refusal) {
-        if let Some(counts) = &self.counts {
-            let subjects = [
-                Some(Subject::All),
-                Some(Subject::Realm(turn.realm)),
-                Some(turn.sender()),
-            ];
-            counts.event_of(&subjects, Some(CountedEvent::Refused(refusal)));
-        }
+    pub fn failed(&mut self, turn: CountedTurn, refusal: Refusal)
+        ensures { IsCounted self.old self.new (arrivals.failed_increments turn refusal) }
+    {
+        self.add(&failed_increments(turn, refusal));
     }
 
-    /// A datagram was refused before it came to a realm: of the one to which its place belongs, and of who sent it.
-    pub fn refused(&self, refusal: Refusal, place: Place, from: Endpoint) {
-        if let Some(counts) = &self.counts {
-            let realm = match place {
-                Place::Out(realm, _) | Place::Reverse(realm, _) => Some(Subject::Realm(realm)),
-                Place::Auth(_) | Place::Acct(_) => None,
-            };
-            let sender = end_at(self.config, place, from);
-            counts.event_of(
-                &[Some(Subject::All), realm, sender],
-                Some(CountedEvent::Refused(refusal)),
-            );
-        }
+    /// A datagram was refused before it came to a realm.
+    pub fn refused(&mut self, config: &Config, refusal: Refusal, place: Place, from: Endpoint)
+        ensures { IsCounted self.old self.new
+            (arrivals.refused_increments place (end_at (shown config.now) place from) refusal) }
+    {
+        let sender = end_at(config, place, from);
+        self.add(&refused_increments(place, sender, refusal));
     }
 
     /// Something was refused of which no more is known.
-    pub fn refused_here(&self, refusal: Refusal) {
-        if let Some(counts) = &self.counts {
-            counts.event(Subject::All, CountedEvent::Refused(refusal));
-        }
+    pub fn refused_here(&mut self, refusal: Refusal)
+        ensures { IsCounted self.old self.new (arrivals.refused_here_increments refusal) }
+    {
+        self.add(&refused_here_increments(refusal));
     }
 
     /// The broker answered somebody by itself, with a packet of this code.
-    pub fn answered(&self, place: Place, to: Endpoint, code: u8) {
-        let sender = end_at(self.config, place, to);
-        self.add(local_increments(sender, code));
+    pub fn answered(&mut self, config: &Config, place: Place, to: Endpoint, code: u8)
+        ensures { IsCounted self.old self.new
+            (increments.local_increments (end_at (shown config.now) place to) code) }
+    {
+        let sender = end_at(config, place, to);
+        self.add(&local_increments(sender, code));
+    }
+
+    /// What became of the requests that were due.
+    fn dues(&mut self, dues: &[DueHappening<Global>])
+        ensures { IsCounted self.old self.new
+            (arrivals.tick_increments (ticked (shown_dues dues.now))) }
+    {
+        for due in dues {
+            self.add(&due_increments(due));
+        }
     }
 
     /// What happened by a tick: it was refused, or something became of each request that was due and waited.
-    pub fn ticked(&self, happening: &Happening<Global>) {
+    pub fn ticked(&mut self, happening: &Happening<Global>)
+        ensures { IsCounted self.old self.new (arrivals.tick_increments (shown_happening happening.now)) }
+    {
         match happening {
-            Happening::Ticked(dues) => {
-                for due in dues {
-                    self.add(due_increments(due));
-                }
-            }
+            Happening::Ticked(dues) => self.dues(dues.as_slice()),
             Happening::Refused(why) => self.refused_here(*why),
             _ => {}
         }
@@ -162,18 +166,6 @@ impl Counting<'_> {
             counts.history_is(shard, 0);
             counts.process(Process::TimeLetGo, 1);
             counts.process(Process::StepLetGo, steps as u64);
-        }
-    }
-
-    /// What became of packets since this was counted last.
-    pub fn sent(&self, account: Account) {
-        if let Some(counts) = &self.counts {
-            let losses = account.losses;
-            counts.process(Process::Sent, account.sent);
-            counts.process(Process::LostFullRing, losses.full_ring);
-            counts.process(Process::LostUnreachable, losses.unreachable);
-            counts.process(Process::LostNotPermitted, losses.not_permitted);
-            counts.process(Process::LostOther, losses.other);
         }
     }
 }

@@ -5,6 +5,8 @@
 //!
 //! # Proved
 //!
+//! - the counts of a thread's own rise by what happened, as the rules say it, by what came and what was refused, and by
+//!   nothing else | `Counting::gave`, `ticked`, `came`, `refused`, `failed`, `answered`
 //! - each refused arrival or tick is counted in the thread's tallies, and logged a second after the first of
 //!   them: with that the notices that its queue was given and those that it dropped are as many more as were
 //!   tallied, up to 2^64 - 1, and nothing is left to log. A notice of lost packets, of dropped lines, of a
@@ -17,6 +19,7 @@ mod counted;
 mod counters;
 mod counting;
 mod ended;
+mod event_counts;
 mod exchanges;
 mod notice;
 mod notices;
@@ -25,10 +28,11 @@ mod said_lately;
 mod sheet;
 mod state_lines;
 
-pub use counted::{code_of, turn_of};
+pub use counted::turn_of;
 pub use counters::{Counters, ThreadCounts};
 pub use counting::Counting;
 pub use ended::{local_reject_of, local_response_of, nak_of, origin_of};
+pub use event_counts::EventCounts;
 pub use exchanges::{Exchanges, queue_of_lines};
 pub use notice::{Notice, notices_in, serving, tell};
 pub use notices::{Notices, queue_of_notices};

@@ -1,10 +1,10 @@
 //! The counts of one thread.
 
 use roam_conf::{Config, Realm};
-use roam_counters::Holder;
+use roam_counters::{CountList, Counted, Holder, OwnCounts};
 use roam_reload::realm_difference;
 use std::alloc::{AllocError, Global};
-use std::sync::atomic::AtomicU64;
+use std::sync::atomic::{AtomicU64, Ordering};
 
 /// What one thread counts: the server's list, and that of each realm and of each peer, by index. A list that goes on
 /// from another sheet is empty until it is taken from there.
@@ -99,6 +99,27 @@ fn take_list(list: &mut Vec<AtomicU64>, other: &mut Vec<AtomicU64>, is_gone: boo
     }
 }
 
+/// The counts of a list, as they stand.
+fn own_list(alloc: Global, list: &[AtomicU64]) -> Result<CountList<Global>, AllocError> {
+    let mut own = Vec::with_capacity(alloc, list.len())?;
+    for count in list {
+        own.push(count.load(Ordering::SeqCst))?;
+    }
+    Ok(CountList::new(own))
+}
+
+/// The counts of lists, as they stand.
+fn own_lists(
+    alloc: Global,
+    lists: &[Vec<AtomicU64>],
+) -> Result<Vec<CountList<Global>>, AllocError> {
+    let mut own = Vec::with_capacity(alloc, lists.len())?;
+    for list in lists {
+        own.push(own_list(alloc, list.as_slice())?)?;
+    }
+    Ok(own)
+}
+
 /// The place of a list, if there is one.
 fn list_at(lists: &[Vec<AtomicU64>], number: u16) -> Option<&[AtomicU64]> {
     match lists.get(usize::from(number)) {
@@ -160,5 +181,22 @@ impl Sheet {
     /// A count, if there is one.
     pub fn count(&self, holder: Holder, place: usize) -> Option<&AtomicU64> {
         self.list(holder)?.get(place)
+    }
+
+    /// What stands here, as the own counts of a thread.
+    pub fn own(&self, alloc: Global) -> Result<OwnCounts<Global>, AllocError> {
+        Ok(OwnCounts::new(
+            own_list(alloc, self.server.as_slice())?,
+            own_lists(alloc, self.realms.as_slice())?,
+            own_lists(alloc, self.peers.as_slice())?,
+        ))
+    }
+
+    /// Leaves a count that rose where others read it.
+    pub fn leave(&self, counted: Counted) {
+        let holder = counted.subject.holder();
+        if let Some(shared) = self.count(holder, counted.subject.cell(counted.event)) {
+            shared.store(counted.count, Ordering::SeqCst);
+        }
     }
 }

@@ -9,7 +9,7 @@ use mio::{Events, Waker};
 use roam_conf::{Config, ExchangeLines};
 use roam_notices::Exchange;
 use roam_port::Outbox;
-use roam_sockets::{BoundSocket, Polls, ServeFault, make_polls, make_wakers};
+use roam_sockets::{BoundSocket, Polls, ServeFault, make_polls, make_waker};
 use roam_telling::{Exchanges, Notice, Notices, queue_of_lines, queue_of_notices};
 use roam_workers::{RECEIVED, ROOM_EVENTS};
 use rtrb::Consumer;
@@ -103,52 +103,68 @@ fn make_kit(
     })
 }
 
-/// What a worker is made of, which waits for what comes to the sockets that it hears.
+/// What so many workers wait with, where the server wants so many descriptors.
+fn worker_polls<R: Net>(
+    rt: &R,
+    alloc: Global,
+    workers: u16,
+    wanted: u32,
+) -> Result<Vec<Polls>, ServeFault>
+    ensures { IfErr result IsAfterBinding }
+{
+    let mut polls = Vec::with_capacity(alloc, usize::from(workers))?;
+    for _ in 0..workers {
+        polls.push(make_polls(rt, wanted)?)?;
+    }
+    Ok(polls)
+}
+
+/// What ends the wait of the timer, the first, and of each worker.
+fn make_wakers(
+    alloc: Global,
+    timer: &Polls,
+    workers: &[Polls],
+    wanted: u32,
+) -> Result<Vec<Waker>, ServeFault>
+    ensures { IfErr result IsAfterBinding }
+{
+    let mut wakers = Vec::new(alloc);
+    wakers.push(make_waker(timer, wanted)?)?;
+    for polls in workers {
+        wakers.push(make_waker(polls, wanted)?)?;
+    }
+    Ok(wakers)
+}
+
+/// What the worker of a number is made of, which waits for what comes to the sockets that it hears.
 fn make_worker_kit(
     alloc: Global,
-    polls: Option<Polls>,
+    polls: Polls,
     sockets: &[BoundSocket],
-    worker: u16,
+    worker: usize,
     told: ExchangeLines,
 ) -> Result<Kit, ServeFault>
     ensures { IfErr result IsAfterBinding }
 {
-    let Some(polls) = polls else {
-        return Err(ServeFault::Memory);
-    };
-    register(&polls.arrivals, sockets, usize::from(worker))?;
+    register(&polls.arrivals, sockets, worker)?;
     make_kit(alloc, polls, told, RECEIVED)
 }
 
-/// What so many workers are made of, each of the last polls that are left.
+/// What the workers are made of that wait with these.
 fn make_worker_kits(
     alloc: Global,
-    polls: &mut Vec<Polls>,
+    polls: Vec<Polls>,
     sockets: &[BoundSocket],
-    workers: u16,
     told: ExchangeLines,
 ) -> Result<Vec<Kit>, ServeFault>
     ensures { IfErr result IsAfterBinding }
 {
-    let mut kits = Vec::with_capacity(alloc, usize::from(workers))?;
-    for worker in 0..workers {
-        kits.push(make_worker_kit(alloc, polls.pop(), sockets, worker, told)?)?;
+    let mut kits = Vec::with_capacity(alloc, polls.len())?;
+    for one in polls {
+        let kit = make_worker_kit(alloc, one, sockets, kits.len(), told)?;
+        kits.push(kit)?;
     }
     Ok(kits)
-}
-
-/// What the timer is made of.
-fn make_timer_kit(
-    alloc: Global,
-    polls: Option<Polls>,
-    told: ExchangeLines,
-) -> Result<Kit, ServeFault>
-    ensures { IfErr result IsAfterBinding }
-{
-    let Some(polls) = polls else {
-        return Err(ServeFault::Memory);
-    };
-    make_kit(alloc, polls, told, 0)
 }
 
 /// What the threads of a configuration are made of: a worker for each shard, which waits for what comes to the sockets
@@ -163,10 +179,11 @@ pub fn make_kits<R: Net>(
 ) -> Result<Kits, ServeFault>
     ensures { IfErr result IsAfterBinding }
 {
-    let mut polls = make_polls(rt, alloc, config.shards.saturating_add(1), wanted)?;
-    let wakers = make_wakers(alloc, polls.as_slice(), wanted)?;
-    let workers = make_worker_kits(alloc, &mut polls, sockets, config.shards, told)?;
-    let timer = make_timer_kit(alloc, polls.pop(), told)?;
+    let timer = make_polls(rt, wanted)?;
+    let polls = worker_polls(rt, alloc, config.shards, wanted)?;
+    let wakers = make_wakers(alloc, &timer, polls.as_slice(), wanted)?;
+    let workers = make_worker_kits(alloc, polls, sockets, told)?;
+    let timer = make_kit(alloc, timer, told, 0)?;
     Ok(Kits {
         wakers,
         threads: ThreadKits { timer, workers },

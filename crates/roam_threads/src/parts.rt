@@ -26,17 +26,27 @@ pub struct Parts<N: Opened> {
     pub seat: Seat<Global, N>,
 }
 
+/// An outbox, or where there is none one in which nothing waits, and that grows as its thread starts.
+fn outbox_or_new(
+    alloc: Global,
+    outbox: Option<Outbox<Global>>,
+) -> Result<Outbox<Global>, ServeFault>
+    ensures { IfErr result IsAfterBinding }
+{
+    match outbox {
+        Some(outbox) => Ok(outbox),
+        None => Ok(Outbox::new(alloc, 0)?),
+    }
+}
+
 /// A part, with a seat that is split off this one; and what is left of that.
 fn part_of<N: Opened>(
     seat: Seat<Global, N>,
-    outbox: Option<Outbox<Global>>,
+    outbox: Outbox<Global>,
     kit: Kit,
 ) -> Result<(Seat<Global, N>, Part<N>), ServeFault>
     ensures { IfErr result IsAfterBinding }
 {
-    let Some(outbox) = outbox else {
-        return Err(ServeFault::Memory);
-    };
     match split(seat) {
         Ok((rest, seat)) => Ok((rest, Part { seat, outbox, kit })),
         Err(_) => Err(ServeFault::Memory),
@@ -57,11 +67,13 @@ pub fn parts_of<N: Opened>(
     let mut parts = Vec::with_capacity(alloc, workers.len())?;
     let mut rest = seat;
     for kit in workers {
-        let (left, part) = part_of(rest, outboxes.next(), kit)?;
+        let outbox = outbox_or_new(alloc, outboxes.next())?;
+        let (left, part) = part_of(rest, outbox, kit)?;
         rest = left;
         parts.push(part)?;
     }
-    let (seat, timer) = part_of(rest, outboxes.next(), timer)?;
+    let outbox = outbox_or_new(alloc, outboxes.next())?;
+    let (seat, timer) = part_of(rest, outbox, timer)?;
     Ok(Parts {
         workers: parts,
         timer,

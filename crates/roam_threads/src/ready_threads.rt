@@ -11,12 +11,12 @@ use roam_hub::{Opened, Seat};
 use roam_notices::Exchange;
 use roam_port::{Outbox, socket_numbers};
 use roam_sockets::{BoundSocket, ServeFault, ports, receivers};
-use roam_telling::{Counting, Notice};
+use roam_telling::{Counting, EventCounts, Notice};
 use roam_workers::{
     ExchangeQueues, Logger, Outgoing, Rests, RoomEvents, Shared, Timer, Worker, WorkerContext,
 };
 use rtrb::Consumer;
-use std::alloc::Global;
+use std::alloc::{AllocError, Global};
 
 /// For how many octets of a line room is made at the start.
 const LINE: usize = 4096;
@@ -65,14 +65,17 @@ impl Queues<'_> {
 fn counting_of<'s, 'c, G, N: Opened>(
     shared: &'s Shared<'s, 'c, G, N>,
     number: usize,
-) -> Counting<'s> {
-    Counting {
-        config: shared.config,
-        counts: match shared.counters {
-            Some(counters) => counters.of_thread(number),
-            None => None,
-        },
-    }
+) -> Result<Counting<'s>, AllocError> {
+    let Some(counters) = shared.counters else {
+        return Ok(Counting {
+            counts: None,
+            events: EventCounts::none(shared.alloc),
+        });
+    };
+    Ok(Counting {
+        counts: counters.of_thread(number),
+        events: counters.events_of_thread(shared.alloc, number)?,
+    })
 }
 
 /// Makes the threads of a configuration.
@@ -125,10 +128,11 @@ impl<'s, 'c, G, N: Opened> Builder<'s, 'c, G, N> {
             buffer,
         } = kit;
         self.queues.take(queue, lines)?;
-        let counting = counting_of(shared, number);
+        let counting = counting_of(shared, number)?;
+        let counts = counting.counts;
         let poll = polls.room;
         let room = RoomEvents { poll, events };
-        let outgoing = Outgoing::new(shared.alloc, outbox, ports, shared.losses, counting, room)?;
+        let outgoing = Outgoing::new(shared.alloc, outbox, ports, shared.losses, counts, room)?;
         let context = WorkerContext {
             shared,
             seat,

@@ -4,33 +4,47 @@ use Rattle.std.specs.declared.alloc.Global.{Global}
 use Rattle.roam_wire.specs.declared.refusal.Refusal.{Refusal}
 use Rattle.roam_wire.specs.declared.refusal.Refusal.TheVariants as refusal
 use Rattle.roam_conf.specs.Config.{ConfigView}
-use Rattle.roam_route.specs.Admission.{Arrival, PlainJob, admission, admitted, refused, rejected}
+use Rattle.roam_conf.specs.declared.exchange_lines.ExchangeLines.{ExchangeLines}
+use Rattle.roam_book.specs.HappeningsShown.{shown_happening}
+use Rattle.roam_route.specs.Admission.{Arrival, PlainJob, admission, admitted, refused, answered_here}
 use Rattle.roam_route.specs.Events.{arrival_of}
 use Rattle.roam_route.specs.Shown.{IsAdmission, WantsMemory, shown_job, shown_out}
 use Rattle.roam_route.specs.declared.datagram.Out.{Out}
 use Rattle.roam_route.specs.declared.job.Job.{Job}
 use Rattle.roam_route.specs.declared.job.Prepared.{Prepared}
 use Rattle.roam_route.specs.declared.job.Prepared.TheVariants as prepared
+use Rattle.roam_route.specs.declared.local_answer.LocalAnswer.{LocalAnswer}
 use Rattle.roam_core.specs.Events.{arrives}
 use Rattle.roam_history.specs.HubOpening.{HubOpening}
 use Rattle.roam_audit.specs.Seats.{SeatView}
-use Rattle.roam_hub.specs.Calls.{IsCall, answered_step}
+use Rattle.roam_hub.specs.Calls.{HasHappened, IsCall, answered_step}
 use Rattle.roam_hub.specs.declared.answered.Answered.{Answered}
 use Rattle.roam_counters.specs.declared.datagrams.Handling.TheVariants as handling
-use Rattle.roam_workers.specs.Handlings.{IsAnswered, IsHandled, refused_as}
+use Rattle.roam_counters.specs.Arrivals.{arrival_increments}
+use Rattle.roam_counters.specs.OwnCounts.{CountsView, raised_all}
+use Rattle.roam_counters.specs.declared.turn.CountedTurn.{CountedTurn}
+use Rattle.roam_telling.specs.Packets.{turn_of}
+use Rattle.roam_workers.specs.Handlings.{AtWork, came, HasFailed, IsAnswered, IsHandled, IsRefused, refused_as, refused_counts}
 
 -- the job that was handed in first is the one that was answered, at the same moment
 pub answered_so :
-    (o : HubOpening) (now now2 : ℕ) (job job2 : PlainJob) (old before new : SeatView) (a : Answered Global)
+    (o : HubOpening) (lines : ExchangeLines) (now now2 : ℕ) (job job2 : PlainJob) (old before new : SeatView)
+    (a : Answered Global)
     → now ≡ now2 → job ≡ job2 → before.tallies ≡ old.tallies
     → IsCall o a.shard before new a.number (answered_step (arrives now (arrival_of job)) a)
-    → a.shard ≡ job.realm % o.config.shards → IsAnswered o now2 job2 old new a
-answered_so o now now2 job job2 old before new a moment same none call shard = record {
+    → HasHappened o lines (job.realm % o.config.shards) new (arrives now (arrival_of job)) (shown_happening a.happening)
+    → a.shard ≡ job.realm % o.config.shards → IsAnswered o lines now2 job2 old new a
+answered_so o lines now now2 job job2 old before new a moment same none call happened shard = record {
   before = before;
   none_before = none;
   call = subst (λ (n : ℕ). IsCall o a.shard before new a.number (answered_step (arrives n (arrival_of job2)) a)) moment
       (subst (λ (j : PlainJob). IsCall o a.shard before new a.number (answered_step (arrives now (arrival_of j)) a))
       same call);
+  happened = subst
+      (λ (n : ℕ). HasHappened o lines (job2.realm % o.config.shards) new (arrives n (arrival_of job2))
+      (shown_happening a.happening)) moment
+      (subst (λ (j : PlainJob). HasHappened o lines (j.realm % o.config.shards) new (arrives now (arrival_of j))
+      (shown_happening a.happening)) same happened);
   shard_is = shard ∙ ap (λ (j : PlainJob). j.realm % o.config.shards) same;
 }
 
@@ -41,11 +55,13 @@ job_is config config2 d j same (inl bad) = absurd cc
 job_is config config2 d j same (inr is) =
     subst (λ (x : ConfigView). admission x d ≡ admitted (shown_job j)) same (sym is)
 
-pub reject_is : (config config2 : ConfigView) (d : Arrival) (p : Out Global) → config ≡ config2
-    → IsAdmission (Ok (prepared.Reject p)) (admission config d) → admission config2 d ≡ rejected (shown_out p)
-reject_is config config2 d p same (inl bad) = absurd cc
-reject_is config config2 d p same (inr is) =
-    subst (λ (x : ConfigView). admission x d ≡ rejected (shown_out p)) same (sym is)
+-- and so is what answers here
+pub answer_is : (config config2 : ConfigView) (d : Arrival) (what : LocalAnswer) (p : Out Global) → config ≡ config2
+    → IsAdmission (Ok (prepared.Answered what p)) (admission config d)
+    → admission config2 d ≡ answered_here what (shown_out p)
+answer_is config config2 d what p same (inl bad) = absurd cc
+answer_is config config2 d what p same (inr is) =
+    subst (λ (x : ConfigView). admission x d ≡ answered_here what (shown_out p)) same (sym is)
 
 -- the error of a result, or this one
 error_or : Refusal → Result (Prepared Global) Refusal → Refusal
@@ -85,29 +101,44 @@ as_refused refusal.TooManyAttributes = inr refl
 as_refused refusal.Stale = inr refl
 
 -- where memory is wanting it failed
-wants : (o : HubOpening) (config : ConfigView) (now : ℕ) (d : Arrival) (why : Refusal) (old new : SeatView)
-    → config ≡ o.config → (why ≡ refusal.NoMemory → WantsMemory (admission config d)) → new ≡ old
-    → why ≡ refusal.NoMemory → IsHandled o now d old new (refused_as why)
-wants o config now d why old new same memory kept none =
-    subst (λ (w : Refusal). IsHandled o now d old new (refused_as w)) (sym none) (
-      subst (λ (x : ConfigView). WantsMemory (admission x d)) same (memory none),
-      ap (λ (s : SeatView). s.tallies) kept,
-    )
+wants : (o : HubOpening) (lines : ExchangeLines) (config : ConfigView) (now : ℕ) (d : Arrival) (why : Refusal)
+    (old new : AtWork) → config ≡ o.config → (why ≡ refusal.NoMemory → WantsMemory (admission config d))
+    → new.seat ≡ old.seat → new.counts ≡ refused_counts o d why old.counts
+    → why ≡ refusal.NoMemory → IsHandled o lines now d old new (refused_as why)
+wants o lines config now d why old new same memory kept counts none =
+    let wants_it : WantsMemory (admission o.config d) =
+    subst (λ (x : ConfigView). WantsMemory (admission x d)) same (memory none) in
+    let failed : HasFailed o d old new = record {
+      wants = wants_it;
+      tallies = ap (λ (s : SeatView). s.tallies) kept;
+      counts = inl (counts ∙ ap (λ (w : Refusal). refused_counts o d w old.counts) none);
+    } in
+    subst (λ (w : Refusal). IsHandled o lines now d old new (refused_as w)) (sym none) failed
 
 -- what is refused is refused for its cause, or for want of memory, where admission passes it
-pub refusal_is : (o : HubOpening) (config : ConfigView) (now : ℕ) (d : Arrival) (why : Refusal) (old new : SeatView)
-    → config ≡ o.config → IsAdmission {A = Global} (Err why) (admission config d)
-    → (why ≡ refusal.NoMemory → WantsMemory (admission config d)) → new ≡ old
-    → IsHandled o now d old new (refused_as why)
+pub refusal_is : (o : HubOpening) (lines : ExchangeLines) (config : ConfigView) (now : ℕ) (d : Arrival) (why : Refusal)
+    (old new : AtWork) → config ≡ o.config → IsAdmission {A = Global} (Err why) (admission config d)
+    → (why ≡ refusal.NoMemory → WantsMemory (admission config d)) → new.seat ≡ old.seat
+    → new.counts ≡ refused_counts o d why old.counts → IsHandled o lines now d old new (refused_as why)
 unfolding error_or
-refusal_is o config now d why old new same is memory kept = elim is [
-  | inl none ↦ wants o config now d why old new same memory kept (ap (error_or refusal.NoMemory) none)
+refusal_is o lines config now d why old new same is memory kept counts = elim is [
+  | inl none ↦
+      wants o lines config now d why old new same memory kept counts (ap (error_or refusal.NoMemory) none)
   | inr found ↦ (elim (as_refused why) [
-    | inl none ↦ wants o config now d why old new same memory kept none
-    | inr other ↦ subst (IsHandled o now d old new) (sym other) (
-      why,
-      subst (λ (x : ConfigView). admission x d ≡ refused why) same (sym found),
-      kept,
-    )
+    | inl none ↦ wants o lines config now d why old new same memory kept counts none
+    | inr other ↦
+        let refused_so : IsRefused o d old new = record {
+          why = why;
+          admission_is = subst (λ (x : ConfigView). admission x d ≡ refused why) same (sym found);
+          seat = kept;
+          counts = counts;
+        } in
+        subst (IsHandled o lines now d old new) (sym other) refused_so
   ])
 ]
+
+-- that a job came is counted, and the call for it counts nothing
+pub came-so : (first second third : CountsView) (turn : CountedTurn) (job : PlainJob) → turn ≡ turn_of job
+    → second ≡ raised_all first (arrival_increments turn) → third ≡ second → third ≡ came first job
+came-so first second third turn job is counted same =
+    same ∙ counted ∙ ap (λ (t : CountedTurn). raised_all first (arrival_increments t)) is

@@ -1,2 +1,3 @@
 pub mod EndingLemmas
 pub mod HandlingLemmas
+pub mod TickLemmas

@@ -1,20 +1,31 @@
 -- What becomes of a datagram that a worker takes. Ours.
-use Rattle.std.specs.Prelude.{◌≡◌, ℕ, ◌%◌, true}
+use Rattle.std.specs.Prelude.{◌≡◌, ◌⊎◌, ℕ, ◌%◌, true}
 use Rattle.std.specs.declared.alloc.Global.{Global}
 use Rattle.roam_wire.specs.declared.refusal.Refusal.{Refusal}
 use Rattle.roam_wire.specs.declared.refusal.Refusal.TheVariants as refusal
-use Rattle.roam_route.specs.Admission.{Arrival, PlainJob, PlainOut, admission, admitted, refused, rejected}
+use Rattle.roam_route.specs.Admission.{Arrival, PlainJob, PlainOut, admission, admitted, refused, answered_here}
 use Rattle.roam_route.specs.Events.{arrival_of}
+use Rattle.roam_route.specs.RejectCauses.{code_of}
 use Rattle.roam_route.specs.Shown.{WantsMemory}
+use Rattle.roam_route.specs.declared.local_answer.LocalAnswer.{LocalAnswer}
 use Rattle.roam_core.specs.Events.{arrives}
 use Rattle.roam_history.specs.HubOpening.{HubOpening}
 use Rattle.roam_audit.specs.Seats.{SeatView}
-use Rattle.roam_hub.specs.Calls.{IsCall, answered_step}
+use Rattle.roam_hub.specs.Calls.{HasHappened, IsCall, answered_step}
 use Rattle.roam_hub.specs.declared.answered.Answered.{Answered}
+use Rattle.roam_book.specs.HappeningsShown.{shown_happening}
+use Rattle.roam_conf.specs.declared.exchange_lines.ExchangeLines.{ExchangeLines}
+use Rattle.roam_counters.specs.Arrivals.{arrival_increments, failed_increments, refused_increments}
 use Rattle.roam_counters.specs.Datagrams.{handled}
+use Rattle.roam_counters.specs.Ends.{end_at}
+use Rattle.roam_counters.specs.Increments.{job_increments, local_increments}
+use Rattle.roam_counters.specs.OwnCounts.{CountsView, raised_all}
 use Rattle.roam_counters.specs.declared.datagrams.DatagramCounts.{DatagramCounts}
 use Rattle.roam_counters.specs.declared.datagrams.Handling.{Handling}
 use Rattle.roam_counters.specs.declared.datagrams.Handling.TheVariants as handling
+use Rattle.roam_telling.specs.Counting.{counts_in, wait_of}
+use Rattle.roam_telling.specs.Packets.{turn_of}
+use Rattle.roam_telling.specs.declared.counting.Counting.{Counting}
 use Rattle.roam_workers.specs.Requests.{is_request}
 
 -- one that is refused before it comes to a realm: for want of memory it failed
@@ -22,23 +33,75 @@ abbrev pub refused_as : Refusal → Handling
 refused_as refusal.NoMemory = handling.Failed
 refused_as _ = handling.Refused
 
+-- what a worker counts: by its seat, and its own counts, where somebody reads them
+pub record AtWork : Type 0 where
+  pub seat : SeatView
+  pub counts : CountsView
+
+abbrev pub at_work : SeatView → Counting → AtWork
+at_work seat counting = record { seat = seat; counts = counts_in counting }
+
 -- a job was answered: the seat counts one call more, whose step stands in the history of the job's shard as the
--- last one
-pub record IsAnswered (o : HubOpening) (now : ℕ) (job : PlainJob) (old new : SeatView) (a : Answered Global)
-    : Type 0 where
+-- last one; and what happened by it is what that history says
+pub record IsAnswered (o : HubOpening) (lines : ExchangeLines) (now : ℕ) (job : PlainJob) (old new : SeatView)
+    (a : Answered Global) : Type 0 where
   pub before : SeatView
   pub none_before : before.tallies ≡ old.tallies
   pub call : IsCall o a.shard before new a.number (answered_step (arrives now (arrival_of job)) a)
+  pub happened :
+      HasHappened o lines (job.realm % o.config.shards) new (arrives now (arrival_of job))
+      (shown_happening a.happening)
   pub shard_is : a.shard ≡ job.realm % o.config.shards
 
--- a realm's rules took a datagram: it gives a job, which was answered, and the seat counts no other call
-pub record IsTaken (o : HubOpening) (now : ℕ) (d : Arrival) (old new : SeatView) : Type 0 where
+-- that a job came
+abbrev pub came : CountsView → PlainJob → CountsView
+came counts job = raised_all counts (arrival_increments (turn_of job))
+
+-- a realm's rules took a datagram: it gives a job, which was answered, and the seat counts no other call. The counts
+-- rose by the job's arrival and by what happened
+pub record IsTaken (o : HubOpening) (lines : ExchangeLines) (now : ℕ) (d : Arrival) (old new : AtWork)
+    : Type 0 where
   pub job : PlainJob
   pub admitted_is : admission o.config d ≡ admitted job
   pub after : SeatView
   pub answered : Answered Global
-  pub answer : IsAnswered o now job old after answered
-  pub none_after : new.tallies ≡ after.tallies
+  pub answer : IsAnswered o lines now job old.seat after answered
+  pub none_after : new.seat.tallies ≡ after.tallies
+  pub counts :
+      new.counts
+      ≡ raised_all (came old.counts job)
+      (job_increments (turn_of job) (shown_happening answered.happening) now (wait_of o.config job.realm))
+
+-- it gave an answer of the broker's own, by admission alone
+pub record IsAnsweredHere (o : HubOpening) (d : Arrival) (old new : AtWork) : Type 0 where
+  pub what : LocalAnswer
+  pub out : PlainOut
+  pub admission_is : admission o.config d ≡ answered_here what out
+  pub seat : new.seat ≡ old.seat
+  pub counts : new.counts ≡ raised_all old.counts (local_increments (end_at o.config out.from out.to) (code_of what))
+
+-- the counts where a datagram is refused before it comes to a realm
+abbrev pub refused_counts : HubOpening → Arrival → Refusal → CountsView → CountsView
+refused_counts o d why counts = raised_all counts (refused_increments d.at (end_at o.config d.at d.from) why)
+
+-- it was refused, by admission alone
+pub record IsRefused (o : HubOpening) (d : Arrival) (old new : AtWork) : Type 0 where
+  pub why : Refusal
+  pub admission_is : admission o.config d ≡ refused why
+  pub seat : new.seat ≡ old.seat
+  pub counts : new.counts ≡ refused_counts o d why old.counts
+
+-- it failed: before it came to a realm, for want of memory, or since the call for it wasn't recorded
+abbrev pub FailedCounts : HubOpening → Arrival → CountsView → CountsView → Type 0
+FailedCounts o d old new =
+    (new ≡ refused_counts o d refusal.NoMemory old)
+    ⊎ ((job : PlainJob) × (why : Refusal) × (admission o.config d ≡ admitted job)
+    × (new ≡ raised_all (came old job) (failed_increments (turn_of job) why)))
+
+pub record HasFailed (o : HubOpening) (d : Arrival) (old new : AtWork) : Type 0 where
+  pub wants : WantsMemory (admission o.config d)
+  pub tallies : new.seat.tallies ≡ old.seat.tallies
+  pub counts : FailedCounts o d old.counts new.counts
 
 -- ## What becomes of a datagram
 -- One of five: a realm's rules took it, by one call that the seat counts and whose step is the arrival's; or it
@@ -46,20 +109,23 @@ pub record IsTaken (o : HubOpening) (now : ℕ) (d : Arrival) (old new : SeatVie
 -- answer of the broker's own, or is refused, each by admission alone, and the seat has seen nothing; or it failed,
 -- where
 -- admission passes it, and the seat counts nothing; or it is a request, by its code, and the server was asked to stop.
+-- The worker's own counts of events rise by just what that is: by what happens by the call's event where the steps
+-- before it end, by the answer, or by the refusal.
 -- Source: ours
--- Rules out: a datagram that is dropped without a count; a job that admission doesn't give
+-- Rules out: a datagram that is dropped without a count; a job that admission doesn't give; a count that rises by what
+-- no history has
 -- Stands in: `roam_workers` `Handlings.antt`: `IsHandled`, `IsTaken`; `WorkerContext::arrive`
 --
-abbrev pub IsHandled : HubOpening → ℕ → Arrival → SeatView → SeatView → Handling → Type 0
-IsHandled o now d old new handling.Taken = IsTaken o now d old new
-IsHandled o now d old new handling.Answered = (p : PlainOut) × (admission o.config d ≡ rejected p) × (new ≡ old)
-IsHandled o now d old new handling.Refused = (why : Refusal) × (admission o.config d ≡ refused why) × (new ≡ old)
-IsHandled o now d old new handling.Failed = WantsMemory (admission o.config d) × (new.tallies ≡ old.tallies)
-IsHandled o now d old new handling.Dropped = (is_request d.octets ≡ true) × (new ≡ old)
+abbrev pub IsHandled : HubOpening → ExchangeLines → ℕ → Arrival → AtWork → AtWork → Handling → Type 0
+IsHandled o lines now d old new handling.Taken = IsTaken o lines now d old new
+IsHandled o lines now d old new handling.Answered = IsAnsweredHere o d old new
+IsHandled o lines now d old new handling.Refused = IsRefused o d old new
+IsHandled o lines now d old new handling.Failed = HasFailed o d old new
+IsHandled o lines now d old new handling.Dropped = (is_request d.octets ≡ true) × (new ≡ old)
 
 -- and it is counted as that
-pub record Arrives (o : HubOpening) (now : ℕ) (d : Arrival) (old new : SeatView) (before after : DatagramCounts)
-    : Type 0 where
+pub record Arrives (o : HubOpening) (lines : ExchangeLines) (now : ℕ) (d : Arrival) (old new : AtWork)
+    (before after : DatagramCounts) : Type 0 where
   pub handling : Handling
-  pub is_handled : IsHandled o now d old new handling
+  pub is_handled : IsHandled o lines now d old new handling
   pub counted : after ≡ handled before handling

@@ -2,3 +2,4 @@ pub mod Endings
 pub mod Handlings
 pub mod Remedies
 pub mod Requests
+pub mod Ticks

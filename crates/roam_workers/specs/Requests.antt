@@ -8,8 +8,3 @@ is_request_code code = code == 1 || (code == 4 || (code == 12 || (code == 40 || 
 abbrev pub is_request : List ℕ → Bool
 is_request [] = false
 is_request (code ∷ rest) = is_request_code code
-
--- an Accounting-Request, by its first octet (RFC 2866, section 4.1)
-abbrev pub is_accounting_request : List ℕ → Bool
-is_accounting_request [] = false
-is_accounting_request (code ∷ rest) = code == 4

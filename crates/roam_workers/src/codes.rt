@@ -22,13 +22,3 @@ pub fn is_request(octets: &[u8]) -> bool
         None => false,
     }
 }
-
-/// Whether a datagram is an Accounting-Request, by its code (RFC 2866 section 4.1).
-pub fn is_accounting_request(octets: &[u8]) -> bool
-    ensures { result ≡ requests.is_accounting_request octets.now }
-{
-    match octets.first() {
-        Some(code) => *code == ACCOUNTING_REQUEST,
-        None => false,
-    }
-}

@@ -1,7 +1,13 @@
 //! What a worker has: its seat at the hub, its packets on their way out, and its notices.
 
 ghost use Rattle.std.specs.Prelude.{◌≡◌};
+ghost use Rattle.roam_counters.specs.OwnCounts.{raised_all};
 ghost use Rattle.roam_workers.specs.Remedies as remedies;
+ghost use Rattle.roam_book.specs.HappeningsShown.{shown_happening};
+ghost use Rattle.roam_counters.specs.Arrivals.{tick_increments};
+ghost use Rattle.roam_telling.specs.Counting.{counts_in};
+ghost use Rattle.roam_workers.specs.Handlings.{at_work};
+ghost use Rattle.roam_workers.specs.Ticks.{Ticks};
 
 use crate::ending::{Ending, WorkerEnd};
 use crate::outgoing::Outgoing;
@@ -66,9 +72,32 @@ impl<G: Gate, N: Opened> WorkerContext<'_, '_, G, N> {
         };
     }
 
+    /// Counts and tells what happened by a tick of a shard, and hands its packets to the sockets. Answers whether more
+    /// is due: the tick had a part of it.
+    fn ticked<R: Wait>(&mut self, rt: &R, shard: u16, ticked: Ticked<Global>) -> bool
+        ensures kept { (self.new.seat.tallies ≡ self.old.seat.tallies)
+            × (self.new.datagrams ≡ self.old.datagrams) × (self.new.now ≡ self.old.now) }
+        ensures counts { counts_in self.new.counting ≡ raised_all (counts_in self.old.counting)
+            (tick_increments (shown_happening ticked.answered.happening)) }
+    {
+        let Ticked {
+            answered,
+            is_more,
+            ..
+        } = ticked;
+        self.counting.ticked(&answered.happening);
+        self.end_by_tick(&answered.happening);
+        let goes_on = is_more && answered.answer.refusal.is_none();
+        self.finish(rt, answered, Origin::Tick(shard));
+        goes_on
+    }
+
     /// Ticks a shard where something is due there, and hands its packets to the sockets. Answers whether more is due:
     /// the tick had a part of it.
-    pub fn tick<R: Wait>(&mut self, rt: &R, shard: u16) -> bool {
+    pub fn tick<R: Wait>(&mut self, rt: &R, shard: u16) -> bool
+        ensures ticks { Ticks N.opening self.old.shared.now.told_exchanges shard self.old.now
+            (at_work self.old.seat self.old.counting) (at_work self.new.seat self.new.counting) }
+    {
         let shared = self.shared;
         let mut is_second = false;
         for _ in rt.forever() {
@@ -79,21 +108,7 @@ impl<G: Gate, N: Opened> WorkerContext<'_, '_, G, N> {
                 lines: shared.told_exchanges,
             };
             match shared.hub.tick_if_due(call, &mut self.seat, shard) {
-                Ok(
-                    Some(
-                        Ticked {
-                            answered,
-                            is_more,
-                            ..
-                        },
-                    ),
-                ) => {
-                    self.counting.ticked(&answered.happening);
-                    self.end_by_tick(&answered.happening);
-                    let goes_on = is_more && answered.answer.refusal.is_none();
-                    self.finish(rt, answered, Origin::Tick(shard));
-                    return goes_on;
-                }
+                Ok(Some(ticked)) => return self.ticked(rt, shard, ticked),
                 Ok(None) => return false,
                 Err(fault) => {
                     if !self.remedy(rt, shard, fault, is_second) {
@@ -125,7 +140,8 @@ impl<G: Gate, N: Opened> WorkerContext<'_, '_, G, N> {
     /// Does what helps against a fault of a call. Answers whether it can be made again.
     pub fn remedy<R: Wait>(&mut self, rt: &R, shard: u16, fault: HubFault, is_second: bool) -> bool
         ensures kept { (self.new.seat.tallies ≡ self.old.seat.tallies)
-            × (self.new.datagrams ≡ self.old.datagrams) × (self.new.now ≡ self.old.now) }
+            × (self.new.datagrams ≡ self.old.datagrams) × (self.new.now ≡ self.old.now)
+            × (counts_in self.new.counting ≡ counts_in self.old.counting) }
     {
         match remedy_for(fault, is_second) {
             Remedy::LetGo => self.let_go(rt, shard),
@@ -137,7 +153,8 @@ impl<G: Gate, N: Opened> WorkerContext<'_, '_, G, N> {
     /// Lets go of the stored steps of a shard, which are freed beside. Answers whether that was done.
     fn let_go<R: Wait>(&mut self, rt: &R, shard: u16) -> bool
         ensures kept { (self.new.seat.tallies ≡ self.old.seat.tallies)
-            × (self.new.datagrams ≡ self.old.datagrams) × (self.new.now ≡ self.old.now) }
+            × (self.new.datagrams ≡ self.old.datagrams) × (self.new.now ≡ self.old.now)
+            × (counts_in self.new.counting ≡ counts_in self.old.counting) }
     {
         let shared = self.shared;
         match shared.hub.let_go(rt, &mut self.seat, shard) {
@@ -153,7 +170,8 @@ impl<G: Gate, N: Opened> WorkerContext<'_, '_, G, N> {
     /// Lets go of the stored steps of a shard, and frees them here and now: their memory is wanted.
     fn free_history<R: Wait>(&mut self, rt: &R, shard: u16) -> bool
         ensures kept { (self.new.seat.tallies ≡ self.old.seat.tallies)
-            × (self.new.datagrams ≡ self.old.datagrams) × (self.new.now ≡ self.old.now) }
+            × (self.new.datagrams ≡ self.old.datagrams) × (self.new.now ≡ self.old.now)
+            × (counts_in self.new.counting ≡ counts_in self.old.counting) }
     {
         match self.shared.hub.let_go(rt, &mut self.seat, shard) {
             Ok(steps) => {
@@ -171,7 +189,8 @@ impl<G: Gate, N: Opened> WorkerContext<'_, '_, G, N> {
     /// more than are to be stored.
     pub fn finish<R: Wait>(&mut self, rt: &R, answered: Answered<Global>, origin: Origin)
         ensures kept { (self.new.seat.tallies ≡ self.old.seat.tallies)
-            × (self.new.datagrams ≡ self.old.datagrams) × (self.new.now ≡ self.old.now) }
+            × (self.new.datagrams ≡ self.old.datagrams) × (self.new.now ≡ self.old.now)
+            × (counts_in self.new.counting ≡ counts_in self.old.counting) }
     {
         self.counting.stored(answered.shard, answered.octets);
         if let Some(refusal) = answered.answer.refusal {
@@ -187,7 +206,8 @@ impl<G: Gate, N: Opened> WorkerContext<'_, '_, G, N> {
     /// Notes that an arrival or a tick is refused.
     pub fn refuse(&mut self, refusal: Refusal, origin: Origin)
         ensures kept { (self.new.seat ≡ self.old.seat) × (self.new.datagrams ≡ self.old.datagrams)
-            × (self.new.now ≡ self.old.now) }
+            × (self.new.now ≡ self.old.now)
+            × (counts_in self.new.counting ≡ counts_in self.old.counting) }
     {
         self.notices.refused(refusal, origin, self.now);
         let _is_told = self.notices.turned_away(refusal, origin, self.now);

@@ -1,15 +1,14 @@
 //! What a worker tells of the exchanges that end by what it does.
 
 ghost use Rattle.std.specs.Prelude.{◌≡◌};
+ghost use Rattle.roam_telling.specs.Counting.{counts_in};
 
-use crate::codes::is_accounting_request;
 use crate::context::WorkerContext;
 use roam_counters::Process;
 use roam_hub::{Answered, Became, Gate, Happening, Opened, Waited};
 use roam_notices::{Exchange, ExchangeEnd, exchange_of};
-use roam_route::Datagram;
+use roam_route::{Datagram, LocalAnswer, RejectCause};
 use roam_telling::{local_reject_of, local_response_of, nak_of};
-use roam_wire::code::ACCESS_REJECT;
 use std::alloc::Global;
 
 /// The octets of the packet that is sent, where one is.
@@ -24,7 +23,8 @@ impl<G: Gate, N: Opened> WorkerContext<'_, '_, G, N> {
     /// Has an exchange be told of which lines tell, and counts it where it can't be.
     fn tell(&mut self, exchange: Option<Exchange>)
         ensures kept { (self.new.seat ≡ self.old.seat) × (self.new.datagrams ≡ self.old.datagrams)
-            × (self.new.now ≡ self.old.now) }
+            × (self.new.now ≡ self.old.now)
+            × (counts_in self.new.counting ≡ counts_in self.old.counting) }
     {
         let is_dropped = match exchange {
             Some(exchange) => self.exchanges.tell(exchange),
@@ -38,7 +38,8 @@ impl<G: Gate, N: Opened> WorkerContext<'_, '_, G, N> {
     /// Has an Accounting-Request be told that the broker answered by itself.
     fn tell_local_response(&mut self, datagram: &Datagram<Global>)
         ensures kept { (self.new.seat ≡ self.old.seat) × (self.new.datagrams ≡ self.old.datagrams)
-            × (self.new.now ≡ self.old.now) }
+            × (self.new.now ≡ self.old.now)
+            × (counts_in self.new.counting ≡ counts_in self.old.counting) }
     {
         if self.exchanges.are_told(ExchangeEnd::Response) {
             let exchange = local_response_of(self.shared.config, datagram);
@@ -46,26 +47,36 @@ impl<G: Gate, N: Opened> WorkerContext<'_, '_, G, N> {
         }
     }
 
-    /// Has a request be told that the broker answered by itself, with a packet of this code: a rejected one is told
-    /// with those that are like it. Of the answer to a Status-Server nothing is told.
-    pub fn tell_local(&mut self, datagram: &Datagram<Global>, code: u8)
+    /// Has a request be told that the broker rejected for this cause, with those that are like it.
+    fn tell_local_reject(&mut self, datagram: &Datagram<Global>, why: RejectCause)
         ensures kept { (self.new.seat ≡ self.old.seat) × (self.new.datagrams ≡ self.old.datagrams)
-            × (self.new.now ≡ self.old.now) }
+            × (self.new.now ≡ self.old.now)
+            × (counts_in self.new.counting ≡ counts_in self.old.counting) }
     {
-        if code == ACCESS_REJECT {
-            if self.exchanges.are_told(ExchangeEnd::LocalReject) {
-                let exchange = local_reject_of(self.shared.config, datagram);
-                self.exchanges.reject(&exchange, self.now);
-            }
-        } else if is_accounting_request(datagram.octets.as_slice()) {
-            self.tell_local_response(datagram);
+        if self.exchanges.are_told(ExchangeEnd::LocalReject) {
+            let exchange = local_reject_of(self.shared.config, datagram, why);
+            self.exchanges.reject(&exchange, self.now);
+        }
+    }
+
+    /// Has a request be told that the broker answered by itself. Of the answer to a Status-Server nothing is told.
+    pub fn tell_local(&mut self, datagram: &Datagram<Global>, what: LocalAnswer)
+        ensures kept { (self.new.seat ≡ self.old.seat) × (self.new.datagrams ≡ self.old.datagrams)
+            × (self.new.now ≡ self.old.now)
+            × (counts_in self.new.counting ≡ counts_in self.old.counting) }
+    {
+        match what {
+            LocalAnswer::Rejected(why) => self.tell_local_reject(datagram, why),
+            LocalAnswer::Response => self.tell_local_response(datagram),
+            LocalAnswer::Status(_) => {}
         }
     }
 
     /// Tells of what ends by an arrival for a realm that was answered so.
     pub fn end_by(&mut self, realm: u16, datagram: &Datagram<Global>, answered: &Answered<Global>)
         ensures kept { (self.new.seat ≡ self.old.seat) × (self.new.datagrams ≡ self.old.datagrams)
-            × (self.new.now ≡ self.old.now) }
+            × (self.new.now ≡ self.old.now)
+            × (counts_in self.new.counting ≡ counts_in self.old.counting) }
     {
         match &answered.happening {
             Happening::Returned { code, waited } => {
@@ -89,7 +100,8 @@ impl<G: Gate, N: Opened> WorkerContext<'_, '_, G, N> {
     /// Has a request that waited, and that another one replaced, be told with those that are like it.
     fn tell_replaced(&mut self, realm: u16, waited: &Waited<Global>)
         ensures kept { (self.new.seat ≡ self.old.seat) × (self.new.datagrams ≡ self.old.datagrams)
-            × (self.new.now ≡ self.old.now) }
+            × (self.new.now ≡ self.old.now)
+            × (counts_in self.new.counting ≡ counts_in self.old.counting) }
     {
         let outcome = ExchangeEnd::Replaced;
         if !self.exchanges.are_told(outcome) {
@@ -110,7 +122,8 @@ impl<G: Gate, N: Opened> WorkerContext<'_, '_, G, N> {
         reply: &[u8],
     )
         ensures kept { (self.new.seat ≡ self.old.seat) × (self.new.datagrams ≡ self.old.datagrams)
-            × (self.new.now ≡ self.old.now) }
+            × (self.new.now ≡ self.old.now)
+            × (counts_in self.new.counting ≡ counts_in self.old.counting) }
     {
         if !self.exchanges.are_told(outcome) {
             return;
@@ -120,7 +133,11 @@ impl<G: Gate, N: Opened> WorkerContext<'_, '_, G, N> {
     }
 
     /// Tells of the requests that a tick gave up.
-    pub fn end_by_tick(&mut self, happening: &Happening<Global>) {
+    pub fn end_by_tick(&mut self, happening: &Happening<Global>)
+        ensures kept { (self.new.seat ≡ self.old.seat) × (self.new.datagrams ≡ self.old.datagrams)
+            × (self.new.now ≡ self.old.now)
+            × (counts_in self.new.counting ≡ counts_in self.old.counting) }
+    {
         let Happening::Ticked(dues) = happening else {
             return;
         };

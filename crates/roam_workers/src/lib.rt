@@ -15,6 +15,9 @@
 //!   given to a realm; it failed, and the seat counts nothing; or it is a request and the server was asked to stop. It is
 //!   counted once, as that; what a worker counted is what it gives back | `WorkerContext::arrive`: `arrives`;
 //!   `WorkerContext::leave`: `datagrams`
+//! - a worker's own counts of events rise by just what becomes of each datagram and of each tick: by what happens by the call's
+//!   event where the steps before it end, as the history says it, by an answer of the broker's own, or by a refusal. That
+//!   what is left for others to read is these counts is code | `WorkerContext::arrive`: `arrives`; `WorkerContext::tick`
 //! - which remedy there is for a call that a hub doesn't record: where the history is full it is let go of,
 //!   each time; out of memory it is, once; else the call is refused. That the same event is handed in again is
 //!   the loop's code | `remedy_for`

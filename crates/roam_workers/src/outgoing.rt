@@ -11,7 +11,7 @@ use roam_book::Outs;
 use roam_port::{Outbox, Sent, Standing};
 use roam_route::Out;
 use roam_sockets::{PlaceSockets, Polls};
-use roam_telling::Counting;
+use roam_telling::ThreadCounts;
 use roam_wire::NoMemory;
 use std::alloc::Global;
 use std::time::Duration;
@@ -35,7 +35,8 @@ pub struct Outgoing<'s> {
     /// In the order of their numbers.
     ports: Vec<PlaceSockets<'s>>,
     losses: &'s SharedLosses,
-    counting: Counting<'s>,
+    /// Where it is counted what was sent, where somebody reads it.
+    counts: Option<ThreadCounts<'s>>,
     room: RoomEvents,
     /// How many sockets had no room and are watched.
     watched: usize,
@@ -71,7 +72,7 @@ impl<'s> Outgoing<'s> {
         before: Outbox<Global>,
         ports: Vec<PlaceSockets<'s>>,
         losses: &'s SharedLosses,
-        counting: Counting<'s>,
+        counts: Option<ThreadCounts<'s>>,
         room: RoomEvents,
     ) -> Result<Outgoing<'s>, NoMemory> {
         let outbox = outbox_for(alloc, before, ports.len())?;
@@ -79,7 +80,7 @@ impl<'s> Outgoing<'s> {
             outbox,
             ports,
             losses,
-            counting,
+            counts,
             room,
             watched: 0,
             is_unwatched: false,
@@ -128,7 +129,9 @@ impl<'s> Outgoing<'s> {
         }
         let account = self.outbox.take_account();
         self.losses.add(account.losses);
-        self.counting.sent(account);
+        if let Some(counts) = &self.counts {
+            counts.sent(account);
+        }
     }
 
     /// Asks to be told when the sockets for which packets stand aside have room, where that wasn't asked yet.

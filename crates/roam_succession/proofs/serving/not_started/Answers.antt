@@ -3,4 +3,4 @@ use Rattle.roam_succession.proofs.ServedLemmas.{on-nothing}
 use Rattle.roam_succession.proofs.serving.not_started.Goals as goal
 
 pub returns : goal.returns
-returns g config = λ paused. record { paused = paused; goes_on = on-nothing config _; may = _ }
+returns c config = λ paused. record { paused = paused; goes_on = on-nothing config _; may = c.requires }

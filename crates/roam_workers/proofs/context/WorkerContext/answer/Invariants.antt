@@ -1,6 +1,7 @@
 use Rattle.std.proofs.Common.{◌≡◌}
 use Rattle.roam_route.specs.Events.{IsEvent}
 use Rattle.roam_route.specs.Shown.{shown_job}
+use Rattle.roam_telling.specs.Counting.{counts_in}
 use Rattle.roam_workers.proofs.context.WorkerContext.answer.Given as goal
 
 -- the job is the one that was handed in, which the hub takes, and none was counted yet
@@ -11,4 +12,5 @@ invariant-loop g l = record {
   tallies : l.self.seat.tallies ≡ l.fn.self.seat.tallies;
   datagrams : l.self.datagrams ≡ l.fn.self.datagrams;
   now : l.self.now ≡ l.fn.self.now;
+  counts : counts_in l.self.counting ≡ counts_in l.fn.self.counting;
 }

@@ -1,21 +1,52 @@
 -- A job was taken, or the call for it failed.
-use Rattle.std.proofs.Common.{◌∙◌, ap, sym, subst}
+use Rattle.std.proofs.Common.{◌∙◌, ap, sym, subst, inr}
+use Rattle.roam_counters.specs.OwnCounts.{raised_all}
+use Rattle.roam_book.specs.HappeningsShown.{shown_happening}
+use Rattle.roam_counters.specs.Arrivals.{failed_increments}
+use Rattle.roam_counters.specs.Increments.{job_increments}
 use Rattle.roam_route.specs.Shown.{WantsMemory, shown_job}
 use Rattle.roam_audit.specs.Seats.{SeatView}
+use Rattle.roam_telling.specs.Counting.{counts_in, wait_of}
+use Rattle.roam_workers.specs.Handlings.{came}
+use Rattle.roam_workers.proofs.HandlingLemmas.{came-so}
 use Rattle.roam_workers.proofs.context.WorkerContext.take.Goals as goal
 
 pub returns-in-Ok-clause-handled : goal.returns-in-Ok-clause-handled
-returns-in-Ok-clause-handled g c = record {
-  job = shown_job c.args.job;
-  admitted_is = c.requires.admission;
-  after = c.answer.new.self.seat;
-  answered = c.in-Ok.answered;
-  answer = c.in-Ok.ensures.answered;
-  none_after = c.finish.ensures.kept.0 ∙ ap (λ (s : SeatView). s.tallies) c.end_by.ensures.kept.0;
-}
+returns-in-Ok-clause-handled g c =
+    let self = c.args.self.now in
+    let job = shown_job c.args.job in
+    let there = came-so (counts_in self.counting) (counts_in c.came.new.self)
+    (counts_in c.answer.new.self.counting) c.turn_of-turn.result job c.turn_of-turn.ensures c.came.ensures
+    c.answer.ensures.kept.2 in
+    record {
+      job = job;
+      admitted_is = c.requires.admission;
+      after = c.answer.new.self.seat;
+      answered = c.in-Ok.answered;
+      answer = c.in-Ok.ensures.answered;
+      none_after = c.finish.ensures.kept.0 ∙ ap (λ (s : SeatView). s.tallies) c.end_by.ensures.kept.0;
+      counts = c.finish.ensures.kept.3 ∙ c.end_by.ensures.kept.3 ∙ c.gave.ensures
+          ∙ (λ i. raised_all (there i)
+          (job_increments (c.turn_of-turn.ensures i) (shown_happening c.in-Ok.answered.happening)
+          (c.answer.ensures.kept.1 i)
+          (wait_of (self.shared.now.same i) (c.turn_of-turn.ensures i).realm)));
+    }
 
 pub returns-in-Err-clause-handled : goal.returns-in-Err-clause-handled
-returns-in-Err-clause-handled g c = (
-  subst WantsMemory (sym c.requires.admission) tt,
-  ap (λ (s : SeatView). s.tallies) c.refuse.ensures.kept.0 ∙ c.in-Err.ensures.failed,
-)
+returns-in-Err-clause-handled g c =
+    let self = c.args.self.now in
+    let job = shown_job c.args.job in
+    let there = came-so (counts_in self.counting) (counts_in c.came.new.self)
+    (counts_in c.answer.new.self.counting) c.turn_of-turn.result job c.turn_of-turn.ensures c.came.ensures
+    c.answer.ensures.kept.2 in
+    record {
+      wants = subst WantsMemory (sym c.requires.admission) tt;
+      tallies = ap (λ (s : SeatView). s.tallies) c.refuse.ensures.kept.0 ∙ c.in-Err.ensures.failed;
+      counts = inr (
+        job,
+        c.in-Err.refusal,
+        c.requires.admission,
+        c.refuse.ensures.kept.3 ∙ c.failed.ensures
+            ∙ (λ i. raised_all (there i) (failed_increments (c.turn_of-turn.ensures i) c.in-Err.refusal)),
+      );
+    }

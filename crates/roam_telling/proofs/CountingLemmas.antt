@@ -1,0 +1,25 @@
+-- What is counted of a tick, one request after the other.
+use Rattle.std.proofs.Common.{◌≡◌, ◌∙◌, ℕ, ◌+◌, ◌<◌, List, [], ◌∷◌, length, take, slice_index_or, sym, ap}
+use Rattle.std.proofs.lemmas.List.{flat_map_more, map-append, take_more}
+use Rattle.std.proofs.lemmas.List.Sums.{fold-append}
+use Rattle.roam_book.specs.Happenings.{PlainDue}
+use Rattle.roam_book.specs.HappeningsShown.{shown_due, shown_dues}
+use Rattle.roam_book.specs.declared.happening.DueHappening.{DueHappening}
+use Rattle.roam_counters.specs.Increments.{due_increments}
+use Rattle.roam_counters.specs.OwnCounts.{CountsView, raised_all, raised_by}
+use Rattle.roam_telling.specs.Counting.{dues_counted}
+
+-- one more was gone through
+pub dues-more : {A : Type 0} (c : CountsView) (dues : List (DueHappening A)) (i : ℕ) (d : DueHappening A) →
+    i < length dues →
+    raised_all c (dues_counted (shown_dues (take (i + 1) dues)))
+    ≡ raised_all (raised_all c (dues_counted (shown_dues (take i dues))))
+    (due_increments (shown_due (slice_index_or dues i d)))
+dues-more {A} c dues i d within =
+    let before : List PlainDue = shown_dues (take i dues) in
+    let due : PlainDue = shown_due (slice_index_or dues i d) in
+    ap (λ (l : List (DueHappening A)). raised_all c (dues_counted (shown_dues l))) (take_more dues i d within)
+    ∙ ap (λ (l : List PlainDue). raised_all c (dues_counted l))
+    (map-append shown_due (take i dues) (slice_index_or dues i d ∷ []))
+    ∙ ap (raised_all c) (sym (flat_map_more due_increments [] before due))
+    ∙ fold-append raised_by c (dues_counted before) (due_increments due)

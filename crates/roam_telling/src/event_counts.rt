@@ -1,0 +1,60 @@
+//! What one thread counts of events: its own counts, and where the others read them.
+
+ghost use Rattle.std.specs.Prelude.{◌≡◌};
+ghost use Rattle.roam_counters.specs.OwnCounts.{raised_all};
+
+use crate::sheet::Sheet;
+use roam_counters::{Counted, Increment, OwnCounts};
+use std::alloc::{AllocError, Global};
+
+/// What one thread counts of events. No other thread does so in its sheet, where it leaves what it has counted.
+#[derive(Drop)]
+pub struct EventCounts<'t> {
+    /// None where nobody reads it: there are no counts then.
+    sheet: Option<&'t Sheet>,
+    pub own: OwnCounts<Global>,
+}
+
+/// Leaves a count that rose where others read it, if somebody does.
+fn leave(sheet: Option<&Sheet>, counted: Option<Counted>) {
+    if let (Some(sheet), Some(counted)) = (sheet, counted) {
+        sheet.leave(counted);
+    }
+}
+
+/// An increment of some.
+fn copied(increment: &Option<Increment>) -> Option<Increment>
+    ensures { result ≡ increment.now }
+{
+    *increment
+}
+
+impl<'t> EventCounts<'t> {
+    /// Nothing is counted.
+    pub fn none(alloc: Global) -> EventCounts<'t> {
+        EventCounts {
+            sheet: None,
+            own: OwnCounts::none(alloc),
+        }
+    }
+
+    /// The counts of a thread that go on from what stands in its sheet.
+    pub(crate) fn new(alloc: Global, sheet: &'t Sheet) -> Result<EventCounts<'t>, AllocError> {
+        Ok(EventCounts {
+            sheet: Some(sheet),
+            own: sheet.own(alloc)?,
+        })
+    }
+
+    /// Counts what rises.
+    pub(crate) fn add(&mut self, increments: &[Option<Increment>])
+        ensures { self.new.own ≡ raised_all self.old.own increments.now }
+    {
+        let sheet = self.sheet;
+        for increment in increments {
+            let one = copied(increment);
+            let counted = self.own.add(&one);
+            leave(sheet, counted);
+        }
+    }
+}

@@ -1,0 +1,9 @@
+-- What is told of requests changes nothing that is counted.
+use Rattle.std.proofs.Common.{◌≡◌}
+use Rattle.roam_telling.specs.Counting.{counts_in}
+use Rattle.roam_workers.proofs.context.WorkerContext.end_by_tick.Given as goal
+
+abbrev pub invariant-loop-due : goal.invariant-loop-due
+invariant-loop-due g l =
+    (l.self.seat ≡ l.fn.self.seat) × (l.self.datagrams ≡ l.fn.self.datagrams) × (l.self.now ≡ l.fn.self.now)
+    × (counts_in l.self.counting ≡ counts_in l.fn.self.counting)
