@@ -1,10 +1,10 @@
 //! The program `roam`: does what the words of its command line ask for, and says how it ended.
 //!
-//! What is done stands in `roam_commands`, the words and texts in `roam_words`; here are the standard streams and the status
+//! What is done stands in `roam_program`, the words and texts in `roam_words`; here are the standard streams and the status
 //! alone.
 #![tactic(auto)]
 
-use roam_commands::command;
+use roam_program::command;
 use roam_outlet::{LogReader, Outlet, OutletWriter, ToOutlet, log_reader, write_on};
 use roam_words::Fault;
 use std::alloc::Global;

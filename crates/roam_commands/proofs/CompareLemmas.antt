@@ -1,7 +1,5 @@
 -- What is printed of two configurations, and which fault comes of them.
-use Rattle.std.proofs.Common.{◌≡◌, inl, inr, ℕ, List, [], ◌++◌, Option, Result, Ok, Err, MatchResult, OnOk, IfErr, refl, subst, sym}
-use Rattle.std.proofs.KnownBytes.{Appends-kept, Appends-nil, Appends-trans}
-use Rattle.std.specs.Io.KnownBytes.{Keeps}
+use Rattle.std.proofs.Common.{◌≡◌, inl, inr, ℕ, List, Option, Result, Ok, Err, MatchResult, OnOk, IfErr, refl, subst, sym}
 use Rattle.roam_conf.specs.Config.{ConfigView}
 use Rattle.roam_reload.specs.Numbers.{laid_out}
 use Rattle.roam_reload.specs.Reload.{MayFollow}
@@ -10,17 +8,9 @@ use Rattle.roam_words.specs.CommandLine.{to_compare}
 use Rattle.roam_words.specs.declared.text_file.TextFile.{TextFile}
 use Rattle.roam_words.specs.declared.report.Fault.{Fault}
 use Rattle.roam_words.specs.declared.report.Fault.TheVariants as fault
-use Rattle.roam_commands.specs.CommandFaults.{text_in, CheckFails, CompareFails, DoesNotFollow, Follows, IsPrinted}
+use Rattle.roam_commands.specs.CommandFaults.{text_in, CheckFails, CompareFails, DoesNotFollow, Follows}
+use Rattle.roam_printing.specs.Printed.{IsPrinted}
 use Rattle.roam_commands.specs.Outcomes.{IsDone}
-
-pub printed_none : (a : Option (List ℕ)) → IsPrinted a a
-printed_none a = ([], Appends-nil a)
-
-pub printed_more : (a b c : Option (List ℕ)) → IsPrinted a b → IsPrinted b c → IsPrinted a c
-printed_more a b c p q = (p.0 ++ q.0, Appends-trans a b c p.0 q.0 p.1 q.1)
-
-pub printed_kept : (a b c : Option (List ℕ)) → IsPrinted a b → Keeps b c → IsPrinted a c
-printed_kept a b c p kept = (p.0, Appends-kept a b c p.0 p.1 kept)
 
 -- the fault of the first of two configurations, and of the second
 pub first_fails : (a b : TextFile) (out : Option (List ℕ)) (f : Fault) → CheckFails a out out f
@@ -113,14 +103,3 @@ pub compared : {T E : Type 0} (a b : TextFile) (first second : List ℕ) (old ne
     → OnOk r (IsDone (to_compare first second) old new)
 compared a b first second old new (Ok x) may printed = (text_in a, text_in b, may, printed)
 compared a b first second old new (Err e) may printed = tt
-
--- something was printed, and more behind it where that could be
-pub printed_then : {T E : Type 0} (a b c : Option (List ℕ)) (r : Result T E) → IsPrinted a b
-    → OnOk r (IsPrinted b c) → OnOk r (IsPrinted a c)
-printed_then a b c (Ok x) p q = printed_more a b c p q
-printed_then a b c (Err e) p q = tt
-
-pub kept_then : {T E : Type 0} (a b c : Option (List ℕ)) (r : Result T E) → IsPrinted a b → Keeps b c
-    → OnOk r (IsPrinted a c)
-kept_then a b c (Ok x) p kept = printed_kept a b c p kept
-kept_then a b c (Err e) p kept = tt

@@ -1,4 +1,3 @@
-pub mod AnswerLemmas
 pub mod CompareLemmas
 pub mod OutcomeLemmas
 pub mod PreventLemmas

@@ -6,7 +6,7 @@ use Rattle.roam_conf.specs.Config.{ConfigView}
 use Rattle.roam_conf_reader.specs.declared.fault.ConfFault.{ConfFault}
 use Rattle.roam_conf_reader.specs.declared.fault.ConfFault.TheVariants as conf
 use Rattle.roam_conf_reader.specs.Faults.{States, NoneHolds, IsFirstFault, every_fault}
-use Rattle.std.specs.Prelude.{IsErrOf, IsOk, Contains}
+use Rattle.std.specs.Prelude.{IsErrOf, IsOk}
 use Rattle.roam_sim.specs.Script.{script_states}
 use Rattle.roam_sim.specs.Simulation.{IsConfiguration, IsAccepted, Simulates}
 use Rattle.roam_sim.specs.declared.fault.SimFault.{SimFault}
@@ -14,12 +14,7 @@ use Rattle.roam_sim.specs.declared.fault.SimFault.TheVariants as sim
 use Rattle.roam_words.specs.declared.text_file.TextFile.{TextFile}
 use Rattle.roam_words.specs.declared.report.Fault.{Fault}
 use Rattle.roam_words.specs.declared.report.Fault.TheVariants as fault
-use Rattle.roam_port.specs.Sockets.{socket_endpoints}
-use Rattle.roam_sockets.specs.declared.fault.ServeFault.{ServeFault}
-use Rattle.roam_sockets.specs.declared.fault.ServeFault.TheVariants as serve
-use Rattle.roam_sockets.specs.Faults.{IsFaultOf}
 use Rattle.roam_commands.specs.CommandFaults.{summary_of, text_in, Checks, CheckFails, RunFails, ServeFails, AreRead}
-use Rattle.roam_words.specs.Report.{fault_of}
 
 -- the summary was printed of the configuration that the file states
 pub printed-checks : {T E : Type 0} (file : TextFile) (text : List ℕ) (config : ConfigView)
@@ -168,36 +163,3 @@ accepted-text file text config same stated faultless = record {
   stated = rw (← same) stated;
   faultless = rw (← same) faultless;
 }
-
--- what ends a server is a fault of each configuration with the same endpoints
-same-fault : (one other : ConfigView) (why : ServeFault) → socket_endpoints one ≡ socket_endpoints other →
-    IsFaultOf one why → IsFaultOf other why
-same-fault one other serve.Clock same its_own = tt
-same-fault one other serve.Seed same its_own = tt
-same-fault one other (serve.Bind endpoint reason) same its_own = subst (λ es. Contains es endpoint) same its_own
-same-fault one other (serve.Control path reason) same its_own = tt
-same-fault one other (serve.Descriptors wanted) same its_own = tt
-same-fault one other (serve.Wait reason) same its_own = tt
-same-fault one other serve.Thread same its_own = tt
-same-fault one other serve.Receive same its_own = tt
-same-fault one other serve.Audit same its_own = tt
-same-fault one other serve.Memory same its_own = tt
-
-pub same-end : {T : Type 0} (one other : ConfigView) (end : Result T ServeFault) →
-    socket_endpoints one ≡ socket_endpoints other → IfErr end (IsFaultOf one) → IfErr end (IsFaultOf other)
-same-end one other (Ok x) same ends = tt
-same-end one other (Err why) same ends = same-fault one other why same ends
-
--- what ends a server of an accepted configuration
-pub serve-fails : (file : TextFile) (config : ConfigView) (why : ServeFault) →
-    IsConfiguration (text_in file) config → IsFaultOf config why → ServeFails file (fault_of why)
-serve-fails file config serve.Clock read its_own = (config, read)
-serve-fails file config serve.Seed read its_own = (config, read)
-serve-fails file config (serve.Bind endpoint reason) read its_own = (config, read, its_own)
-serve-fails file config (serve.Control path reason) read its_own = (config, read)
-serve-fails file config (serve.Descriptors wanted) read its_own = (config, read)
-serve-fails file config (serve.Wait reason) read its_own = (config, read)
-serve-fails file config serve.Thread read its_own = (config, read)
-serve-fails file config serve.Receive read its_own = (config, read)
-serve-fails file config serve.Audit read its_own = (config, read)
-serve-fails file config serve.Memory read its_own = tt

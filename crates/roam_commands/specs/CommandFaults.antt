@@ -13,6 +13,7 @@ use Rattle.roam_reload.specs.Differences.{Hinders}
 use Rattle.roam_reload.specs.declared.hindrance.Hindrance.{Hindrance}
 use Rattle.roam_sim.specs.Script.{script_states}
 use Rattle.roam_sim.specs.Simulation.{IsConfiguration, IsAccepted, SimulatesInPart}
+use Rattle.roam_printing.specs.Printed.{IsPrinted}
 use Rattle.roam_words.specs.declared.text_file.TextFile.{TextFile}
 use Rattle.roam_words.specs.declared.report.Fault.{Fault}
 use Rattle.roam_words.specs.declared.report.Fault.TheVariants as fault
@@ -155,10 +156,6 @@ ServeFails file (fault.Bind endpoint reason) =
     (config : ConfigView) × IsConfiguration (text_in file) config × Contains (socket_endpoints config) endpoint
 ServeFails file fault.Receive = IsAccepted (text_in file)
 ServeFails file fault.Audit = IsAccepted (text_in file)
-
--- something was printed
-abbrev pub IsPrinted : Option (List ℕ) → Option (List ℕ) → Type 0
-IsPrinted old new = (text : List ℕ) × Appends old new text
 
 -- the faults of a question to a server: no answer came through the socket of this path; or one that was cut, and what
 -- came is printed; or it was declined, and why is printed; a write was refused, or memory is wanting

@@ -3,7 +3,8 @@ use Rattle.std.specs.Prelude.{◌≡◌, ◌⊎◌, ℕ, List, Option, OnOk, Con
 use Rattle.std.specs.Io.KnownBytes.{Keeps, Appends}
 use Rattle.roam_sim.specs.Simulation.{IsAccepted, Simulates, SimulatesInPart}
 use Rattle.roam_words.specs.CommandLine.{Asked, to_check, to_check_all, to_compare, to_simulate, to_serve, to_serve_with_its_seed, to_control, to_help, to_tell_version, Asks, AsksToServe, AsksNothing, IsUnknown, files_of, IsConfigurationOf}
-use Rattle.roam_commands.specs.CommandFaults.{Checks, IsPrinted, StatesAnew, Follows}
+use Rattle.roam_commands.specs.CommandFaults.{Checks, StatesAnew, Follows}
+use Rattle.roam_printing.specs.Printed.{IsPrinted}
 use Rattle.roam_words.specs.declared.command_line.ControlOrder.{ControlOrder}
 use Rattle.roam_words.specs.Report.{status_of, usage_text, version_text, Tells}
 use Rattle.roam_words.specs.declared.report.ProgramEnd.{ProgramEnd}
@@ -13,7 +14,7 @@ use Rattle.roam_words.specs.declared.report.Fault.TheVariants as fault
 -- what is asked for was done, over texts in the files: which ones, nothing here can say. Of a server nothing more is
 -- said: it prints nothing, and what its sockets took and gave no contract can say; nor of what a server answers that is
 -- asked through its control socket: it is printed. Nor of what is printed of two configurations of which the second may
--- follow the first: what becomes of each realm is said where that is decided (`fate_of` of `roam_reload`)
+-- follow the first: what becomes of each realm is said where that is decided (`after_reload` of `roam_reload`)
 abbrev pub IsDone : Asked → Option (List ℕ) → Option (List ℕ) → Type 0
 IsDone (to_check configuration) old new = (text : List ℕ) × Checks text old new
 IsDone (to_check_all configuration) old new = (text : List ℕ) × StatesAnew text old new

@@ -8,13 +8,14 @@ ghost use Rattle.roam_reload.specs.Reload.{MayFollow};
 ghost use Rattle.roam_sim.specs.Simulation.{IsConfiguration};
 ghost use Rattle.roam_words.specs.CommandLine.{Asks, to_compare};
 ghost use Rattle.roam_words.specs.declared.text_file.TextFile.{TextFile};
-ghost use Rattle.roam_commands.specs.CommandFaults.{text_in, CheckFails, CompareFails, Follows, IsPrinted};
+ghost use Rattle.roam_commands.specs.CommandFaults.{text_in, CheckFails, CompareFails, Follows};
+ghost use Rattle.roam_printing.specs.Printed.{IsPrinted};
 ghost use Rattle.roam_commands.specs.Outcomes.{IsDone, Prevents};
 
-use crate::changes::{print_changes, print_hindrance, print_no_number};
 use roam_conf::Config;
 use roam_conf_reader::{following_config, read_config};
 use roam_diagnosis::{Lines, diagnose};
+use roam_printing::{print_changes, print_hindrance, print_no_number};
 use roam_reload::{Hindrance, LayFault, hindrance_of};
 use roam_words::{Fault, TextFile};
 use std::alloc::Global;
@@ -23,7 +24,7 @@ use std::io::Write;
 use std::rt::Files;
 
 /// Prints that a configuration may follow another one, and what becomes of each realm.
-fn print_fates_of<W: Write>(writer: &mut W, old: &Config, new: &Config) -> io::Result<()>
+fn print_realms_after<W: Write>(writer: &mut W, old: &Config, new: &Config) -> io::Result<()>
     ensures { OnOk result (IsPrinted (W.contents writer.old) (W.contents writer.new)) }
 {
     print_hindrance(writer, None)?;
@@ -44,7 +45,7 @@ fn print_following<W: Write>(
     ensures ok { OnOk result (IsPrinted (W.contents writer.old) (W.contents writer.new)) }
     ensures err { IfErr result (λ fault. fault ≡ Fault.Write) }
 {
-    match print_fates_of(writer, old, new) {
+    match print_realms_after(writer, old, new) {
         Ok(()) => Ok(()),
         Err(_) => Err(Fault::Write),
     }

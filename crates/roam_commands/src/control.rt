@@ -1,7 +1,8 @@
 //! Asking a server something through its control socket.
 
 ghost use Rattle.std.specs.Prelude.{◌≡◌, OnOk, IfErr};
-ghost use Rattle.roam_commands.specs.CommandFaults.{AskFails, IsPrinted};
+ghost use Rattle.roam_commands.specs.CommandFaults.{AskFails};
+ghost use Rattle.roam_printing.specs.Printed.{IsPrinted};
 
 use crate::looking::next_octet;
 use roam_conf::decimal;

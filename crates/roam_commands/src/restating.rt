@@ -9,10 +9,10 @@ ghost use Rattle.roam_commands.specs.CommandFaults.{text_in, IsUnstated, StateFa
 ghost use Rattle.roam_commands.specs.Outcomes.{IsDone, Prevents};
 
 use crate::compare::configuration_in;
-use crate::statement::statement;
 use roam_conf::Config;
 use roam_conf_reader::{ConfFault, Settings, read_config, read_settings};
 use roam_diagnosis::Lines;
+use roam_printing::statement;
 use roam_words::{Fault, TextFile, finish};
 use std::alloc::Global;
 use std::io::Write;

@@ -1,14 +1,17 @@
 //! Running a script over a configuration.
 
-ghost use Rattle.std.specs.Prelude.{OnOk, IfErr};
+ghost use Rattle.std.specs.Prelude.{List, ℕ, OnOk, IfErr};
 ghost use Rattle.roam_sim.specs.Simulation.{Simulates};
+ghost use Rattle.roam_words.specs.CommandLine.{Asks, to_simulate};
 ghost use Rattle.roam_commands.specs.CommandFaults.{text_in, RunFails};
+ghost use Rattle.roam_commands.specs.Outcomes.{IsDone, Prevents};
 
 use roam_diagnosis::{Lines, diagnose};
 use roam_sim::{SimFault, sim};
 use roam_words::{Fault, TextFile, finish};
 use std::alloc::Global;
 use std::io::Write;
+use std::rt::Files;
 
 /// Runs a script over a configuration, and prints a line for each packet that leaves. Where the configuration is
 /// refused, `lines` are where its fault stands.
@@ -17,7 +20,7 @@ use std::io::Write;
 ///
 /// `Refused` and `FaultyLine`, and nothing is printed; `Write`; `Memory`, also where an event of the script met
 /// want of memory, and then the packets of the others were printed.
-pub fn simulate<'a, W: Write>(
+fn simulate<'a, W: Write>(
     alloc: Global,
     configuration: &TextFile<'a>,
     script: &TextFile<'a>,
@@ -55,4 +58,23 @@ pub fn simulate<'a, W: Write>(
             Err(Fault::Memory)
         }
     }
+}
+
+/// Runs the script of a path over the configuration of a path. `lines` are then what is said of the configuration.
+pub fn simulate_files<'a, R: Files + AllocGlobal, W: Write>(
+    rt: &R,
+    configuration: &'a str,
+    script: &'a str,
+    out: &mut W,
+    lines: &mut Lines,
+) -> Result<(), Fault<'a>>
+    ensures ok { OnOk result (IsDone (to_simulate configuration.now script.now)
+        (W.contents out.old) (W.contents out.new)) }
+    ensures err { IfErr result (λ fault. (words : List (List ℕ))
+        → Asks words (to_simulate configuration.now script.now)
+        → Prevents words (W.contents out.old) (W.contents out.new) fault) }
+{
+    let configuration = TextFile::read(rt, configuration)?;
+    let script = TextFile::read(rt, script)?;
+    simulate(rt.alloc(), &configuration, &script, out, lines)
 }

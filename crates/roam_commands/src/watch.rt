@@ -1,7 +1,8 @@
 //! Asking a server something, and how it stands again and again.
 
 ghost use Rattle.std.specs.Prelude.{◌≡◌, OnOk, IfErr};
-ghost use Rattle.roam_commands.specs.CommandFaults.{AskFails, IsPrinted};
+ghost use Rattle.roam_commands.specs.CommandFaults.{AskFails};
+ghost use Rattle.roam_printing.specs.Printed.{IsPrinted};
 
 use crate::control::{answer, ask_once, body_of, is_done, print};
 use roam_words::{ControlOrder, Fault, shown};
@@ -61,7 +62,6 @@ fn print_anew<'a, R: AllocGlobal + Net, W: Write>(
 }
 
 /// Prints how a server stands, and does so anew each second until it doesn't say so any more.
-#[tactic(auto, using(crate::proofs::CompareLemmas::printed_more))]
 fn watch<'a, R: AllocGlobal + Net + Clock, W: Write>(
     rt: &R,
     path: &'a str,

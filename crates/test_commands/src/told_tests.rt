@@ -2,7 +2,7 @@
 //! says of words and files is tried by `packaging/tests/try-words.py`.
 
 use log::Level;
-use roam_commands::{Reason, ServeFault, SocketPath};
+use roam_program::{Reason, ServeFault, SocketPath};
 use roam_conf::{Address, Endpoint};
 use roam_outlet::{LogReader, Outlet, write_on};
 use roam_words::Fault;

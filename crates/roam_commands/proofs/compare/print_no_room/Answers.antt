@@ -1,4 +1,4 @@
-use Rattle.roam_commands.proofs.CompareLemmas.{kept_then}
+use Rattle.roam_printing.proofs.PrintedLemmas.{kept_then}
 use Rattle.roam_commands.proofs.compare.print_no_room.Goals as goal
 
 -- it was printed, and handed on

@@ -1,4 +1,4 @@
-use Rattle.roam_commands.proofs.CompareLemmas.{kept_then}
+use Rattle.roam_printing.proofs.PrintedLemmas.{kept_then}
 use Rattle.roam_commands.proofs.compare.print_why_not.Goals as goal
 
 -- it was printed, and handed on

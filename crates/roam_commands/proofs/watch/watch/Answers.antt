@@ -1,4 +1,4 @@
-use Rattle.roam_commands.proofs.CompareLemmas.{printed_more}
+use Rattle.roam_printing.proofs.PrintedLemmas.{printed_more}
 use Rattle.roam_commands.proofs.watch.watch.Goals as goal
 
 -- it was printed once more

@@ -1,4 +1,4 @@
-use Rattle.roam_commands.specs.CommandFaults.{IsPrinted}
+use Rattle.roam_printing.specs.Printed.{IsPrinted}
 use Rattle.roam_commands.proofs.watch.watch.Given as goal
 
 -- something was printed so far

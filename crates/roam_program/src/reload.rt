@@ -1,0 +1,179 @@
+//! Reading a configuration again while it is served.
+
+ghost use Rattle.std.specs.Prelude.{IfOk, OnOk};
+ghost use Rattle.roam_conf.specs.Shown.{shown};
+ghost use Rattle.roam_reload.specs.Reload.{MayFollow};
+ghost use Rattle.roam_printing.specs.Printed.{IsPrinted};
+
+use crate::state_file::{is_put_aside, keep_at, kept_at, manner_of};
+use crate::station_key::stations_of;
+use roam_conf::Config;
+use roam_conf_reader::{Settings, following_config, read_config, read_settings};
+use roam_diagnosis::{Lines, diagnose};
+use roam_printing::{print_changes, print_hindrance, print_no_number};
+use roam_reload::{LayFault, hindrance_of};
+use roam_serve::{Following, Reason, ServeFault, Source, StationForm};
+use roam_words::{Fault, TextFile};
+use std::alloc::Global;
+use std::io;
+use std::io::Write;
+use std::rt::Files;
+
+/// The file of a configuration that is served, which is read again.
+#[derive(Drop)]
+pub struct Reread<'a, R> {
+    pub rt: &'a R,
+    pub path: &'a str,
+    /// Those that are served until a restart.
+    pub settings: &'a Settings,
+}
+
+/// Prints a line where it is wanted.
+fn print_if<W: Write>(writer: &mut W, is_wanted: bool, line: &[u8]) -> io::Result<()>
+    ensures { OnOk result (IsPrinted (W.contents writer.old) (W.contents writer.new)) }
+{
+    if is_wanted {
+        writer.write_all(line)
+    } else {
+        Ok(())
+    }
+}
+
+/// Prints which keys of the whole server have another value in the file, and stay as they are until a restart.
+fn print_kept<W: Write>(writer: &mut W, old: &Settings, new: &Settings) -> io::Result<()>
+    ensures { OnOk result (IsPrinted (W.contents writer.old) (W.contents writer.new)) }
+{
+    let has_other_metrics = new.metrics != old.metrics;
+    let has_other_control = new.control != old.control;
+    print_if(
+        writer,
+        has_other_metrics,
+        b"metrics: as before until a restart\n",
+    )?;
+    print_if(
+        writer,
+        has_other_control,
+        b"control: as before until a restart\n",
+    )
+}
+
+/// Prints what a change takes, and which keys wait for a restart.
+fn print_report<W: Write>(
+    writer: &mut W,
+    old: &Config,
+    new: &Config,
+    before: &Settings,
+    after: &Settings,
+) -> io::Result<()>
+    ensures { OnOk result (IsPrinted (W.contents writer.old) (W.contents writer.new)) }
+{
+    print_changes(writer, old, new)?;
+    print_kept(writer, before, after)
+}
+
+/// Prints that no station is told, where a hash of it is wanted and no key can be read.
+fn print_hidden<W: Write>(writer: &mut W, stations: StationForm) -> io::Result<()>
+    ensures { OnOk result (IsPrinted (W.contents writer.old) (W.contents writer.new)) }
+{
+    let is_hidden = matches!(stations, StationForm::Hidden);
+    print_if(
+        writer,
+        is_hidden,
+        b"log_station: no key of 16 to 64 octets in station.key: no station is told\n",
+    )
+}
+
+/// What is said of a fault.
+fn text_of(alloc: Global, fault: Fault<'_>, lines: &Lines) -> Vec<u8> {
+    let mut text = Vec::new(alloc);
+    let _is_said = fault.tell_with(lines, &mut text);
+    text
+}
+
+/// A configuration laid out by the one that is served, or what is said of why it isn't.
+fn laid_out(alloc: Global, old: &Config, new: Config) -> Result<Config, Vec<u8>> {
+    match following_config(alloc, old, new) {
+        Ok(config) => Ok(config),
+        Err(LayFault::Memory) => Err(text_of(alloc, Fault::Memory, &Lines::new(alloc))),
+        Err(LayFault::Numbers) => {
+            let mut report = Vec::new(alloc);
+            let _is_said = print_no_number(&mut report).is_ok();
+            Err(report)
+        }
+    }
+}
+
+/// The configuration of a text, laid out by the one that is served, and its settings.
+fn read(alloc: Global, file: &TextFile<'_>, old: &Config) -> Result<(Config, Settings), Vec<u8>> {
+    let text = file.text.as_str();
+    match (read_config(alloc, text), read_settings(alloc, text)) {
+        (Ok(config), Ok(settings)) => {
+            let config = laid_out(alloc, old, config)?;
+            Ok((config, settings))
+        }
+        (Err(fault), _) | (_, Err(fault)) => {
+            let lines = diagnose(alloc, file.path, text, fault);
+            Err(text_of(alloc, Fault::of_configuration(file.path, fault), &lines))
+        }
+    }
+}
+
+/// The configuration of a file that is to follow another one, or what is said of why it may not.
+fn following<R: Files + AllocGlobal>(
+    rt: &R,
+    file: &TextFile<'_>,
+    old: &Config,
+    before: &Settings,
+) -> Result<Following, Vec<u8>>
+    ensures { IfOk result (λ following. MayFollow (shown old.now) (shown following.config)) }
+{
+    let alloc = rt.alloc();
+    let (config, settings) = read(alloc, file, old)?;
+    let mut report = Vec::new(alloc);
+    let hindrance = hindrance_of(old, &config);
+    if hindrance.is_some() {
+        let _is_said = print_hindrance(&mut report, hindrance).is_ok();
+        return Err(report);
+    }
+    let stations = stations_of(rt, file.path, &settings);
+    if print_report(&mut report, old, &config, before, &settings).is_err()
+        || print_hidden(&mut report, stations).is_err()
+    {
+        return Err(text_of(alloc, Fault::Memory, &Lines::new(alloc)));
+    }
+    match manner_of(alloc, &settings, stations) {
+        Ok(manner) => Ok(Following {
+            config,
+            manner,
+            report,
+        }),
+        Err(_) => Err(text_of(alloc, Fault::Memory, &Lines::new(alloc))),
+    }
+}
+
+impl<R: Files + AllocGlobal> Source for Reread<'_, R> {
+    fn following(&mut self, old: &Config) -> Result<Following, Vec<u8>> {
+        let alloc = self.rt.alloc();
+        match TextFile::read(self.rt, self.path) {
+            Ok(file) => following(self.rt, &file, old, self.settings),
+            Err(fault) => Err(text_of(alloc, fault, &Lines::new(alloc))),
+        }
+    }
+
+    fn words_of(&mut self, fault: ServeFault) -> Vec<u8> {
+        let alloc = self.rt.alloc();
+        text_of(alloc, Fault::of_server(fault), &Lines::new(alloc))
+    }
+
+    fn kept(&mut self, path: &str) -> Result<Option<Vec<u8>>, Reason> {
+        kept_at(self.rt, path)
+    }
+
+    fn keep(&mut self, path: &str, octets: &[u8]) -> Result<(), Reason> {
+        keep_at(self.rt, path, octets)
+    }
+
+    fn put_aside(&mut self, path: &str) -> bool {
+        is_put_aside(self.rt, path)
+    }
+}
