@@ -4,8 +4,8 @@
 //! alone.
 #![tactic(auto)]
 
-use roam_program::command;
 use roam_outlet::{LogReader, Outlet, OutletWriter, ToOutlet, log_reader, write_on};
+use roam_program::command;
 use roam_words::Fault;
 use std::alloc::Global;
 use std::io::BufWriter;

@@ -2,9 +2,9 @@
 //! says of words and files is tried by `packaging/tests/try-words.py`.
 
 use log::Level;
-use roam_program::{Reason, ServeFault, SocketPath};
 use roam_conf::{Address, Endpoint};
 use roam_outlet::{LogReader, Outlet, write_on};
+use roam_program::{Reason, ServeFault, SocketPath};
 use roam_words::Fault;
 use std::io;
 use std::io::{ErrorKind, Write};
