@@ -13,6 +13,7 @@ use Rattle.roam_fwd.specs.Forwarded.{CanBeForwarded, Forwarding, forwarded}
 use Rattle.roam_fwd.specs.Shaped.{HasShortName, Shaping, shaped}
 use Rattle.roam_fwd.proofs.ShapedLemmas.{CanBeForwarded-shaped, code-shaped}
 use Rattle.roam_fwd.proofs.LawLemmas.{IsPacket-forwarded_any, length-forwarded_any}
+use Rattle.roam_fwd.proofs.ShortLemmas.{forwarded-short}
 use Rattle.roam_conf.specs.declared.place.Link.{Link}
 use Rattle.roam_pending.specs.PlainEntry.{PlainRequest}
 use Rattle.roam_book.specs.RealmConfig.{RealmConfig, IsLink, requester_secret, link_secret}
@@ -20,7 +21,7 @@ use Rattle.roam_book.specs.RealmState.{Target}
 use Rattle.roam_book.specs.OnRequest.{drawn_at, position_after, forwarding, forwarded_octets}
 use Rattle.roam_book.specs.Shapings.{forwarded_size, shaping}
 use Rattle.roam_book.specs.Sound.{IsRequest, IsWaiting}
-use Rattle.roam_book.proofs.ShapingLemmas.{IsPacket-to_go, can-be-shaped, forwarded-short}
+use Rattle.roam_book.proofs.ShapingLemmas.{IsPacket-to_go, can-be-shaped}
 
 -- the position of a stream stays in the stream
 pub position-below : (q : PlainRequest) (position : ℕ) → position < 2 ^ 68

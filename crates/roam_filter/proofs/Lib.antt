@@ -2,3 +2,4 @@ pub mod RemovalLemmas
 pub mod LeftLemmas
 pub mod WithoutLemmas
 pub mod WithoutLawLemmas
+pub mod WholeLemmas

@@ -1,6 +1,6 @@
 //! The lists of attributes that don't pass, and what they name.
 
-ghost use Rattle.std.specs.Prelude.{◌≡◌, ◌&&◌, []};
+ghost use Rattle.std.specs.Prelude.{◌≡◌, ◌&&◌, [], IsTrue};
 ghost use Rattle.std.specs.List.{list_any};
 ghost use Rattle.roam_filter.specs.Removal.{is_kind, is_vendor, is_kind_of, is_some_of, removed_by, session_kinds};
 ghost use Rattle.roam_wire.specs.RemovedAttributes.{is_one_of};
@@ -27,6 +27,14 @@ pub fn nothing_removed() -> Removal<'static>
         realm: &[],
         keeps_session: false,
     }
+}
+
+/// Whether no list names an attribute.
+#[tactic(auto, unfolding(crate::specs::Removal::removed_by))]
+pub(crate) fn removes_nothing(removal: &Removal<'_>) -> bool
+    ensures { IsTrue result → removed_by removal.now ≡ [] }
+{
+    removal.peer.is_empty() && removal.realm.is_empty()
 }
 
 /// Whether a session is named by attributes of this Type.

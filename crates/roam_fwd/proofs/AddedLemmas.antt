@@ -1,6 +1,6 @@
 -- What is added to a request: which parts, how many octets, and these one behind another.
 use Rattle.std.proofs.Common.{◌≡◌, ℕ, ◌+◌, ◌-◌, ◌/◌, ◌%◌, ◌≤◌, Bool, true, false, inl, inr, Option, Some, None, List, [], ◌∷◌, ◌++◌, length, replicate, refl, sym, ap, ◌∙◌, arith, append-nil, append_assoc, length-append}
-use Rattle.std.specs.Prelude.{◌==◌, ◌&&◌, if◌then◌else◌}
+use Rattle.std.specs.Prelude.{◌==◌, ◌&&◌, if◌then◌else◌, is_some, option_map}
 use Rattle.std.proofs.lemmas.Bool.{cases_Bool, eqb-false, eqb-true}
 use Rattle.roam_wire.specs.Packet.{Attribute, Packet, IsPacket, attribute_text, attributes_text, packet_length, packet_text}
 use Rattle.roam_wire.specs.Attributes.{count_of}
@@ -42,6 +42,12 @@ pub no_name-added : (a : Bool) (name : Option (List ℕ)) (all : List Attribute)
 no_name-added true None all h = refl
 no_name-added true (Some name) all h = rw h refl
 no_name-added false name all h = refl
+
+pub absent-added : {T : Type 0} (octets : T → List ℕ) (a : Bool) (name : Option T) (all : List Attribute) →
+    is_some name ≡ false → [] ≡ (if a then added_operator_name (option_map octets name) all else [])
+absent-added octets true None all h = refl
+absent-added octets true (Some name) all h = absurd (cc)
+absent-added octets false name all h = refl
 
 -- a Chargeable-User-Identity
 pub cui-added : (a b : Bool) →

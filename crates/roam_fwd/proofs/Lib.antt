@@ -8,3 +8,4 @@ pub mod ShapedLemmas
 pub mod AddedLemmas
 pub mod ShapedLawLemmas
 pub mod ShorterLemmas
+pub mod ShortLemmas

@@ -86,6 +86,9 @@ fn operator_name_to_add<'a>(request: &View<'_>, shaping: &Shaping<'a>) -> Option
         (without (removed_by shaping.now.removal) request.now.attributes) else []) }
     ensures short { ForSome (option_map (λ name. name.now) result) (λ name. length name ≤ 252) }
 {
+    if shaping.operator_name.is_none() {
+        return None;
+    }
     if takes_name(request, &shaping.removal) {
         shaping.operator_name
     } else {

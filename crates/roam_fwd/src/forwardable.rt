@@ -5,10 +5,10 @@ ghost use Rattle.std.specs.List.{AllByRecursion};
 ghost use Rattle.roam_hide.specs.Hiding.{HasWholeBlocks};
 ghost use Rattle.roam_auth.specs.MessageAuthenticator.{HasAtMostOneMessageAuthenticator};
 ghost use Rattle.roam_fwd.specs.Forwarded.{forwarded_length, HasPasswordBlocks, CanBeForwarded};
-ghost use Rattle.roam_fwd.specs.Shaped.{CanBeShaped, HasShortName, shown_shaping};
+ghost use Rattle.roam_fwd.specs.Shaped.{CanBeShaped, HasShortName, shaped, shown_shaping};
 
 use crate::length::forwarded_len;
-use crate::shaped::forwarded_shaped_len;
+use crate::shaped::{MAX_SHAPED_GROWTH, forwarded_shaped_len};
 use crate::shaping::Shaping;
 use roam_auth::has_one_message_authenticator;
 use roam_wire::attribute_type::{MESSAGE_AUTHENTICATOR, USER_PASSWORD};
@@ -58,6 +58,18 @@ pub fn can_be_forwarded(request: &View<'_>) -> bool
     fits_sealed(request) && (request.code() != ACCESS_REQUEST || passwords_have_blocks(request))
 }
 
+/// Whether the packet that is forwarded for a request as it is shaped has at most 4096 octets. Of a request that has
+/// the room for all that is ever added nothing is counted. Takes no memory.
+pub fn fits_shaped(request: &View<'_>, shaping: &Shaping<'_>) -> bool
+    requires name { HasShortName (shown_shaping shaping.now) }
+    ensures { IsTrue result ↔ (forwarded_length (shaped (shown_shaping shaping.now) request.now) ≤ 4096) }
+{
+    if request.octets().len() + MAX_SHAPED_GROWTH <= MAX_PACKET_LENGTH {
+        return true;
+    }
+    forwarded_shaped_len(request, shaping) <= MAX_PACKET_LENGTH
+}
+
 /// Whether a request can be forwarded as it is shaped: whether it has at most one Message-Authenticator, of 16 octets,
 /// each User-Password of an Access-Request has whole blocks, and the packet that is then forwarded has at most 4096
 /// octets. Takes no memory.
@@ -66,6 +78,6 @@ pub fn can_be_shaped(request: &View<'_>, shaping: &Shaping<'_>) -> bool
     ensures { IsTrue result ↔ CanBeShaped (shown_shaping shaping.now) request.now }
 {
     has_at_most_one_message_authenticator(request)
-        && forwarded_shaped_len(request, shaping) <= MAX_PACKET_LENGTH
+        && fits_shaped(request, shaping)
         && (request.code() != ACCESS_REQUEST || passwords_have_blocks(request))
 }

@@ -23,7 +23,7 @@ mod shaped;
 mod shaping;
 mod terms;
 
-pub use forwardable::{can_be_forwarded, can_be_shaped};
+pub use forwardable::{can_be_forwarded, can_be_shaped, fits_shaped};
 pub use forwarding::{forward, forward_reserved, rewrite};
 pub use laws::{
     forwarded_authenticator, forwarded_carries, forwarded_marks, forwarded_packet, shaped_carries,

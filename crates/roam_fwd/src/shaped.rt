@@ -25,6 +25,10 @@ use roam_wire::code::ACCESS_REQUEST;
 use roam_wire::writing::{append_header, append_zeros};
 use std::alloc::Allocator;
 
+/// The most octets that the packet that is forwarded for a request as it is shaped has more than the request: the
+/// ticket, a Message-Authenticator, a CHAP-Challenge, an Operator-Name and a Chargeable-User-Identity.
+pub(crate) const MAX_SHAPED_GROWTH: usize = 304;
+
 /// The size of a request as it is shaped, in octets.
 fn shaped_len(request: &View<'_>, shaping: &Shaping<'_>) -> usize
     requires { HasShortName (shown_shaping shaping.now) }

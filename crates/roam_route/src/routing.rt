@@ -18,12 +18,12 @@ use crate::datagram::{Datagram, Out};
 use crate::freshness::is_fresh;
 use crate::job::{Job, Prepared, Side};
 use crate::local_answer::{LocalAnswer, RejectCause, reject_cause};
-use crate::shapings::sent_len;
+use crate::shapings::fits_sent;
 use crate::source::{accounting_of, takes_of};
 use crate::user_name::realm_of;
 use roam_auth::Secret;
 use roam_conf::{Accounting, Config, Place};
-use roam_wire::{MAX_PACKET_LENGTH, Octets, Refusal, View};
+use roam_wire::{Octets, Refusal, View};
 use std::alloc::Allocator;
 
 /// A packet whose sender is known, in the datagram that brought it.
@@ -66,7 +66,7 @@ fn forwarded_for<A: Allocator + Copy>(
     ensures { Prepares result (forwarded_for (sent_length (shown config.now) packet.now.side packet.now.view realm)
         (shown_arrival packet.now.datagram.now) packet.now.side packet.now.view realm names) }
 {
-    if sent_len(config, packet.side, &packet.view, realm) > MAX_PACKET_LENGTH {
+    if !fits_sent(config, packet.side, &packet.view, realm) {
         return Err(Refusal::TooLong);
     }
     job_of(packet, realm, names)

@@ -1,6 +1,6 @@
-//! How a realm has the requests of its peers forwarded, and how many octets it is then sent.
+//! How a realm has the requests of its peers forwarded, and whether what it is then sent fits.
 
-ghost use Rattle.std.specs.Prelude.{◌≡◌, ◌≤◌, length, option_map, slice_get, string_bytes};
+ghost use Rattle.std.specs.Prelude.{◌≡◌, ◌≤◌, ◌↔◌, IsTrue, length, option_map, slice_get, string_bytes};
 ghost use Rattle.std.specs.Option.{ForSome};
 ghost use Rattle.roam_conf.specs.Parts.{shown_peer, shown_realm};
 ghost use Rattle.roam_conf.specs.Shown.{shown};
@@ -10,8 +10,8 @@ ghost use Rattle.roam_route.specs.Shapings.{request_shaping, sent_length, shapin
 use crate::job::Side;
 use roam_conf::{Config, Peer, Realm};
 use roam_filter::Removal;
-use roam_fwd::{Shaping, forwarded_len, forwarded_shaped_len, no_shaping};
-use roam_wire::View;
+use roam_fwd::{Shaping, fits_shaped, forwarded_len, no_shaping};
+use roam_wire::{MAX_PACKET_LENGTH, View};
 
 /// The octets of a peer's realm, with which an Operator-Name is added.
 fn operator_name(peer: &Peer) -> Option<&[u8]>
@@ -81,12 +81,12 @@ fn shaping_of(config: &Config, peer: u16, realm: u16) -> Shaping<'_>
     shaping_between(peer_at(config, peer), realm_at(config, realm))
 }
 
-/// How many octets a realm is sent for a sender's request.
-pub(crate) fn sent_len(config: &Config, side: Side, request: &View<'_>, realm: u16) -> usize
-    ensures { result ≡ sent_length (shown config.now) side request.now realm }
+/// Whether a realm is sent at most 4096 octets for a sender's request.
+pub(crate) fn fits_sent(config: &Config, side: Side, request: &View<'_>, realm: u16) -> bool
+    ensures { IsTrue result ↔ (sent_length (shown config.now) side request.now realm ≤ 4096) }
 {
     match side {
-        Side::Peer(peer) => forwarded_shaped_len(request, &shaping_of(config, peer, realm)),
-        Side::Link(_) | Side::Home(_) => forwarded_len(request),
+        Side::Peer(peer) => fits_shaped(request, &shaping_of(config, peer, realm)),
+        Side::Link(_) | Side::Home(_) => forwarded_len(request) <= MAX_PACKET_LENGTH,
     }
 }

@@ -57,7 +57,7 @@ lost_moved key home (Some link) e r t R S rise just goes =
     (subst (λ (T : RoundKey → List ℕ). Moved r t (kept_hash key e) R T) (sym goes)
     (stayed r t R (kept_hash key e) rise just))
 
-module _ {A H : Type 0} (s : Slab (Slot A)) (t : IndexMap TicketKey ℕ H)
+module _ {A I H : Type 0} (s : Slab (Slot A)) (t : IndexMap TicketKey ℕ I)
     (c : IndexMap ClientKey ℕ H) (rs : List (RealmQueues A))
     (sound : Sound (place s) (ticket_at t) (client_at c) rs)
     (v : List RealmView) (is : tables_view s t c rs ≡ v)

@@ -32,7 +32,7 @@ there_at [] r lt = absurd (omega (arith, lt))
 there_at (x ∷ xs) zero lt = (x, refl)
 there_at (x ∷ xs) (suc r) lt = there_at xs r (omega (arith, lt))
 
-module _ {A H : Type 0} (s : Slab (Slot A)) (t : IndexMap TicketKey ℕ H)
+module _ {A I H : Type 0} (s : Slab (Slot A)) (t : IndexMap TicketKey ℕ I)
     (c : IndexMap ClientKey ℕ H) (rs : List (RealmQueues A))
     (sound : Sound (place s) (ticket_at t) (client_at c) rs)
     (v : List RealmView) (is : tables_view s t c rs ≡ v) where

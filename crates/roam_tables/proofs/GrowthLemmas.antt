@@ -23,7 +23,7 @@ pub on_err : {X E : Type 0} (P : Type 0) (r : Result X E) → P → OnErr r P
 on_err P (Ok x) p = tt
 on_err P (Err e) p = p
 
-module _ {A H : Type 0} (s : Slab (Slot A)) (t : IndexMap TicketKey ℕ H)
+module _ {A I H : Type 0} (s : Slab (Slot A)) (t : IndexMap TicketKey ℕ I)
     (c : IndexMap ClientKey ℕ H) (rs : List (RealmQueues A))
     (sound : Sound (place s) (ticket_at t) (client_at c) rs)
     (v : List RealmView) (is : tables_view s t c rs ≡ v) where
@@ -33,7 +33,7 @@ module _ {A H : Type 0} (s : Slab (Slot A)) (t : IndexMap TicketKey ℕ H)
   pub grow_room_was : (r : ℕ) → 0 < room_in v r → 0 < room_at s t c rs r
   grow_room_was r h = (let k = seen_room s t c rs sound v is r in omega arith)
 
-  module _ (r : ℕ) (s2 : Slab (Slot A)) (t2 : IndexMap TicketKey ℕ H) (c2 : IndexMap ClientKey ℕ H)
+  module _ (r : ℕ) (s2 : Slab (Slot A)) (t2 : IndexMap TicketKey ℕ I) (c2 : IndexMap ClientKey ℕ H)
       (rs2 : List (RealmQueues A))
       (slots : place s2 ≡ place s) (tickets : ticket_at t2 ≡ ticket_at t)
       (clients : client_at c2 ≡ client_at c) (runs : AtRealm SameRuns rs rs2 r) where

@@ -26,7 +26,7 @@ use Rattle.roam_tables.proofs.StepLemmas.{new_becomes, new_here, new_none, new_o
 use Rattle.roam_tables.proofs.TablesLemmas.{tables_become, tables_realms, tables_room}
 use Rattle.roam_tables.proofs.ViewLemmas.{seen_at, seen_room}
 
-module _ {A H : Type 0} (s : Slab (Slot A)) (t : IndexMap TicketKey ℕ H)
+module _ {A I H : Type 0} (s : Slab (Slot A)) (t : IndexMap TicketKey ℕ I)
     (c : IndexMap ClientKey ℕ H) (rs : List (RealmQueues A))
     (sound : Sound (place s) (ticket_at t) (client_at c) rs)
     (v : List RealmView) (is : tables_view s t c rs ≡ v) where
@@ -62,7 +62,7 @@ module _ {A H : Type 0} (s : Slab (Slot A)) (t : IndexMap TicketKey ℕ H)
       (room_of rs r (room_positive r room).3 q at)
 
   module _ (r n i : ℕ) (e : PlainEntry) (m : DueMark) (mark : m ≡ mark_of e) (s2 : Slab (Slot A))
-      (t2 : IndexMap TicketKey ℕ H) (c2 : IndexMap ClientKey ℕ H) (rs2 : List (RealmQueues A))
+      (t2 : IndexMap TicketKey ℕ I) (c2 : IndexMap ClientKey ℕ H) (rs2 : List (RealmQueues A))
       (new : IsNew e (entries_in v r)) (room : 0 < room_in v r) (ticket : n ≡ e.ticket)
       (small : n < tickets_end) (free : place s i ≡ None)
       (at : PutsAt (place s) (place s2) i (Some (record { realm = r; entry = e })))

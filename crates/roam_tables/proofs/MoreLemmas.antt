@@ -61,7 +61,7 @@ all-behind P [] (z ∷ zs) (suc k) y le all at = all-behind P [] zs k y (omega a
 all-behind P (x ∷ xs) ys zero y le all at = absurd (omega arith)
 all-behind P (x ∷ xs) ys (suc k) y le all at = all-behind P xs ys k y (omega arith) all at
 
-module _ {A H : Type 0} (s : Slab (Slot A)) (t : IndexMap TicketKey ℕ H)
+module _ {A I H : Type 0} (s : Slab (Slot A)) (t : IndexMap TicketKey ℕ I)
     (c : IndexMap ClientKey ℕ H) (rs new : List (RealmQueues A))
     (sound : Sound (place s) (ticket_at t) (client_at c) rs)
     (v : List RealmView) (is : tables_view s t c rs ≡ v) (are : AreMore AreEmpty rs new) where

@@ -28,7 +28,7 @@ use Rattle.roam_tables.proofs.StepLemmas.{gone_becomes, gone_here, gone_others, 
 use Rattle.roam_tables.proofs.TablesLemmas.{tables_become, tables_realms, tables_room, tables_ticket}
 use Rattle.roam_tables.proofs.ViewLemmas.{seen_at}
 
-module _ {A H : Type 0} (s : Slab (Slot A)) (t : IndexMap TicketKey ℕ H)
+module _ {A I H : Type 0} (s : Slab (Slot A)) (t : IndexMap TicketKey ℕ I)
     (c : IndexMap ClientKey ℕ H) (rs : List (RealmQueues A))
     (sound : Sound (place s) (ticket_at t) (client_at c) rs)
     (v : List RealmView) (is : tables_view s t c rs ≡ v) where
@@ -84,7 +84,7 @@ module _ {A H : Type 0} (s : Slab (Slot A)) (t : IndexMap TicketKey ℕ H)
         (numbered (place s) (ticket_at t) (client_at c) rs sound r) q (sound.runs r q at) n e
         remove_at)
 
-    module _ (s2 : Slab (Slot A)) (t2 : IndexMap TicketKey ℕ H) (c2 : IndexMap ClientKey ℕ H)
+    module _ (s2 : Slab (Slot A)) (t2 : IndexMap TicketKey ℕ I) (c2 : IndexMap ClientKey ℕ H)
         (rs2 : List (RealmQueues A))
         (at : PutsAt (place s) (place s2) i None)
         (notes : Puts ticket_eq (ticket_at t) (ticket_at t2) (ticket_key_of r n) None)

@@ -26,7 +26,7 @@ past_none [] i h = omega arith
 past_none (x ∷ xs) zero h = absurd (let k : Some x ≡ None = h in cc)
 past_none (x ∷ xs) (suc i) h = (let rest = past_none xs i h in omega arith)
 
-module _ {A H : Type 0} (s : Slab (Slot A)) (t : IndexMap TicketKey ℕ H)
+module _ {A I H : Type 0} (s : Slab (Slot A)) (t : IndexMap TicketKey ℕ I)
     (c : IndexMap ClientKey ℕ H) (rs : List (RealmQueues A))
     (sound : Sound (place s) (ticket_at t) (client_at c) rs)
     (v : List RealmView) (is : tables_view s t c rs ≡ v) where
@@ -124,7 +124,7 @@ module _ {A H : Type 0} (s : Slab (Slot A)) (t : IndexMap TicketKey ℕ H)
 
   -- A change
 
-  module _ {A2 H2 : Type 0} (s2 : Slab (Slot A2)) (t2 : IndexMap TicketKey ℕ H2)
+  module _ {A2 I2 H2 : Type 0} (s2 : Slab (Slot A2)) (t2 : IndexMap TicketKey ℕ I2)
       (c2 : IndexMap ClientKey ℕ H2) (rs2 : List (RealmQueues A2))
       (sound2 : Sound (place s2) (ticket_at t2) (client_at c2) rs2)
       (v2 : List RealmView) (is2 : tables_view s2 t2 c2 rs2 ≡ v2) where

@@ -34,7 +34,7 @@ view-within E room r (suc n) (suc k) lt = (
 no_room : (a b c : ℕ) → 0 ≡ min (min a b) (min c 0)
 no_room a b c = omega arith
 
-module _ {A H : Type 0} (s : Slab (Slot A)) (t : IndexMap TicketKey ℕ H)
+module _ {A I H : Type 0} (s : Slab (Slot A)) (t : IndexMap TicketKey ℕ I)
     (c : IndexMap ClientKey ℕ H) (rs : List (RealmQueues A))
     (sound : Sound (place s) (ticket_at t) (client_at c) rs)
     (v : List RealmView) (is : tables_view s t c rs ≡ v) where

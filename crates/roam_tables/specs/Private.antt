@@ -3,3 +3,5 @@ pub mod Rising
 pub mod Marks
 pub mod Indexes
 pub mod Rounds
+pub mod Words
+pub mod KeyTests

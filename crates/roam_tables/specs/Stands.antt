@@ -107,7 +107,7 @@ pub record AreMore {X : Type 0} (Each : X → Type 0) (old new : List X) : Type 
   pub each : AllByRecursion Each more
 
 -- for how many entries more of a realm there is room without memory
-abbrev pub room_at : {A H : Type 0} → Slab (Slot A) → IndexMap TicketKey ℕ H → IndexMap ClientKey ℕ H →
+abbrev pub room_at : {A I H : Type 0} → Slab (Slot A) → IndexMap TicketKey ℕ I → IndexMap ClientKey ℕ H →
     List (RealmQueues A) → ℕ → ℕ
 room_at s t c rs r = least_room (slab_room s) (spare t) (spare c) (runs_room (slice_get rs r))
 
@@ -122,7 +122,7 @@ views_from E room r zero = []
 views_from E room r (suc n) = record { entries = E r; room = room r } ∷ views_from E room (r + 1) n
 
 -- what the tables show: each realm that is kept here
-abbrev pub tables_view : {A H : Type 0} → Slab (Slot A) → IndexMap TicketKey ℕ H → IndexMap ClientKey ℕ H →
+abbrev pub tables_view : {A I H : Type 0} → Slab (Slot A) → IndexMap TicketKey ℕ I → IndexMap ClientKey ℕ H →
     List (RealmQueues A) → List RealmView
 tables_view s t c rs = views_from (entries_at (place s) (ticket_at t)) (room_at s t c rs) 0 (length rs)
 

@@ -1,36 +1,65 @@
 //! Where each key's entry lies.
 
+ghost use Rattle.std.proofs.Common.{ap};
 ghost use Rattle.std.specs.Prelude.{◌≡◌, ◌<◌, ◌≤◌, ◌+◌, None, Some};
 ghost use Rattle.indexmap.specs.IndexMap.{spare};
+ghost use Rattle.roam_tables.specs.Private.KeyTests.{client_same, ticket_same};
 ghost use Rattle.roam_tables.specs.Private.Indexes.{Puts};
+ghost use Rattle.roam_tables.specs.Private.Words.{client_fed, ticket_fed};
 ghost use Rattle.roam_tables.specs.Stands.{client_at, client_eq, ticket_at, ticket_eq, ticket_key_of};
 ghost use Rattle.roam_wire.specs.Numbered.{tickets_end};
 
+use crate::words::{key_word, realm_word};
 use indexmap::IndexMap;
 use roam_hash::HashKey;
 use roam_pending::Key;
 use std::alloc::Allocator;
+use std::hash::{BuildHasherDefault, FoldHasher, Hash, Hasher};
 
 /// A ticket of a realm.
-#[derive(Clone, Copy, PartialEq, Eq, Hash)]
+#[derive(Clone, Copy, PartialEq, Eq)]
 pub(crate) struct TicketKey {
     pub realm: u16,
     pub ticket: u64,
 }
 
+impl Hash for TicketKey {
+    ghost hash_input = { ticket_fed };
+
+    ghost respects_eq = { λ x y same. ap ticket_fed (ticket_same x y same) };
+
+    fn hash<H: Hasher>(&self, state: &mut H) {
+        state.write_u64(realm_word(self.realm, self.ticket));
+    }
+}
+
 /// A request's key in a realm.
-#[derive(Clone, Copy, PartialEq, Eq, Hash)]
+#[derive(Clone, Copy, PartialEq, Eq)]
 pub(crate) struct ClientKey {
     pub realm: u16,
     pub key: Key,
 }
 
-/// The slot of each key. Who picks keys doesn't know where they lie.
-pub(crate) type EntryIndex<K, A> = IndexMap<K, usize, HashKey, A>;
+impl Hash for ClientKey {
+    ghost hash_input = { client_fed };
+
+    ghost respects_eq = { λ x y same. ap client_fed (client_same x y same) };
+
+    fn hash<H: Hasher>(&self, state: &mut H) {
+        state.write_u64(realm_word(self.realm, key_word(&self.key)));
+        state.write_u128(self.key.from.ip.number());
+    }
+}
+
+/// The slot of each ticket. Nobody outside picks tickets.
+pub(crate) type TicketIndex<A> = IndexMap<TicketKey, usize, BuildHasherDefault<FoldHasher>, A>;
+
+/// The slot of each request's key. Who picks keys doesn't know where they lie.
+pub(crate) type ClientIndex<A> = IndexMap<ClientKey, usize, HashKey, A>;
 
 /// The slot of a ticket.
 pub(crate) fn ticket_slot<A: Allocator + Copy>(
-    index: &EntryIndex<TicketKey, A>,
+    index: &TicketIndex<A>,
     key: TicketKey,
 ) -> Option<usize>
     ensures { result ≡ ticket_at index.now key }
@@ -40,7 +69,7 @@ pub(crate) fn ticket_slot<A: Allocator + Copy>(
 
 /// The slot of a request's key.
 pub(crate) fn client_slot<A: Allocator + Copy>(
-    index: &EntryIndex<ClientKey, A>,
+    index: &ClientIndex<A>,
     key: ClientKey,
 ) -> Option<usize>
     ensures { result ≡ client_at index.now key }
@@ -50,7 +79,7 @@ pub(crate) fn client_slot<A: Allocator + Copy>(
 
 /// Notes the slot of a ticket, where there is room. Takes no memory.
 pub(crate) fn note_ticket<A: Allocator + Copy>(
-    index: &mut EntryIndex<TicketKey, A>,
+    index: &mut TicketIndex<A>,
     realm: u16,
     ticket: u64,
     slot: usize,
@@ -68,7 +97,7 @@ pub(crate) fn note_ticket<A: Allocator + Copy>(
 
 /// Notes the slot of a request's key, where there is room. Takes no memory.
 pub(crate) fn note_client<A: Allocator + Copy>(
-    index: &mut EntryIndex<ClientKey, A>,
+    index: &mut ClientIndex<A>,
     key: ClientKey,
     slot: usize,
 )
@@ -80,10 +109,7 @@ pub(crate) fn note_client<A: Allocator + Copy>(
 }
 
 /// Takes out a ticket.
-pub(crate) fn forget_ticket<A: Allocator + Copy>(
-    index: &mut EntryIndex<TicketKey, A>,
-    key: TicketKey,
-)
+pub(crate) fn forget_ticket<A: Allocator + Copy>(index: &mut TicketIndex<A>, key: TicketKey)
     ensures puts { Puts ticket_eq (ticket_at index.old) (ticket_at index.new) key None }
     ensures room { spare index.old ≤ spare index.new }
 {
@@ -91,10 +117,7 @@ pub(crate) fn forget_ticket<A: Allocator + Copy>(
 }
 
 /// Takes out a request's key.
-pub(crate) fn forget_client<A: Allocator + Copy>(
-    index: &mut EntryIndex<ClientKey, A>,
-    key: ClientKey,
-)
+pub(crate) fn forget_client<A: Allocator + Copy>(index: &mut ClientIndex<A>, key: ClientKey)
     ensures puts { Puts client_eq (client_at index.old) (client_at index.new) key None }
     ensures room { spare index.old ≤ spare index.new }
 {

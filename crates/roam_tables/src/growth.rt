@@ -5,7 +5,7 @@ ghost use Rattle.indexmap.specs.IndexMap.{spare};
 ghost use Rattle.roam_tables.specs.Private.Marks.{SameRuns};
 ghost use Rattle.roam_tables.specs.Stands.{AtRealm, client_at, place, room_at, slab_room, ticket_at};
 
-use crate::entry_index::{ClientKey, EntryIndex, TicketKey};
+use crate::entry_index::{ClientIndex, TicketIndex};
 use crate::realm_queues::RealmQueues;
 use crate::realms::make_room_at;
 use crate::slots::Slot;
@@ -16,8 +16,8 @@ use std::alloc::Allocator;
 /// Makes room for one entry more of a realm in each table. No entry changes.
 pub(crate) fn grow<A: Allocator + Copy>(
     slots: &mut Slab<Slot<A>, A>,
-    by_ticket: &mut EntryIndex<TicketKey, A>,
-    by_client: &mut EntryIndex<ClientKey, A>,
+    by_ticket: &mut TicketIndex<A>,
+    by_client: &mut ClientIndex<A>,
     realms: &mut Vec<RealmQueues<A>, A>,
     realm: u16,
 ) -> Result<(), NoMemory>

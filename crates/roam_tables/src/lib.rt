@@ -3,7 +3,7 @@
 //! [`Tables`] keeps what a list for each realm keeps, by the same contracts
 //! ([`roam_pending::Entries`]). The entries lie in one slab; one index finds each by its realm and
 //! ticket, one by its realm and request key, and one those that keep a round of a conversation, by its
-//! realm and the round's hash. Their hashes are keyed. Beside them each realm has three runs in order:
+//! realm and the round's hash. But for tickets, their hashes are keyed. Beside them each realm has three runs in order:
 //! when its waiting entries are due, when its done ones are, and the tickets of the done ones.
 //!
 //! Nothing here builds or reads a packet, looks at a clock or chooses a target.
@@ -24,5 +24,6 @@ mod round_runs;
 mod rounds;
 mod slots;
 mod tables;
+mod words;
 
 pub use tables::Tables;

@@ -1,23 +1,38 @@
 //! Which tickets keep a round of a conversation: a run of them for the hash of each round.
 
+ghost use Rattle.std.proofs.Common.{ap};
 ghost use Rattle.std.specs.Prelude.{◌≡◌, None, Some, IfOk, IsSome, IsTrue, OnErr, OnOk, [], ◌∷◌, option_copied};
 ghost use Rattle.std.specs.Ordering.{nat_cmp};
 ghost use Rattle.roam_pending.specs.ListLaws.{IsIn};
+ghost use Rattle.roam_tables.specs.Private.KeyTests.{round_same};
 ghost use Rattle.roam_tables.specs.Private.Rising.{Adds, Rises};
 ghost use Rattle.roam_tables.specs.Private.Rounds.{Joins, Parts, run_at, run_found};
+ghost use Rattle.roam_tables.specs.Private.Words.{round_fed};
 
 use crate::queue::{add_ticket, drop_ticket, make_room};
+use crate::words::realm_word;
 use indexmap::IndexMap;
 use roam_hash::HashKey;
 use roam_wire::NoMemory;
 use std::alloc::Allocator;
 use std::collections::VecDeque;
+use std::hash::{Hash, Hasher};
 
 /// A hash of rounds, in a realm.
-#[derive(Clone, Copy, PartialEq, Eq, Hash)]
+#[derive(Clone, Copy, PartialEq, Eq)]
 pub(crate) struct RoundKey {
     pub realm: u16,
     pub hash: u64,
+}
+
+impl Hash for RoundKey {
+    ghost hash_input = { round_fed };
+
+    ghost respects_eq = { λ x y same. ap round_fed (round_same x y same) };
+
+    fn hash<H: Hasher>(&self, state: &mut H) {
+        state.write_u64(realm_word(self.realm, self.hash));
+    }
 }
 
 /// The tickets of those entries of a realm that keep a round of one hash, in order.

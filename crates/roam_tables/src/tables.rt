@@ -12,8 +12,8 @@ mod round_search;
 
 use crate::due_mark::mark_of;
 use crate::entry_index::{
-    ClientKey, EntryIndex, TicketKey, client_slot, forget_client, forget_ticket, note_client,
-    note_ticket, ticket_slot,
+    ClientIndex, ClientKey, TicketIndex, TicketKey, client_slot, forget_client, forget_ticket,
+    note_client, note_ticket, ticket_slot,
 };
 use crate::growth::grow;
 use crate::realm_queues::RealmQueues;
@@ -28,6 +28,7 @@ use roam_pending::{Due, Entries, Entry, Key, Standing};
 use roam_wire::NoMemory;
 use slab::Slab;
 use std::alloc::Allocator;
+use std::hash::BuildHasherDefault;
 use std::marker::Model;
 
 /// The entries of all realms of a shard. Contracts see each realm's list in order of ticket, for how
@@ -42,9 +43,9 @@ pub struct Tables<A: Allocator> {
     key: HashKey,
     slots: Slab<Slot<A>, A>,
     /// The slot of each realm's ticket.
-    by_ticket: EntryIndex<TicketKey, A>,
+    by_ticket: TicketIndex<A>,
     /// The slot of each realm's request, by its key.
-    by_client: EntryIndex<ClientKey, A>,
+    by_client: ClientIndex<A>,
     /// The tickets of the entries that keep a round, by its hash.
     rounds: RoundIndex<A>,
     realms: Vec<RealmQueues<A>, A>,
@@ -95,7 +96,7 @@ impl<A: Allocator + Copy> Tables<A> {
             alloc,
             key,
             slots: Slab::new(alloc),
-            by_ticket: IndexMap::with_hasher(alloc, key),
+            by_ticket: IndexMap::with_hasher(alloc, BuildHasherDefault::new()),
             by_client: IndexMap::with_hasher(alloc, key),
             rounds: IndexMap::with_hasher(alloc, key),
             realms: runs,

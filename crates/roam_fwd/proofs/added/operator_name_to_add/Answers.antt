@@ -1,9 +1,19 @@
-use Rattle.std.proofs.Common.{sym, ◌∙◌}
+use Rattle.std.proofs.Common.{ap, sym, ◌∙◌}
+use Rattle.std.specs.Prelude.{not}
 use Rattle.roam_filter.specs.Removal.{removed_by}
 use Rattle.roam_filter.specs.Without.{without}
 use Rattle.roam_fwd.specs.Shaped.{shown_shaping, takes_operator_name}
-use Rattle.roam_fwd.proofs.AddedLemmas.{name-added, no_name-added}
+use Rattle.roam_fwd.proofs.AddedLemmas.{absent-added, name-added, no_name-added}
 use Rattle.roam_fwd.proofs.added.operator_name_to_add.Goals as goal
+
+pub returns-then-is_none-clause-name : goal.returns-then-is_none-clause-name
+returns-then-is_none-clause-name c =
+    absent-added (λ name. name.now) (takes_operator_name c.args.request.now.code) c.args.shaping.now.operator_name
+    (without (removed_by c.args.shaping.now.removal) c.args.request.now.attributes)
+    (c.is_none.ensures ∙ ap not c.if-is_none.true)
+
+pub returns-then-is_none-clause-short : goal.returns-then-is_none-clause-short
+returns-then-is_none-clause-short c = λ name none. absurd (cc none)
 
 pub returns-then-takes_name-clause-name : goal.returns-then-takes_name-clause-name
 returns-then-takes_name-clause-name c =

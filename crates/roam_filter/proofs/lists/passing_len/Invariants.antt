@@ -1,6 +1,6 @@
 use Rattle.roam_filter.specs.Removal.{removed_by}
 use Rattle.roam_filter.proofs.WithoutLemmas.{IsCounted}
-use Rattle.roam_filter.proofs.lists.without_len.Given as goal
+use Rattle.roam_filter.proofs.lists.passing_len.Given as goal
 
 -- the octets of what passes of all but those that are left were counted
 abbrev pub invariant-loop-attribute : goal.invariant-loop-attribute

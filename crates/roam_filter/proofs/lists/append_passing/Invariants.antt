@@ -1,7 +1,7 @@
 use Rattle.std.proofs.Common.{◌≡◌, vec_len, vec_capacity}
 use Rattle.roam_filter.specs.Removal.{removed_by}
 use Rattle.roam_filter.proofs.WithoutLemmas.{IsPassing}
-use Rattle.roam_filter.proofs.lists.append_without.Given as goal
+use Rattle.roam_filter.proofs.lists.append_passing.Given as goal
 
 -- what passes of all but those that are left was appended, and there is room for what passes of these
 abbrev pub invariant-loop-attribute : goal.invariant-loop-attribute
