@@ -6,10 +6,18 @@ use std::alloc::Global;
 use std::marker::Model;
 
 /// A step with its answer: nobody makes one, but contracts see it as an entry of a history.
-#[derive(Drop)]
 pub struct AnsweredStep {
     event: Event<Global>,
     answer: Answer<Global>,
+}
+
+// By hand, so that a proof sees one call wherever it ends, and the crates above prove nothing of it.
+impl Drop for AnsweredStep {
+    fn drop(self) {
+        let Self { event, answer } = self;
+        drop(event);
+        drop(answer);
+    }
 }
 
 impl Model for AnsweredStep {

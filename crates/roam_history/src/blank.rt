@@ -10,12 +10,20 @@ use crate::rule::{HistoryEntry, OneHistory};
 use logbook::{Seen, Start, Word};
 
 /// A history with no entry, which has no name yet.
-#[derive(Drop)]
 pub struct Blank {
     pub(crate) word: Word<HistoryEntry, u64, OneHistory>,
     pub(crate) seen: Seen<HistoryEntry, u64, OneHistory>,
     ghost empty: { seen.log ≡ [] },
     ghost word_is: { word ≡ head_of seen.book },
+}
+
+// By hand, so that a proof sees one call wherever it ends, and the crates above prove nothing of it.
+impl Drop for Blank {
+    fn drop(self) {
+        let Self { word, seen } = self;
+        drop(word);
+        drop(seen);
+    }
 }
 
 impl Blank {

@@ -16,7 +16,6 @@ use std::marker::{Model, PhantomData};
 
 /// Front: a beginning of a shard's one history that was seen. Contracts see of which shard, and the
 /// entries. At run time it is four numbers.
-#[derive(Drop)]
 pub struct Front<N: Opened> {
     shard: u16,
     /// How many entries it has.
@@ -27,6 +26,21 @@ pub struct Front<N: Opened> {
     times: u64,
     seen: Seen<HistoryEntry, u64, OneHistory>,
     hub: PhantomData<N>,
+}
+
+// By hand, so that a proof sees one call wherever it ends, and the crates above prove nothing of it.
+impl<N: Opened> Drop for Front<N> {
+    fn drop(self) {
+        let Self {
+            shard: _,
+            entries: _,
+            steps: _,
+            times: _,
+            seen,
+            hub: _,
+        } = self;
+        drop(seen);
+    }
 }
 
 impl<N: Opened> Model for Front<N> {

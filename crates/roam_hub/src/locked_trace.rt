@@ -39,12 +39,25 @@ use std::sync::Wait;
 
 /// What lies under a shard's lock: the shard with its stored steps, and the whole history of the shard,
 /// from the hub's own opening, which they end.
-#[derive(Drop)]
 pub(crate) struct LockedTrace<'c, A: Allocator, N: Opened> {
     pub(crate) traced: Traced<'c, A>,
     /// All of the history: nobody writes into it but who holds the lock.
     front: Front<N>,
     head: Head<N>,
+}
+
+// By hand, so that a proof sees one call wherever it ends, and the crates above prove nothing of it.
+impl<'c, A: Allocator, N: Opened> Drop for LockedTrace<'c, A, N> {
+    fn drop(self) {
+        let Self {
+            traced,
+            front,
+            head,
+        } = self;
+        drop(traced);
+        drop(front);
+        drop(head);
+    }
 }
 
 impl<'c, A: Allocator, N: Opened> Model for LockedTrace<'c, A, N> {

@@ -19,7 +19,6 @@ pub struct Datagram<A: Allocator> {
 }
 
 /// A packet that leaves.
-#[derive(Drop)]
 pub struct Out<A: Allocator> {
     /// The index of the realm for which it is sent; none for a local answer.
     pub realm: Option<u16>,
@@ -29,4 +28,17 @@ pub struct Out<A: Allocator> {
     pub to: Endpoint,
     /// The packet's octets.
     pub bytes: Octets<A>,
+}
+
+// By hand, so that a proof sees one call wherever it ends, and the crates above prove nothing of it.
+impl<A: Allocator> Drop for Out<A> {
+    fn drop(self) {
+        let Self {
+            realm: _,
+            from: _,
+            to: _,
+            bytes,
+        } = self;
+        drop(bytes);
+    }
 }

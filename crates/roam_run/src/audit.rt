@@ -5,7 +5,9 @@ ghost use Rattle.roam_audit.specs.Shown.{recorded};
 ghost use Rattle.roam_run.specs.Closed.{EndsOf, MayGoOn};
 ghost use Rattle.roam_sockets.specs.Faults.{IsAfterBinding};
 
+use crate::given_back::given_back;
 use crate::parts::Left;
+use crate::room::RunResult;
 use roam_attendant::HubEnd;
 use roam_hub::{Audited, Hub, Opened, PauseRoom, Paused, PausedHub, Seat};
 use roam_sockets::ServeFault;
@@ -13,8 +15,14 @@ use roam_workers::Ended;
 use std::alloc::Global;
 use std::sync::Wait;
 
-/// What is left of a hub that was closed: its report, which passed the audit, and its shards, by number.
+/// A hub that is open, with the memory with which it is paused.
 #[derive(Drop)]
+pub struct PausableHub<'c, N: Opened> {
+    pub hub: Hub<'c, Global, N>,
+    pub pause: PauseRoom<'c, Global, N>,
+}
+
+/// What is left of a hub that was closed: its report, which passed the audit, and its shards, by number.
 pub struct AuditedHub<N: Opened> {
     pub audited: Audited<Global, N>,
     pub shards: Vec<Paused<Global>>,
@@ -26,10 +34,9 @@ pub struct AuditedHub<N: Opened> {
 /// # Errors
 ///
 /// `Audit`, where it isn't passed, or a lock holds another shard's history.
-pub fn close_and_audit<'c, R: Wait, N: Opened>(
+pub fn close_and_audit<R: Wait, N: Opened>(
     rt: &R,
-    hub: Hub<'c, Global, N>,
-    room: PauseRoom<'c, Global, N>,
+    hub: PausableHub<'_, N>,
     seats: Vec<Seat<Global, N>>,
 ) -> Result<AuditedHub<N>, ServeFault>
     ensures ends { IfOk result (λ closed.
@@ -37,24 +44,30 @@ pub fn close_and_audit<'c, R: Wait, N: Opened>(
     ensures seats { IfOk result (λ closed. closed.audited.seats ≡ seats) }
     ensures err { IfErr result IsAfterBinding }
 {
-    match hub.pause(rt, room) {
+    let PausableHub { hub, pause } = hub;
+    match hub.pause(rt, pause) {
         Ok(PausedHub { report, shards }) => match report.audited(seats) {
             Ok(audited) => Ok(AuditedHub { audited, shards }),
-            Err(_) => Err(ServeFault::Audit),
+            Err(_) => {
+                drop(shards);
+                Err(ServeFault::Audit)
+            }
         },
-        Err(_) => Err(ServeFault::Audit),
+        Err(_) => {
+            drop(seats);
+            Err(ServeFault::Audit)
+        }
     }
 }
 
-/// A hub whose threads have ended, until it is closed and audited.
+/// A hub whose threads gave back what they had, until it is closed and audited.
 ///
 /// # Errors
 ///
 /// `Audit`.
-pub fn close_ended<'c, N: Opened, R: Wait>(
+fn close_ended<R: Wait, N: Opened>(
     rt: &R,
-    hub: Hub<'c, Global, N>,
-    pause: PauseRoom<'c, Global, N>,
+    hub: PausableHub<'_, N>,
     end: HubEnd,
     ended: Ended<N>,
 ) -> Result<Left<N>, ServeFault>
@@ -71,7 +84,7 @@ pub fn close_ended<'c, N: Opened, R: Wait>(
         rests,
         ..
     } = ended;
-    match close_and_audit(rt, hub, pause, seats) {
+    match close_and_audit(rt, hub, seats) {
         Ok(closed) => Ok(Left {
             end,
             datagrams,
@@ -83,6 +96,33 @@ pub fn close_ended<'c, N: Opened, R: Wait>(
             drop(end);
             drop(outboxes);
             drop(rests);
+            Err(fault)
+        }
+    }
+}
+
+/// A hub whose threads have ended, until it is closed and audited.
+///
+/// # Errors
+///
+/// `Receive`, where a socket was given up, and `Audit`.
+pub fn close_after<R: Wait, N: Opened>(
+    rt: &R,
+    hub: PausableHub<'_, N>,
+    run: RunResult<N>,
+) -> Result<Left<N>, ServeFault>
+    requires { MayGoOn N.opening.config run.end }
+    ensures ends { IfOk result (λ left.
+        EndsOf N.opening (recorded left.closed.audited.report) left.closed.shards.items) }
+    ensures may { IfOk result (λ left. MayGoOn N.opening.config left.end) }
+    ensures err { IfErr result IsAfterBinding }
+{
+    let RunResult { end, results } = run;
+    match given_back(results) {
+        Ok(ended) => close_ended(rt, hub, end, ended),
+        Err(fault) => {
+            drop(end);
+            drop(hub);
             Err(fault)
         }
     }

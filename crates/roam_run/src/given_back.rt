@@ -1,54 +1,78 @@
 //! What a hub's threads gave back.
 
-ghost use Rattle.std.specs.Prelude.{◌≡◌, ◌↔◌, IsTrue, IfOk, IfErr, Contains};
-ghost use Rattle.roam_counters.specs.Datagrams.{all_of};
+ghost use Rattle.std.specs.Prelude.{◌≡◌, ◌⊎◌, ◌↔◌, IsTrue, IfOk, IfErr, Contains};
+ghost use Rattle.roam_counters.specs.Datagrams.{all_of, both};
 ghost use Rattle.roam_workers.specs.Endings.{datagrams_of, endings_of};
 ghost use Rattle.roam_workers.specs.declared.ending.Ending.TheVariants as ending;
 ghost use Rattle.roam_sockets.specs.Faults.{IsAfterBinding};
 
+use crate::room::Results;
 use roam_counters::Datagrams;
-use roam_hub::{Opened, Seat};
-use roam_port::Outbox;
+use roam_hub::Opened;
 use roam_sockets::ServeFault;
 use roam_workers::{Ended, Rests, WorkerEnd, has_given_up_after};
-use std::alloc::Global;
 
 /// The first of two, or the other one where it is missing.
 fn first_of(one: Option<Rests>, other: Option<Rests>) -> Option<Rests> {
     match one {
-        Some(rests) => Some(rests),
+        Some(rests) => {
+            drop(other);
+            Some(rests)
+        }
         None => other,
     }
 }
 
-/// What the workers gave back, in lists in which there is room for it.
-fn gather<N: Opened>(
-    ends: Vec<WorkerEnd<N>>,
-    mut seats: Vec<Seat<Global, N>>,
-    mut outboxes: Vec<Outbox<Global>>,
-) -> Result<Ended<N>, ServeFault>
-    ensures gave_up { IfOk result (λ e. IsTrue e.has_given_up
-        ↔ Contains (endings_of ends.items) ending.GaveUp) }
-    ensures datagrams { IfOk result (λ e. e.datagrams.counts ≡ all_of (datagrams_of ends.items)) }
+/// Adds what one worker more gave back, in lists in which there is room for it.
+fn add<N: Opened>(ended: &mut Ended<N>, end: WorkerEnd<N>) -> Result<(), ServeFault>
+    ensures gave_up { IsTrue ended.new.has_given_up
+        ↔ (IsTrue ended.old.has_given_up ⊎ (end.ending ≡ ending.GaveUp)) }
+    ensures datagrams { ended.new.datagrams.counts ≡ both ended.old.datagrams.counts end.datagrams.counts }
     ensures err { IfErr result IsAfterBinding }
 {
-    let mut has_given_up = false;
-    let mut datagrams = Datagrams::none();
-    let mut rests = None;
-    for end in ends {
-        has_given_up = has_given_up_after(has_given_up, end.ending);
-        datagrams = datagrams.and(end.datagrams);
-        seats.push(end.seat)?;
-        outboxes.push(end.outbox)?;
-        rests = first_of(end.rests, rests);
-    }
-    Ok(Ended {
-        has_given_up,
+    let WorkerEnd {
+        ending,
+        datagrams,
+        seat,
+        outbox,
+        rests,
+    } = end;
+    ended.has_given_up = has_given_up_after(ended.has_given_up, ending);
+    ended.datagrams = ended.datagrams.and(datagrams);
+    ended.rests = first_of(rests, ended.rests.take());
+    ended.seats.push(seat)?;
+    ended.outboxes.push(outbox)?;
+    Ok(())
+}
+
+/// What the workers gave back, in lists in which there is room for it.
+fn gather<N: Opened>(results: Results<N>) -> Result<Ended<N>, ServeFault>
+    ensures gave_up { IfOk result (λ e. IsTrue e.has_given_up
+        ↔ Contains (endings_of results.ends.items) ending.GaveUp) }
+    ensures datagrams { IfOk result (λ e. e.datagrams.counts ≡ all_of (datagrams_of results.ends.items)) }
+    ensures err { IfErr result IsAfterBinding }
+{
+    let Results {
+        ends,
+        seats,
+        outboxes,
+    } = results;
+    let datagrams = Datagrams::none();
+    let mut ended = Ended {
+        has_given_up: false,
         datagrams,
         seats,
         outboxes,
-        rests,
-    })
+        rests: None,
+    };
+    for end in ends {
+        let added = add(&mut ended, end);
+        if let Err(fault) = added {
+            drop(ended);
+            return Err(fault);
+        }
+    }
+    Ok(ended)
 }
 
 /// The same, where no socket was given up.
@@ -56,14 +80,10 @@ fn gather<N: Opened>(
 /// # Errors
 ///
 /// `Receive`, where a socket was given up.
-pub fn given_back<N: Opened>(
-    ends: Vec<WorkerEnd<N>>,
-    seats: Vec<Seat<Global, N>>,
-    outboxes: Vec<Outbox<Global>>,
-) -> Result<Ended<N>, ServeFault>
+pub fn given_back<N: Opened>(results: Results<N>) -> Result<Ended<N>, ServeFault>
     ensures err { IfErr result IsAfterBinding }
 {
-    match gather(ends, seats, outboxes) {
+    match gather(results) {
         Ok(ended) => {
             if ended.has_given_up {
                 drop(ended);

@@ -10,10 +10,13 @@
 #![tactic(auto)]
 
 mod audit;
+mod crew;
 mod given_back;
 mod open_hub;
 mod opening;
 mod parts;
+mod room;
+mod running;
 mod start;
 
 pub use open_hub::serve_over;

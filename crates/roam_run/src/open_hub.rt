@@ -8,24 +8,24 @@ ghost use Rattle.roam_hub.specs.Pausing.{ArePaused, opening_over};
 ghost use Rattle.roam_run.specs.Closed.{EndSomewhere, EndsOf, IsUnserved, MayGoOn};
 ghost use Rattle.roam_sockets.specs.Faults.{IsAfterBinding};
 
-use crate::audit::close_ended;
-use crate::given_back::given_back;
-use crate::opening::{HubRoom, OpenHub, ThreadRoom};
+use crate::audit::close_after;
+use crate::crew::{Crew, Prepared, Signals};
+use crate::opening::OpenHub;
 use crate::parts::{Left, Means, Served, ServerParts, Unserved};
-use crate::start::{ResultRoom, RunResult, run_threads};
+use crate::room::RunResult;
+use crate::running::{Run, run_threads};
 use log::Log;
-use roam_attendant::{Attendant, Configured, HubEnd, Source};
-use roam_hub::{Blanks, Gate, Hub, Opened, Seat};
+use mio::Waker;
+use roam_attendant::{Attendant, Configured, Source};
+use roam_hub::{Blanks, Gate, Hub, Opened};
 use roam_shard::Paused;
 use roam_sockets::ServeFault;
-use roam_threads::prepare_threads;
-use roam_workers::{Ended, Shared, TimerRest};
+use roam_workers::Shared;
 use std::alloc::Global;
 use std::net::Net;
 use std::random::RandomSource;
 use std::sync::Wait;
-use std::sync::atomic::AtomicBool;
-use std::thread::{Parker, Threads};
+use std::thread::Threads;
 use std::time::Clock;
 
 /// The threads of one configuration, from their start to their end, and how that came.
@@ -39,27 +39,21 @@ fn run<
     parts: &mut ServerParts<'_, R, G, S>,
     configured: &'c Configured,
     hub: &Hub<'c, Global, N>,
-    seat: Seat<Global, N>,
-    room: ResultRoom<N>,
-    means: Means,
+    crew: Crew<N>,
+    wakers: Vec<Waker>,
 ) -> RunResult<N>
     requires { shown configured.now.config ≡ N.opening.config }
     ensures { MayGoOn N.opening.config result.end }
 {
-    let (kits, outboxes, rests, handover) = means.into_parts();
-    let (wakers, threads) = kits.into_parts();
-    let sockets = configured.sockets.as_slice();
-    let logger = Parker::new();
-    let stop = AtomicBool::new(false);
-    let rest = TimerRest::new(wakers.as_slice().first());
+    let signals = Signals::new(wakers.as_slice());
     let shared = Shared {
         alloc: parts.alloc,
         config: &configured.config,
         hub,
         gate: parts.gate,
-        logger: &logger,
+        logger: &signals.logger,
         wakers: wakers.as_slice(),
-        rest: &rest,
+        rest: &signals.rest,
         losses: parts.losses,
         counters: configured.counters.as_ref(),
         told_exchanges: configured.manner.told_exchanges,
@@ -67,54 +61,27 @@ fn run<
         office: parts.office,
         stopping: parts.stopping,
         old_history: parts.old_history,
-        stop: &stop,
+        stop: &signals.stop,
         start: parts.start,
         end: parts.end,
     };
-    match prepare_threads(sockets, &shared, seat, threads, outboxes, rests) {
-        Ok((prepared, seat)) => {
-            let attendant = Attendant::new(parts.rt, &shared, configured, seat);
-            run_threads(attendant, prepared, room, handover, parts.source)
+    match crew.prepare(configured.sockets.as_slice(), &shared) {
+        Ok(prepared) => {
+            let Prepared {
+                threads,
+                seat,
+                room,
+                handover,
+            } = prepared;
+            run_threads(Run {
+                attendant: Attendant::new(parts.rt, &shared, configured, seat),
+                threads,
+                room,
+                handover,
+                source: parts.source,
+            })
         }
-        Err(fault) => RunResult {
-            ends: room.ends,
-            seats: room.seats,
-            end: HubEnd::Failed(fault, handover),
-        },
-    }
-}
-
-/// How the time of a hub's threads ended, and what they gave back, where no socket was given up.
-#[derive(Drop)]
-struct RunEnd<N: Opened> {
-    end: HubEnd,
-    ended: Result<Ended<N>, ServeFault>,
-}
-
-/// The threads of one configuration, until they gave back what they had.
-fn run_to_end<
-    'c,
-    N: Opened + Send + Sync,
-    R: Threads + Wait + Clock + Net + RandomSource + Log + Sync,
-    G: Gate + Sync,
-    S: Source,
->(
-    parts: &mut ServerParts<'_, R, G, S>,
-    configured: &'c Configured,
-    hub: &Hub<'c, Global, N>,
-    seat: Seat<Global, N>,
-    room: ThreadRoom<N>,
-    means: Means,
-) -> RunEnd<N>
-    requires { shown configured.now.config ≡ N.opening.config }
-    ensures may { MayGoOn N.opening.config result.end }
-    ensures err { IfErr result.ended IsAfterBinding }
-{
-    let ThreadRoom { results, outboxes } = room;
-    let RunResult { ends, seats, end } = run(parts, configured, hub, seat, results, means);
-    RunEnd {
-        end,
-        ended: given_back(ends, seats, outboxes),
+        Err(run) => run,
     }
 }
 
@@ -141,21 +108,10 @@ fn run_hub<
     ensures may { IfOk result (λ left. MayGoOn N.opening.config left.end) }
     ensures err { IfErr result IsAfterBinding }
 {
-    let OpenHub {
-        hub,
-        seat,
-        room: HubRoom { pause, threads },
-    } = open;
-    let RunEnd { end, ended } = run_to_end(parts, configured, &hub, seat, threads, means);
-    match ended {
-        Ok(ended) => close_ended(parts.rt, hub, pause, end, ended),
-        Err(fault) => {
-            drop(end);
-            drop(hub);
-            drop(pause);
-            Err(fault)
-        }
-    }
+    let OpenHub { hub, seat, room } = open;
+    let (wakers, crew) = Crew::new(seat, room, means);
+    let run = run(parts, configured, &hub.hub, crew, wakers);
+    close_after(parts.rt, hub, run)
 }
 
 /// Serves a configuration over shards that stand under it, until its hub is closed.

@@ -4,62 +4,44 @@ ghost use Rattle.std.specs.Prelude.{◌≡◌, IfErr};
 ghost use Rattle.roam_conf.specs.Shown.{shown};
 ghost use Rattle.roam_history.specs.Books.{books_of, count_of};
 ghost use Rattle.roam_hub.specs.Pausing.{ArePaused, opening_over};
-ghost use Rattle.roam_sockets.specs.Faults.{IsAfterBinding};
 
-use crate::start::ResultRoom;
+use crate::audit::PausableHub;
+use crate::room::ThreadRoom;
 use roam_conf::Config;
 use roam_hub::{Blanks, Hub, Opened, PauseRoom, Seat};
-use roam_port::Outbox;
 use roam_shard::Paused;
-use roam_sockets::ServeFault;
-use std::alloc::Global;
-
-/// The memory for what comes back of a hub's threads.
-#[derive(Drop)]
-pub struct ThreadRoom<N: Opened> {
-    pub results: ResultRoom<N>,
-    pub outboxes: Vec<Outbox<Global>>,
-}
-
-impl<N: Opened> ThreadRoom<N> {
-    /// Room for the threads of so many shards.
-    fn new(alloc: Global, shards: u16) -> Result<ThreadRoom<N>, ServeFault>
-        ensures { IfErr result IsAfterBinding }
-    {
-        Ok(ThreadRoom {
-            results: ResultRoom::new(alloc, shards)?,
-            outboxes: Vec::with_capacity(alloc, usize::from(shards) + 1)?,
-        })
-    }
-}
+use std::alloc::{AllocError, Global};
 
 /// The memory for all that comes back of a hub and of its threads. It is taken before the hub opens, so that nothing is
 /// lost for want of it.
 #[derive(Drop)]
-pub struct HubRoom<'c, N: Opened> {
-    pub pause: PauseRoom<'c, Global, N>,
-    pub threads: ThreadRoom<N>,
+struct HubRoom<'c, N: Opened> {
+    pause: PauseRoom<'c, Global, N>,
+    threads: ThreadRoom<N>,
 }
 
 impl<'c, N: Opened> HubRoom<'c, N> {
     /// Room for a hub of this configuration, and for its threads.
-    fn new(alloc: Global, config: &'c Config) -> Result<HubRoom<'c, N>, ServeFault>
+    fn new(alloc: Global, config: &'c Config) -> Result<HubRoom<'c, N>, AllocError>
         requires { shown config.now ≡ N.opening.config }
-        ensures { IfErr result IsAfterBinding }
     {
-        Ok(HubRoom {
-            threads: ThreadRoom::new(alloc, config.shards)?,
-            pause: PauseRoom::new(alloc, config)?,
-        })
+        let threads = ThreadRoom::new(alloc, config.shards)?;
+        match PauseRoom::new(alloc, config) {
+            Ok(pause) => Ok(HubRoom { pause, threads }),
+            Err(_) => {
+                drop(threads);
+                Err(AllocError)
+            }
+        }
     }
 }
 
-/// A hub that is open, with the seat that it opened with, and the memory for what comes back of it.
-#[derive(Drop)]
+/// A hub that is open, with the seat that it opened with, and the memory for what comes back of its threads. No part of
+/// it is let go of before the hub is closed.
 pub struct OpenHub<'c, N: Opened> {
-    pub hub: Hub<'c, Global, N>,
+    pub hub: PausableHub<'c, N>,
     pub seat: Seat<Global, N>,
-    pub room: HubRoom<'c, N>,
+    pub room: ThreadRoom<N>,
 }
 
 impl<'c, N: Opened> OpenHub<'c, N> {
@@ -76,12 +58,42 @@ impl<'c, N: Opened> OpenHub<'c, N> {
         requires paused { ArePaused (shown config.now) shards.items }
         ensures { IfErr result (λ back. back.items ≡ shards.items) }
     {
-        let Ok(room) = HubRoom::<'_, N>::new(alloc, config) else {
-            return Err(shards);
-        };
+        match HubRoom::<'_, N>::new(alloc, config) {
+            Ok(room) => OpenHub::with(room, alloc, config, shards, blanks),
+            Err(_) => {
+                drop(blanks);
+                Err(shards)
+            }
+        }
+    }
+
+    /// The same, with that memory.
+    fn with(
+        room: HubRoom<'c, N>,
+        alloc: Global,
+        config: &'c Config,
+        shards: Vec<Paused<Global>>,
+        blanks: Blanks<Global>,
+    ) -> Result<OpenHub<'c, N>, Vec<Paused<Global>>>
+        requires opening { N.opening ≡ opening_over (shown config.now) shards.items }
+        requires books { N.books ≡ books_of blanks }
+        requires blanks { count_of blanks ≡ config.now.shards }
+        requires paused { ArePaused (shown config.now) shards.items }
+        ensures { IfErr result (λ back. back.items ≡ shards.items) }
+    {
         match Hub::<'_, Global, N>::open_over(alloc, config, shards, blanks) {
-            Ok((hub, seat)) => Ok(OpenHub { hub, seat, room }),
-            Err(shards) => Err(shards),
+            Ok((hub, seat)) => {
+                let HubRoom { pause, threads } = room;
+                Ok(OpenHub {
+                    hub: PausableHub { hub, pause },
+                    seat,
+                    room: threads,
+                })
+            }
+            Err(shards) => {
+                drop(room);
+                Err(shards)
+            }
         }
     }
 }

@@ -78,7 +78,6 @@ impl Means {
 }
 
 /// What is left of a hub that was closed and audited.
-#[derive(Drop)]
 pub struct Left<N: Opened> {
     pub end: HubEnd,
     /// What became of the datagrams that its threads received.
@@ -121,17 +120,19 @@ impl<N: Opened> Left<N> {
     {
         let Left {
             end,
+            datagrams: _,
             outboxes,
             rests,
             closed: AuditedHub { audited, shards },
-            ..
         } = self;
+        let steps = audited.report().count_steps();
+        drop(audited);
         Served {
             end,
             outboxes,
             rests,
             shards,
-            steps: audited.report().count_steps(),
+            steps,
         }
     }
 }

@@ -1,23 +1,37 @@
-//! The threads start, and end.
+//! The threads start, and it is told that they have.
 
 ghost use Rattle.roam_run.specs.Closed.{MayGoOn};
 
 use log::Log;
 use roam_attendant::{Attendant, Handover, HubEnd, Source};
-use roam_control::Course;
-use roam_hub::{Gate, Opened, Seat};
+use roam_control::{Course, Reply};
+use roam_hub::{Gate, Opened};
 use roam_notices::ReloadEnd;
 use roam_sockets::{ServeFault, now};
 use roam_telling::{serving, tell_reload};
 use roam_threads::ReadyThreads;
 use roam_workers::{Shared, Worker, WorkerEnd, log_notices, receive_on, tell_or_drop, tick_on};
-use std::alloc::{AllocError, Global};
+use std::alloc::Global;
 use std::net::Net;
-use std::random::RandomSource;
 use std::sync::Wait;
-use std::thread;
-use std::thread::{JoinHandle, Scope, Threads};
+use std::thread::{JoinHandle, Scope, SpawnError, Threads};
 use std::time::Clock;
+
+/// Whether a thread has started that nobody joins by its handle. What wasn't started ends here, by one call.
+fn has_started<T: Drop, F: Drop>(started: Result<JoinHandle<T>, SpawnError<F>>) -> bool {
+    started.is_ok()
+}
+
+/// Keeps the handle of a thread, where it has started. Answers whether it has.
+fn is_kept<F: Drop, N: Opened>(
+    handles: &mut Vec<JoinHandle<WorkerEnd<N>>>,
+    started: Result<JoinHandle<WorkerEnd<N>>, SpawnError<F>>,
+) -> bool {
+    match started {
+        Ok(handle) => handles.push(handle).is_ok(),
+        Err(_) => false,
+    }
+}
 
 /// Starts a thread for each worker. Answers whether all have started.
 fn start_workers<
@@ -37,16 +51,14 @@ fn start_workers<
 ) -> bool {
     let mut have_started = true;
     for worker in workers {
-        match scope.spawn(move || receive_on(rt, alloc, worker)) {
-            Ok(handle) => have_started = handles.push(handle).is_ok() && have_started,
-            Err(_) => have_started = false,
-        }
+        let started = scope.spawn(move || receive_on(rt, alloc, worker));
+        have_started = is_kept(handles, started) && have_started;
     }
     have_started
 }
 
 /// Starts the logger, the workers and the timer. Answers whether all have started.
-fn start_all<
+pub fn start_all<
     's,
     'w: 's,
     'c: 's,
@@ -66,14 +78,15 @@ fn start_all<
         timer,
         logger,
     } = prepared;
-    let logs = scope
-        .spawn(move || log_notices(rt, shared.config, shared.logger, logger))
-        .is_ok();
+    let logs = has_started(scope.spawn(move || log_notices(
+        rt,
+        shared.config,
+        shared.logger,
+        logger,
+    )));
     let work = start_workers(scope, rt, shared.alloc, workers, handles);
-    match scope.spawn(move || tick_on(rt, timer)) {
-        Ok(handle) => handles.push(handle).is_ok() && work && logs,
-        Err(_) => false,
-    }
+    let ticks = is_kept(handles, scope.spawn(move || tick_on(rt, timer)));
+    ticks && work && logs
 }
 
 /// How a reload went, by what is answered.
@@ -81,6 +94,23 @@ fn reload_end(course: Course) -> ReloadEnd {
     match course {
         Course::Done => ReloadEnd::Done,
         _ => ReloadEnd::Declined,
+    }
+}
+
+/// Tells how a reload went, counts it, and answers who asked for it, where that one still waits.
+fn tell_reply<R: Wait + Clock + Log, G, N: Opened>(
+    rt: &R,
+    shared: &Shared<'_, '_, G, N>,
+    reply: Reply,
+    is_awaited: bool,
+) {
+    let office = shared.office;
+    tell_reload(rt, reload_end(reply.course), reply.body.as_slice());
+    office.count_reload(reply.course, now(rt, office.start, 0));
+    if is_awaited {
+        office.control.answer(rt, reply);
+    } else {
+        drop(reply);
     }
 }
 
@@ -94,19 +124,15 @@ fn tell_start<R: Wait + Clock + Log, G, N: Opened>(
     let (reply, before, is_awaited) = handover.into_parts();
     tell_or_drop(rt, shared.config, serving(shared.config));
     drop(before);
-    if let Some(reply) = reply {
-        let office = shared.office;
-        tell_reload(rt, reload_end(reply.course), reply.body.as_slice());
-        office.count_reload(reply.course, now(rt, office.start, 0));
-        if is_awaited {
-            office.control.answer(rt, reply);
-        }
+    match reply {
+        Some(reply) => tell_reply(rt, shared, reply, is_awaited),
+        None => {}
     }
 }
 
 /// Where all threads have started, tells that the configuration is served, and answers who asks for something until
 /// they end or another one is to follow.
-fn attend<R: Threads + Wait + Clock + Net + Log + Sync, G, N: Opened, S: Source>(
+pub fn attend<R: Threads + Wait + Clock + Net + Log + Sync, G, N: Opened, S: Source>(
     have_started: bool,
     attendant: &mut Attendant<'_, '_, R, G, N>,
     handover: Handover,
@@ -122,80 +148,4 @@ fn attend<R: Threads + Wait + Clock + Net + Log + Sync, G, N: Opened, S: Source>
         Some(next) => HubEnd::Follows(next),
         None => HubEnd::Over,
     }
-}
-
-/// What the threads gave back that served one configuration, the seat of this thread, and how its time ended.
-#[derive(Drop)]
-pub struct RunResult<N: Opened> {
-    pub ends: Vec<WorkerEnd<N>>,
-    pub seats: Vec<Seat<Global, N>>,
-    pub end: HubEnd,
-}
-
-/// Room for what the workers and the timer give back, and for the seats of all threads.
-#[derive(Drop)]
-pub struct ResultRoom<N: Opened> {
-    handles: Vec<JoinHandle<WorkerEnd<N>>>,
-    pub ends: Vec<WorkerEnd<N>>,
-    pub seats: Vec<Seat<Global, N>>,
-}
-
-impl<N: Opened> ResultRoom<N> {
-    /// Room for a worker for each of so many shards, the timer, and this thread, which has a seat too.
-    pub fn new(alloc: Global, shards: u16) -> Result<ResultRoom<N>, AllocError> {
-        let threads = usize::from(shards) + 1;
-        Ok(ResultRoom {
-            handles: Vec::with_capacity(alloc, threads)?,
-            ends: Vec::with_capacity(alloc, threads)?,
-            seats: Vec::with_capacity(alloc, threads + 1)?,
-        })
-    }
-}
-
-/// Runs the threads until they have ended, or until a configuration comes that is to follow. Once all run it is told
-/// that this one is served, also to who asked for it. Until the end this thread answers who asks for something. Where
-/// one can't be started, the others are ended. Where the server ends, the ledgers of sessions are kept as they stand
-/// then.
-pub fn run_threads<
-    's,
-    'c,
-    R: Threads + Wait + Clock + Net + RandomSource + Log + Sync,
-    G: Gate + Sync,
-    N: Opened + Send + Sync,
-    S: Source,
->(
-    mut attendant: Attendant<'s, 'c, R, G, N>,
-    prepared: ReadyThreads<'s, 'c, G, N>,
-    room: ResultRoom<N>,
-    handover: Handover,
-    source: &mut S,
-) -> RunResult<N>
-    ensures { MayGoOn N.opening.config result.end }
-{
-    let rt = attendant.rt;
-    let shared = attendant.shared;
-    let ResultRoom {
-        mut handles,
-        mut ends,
-        mut seats,
-    } = room;
-    let end = thread::scope(
-        thread::scope_env(),
-        rt,
-        |scope| -> HubEnd
-            ensures { MayGoOn N.opening.config result }
-        {
-            let have_started = start_all(scope, rt, shared, prepared, &mut handles);
-            let end = attend(have_started, &mut attendant, handover, source);
-            shared.end_all();
-            for handle in handles {
-                let _is_kept = ends.push(handle.join(rt)).is_ok();
-            }
-            attendant.keep_at_end(&end, source);
-            shared.logger.unpark();
-            end
-        },
-    );
-    let _is_kept = seats.push(attendant.seat).is_ok();
-    RunResult { ends, seats, end }
 }

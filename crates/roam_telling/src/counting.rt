@@ -23,12 +23,19 @@ use roam_wire::Refusal;
 use std::alloc::Global;
 
 /// What a thread counts of what it does; nothing where nobody reads it.
-#[derive(Drop)]
 pub struct Counting<'s> {
     /// Of the whole server.
     pub counts: Option<ThreadCounts<'s>>,
     /// Of realms, home servers and peers, and of all refusals.
     pub events: EventCounts<'s>,
+}
+
+// By hand, so that a proof sees one call wherever it ends, and the crates above prove nothing of it.
+impl<'s> Drop for Counting<'s> {
+    fn drop(self) {
+        let Self { counts: _, events } = self;
+        drop(events);
+    }
 }
 
 /// How long a request of a realm waits for a server, in milliseconds.

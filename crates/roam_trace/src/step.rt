@@ -14,9 +14,16 @@ use std::mem::size_of;
 /// stored. Contracts see the event.
 ///
 /// Over `Global` it takes 64 octets, beside those of the datagram, which lie in a block of their own.
-#[derive(Drop)]
 pub struct Step<A: Allocator> {
     pub(crate) event: StoredEvent<A>,
+}
+
+// By hand, so that a proof sees one call wherever it ends, and the crates above prove nothing of it.
+impl<A: Allocator> Drop for Step<A> {
+    fn drop(self) {
+        let Self { event } = self;
+        drop(event);
+    }
 }
 
 const _: () = prove!(size_of::<Step<Global>>() == 64);

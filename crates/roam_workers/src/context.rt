@@ -23,7 +23,6 @@ use std::sync::Wait;
 use std::time::Clock;
 
 /// What a worker or the timer has: its seat at the hub, its packets on their way out, and its notices.
-#[derive(Drop)]
 pub struct WorkerContext<'s, 'c, G, N: Opened> {
     pub shared: &'s Shared<'s, 'c, G, N>,
     pub seat: Seat<Global, N>,
@@ -37,6 +36,28 @@ pub struct WorkerContext<'s, 'c, G, N: Opened> {
     pub now: u64,
     /// The wall clock's seconds since the beginning of 1970 at that moment, where the configuration has use for them.
     pub seconds: Option<u64>,
+}
+
+// By hand, so that a proof sees one call wherever it ends, and the crates above prove nothing of it.
+impl<'s, 'c, G, N: Opened> Drop for WorkerContext<'s, 'c, G, N> {
+    fn drop(self) {
+        let Self {
+            shared: _,
+            seat,
+            outgoing,
+            notices,
+            exchanges,
+            counting,
+            datagrams: _,
+            now: _,
+            seconds: _,
+        } = self;
+        drop(seat);
+        drop(outgoing);
+        drop(notices);
+        drop(exchanges);
+        drop(counting);
+    }
 }
 
 /// What is done about a call that isn't recorded.
@@ -243,15 +264,28 @@ impl<G: Gate, N: Opened> WorkerContext<'_, '_, G, N> {
         self.counting.lines_dropped(dropped);
         let dropped = self.exchanges.dropped();
         self.notices.end(dropped);
-        let shared = self.shared;
+        let Self {
+            shared,
+            seat,
+            outgoing,
+            notices,
+            exchanges,
+            counting,
+            datagrams,
+            now: _,
+            seconds: _,
+        } = self;
         let end = WorkerEnd {
             ending,
-            datagrams: self.datagrams,
-            seat: self.seat,
-            outbox: self.outgoing.outbox,
+            datagrams,
+            seat,
+            outbox: outgoing.into_outbox(),
             rests: None,
         };
         shared.end_all();
+        drop(notices);
+        drop(exchanges);
+        drop(counting);
         end
     }
 }

@@ -20,16 +20,23 @@ use std::time::Duration;
 pub const ROOM_EVENTS: usize = 64;
 
 /// What tells which sockets have room again.
-#[derive(Drop)]
 pub struct RoomEvents {
     pub poll: Poll,
     pub events: Events<Global>,
 }
 
+// By hand, so that a proof sees one call wherever it ends, and the crates above prove nothing of it.
+impl Drop for RoomEvents {
+    fn drop(self) {
+        let Self { poll, events } = self;
+        drop(poll);
+        drop(events);
+    }
+}
+
 /// The packets of a thread that are to leave, and the sockets from which they do.
 ///
 /// A socket without room is handed nothing more until it has some: the system is asked once, each time, to tell so.
-#[derive(Drop)]
 pub struct Outgoing<'s> {
     pub(crate) outbox: Outbox<Global>,
     /// In the order of their numbers.
@@ -43,6 +50,24 @@ pub struct Outgoing<'s> {
     /// Whether a socket had no room, and the system can't be asked to tell when it has some.
     is_unwatched: bool,
     ghost as_many: { port_count outbox ≤ vec_len ports },
+}
+
+// By hand, so that a proof sees one call wherever it ends, and the crates above prove nothing of it.
+impl<'s> Drop for Outgoing<'s> {
+    fn drop(self) {
+        let Self {
+            outbox,
+            ports,
+            losses: _,
+            counts: _,
+            room,
+            watched: _,
+            is_unwatched: _,
+        } = self;
+        drop(outbox);
+        drop(ports);
+        drop(room);
+    }
 }
 
 /// An outbox for so many ports, in which the packets wait that waited in another one: each port is tried again.
@@ -66,6 +91,22 @@ fn outbox_for(
 }
 
 impl<'s> Outgoing<'s> {
+    /// The packets that still wait for room at a socket.
+    pub(crate) fn into_outbox(self) -> Outbox<Global> {
+        let Self {
+            outbox,
+            ports,
+            losses: _,
+            counts: _,
+            room,
+            watched: _,
+            is_unwatched: _,
+        } = self;
+        drop(ports);
+        drop(room);
+        outbox
+    }
+
     /// The packets that wait in an outbox that another thread left, and those to come. What can be sent is sent.
     pub fn new(
         alloc: Global,

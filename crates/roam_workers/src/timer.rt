@@ -28,7 +28,6 @@ pub const QUIET: u64 = 200;
 pub const BETWEEN_LOSSES: u64 = 60_000;
 
 /// The worker that ticks the shards.
-#[derive(Drop)]
 pub struct Timer<'s, 'c, G, N: Opened> {
     pub context: WorkerContext<'s, 'c, G, N>,
     /// It is woken through this.
@@ -42,6 +41,25 @@ pub struct Timer<'s, 'c, G, N: Opened> {
     pub rests: Rests,
     /// Since when no request waits, where the server is asked to stop.
     pub quiet_since: Option<u64>,
+}
+
+// By hand, so that a proof sees one call wherever it ends, and the crates above prove nothing of it.
+impl<'s, 'c, G, N: Opened> Drop for Timer<'s, 'c, G, N> {
+    fn drop(self) {
+        let Self {
+            context,
+            poll,
+            events,
+            told: _,
+            is_stop_told: _,
+            rests,
+            quiet_since: _,
+        } = self;
+        drop(context);
+        drop(poll);
+        drop(events);
+        drop(rests);
+    }
 }
 
 /// Whether the server's time is over.
@@ -185,6 +203,26 @@ fn rest<R: Wait + Clock, G: Gate, N: Opened>(rt: &R, timer: &mut Timer<'_, '_, G
     shared.rest.end();
 }
 
+impl<G: Gate, N: Opened> Timer<'_, '_, G, N> {
+    /// Gives back what its context does, and which home servers keep silent, as it was told.
+    fn leave(self, ending: Ending) -> WorkerEnd<N> {
+        let Self {
+            context,
+            poll,
+            events,
+            told: _,
+            is_stop_told: _,
+            rests,
+            quiet_since: _,
+        } = self;
+        let mut end = context.leave(ending);
+        end.rests = Some(rests);
+        drop(poll);
+        drop(events);
+        end
+    }
+}
+
 /// Ticks the shards about every `TICK` milliseconds where something may be due, until the server ends.
 pub fn tick_on<R: Wait + Clock, G: Gate, N: Opened>(
     rt: &R,
@@ -192,9 +230,7 @@ pub fn tick_on<R: Wait + Clock, G: Gate, N: Opened>(
 ) -> WorkerEnd<N> {
     for _ in rt.forever() {
         if let Some(ending) = round(rt, &mut timer) {
-            let mut end = timer.context.leave(ending);
-            end.rests = Some(timer.rests);
-            return end;
+            return timer.leave(ending);
         }
         rest(rt, &mut timer);
     }

@@ -29,7 +29,6 @@ pub const RECEIVED: usize = 4096;
 static FILLING: [u8; RECEIVED] = [0; RECEIVED];
 
 /// The worker that receives from sockets.
-#[derive(Drop)]
 pub struct Worker<'s, 'c, G, N: Opened> {
     pub context: WorkerContext<'s, 'c, G, N>,
     pub receivers: Vec<Receiver<'s>>,
@@ -40,6 +39,26 @@ pub struct Worker<'s, 'c, G, N: Opened> {
     pub events: Events<Global>,
     /// Where datagrams are received: `RECEIVED` octets.
     pub buffer: Vec<u8>,
+}
+
+// By hand, so that a proof sees one call wherever it ends, and the crates above prove nothing of it.
+impl<'s, 'c, G, N: Opened> Drop for Worker<'s, 'c, G, N> {
+    fn drop(self) {
+        let Self {
+            context,
+            receivers,
+            ready,
+            poll,
+            events,
+            buffer,
+        } = self;
+        drop(context);
+        drop(receivers);
+        drop(ready);
+        drop(poll);
+        drop(events);
+        drop(buffer);
+    }
 }
 
 /// Marks a receiver as ready.
@@ -199,6 +218,27 @@ fn round<R: Wait + Clock, G: Gate, N: Opened>(
     ending
 }
 
+impl<G: Gate, N: Opened> Worker<'_, '_, G, N> {
+    /// Gives back what its context does.
+    fn leave(self, ending: Ending) -> WorkerEnd<N> {
+        let Self {
+            context,
+            receivers,
+            ready,
+            poll,
+            events,
+            buffer,
+        } = self;
+        let end = context.leave(ending);
+        drop(receivers);
+        drop(ready);
+        drop(poll);
+        drop(events);
+        drop(buffer);
+        end
+    }
+}
+
 /// Receives from sockets until the server ends.
 pub fn receive_on<R: Wait + Clock, G: Gate, N: Opened>(
     rt: &R,
@@ -207,7 +247,7 @@ pub fn receive_on<R: Wait + Clock, G: Gate, N: Opened>(
 ) -> WorkerEnd<N> {
     for _ in rt.forever() {
         if let Some(ending) = round(rt, alloc, &mut worker) {
-            return worker.context.leave(ending);
+            return worker.leave(ending);
         }
     }
     unreachable!()

@@ -17,7 +17,7 @@ loop-end-init g c =
       given_up = none-gave-up;
       datagrams = rw c.none-datagrams.ensures (ap (λ ends. all_of (datagrams_of ends)) iter.0);
       all = iter.0;
-      left = iter.1 ∙ c.args.ends.ok.0 ∙ ap length (sym iter.0);
+      left = iter.1 ∙ c.args.results.ends.ok.0 ∙ ap length (sym iter.0);
     }
 
 pub loop-end-preserved : goal.loop-end-preserved
@@ -27,11 +27,11 @@ loop-end-preserved g c =
     let short = ap length steps.0 in
     record {
       given_up = rw (map-append (λ e. e.ending) c.loop-end.yielded (c.in-Some.end ∷ []))
-          (given-up-after _ c.in-Some.end.ending c.loop-end.has_given_up c.has_given_up_after-has_given_up.result
-          inv.given_up c.has_given_up_after-has_given_up.ensures);
+          (given-up-after _ c.in-Some.end.ending c.loop-end.ended.has_given_up _ inv.given_up
+          c.add-added.ensures.gave_up);
       datagrams = (
-          let all_before = ap (λ ends. with_all c.loop-end.datagrams.counts (datagrams_of ends)) (sym steps.0) in
-          rw c.and-datagrams.ensures (all_before ∙ inv.datagrams));
+          let all_before = ap (λ ends. with_all c.loop-end.ended.datagrams.counts (datagrams_of ends)) (sym steps.0) in
+          rw c.add-added.ensures.datagrams (all_before ∙ inv.datagrams));
       all = append_assoc c.loop-end.yielded (c.in-Some.end ∷ []) _ ∙ ap (λ l. c.loop-end.yielded ++ l) (sym steps.0)
           ∙ inv.all;
       left = omega (arith, short, steps.1, inv.left);
@@ -42,11 +42,12 @@ returns-clause-datagrams g c =
     let inv = c.loop-end.invariant in
     let none : length (into_iter_items c.loop-end.end-iterator) ≡ 0 = sym inv.left ∙ c.in-None.ensures.steps.0 in
     let rest = nil_from_length (into_iter_items c.loop-end.end-iterator) none in
-    ap (λ ends. with_all c.loop-end.datagrams.counts (datagrams_of ends)) (sym rest) ∙ inv.datagrams
+    ap (λ ends. with_all c.loop-end.ended.datagrams.counts (datagrams_of ends)) (sym rest) ∙ inv.datagrams
 
 pub returns-clause-gave_up : goal.returns-clause-gave_up
 returns-clause-gave_up g c =
     let inv = c.loop-end.invariant in
     let none : length (into_iter_items c.loop-end.end-iterator) ≡ 0 = sym inv.left ∙ c.in-None.ensures.steps.0 in
-    let all = all-seen c.loop-end.yielded (into_iter_items c.loop-end.end-iterator) c.args.ends.items none inv.all in
-    subst (λ ends. IsTrue c.loop-end.has_given_up ↔ Contains (endings_of ends) ending.GaveUp) all inv.given_up
+    let all_ends = c.args.results.ends.items in
+    let all = all-seen c.loop-end.yielded (into_iter_items c.loop-end.end-iterator) all_ends none inv.all in
+    subst (λ ends. IsTrue c.loop-end.ended.has_given_up ↔ Contains (endings_of ends) ending.GaveUp) all inv.given_up

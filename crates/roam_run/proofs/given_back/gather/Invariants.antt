@@ -9,9 +9,9 @@ use Rattle.roam_run.proofs.given_back.gather.Given as goal
 -- whether one of the workers so far gave up a socket, and that the others are left
 abbrev pub invariant-loop-end : goal.invariant-loop-end
 invariant-loop-end g l = record {
-  given_up : IsTrue l.has_given_up ↔ Contains (endings_of l.yielded) ending.GaveUp;
-  datagrams : with_all l.datagrams.counts (datagrams_of (into_iter_items l.end-iterator))
-      ≡ all_of (datagrams_of l.fn.ends.items);
-  all : l.yielded ++ into_iter_items l.end-iterator ≡ l.fn.ends.items;
+  given_up : IsTrue l.ended.has_given_up ↔ Contains (endings_of l.yielded) ending.GaveUp;
+  datagrams : with_all l.ended.datagrams.counts (datagrams_of (into_iter_items l.end-iterator))
+      ≡ all_of (datagrams_of l.fn.results.ends.items);
+  all : l.yielded ++ into_iter_items l.end-iterator ≡ l.fn.results.ends.items;
   left : into_iter_len l.end-iterator ≡ length (into_iter_items l.end-iterator);
 }
