@@ -1,3 +1,4 @@
 pub mod EndingLemmas
 pub mod HandlingLemmas
 pub mod TickLemmas
+pub mod WorkLemmas

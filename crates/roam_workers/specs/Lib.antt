@@ -3,3 +3,4 @@ pub mod Handlings
 pub mod Remedies
 pub mod Requests
 pub mod Ticks
+pub mod Work

@@ -7,7 +7,7 @@ ghost use Rattle.roam_book.specs.HappeningsShown.{shown_happening};
 ghost use Rattle.roam_counters.specs.Arrivals.{tick_increments};
 ghost use Rattle.roam_telling.specs.Counting.{counts_in};
 ghost use Rattle.roam_workers.specs.Handlings.{at_work};
-ghost use Rattle.roam_workers.specs.Ticks.{Ticks};
+ghost use Rattle.roam_workers.specs.Ticks.{HasNotTicked, Ticks};
 
 use crate::ending::{Ending, WorkerEnd};
 use crate::outgoing::Outgoing;
@@ -85,7 +85,9 @@ pub fn remedy_for(fault: HubFault, is_second: bool) -> Remedy
 
 impl<G: Gate, N: Opened> WorkerContext<'_, '_, G, N> {
     /// Looks at the clock, and at the wall clock where Event-Timestamps are looked at.
-    pub fn look_at_clock<R: Clock>(&mut self, rt: &R) {
+    pub fn look_at_clock<R: Clock>(&mut self, rt: &R)
+        ensures kept { (self.new.seat ≡ self.old.seat) × (counts_in self.new.counting ≡ counts_in self.old.counting) }
+    {
         self.now = now(rt, self.shared.start, self.now);
         self.seconds = match self.shared.config.fresh {
             Some(_) => wall_seconds(rt),
@@ -146,7 +148,10 @@ impl<G: Gate, N: Opened> WorkerContext<'_, '_, G, N> {
 
     /// Whether nothing is due within so many milliseconds in any shard, as they stand, and no packet waits for a
     /// socket.
-    pub fn can_rest<R: Wait>(&mut self, rt: &R, milliseconds: u64) -> bool {
+    pub fn can_rest<R: Wait>(&mut self, rt: &R, milliseconds: u64) -> bool
+        ensures looks { HasNotTicked (at_work self.old.seat self.old.counting)
+            (at_work self.new.seat self.new.counting) }
+    {
         let shared = self.shared;
         let until = self.now.saturating_add(milliseconds);
         for shard in 0..shared.config.shards {
@@ -236,7 +241,9 @@ impl<G: Gate, N: Opened> WorkerContext<'_, '_, G, N> {
 
     /// Hands what was refused, rejected or replaced to the logger, once a second, and wakes it where there is
     /// something for it: for lines of exchanges so many milliseconds after the first of them.
-    pub fn wake_logger(&mut self, within: u64) {
+    pub fn wake_logger(&mut self, within: u64)
+        ensures kept { (self.new.seat ≡ self.old.seat) × (counts_in self.new.counting ≡ counts_in self.old.counting) }
+    {
         self.notices.tell_due(self.now);
         let dropped = self.exchanges.tell_due(self.now);
         self.counting.lines_dropped(dropped);

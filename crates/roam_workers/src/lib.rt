@@ -18,6 +18,9 @@
 //! - a worker's own counts of events rise by just what becomes of each datagram and of each tick: by what happens by the call's
 //!   event where the steps before it end, as the history says it, by an answer of the broker's own, or by a refusal. That
 //!   what is left for others to read is these counts is code | `WorkerContext::arrive`: `arrives`; `WorkerContext::tick`
+//! - from its start to its end a thread does nothing to its seat and to these counts but that, one datagram or tick after the
+//!   other: so each count is what it was and the sum of the increments of all that the thread did | `receive_on`,
+//!   `tick_on`: `HasWorkedTo`; law `work_is_counted`
 //! - which remedy there is for a call that a hub doesn't record: where the history is full it is let go of,
 //!   each time; out of memory it is, once; else the call is refused. That the same event is handed in again is
 //!   the loop's code | `remedy_for`
@@ -29,6 +32,7 @@ mod codes;
 mod context;
 mod ending;
 mod exchange_ends;
+mod laws;
 mod logger;
 mod losses;
 mod old_history;
@@ -42,6 +46,7 @@ mod worker;
 
 pub use context::{Remedy, WorkerContext, remedy_for};
 pub use ending::{Ended, Ending, WorkerEnd, has_given_up_after};
+pub use laws::work_is_counted;
 pub use logger::{ExchangeQueues, Logger, log_notices, tell_or_drop};
 pub use losses::{CAUSES, SharedLosses};
 pub use old_history::{OldHistory, Steps};

@@ -1,5 +1,8 @@
 //! Which home servers keep silent is told when that changes.
 
+ghost use Rattle.std.specs.Prelude.{◌≡◌};
+ghost use Rattle.roam_telling.specs.Counting.{counts_in};
+
 use crate::context::WorkerContext;
 use crate::rests::Rests;
 use crate::shared::Shared;
@@ -31,7 +34,9 @@ fn tell_realm<R: Wait, G: Gate, N: Opened>(
     rests: &mut Rests,
     number: u16,
     servers: usize,
-) {
+)
+    ensures kept { (context.new.seat ≡ context.old.seat) × (counts_in context.new.counting ≡ counts_in context.old.counting) }
+{
     let Some(gauges) = context.shared.hub.look(rt, &context.seat, number) else {
         return;
     };
@@ -54,7 +59,9 @@ pub fn tell_rests<R: Wait, G: Gate, N: Opened>(
     rt: &R,
     context: &mut WorkerContext<'_, '_, G, N>,
     rests: &mut Rests,
-) {
+)
+    ensures kept { (context.new.seat ≡ context.old.seat) × (counts_in context.new.counting ≡ counts_in context.old.counting) }
+{
     let now = context.now;
     if now < rests.next {
         return;

@@ -1,6 +1,9 @@
 //! The worker that ticks the shards, and tells what was lost.
 
 ghost use Rattle.std.specs.Prelude.{◌≡◌, ◌↔◌, ◌≤◌, ◌+◌, ◌-◌, min, IsTrue, IsFalse, MatchOption};
+ghost use Rattle.roam_telling.specs.Counting.{counts_in};
+ghost use Rattle.roam_workers.specs.Handlings.{at_work};
+ghost use Rattle.roam_workers.specs.Work.{HasWorked, HasWorkedTo};
 
 use crate::context::WorkerContext;
 use crate::ending::{Ending, WorkerEnd};
@@ -83,7 +86,10 @@ fn may_tell(now: u64, last: Option<u64>) -> bool
 }
 
 /// Tells what was lost, each cause once a minute at most.
-fn tell_losses<G: Gate, N: Opened>(timer: &mut Timer<'_, '_, G, N>) {
+fn tell_losses<G: Gate, N: Opened>(timer: &mut Timer<'_, '_, G, N>)
+    ensures kept { (timer.new.context.seat ≡ timer.old.context.seat)
+        × (counts_in timer.new.context.counting ≡ counts_in timer.old.context.counting) }
+{
     let context = &mut timer.context;
     let now = context.now;
     for (last, cause) in timer.told.iter_mut().zip(CAUSES.iter()) {
@@ -106,14 +112,20 @@ fn end_of<G, N: Opened>(timer: &Timer<'_, '_, G, N>) -> Option<u64> {
 }
 
 /// Tells once that the server is asked to stop.
-fn tell_stop<G, N: Opened>(timer: &mut Timer<'_, '_, G, N>) {
+fn tell_stop<G, N: Opened>(timer: &mut Timer<'_, '_, G, N>)
+    ensures kept { (timer.new.context.seat ≡ timer.old.context.seat)
+        × (counts_in timer.new.context.counting ≡ counts_in timer.old.context.counting) }
+{
     if !timer.is_stop_told && timer.context.shared.stopping.is_asked() {
         timer.is_stop_told = timer.context.notices.stopping();
     }
 }
 
 /// Whether all is done where the server is asked to stop: no request waits, nor did so a while ago.
-fn has_done_all<R: Wait, G: Gate, N: Opened>(rt: &R, timer: &mut Timer<'_, '_, G, N>) -> bool {
+fn has_done_all<R: Wait, G: Gate, N: Opened>(rt: &R, timer: &mut Timer<'_, '_, G, N>) -> bool
+    ensures kept { (timer.new.context.seat ≡ timer.old.context.seat)
+        × (counts_in timer.new.context.counting ≡ counts_in timer.old.context.counting) }
+{
     if !timer.context.shared.stopping.is_asked()
         || does_any_wait(rt, timer.context.shared, &timer.context.seat)
     {
@@ -126,23 +138,64 @@ fn has_done_all<R: Wait, G: Gate, N: Opened>(rt: &R, timer: &mut Timer<'_, '_, G
     now.saturating_sub(since) >= QUIET
 }
 
+/// Ticks a shard once, and sends what that gives. Answers whether it is to be ticked again.
+fn tick_once<R: Wait, G: Gate, N: Opened>(
+    rt: &R,
+    timer: &mut Timer<'_, '_, G, N>,
+    shard: u16,
+) -> bool
+    ensures { HasWorked N.opening (at_work timer.old.context.seat timer.old.context.counting)
+        (at_work timer.new.context.seat timer.new.context.counting) }
+{
+    let is_more = timer.context.tick(rt, shard);
+    timer.context.outgoing.send();
+    is_more && !timer.context.shared.is_over()
+}
+
 /// Ticks a shard until no more is due in it, and sends after each tick: between two others have its lock. Each has a
 /// later moment than the one before, and none is later than `LATE` milliseconds, so there are no more than that.
-fn tick_shard<R: Wait, G: Gate, N: Opened>(rt: &R, timer: &mut Timer<'_, '_, G, N>, shard: u16) {
+fn tick_shard<R: Wait, G: Gate, N: Opened>(rt: &R, timer: &mut Timer<'_, '_, G, N>, shard: u16)
+    ensures { HasWorked N.opening (at_work timer.old.context.seat timer.old.context.counting)
+        (at_work timer.new.context.seat timer.new.context.counting) }
+{
     for _ in 0..LATE {
-        let is_more = timer.context.tick(rt, shard);
-        timer.context.outgoing.send();
-        if !is_more || timer.context.shared.is_over() {
+        if !tick_once(rt, timer, shard) {
             return;
         }
     }
+}
+
+/// Ticks all shards, until all are to end.
+fn tick_all<R: Wait, G: Gate, N: Opened>(rt: &R, timer: &mut Timer<'_, '_, G, N>)
+    ensures { HasWorked N.opening (at_work timer.old.context.seat timer.old.context.counting)
+        (at_work timer.new.context.seat timer.new.context.counting) }
+{
+    for shard in 0..timer.context.shared.config.shards {
+        if timer.context.shared.is_over() {
+            return;
+        }
+        tick_shard(rt, timer, shard);
+    }
+}
+
+/// Tells what is to be told of losses and of home servers.
+fn tell_all<R: Wait, G: Gate, N: Opened>(rt: &R, timer: &mut Timer<'_, '_, G, N>)
+    ensures kept { (timer.new.context.seat ≡ timer.old.context.seat)
+        × (counts_in timer.new.context.counting ≡ counts_in timer.old.context.counting) }
+{
+    tell_losses(timer);
+    tell_rests(rt, &mut timer.context, &mut timer.rests);
+    timer.context.wake_logger(0);
 }
 
 /// One round of ticks: why the timer ends with it, if it does.
 fn round<R: Wait + Clock, G: Gate, N: Opened>(
     rt: &R,
     timer: &mut Timer<'_, '_, G, N>,
-) -> Option<Ending> {
+) -> Option<Ending>
+    ensures { HasWorked N.opening (at_work timer.old.context.seat timer.old.context.counting)
+        (at_work timer.new.context.seat timer.new.context.counting) }
+{
     if timer.context.shared.is_over() {
         return Some(Ending::Stopped);
     }
@@ -152,15 +205,11 @@ fn round<R: Wait + Clock, G: Gate, N: Opened>(
         return Some(Ending::TimeOver);
     }
     timer.context.outgoing.send_again();
-    for shard in 0..timer.context.shared.config.shards {
-        if timer.context.shared.is_over() {
-            return Some(Ending::Stopped);
-        }
-        tick_shard(rt, timer, shard);
+    tick_all(rt, timer);
+    if timer.context.shared.is_over() {
+        return Some(Ending::Stopped);
     }
-    tell_losses(timer);
-    tell_rests(rt, &mut timer.context, &mut timer.rests);
-    timer.context.wake_logger(0);
+    tell_all(rt, timer);
     if has_done_all(rt, timer) {
         return Some(Ending::TimeOver);
     }
@@ -178,7 +227,10 @@ fn until_end(wait: u64, now: u64, end: Option<u64>) -> u64
 }
 
 /// Waits until the next round, or until it is woken: a short time, where the timer doesn't rest.
-fn wait<R: Clock, G, N: Opened>(rt: &R, timer: &mut Timer<'_, '_, G, N>, milliseconds: u64) {
+fn wait<R: Clock, G, N: Opened>(rt: &R, timer: &mut Timer<'_, '_, G, N>, milliseconds: u64)
+    ensures kept { (timer.new.context.seat ≡ timer.old.context.seat)
+        × (counts_in timer.new.context.counting ≡ counts_in timer.old.context.counting) }
+{
     let wait = until_end(milliseconds, timer.context.now, end_of(timer));
     let timeout = Some(Duration::from_millis(wait));
     if timer.poll.poll(&mut timer.events, timeout).is_err() {
@@ -186,19 +238,26 @@ fn wait<R: Clock, G, N: Opened>(rt: &R, timer: &mut Timer<'_, '_, G, N>, millise
     }
 }
 
+/// How long to wait until the next round, in milliseconds.
+fn wait_for(can_rest: bool) -> u64 {
+    if can_rest { REST } else { TICK }
+}
+
 /// Waits until the next round. Before it rests it says so, and looks at the shards once more: a job that one was
 /// given before that look is seen there, and who gives one a job after it wakes the timer.
-fn rest<R: Wait + Clock, G: Gate, N: Opened>(rt: &R, timer: &mut Timer<'_, '_, G, N>) {
-    if timer.context.shared.stopping.is_asked() || !timer.context.can_rest(rt, REST) {
+fn rest<R: Wait + Clock, G: Gate, N: Opened>(rt: &R, timer: &mut Timer<'_, '_, G, N>)
+    ensures { HasWorked N.opening (at_work timer.old.context.seat timer.old.context.counting)
+        (at_work timer.new.context.seat timer.new.context.counting) }
+{
+    if timer.context.shared.stopping.is_asked() {
+        return wait(rt, timer, TICK);
+    }
+    if !timer.context.can_rest(rt, REST) {
         return wait(rt, timer, TICK);
     }
     let shared = timer.context.shared;
     shared.rest.begin();
-    let milliseconds = if timer.context.can_rest(rt, REST) {
-        REST
-    } else {
-        TICK
-    };
+    let milliseconds = wait_for(timer.context.can_rest(rt, REST));
     wait(rt, timer, milliseconds);
     shared.rest.end();
 }
@@ -227,7 +286,9 @@ impl<G: Gate, N: Opened> Timer<'_, '_, G, N> {
 pub fn tick_on<R: Wait + Clock, G: Gate, N: Opened>(
     rt: &R,
     mut timer: Timer<'_, '_, G, N>,
-) -> WorkerEnd<N> {
+) -> WorkerEnd<N>
+    ensures { HasWorkedTo N.opening (at_work timer.entry.context.seat timer.entry.context.counting) result.seat }
+{
     for _ in rt.forever() {
         if let Some(ending) = round(rt, &mut timer) {
             return timer.leave(ending);

@@ -1,5 +1,10 @@
 //! The worker that receives from sockets.
 
+ghost use Rattle.std.specs.Prelude.{◌≡◌};
+ghost use Rattle.roam_telling.specs.Counting.{counts_in};
+ghost use Rattle.roam_workers.specs.Handlings.{at_work};
+ghost use Rattle.roam_workers.specs.Work.{HasWorked, HasWorkedTo};
+
 use crate::context::WorkerContext;
 use crate::ending::{Ending, WorkerEnd};
 use mio::{Events, Poll, Token};
@@ -107,7 +112,10 @@ fn wait_before(receivers: &[Receiver<'_>], ready: &[usize], now: u64) -> u64 {
 /// Waits until something arrives, the worker is woken or refusals are to be told, and marks the receivers at which
 /// something did arrive.
 /// Where the wait itself fails, a short time goes by, and then all are marked.
-fn wait<R: Clock, G, N: Opened>(rt: &R, worker: &mut Worker<'_, '_, G, N>) {
+fn wait<R: Clock, G, N: Opened>(rt: &R, worker: &mut Worker<'_, '_, G, N>)
+    ensures kept { (worker.new.context.seat ≡ worker.old.context.seat)
+        × (counts_in worker.new.context.counting ≡ counts_in worker.old.context.counting) }
+{
     let receivers = worker.receivers.as_slice();
     let now = worker.context.now;
     let wait = wait_before(receivers, worker.ready.as_slice(), now);
@@ -137,20 +145,21 @@ fn give_back(buffer: &mut Vec<u8>, datagram: Datagram<Global>) {
     *buffer = block;
 }
 
-/// Takes what arrived at one socket, up to `IN_A_ROUND` datagrams, and sends what that gives: why the worker
-/// ends with it, if it does. Once all are to end it takes no other one: what is there waits for whoever serves next.
-fn receive_portion<R: Wait + Clock, G: Gate, N: Opened>(
+/// Takes what arrived at one socket, up to `IN_A_ROUND` datagrams: why the worker ends with it, if it does. Once all are
+/// to end it takes no other one: what is there waits for whoever serves next.
+fn take_portion<R: Wait + Clock, G: Gate, N: Opened>(
     rt: &R,
     alloc: Global,
     context: &mut WorkerContext<'_, '_, G, N>,
     receiver: &mut Receiver<'_>,
     buffer: &mut Vec<u8>,
-) -> Option<Ending> {
-    let mut ending = None;
+) -> Option<Ending>
+    ensures { HasWorked N.opening (at_work context.old.seat context.old.counting)
+        (at_work context.new.seat context.new.counting) }
+{
     for _ in 0..IN_A_ROUND {
         if context.shared.is_over() {
-            ending = Some(Ending::Stopped);
-            break;
+            return Some(Ending::Stopped);
         }
         match receiver.receive(alloc, buffer) {
             Heard::Datagram(datagram) => {
@@ -159,19 +168,67 @@ fn receive_portion<R: Wait + Clock, G: Gate, N: Opened>(
                 context.arrive(rt, alloc, &datagram);
                 give_back(buffer, datagram);
             }
-            Heard::Nothing => break,
-            Heard::GiveUp => {
-                ending = Some(Ending::GaveUp);
-                break;
-            }
+            Heard::Nothing => return None,
+            Heard::GiveUp => return Some(Ending::GaveUp),
         }
     }
-    context.outgoing.send();
-    if receiver.faults > 0 {
+    None
+}
+
+/// Looks at the clock where receives failed: for how long, is counted from then on.
+fn look_after_faults<R: Clock, G: Gate, N: Opened>(
+    rt: &R,
+    context: &mut WorkerContext<'_, '_, G, N>,
+    faults: u32,
+)
+    ensures kept { (context.new.seat ≡ context.old.seat)
+        × (counts_in context.new.counting ≡ counts_in context.old.counting) }
+{
+    if faults > 0 {
         context.look_at_clock(rt);
     }
+}
+
+/// Takes what arrived at one socket, and sends what that gives: why the worker ends with it, if it does.
+fn receive_portion<R: Wait + Clock, G: Gate, N: Opened>(
+    rt: &R,
+    alloc: Global,
+    context: &mut WorkerContext<'_, '_, G, N>,
+    receiver: &mut Receiver<'_>,
+    buffer: &mut Vec<u8>,
+) -> Option<Ending>
+    ensures { HasWorked N.opening (at_work context.old.seat context.old.counting)
+        (at_work context.new.seat context.new.counting) }
+{
+    let ending = take_portion(rt, alloc, context, receiver, buffer);
+    context.outgoing.send();
+    look_after_faults(rt, context, receiver.faults);
     receiver.rest_after_fault(context.now);
     ending
+}
+
+/// Takes what arrived at the socket at a place among those that are marked, where it is to be received from now: why the
+/// worker ends with it, if it does.
+fn receive_at<R: Wait + Clock, G: Gate, N: Opened>(
+    rt: &R,
+    alloc: Global,
+    worker: &mut Worker<'_, '_, G, N>,
+    place: usize,
+) -> Option<Ending>
+    ensures { HasWorked N.opening (at_work worker.old.context.seat worker.old.context.counting)
+        (at_work worker.new.context.seat worker.new.context.counting) }
+{
+    let Some(at) = worker.ready.get(place) else {
+        return None;
+    };
+    let Some(receiver) = worker.receivers.get_mut(*at) else {
+        return None;
+    };
+    if !receiver.is_due(worker.context.now) {
+        return None;
+    }
+    worker.context.look_at_clock(rt);
+    receive_portion(rt, alloc, &mut worker.context, receiver, &mut worker.buffer)
 }
 
 /// Takes what arrived at the sockets that are marked: why the worker ends with it, if it does.
@@ -179,18 +236,14 @@ fn receive_all<R: Wait + Clock, G: Gate, N: Opened>(
     rt: &R,
     alloc: Global,
     worker: &mut Worker<'_, '_, G, N>,
-) -> Option<Ending> {
-    for at in worker.ready.iter() {
-        let Some(receiver) = worker.receivers.get_mut(*at) else {
-            continue;
-        };
-        if receiver.is_due(worker.context.now) {
-            worker.context.look_at_clock(rt);
-            let buffer = &mut worker.buffer;
-            let ending = receive_portion(rt, alloc, &mut worker.context, receiver, buffer);
-            if ending.is_some() {
-                return ending;
-            }
+) -> Option<Ending>
+    ensures { HasWorked N.opening (at_work worker.old.context.seat worker.old.context.counting)
+        (at_work worker.new.context.seat worker.new.context.counting) }
+{
+    for place in 0..worker.ready.len() {
+        let ending = receive_at(rt, alloc, worker, place);
+        if ending.is_some() {
+            return ending;
         }
     }
     None
@@ -206,7 +259,10 @@ fn round<R: Wait + Clock, G: Gate, N: Opened>(
     rt: &R,
     alloc: Global,
     worker: &mut Worker<'_, '_, G, N>,
-) -> Option<Ending> {
+) -> Option<Ending>
+    ensures { HasWorked N.opening (at_work worker.old.context.seat worker.old.context.counting)
+        (at_work worker.new.context.seat worker.new.context.counting) }
+{
     wait(rt, worker);
     if worker.context.shared.is_over() {
         return Some(Ending::Stopped);
@@ -244,7 +300,9 @@ pub fn receive_on<R: Wait + Clock, G: Gate, N: Opened>(
     rt: &R,
     alloc: Global,
     mut worker: Worker<'_, '_, G, N>,
-) -> WorkerEnd<N> {
+) -> WorkerEnd<N>
+    ensures { HasWorkedTo N.opening (at_work worker.entry.context.seat worker.entry.context.counting) result.seat }
+{
     for _ in rt.forever() {
         if let Some(ending) = round(rt, alloc, &mut worker) {
             return worker.leave(ending);

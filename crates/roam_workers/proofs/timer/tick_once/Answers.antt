@@ -1,0 +1,8 @@
+-- A tick.
+use Rattle.std.proofs.Common.{inl, inr}
+use Rattle.roam_workers.proofs.WorkLemmas.{worked_more, worked_none}
+use Rattle.roam_workers.proofs.timer.tick_once.Goals as goal
+
+pub returns : goal.returns
+returns g c =
+    worked_more _ _ _ _ (worked_none _ _) (inr (inl (_, _, _, c.tick-is_more.ensures.ticks)))
