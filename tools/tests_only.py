@@ -5,7 +5,7 @@
 
 A first line that begins with "For tests" says so, above the function or above its type. It goes by names alone: a function is called
 where its name stands before a parenthesis or behind `::` in a product crate's code, outside of contracts and imports. So one may
-be left out whose name another has. Laws (laws.rt, bounds.rt, and what has no body) aren't looked at. LEFT has what is to be taken out, or is to say so.
+be left out whose name another has. Laws (laws.rt, bounds.rt, and what has no body) aren't looked at.
 """
 import collections
 import pathlib
@@ -13,12 +13,6 @@ import re
 import sys
 
 ROOT = pathlib.Path(__file__).resolve().parent.parent
-LEFT = {
-    "roam_address/src/prefix.rt length", "roam_address/src/prefix_index.rt look_ups", "roam_audit/src/report.rt audit",
-    "roam_audit/src/seat.rt tallies", "roam_carry/src/reload.rt carry_book_over", "roam_fwd/src/forwardable.rt can_be_forwarded",
-    "roam_fwd/src/forwarding.rt forward", "roam_ids/src/slot.rt tag", "roam_port/src/outbox.rt account",
-    "roam_tables/src/tables/round_search.rt round_looks", "roam_trace/src/traced.rt steps",
-}
 SKIPPED = re.compile(r"\s*(//|(pub(\(\w+\))? )?use\b|ghost\b|requires\b|ensures\b|preserved\b)")
 
 
@@ -69,9 +63,8 @@ def main() -> int:
                 continue
             if next(it for it in lines[at:] if it.strip() in ("{", "{}") or it.endswith((" {", "{}"))).strip() != "{}":
                 unsaid.add(f"{name} {found.group(1)}")
-    faults = [f"crates/{it}: only tests call it, if any, and its first line doesn't say so" for it in sorted(unsaid - LEFT)]
-    faults += [f"crates/{it}: LEFT has it, and it is called, or says so" for it in sorted(LEFT - unsaid)]
-    print("\n".join(faults) or f"what only tests call says so ({len(LEFT)} left)")
+    faults = [f"crates/{it}: only tests call it, if any, and its first line doesn't say so" for it in sorted(unsaid)]
+    print("\n".join(faults) or "what only tests call says so")
     return int(bool(faults))
 
 

@@ -94,7 +94,7 @@ impl Prefix {
         self.network
     }
 
-    /// How many bits count.
+    /// For tests: how many bits count.
     pub fn length(self) -> u8
         ensures { result ≡ length_of self }
     {

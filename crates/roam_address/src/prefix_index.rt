@@ -83,7 +83,7 @@ impl<A: Allocator + Copy> PrefixIndex<A> {
         None
     }
 
-    /// How many look-ups an address of a kind costs at most: one for each length of which there is a prefix.
+    /// For tests: how many look-ups an address of a kind costs at most: one for each length of which there is a prefix.
     pub fn look_ups(&self, of_ipv6: bool) -> usize
         ensures { result ≡ count_marked (marks_of (marks self.now) of_ipv6) }
     {

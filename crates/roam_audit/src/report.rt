@@ -57,7 +57,7 @@ impl<A: Allocator, N: Opened> Report<A, N> {
     ghost use Rattle.roam_audit.specs.Shown.{recorded, shown_receipts, whole_of};
     ghost use Rattle.roam_audit.specs.Audit.{IsInOrder, IsFirstUneven, AreOfFirstWrong};
 
-    /// Compares what was recorded with what the callers have. Takes no memory.
+    /// For tests: compares what was recorded with what the callers have. Takes no memory.
     ///
     /// Each shard is looked at before any receipt. All steps count, those that were let go of too, and how often that
     /// was. A receipt costs a comparison of its number and a look at the receipts before it.

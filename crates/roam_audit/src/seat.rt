@@ -51,7 +51,7 @@ impl<A: Allocator, N: Opened> Model for Seat<A, N> {
 }
 
 impl<A: Allocator, N: Opened> Seat<A, N> {
-    /// What is counted, by shard.
+    /// For tests: what is counted, by shard.
     pub fn tallies(&self) -> &[Tally]
         ensures tallies { result.now ≡ self.now.tallies }
         ensures shards { length result.now ≡ N.opening.config.shards }

@@ -249,8 +249,8 @@ pub fn carried_takes_no_more()
     ensures places { CarriedHasPlaces }
 {}
 
-/// A book goes on under another configuration, in which its realm is here. `NoMemory` comes where a growth was
-/// refused, and the book is then as it was.
+/// For tests: a book goes on under another configuration, in which its realm is here. `NoMemory` comes where a
+/// growth was refused, and the book is then as it was.
 pub fn carry_book_over<'c, A: Allocator + Copy>(
     book: &mut Book<'c, A>,
     config: &'c Config,

@@ -49,7 +49,7 @@ fn passwords_have_blocks(request: &View<'_>) -> bool
     true
 }
 
-/// Whether a request can be forwarded: whether it has at most one Message-Authenticator, of 16 octets,
+/// For tests: whether a request can be forwarded: whether it has at most one Message-Authenticator, of 16 octets,
 /// each User-Password of an Access-Request has whole blocks, and the forwarded packet has at most 4096
 /// octets. Takes no memory.
 pub fn can_be_forwarded(request: &View<'_>) -> bool

@@ -86,7 +86,7 @@ pub fn forward_reserved<A: Allocator>(
     rewrite(octets, text.len(), &forwarding);
 }
 
-/// Appends the packet that is forwarded for a request (RFC 2865, section 2.3) to a buffer. All the room
+/// For tests: appends the packet that is forwarded for a request (RFC 2865, section 2.3) to a buffer. All the room
 /// is asked for first; without it the buffer stays as it was,
 /// with its capacity. The request's octets are copied once.
 ///

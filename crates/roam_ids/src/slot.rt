@@ -21,7 +21,7 @@ impl Model for IdSlot {
 }
 
 impl IdSlot {
-    /// The tag of the lane that gave it out.
+    /// For tests: the tag of the lane that gave it out.
     pub fn tag(&self) -> u32
         ensures { result ≡ self.now.tag }
     {

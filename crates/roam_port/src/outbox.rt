@@ -240,7 +240,7 @@ impl<A: Allocator> Outbox<A> {
         }
     }
 
-    /// What became of all packets that were put so far.
+    /// For tests: what became of all packets that were put so far.
     pub fn account(&self) -> Account
         ensures { result ≡ account_of self.now }
     {

@@ -147,7 +147,7 @@ impl<'c, A: Allocator + Copy> Traced<'c, A> {
         self.gone + self.steps.len() as u64
     }
 
-    /// The stored steps, of which contracts see the events. Takes no memory.
+    /// For tests: the stored steps, of which contracts see the events. Takes no memory.
     pub fn steps(&self) -> &[Step<A>]
         ensures { result.now ≡ self.now.events }
     {

@@ -49,7 +49,7 @@ impl<A: Allocator + Copy> Tables<A> {
         None
     }
 
-    /// At how many entries a look for a peer's round of a State looks, besides the index: those of its hash.
+    /// For tests: at how many entries a look for a peer's round of a State looks, besides the index: those of its hash.
     pub fn round_looks(&self, realm: u16, peer: u16, state: &[u8]) -> usize
         ensures { result ≡ 0 → last_round peer state.now (entries_in self.now realm) ≡ None }
     {
