@@ -18,6 +18,3 @@ mod state_file;
 mod station_key;
 
 pub use program::command;
-
-// What tests of this crate take from the server, so that they needn't list it.
-pub use roam_serve::{Reason, ServeFault, SocketPath};

@@ -4,7 +4,7 @@
 use log::Level;
 use roam_conf::{Address, Endpoint};
 use roam_outlet::{LogReader, Outlet, write_on};
-use roam_program::{Reason, ServeFault, SocketPath};
+use roam_sockets::{Reason, ServeFault, SocketPath};
 use roam_words::Fault;
 use std::io;
 use std::io::{ErrorKind, Write};

@@ -58,25 +58,37 @@ fn plays_through_hubs<R: Wait>(
     Ok(())
 }
 
-/// Plays all rows, and says how many: all of them over each broker, and those of `rows/` with growths refused and
-/// through hubs too. Whether all is as they say.
+/// Plays the rows of both folders over each broker, and those of `rows/` with growths refused and through hubs too.
+fn plays_folders<R: Wait>(waiting: &R, player: &mut Player<'_, '_>) -> io::Result<()> {
+    for kept in [Kept::InLists, Kept::InTables, Kept::InTraces] {
+        player.kept = kept;
+        plays_folder(player, "rows", true)?;
+        plays_folder(player, "random", false)?;
+    }
+    plays_through_hubs(waiting, player, "rows")
+}
+
+/// Looks whether the faulty lines are found, and prints how many rows were played.
+fn plays_faulty(player: &mut Player<'_, '_>) -> io::Result<()> {
+    player.file = String::from_str(player.rt.alloc(), "faulty-lines")?;
+    let faulty = fs::read_to_string(player.rt, "faulty-lines")?;
+    finds_faults(player, faulty.as_str())?;
+    player.tally.print(player.rt)
+}
+
+/// Plays all rows, and says how many. Whether all is as they say. (What can fail owns nothing of the player's.)
 fn plays_all<R: Wait>(rt: &HostRuntime, waiting: &R) -> io::Result<bool> {
     let refusing = Refusing::new(rt.alloc());
     let mut player = Player::new(rt, &refusing);
-    for kept in [Kept::InLists, Kept::InTables] {
-        player.kept = kept;
-        plays_folder(&mut player, "rows", true)?;
-        plays_folder(&mut player, "random", false)?;
+    let played = match plays_folders(waiting, &mut player) {
+        Ok(()) => plays_faulty(&mut player),
+        Err(error) => Err(error),
+    };
+    let is_clean = player.tally.is_clean();
+    match played {
+        Ok(()) => Ok(is_clean),
+        Err(error) => Err(error),
     }
-    player.kept = Kept::InTraces;
-    plays_folder(&mut player, "rows", true)?;
-    plays_folder(&mut player, "random", false)?;
-    plays_through_hubs(waiting, &mut player, "rows")?;
-    player.file = String::from_str(rt.alloc(), "faulty-lines")?;
-    let faulty = fs::read_to_string(rt, "faulty-lines")?;
-    finds_faults(&mut player, faulty.as_str())?;
-    player.tally.print(rt)?;
-    Ok(player.tally.is_clean())
 }
 
 fn main(rt: HostRuntime) -> ExitCode {
