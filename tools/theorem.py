@@ -36,7 +36,7 @@ CHAPTERS = [
     ("What one realm does",
      "`on_event` and `opening`: the rules of one realm, as one broker for it alone would have them. Octets, look-ups "
      "of the configuration and the tests of a reply stay closed.",
-     {"roam_book", "roam_carry", "roam_pending", "roam_ids", "roam_random", "roam_reverse"}),
+     {"roam_book", "roam_exchange", "roam_realm", "roam_carry", "roam_pending", "roam_ids", "roam_random", "roam_reverse"}),
     ("What comes to a realm",
      "`admission`: which arrival is refused, which is answered on the spot, and to which realm any other one goes.",
      {"roam_route", "roam_conf"}),

@@ -2,7 +2,7 @@
 
 ghost use Rattle.std.specs.Prelude.{◌≡◌, ◌<◌, IfOk, List, OnOk, vec_len};
 ghost use Rattle.roam_ledgers.specs.Ledgers.{SavedItem, ledgers_text};
-ghost use Rattle.roam_book.specs.Written.{GainsItems};
+ghost use Rattle.roam_realm.specs.Written.{GainsItems};
 
 use crate::attending::Attendant;
 use crate::hub_end::HubEnd;

@@ -5,8 +5,8 @@ ghost use Rattle.roam_core.specs.Shown.{shown_event};
 ghost use Rattle.roam_trace.specs.Steps.{shown_answer};
 ghost use Rattle.roam_history.specs.Entries.{steps_in};
 
-use roam_book::Answer;
 use roam_core::Event;
+use roam_exchange::Answer;
 use roam_history::{Front, Opened};
 use std::alloc::Allocator;
 

@@ -7,8 +7,8 @@ ghost use Rattle.roam_audit.specs.StepCounts.{count_of_steps};
 use crate::audit_fault::AuditFault;
 use crate::receipt::Receipt;
 use crate::seat::Seat;
-use roam_book::Start;
 use roam_history::{Front, Opened};
+use roam_realm::Start;
 use roam_trace::Step;
 use std::alloc::Allocator;
 

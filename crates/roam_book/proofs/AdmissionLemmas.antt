@@ -15,21 +15,18 @@ use Rattle.roam_pending.proofs.ClientLemmas.{done-found}
 use Rattle.roam_reverse.specs.Sessions.{Session}
 use Rattle.roam_reverse.specs.Shown.{Ledger}
 use Rattle.roam_book.specs.declared.rules.replaced.Replaced.{Replaced}
-use Rattle.roam_book.specs.declared.state.realm_numbers.RealmNumbers.{RealmNumbers}
-use Rattle.roam_book.specs.declared.state.rest.Rest.{Rest}
+use Rattle.roam_realm.specs.declared.realm_numbers.RealmNumbers.{RealmNumbers}
+use Rattle.roam_realm.specs.declared.rest.Rest.{Rest}
 use Rattle.roam_book.specs.Private.NewEntry.{MakesWay, target_at}
-use Rattle.roam_book.specs.RealmConfig.{RealmConfig, IsLink}
-use Rattle.roam_book.specs.RealmState.{RealmState, Target, next_toward}
-use Rattle.roam_book.specs.OnRequest.{admit, position_after}
-use Rattle.roam_book.specs.Turn.{Turn}
-use Rattle.roam_book.specs.Sound.{AreOwnLanes, CountsAsReplaced, IsEntry, IsRequest, IsSound, IsWaiting, LanesTell, StandsWell, cursors_of, replaced_ticket, standing_place, marks_of}
-use Rattle.roam_book.proofs.SendingLemmas.{position-below}
-use Rattle.roam_book.proofs.SoundLemmas.{kept-later, kept-put, kept-ticket, kept-without}
-use Rattle.roam_book.proofs.LaneLemmas.{next-tells, tells-replaced}
-
--- a link is itself
-same_link-self : (l : Link) → same_link l l ≡ true
-same_link-self = link_is_same
+use Rattle.roam_realm.specs.RealmConfig.{RealmConfig, IsLink}
+use Rattle.roam_realm.specs.RealmState.{RealmState, Target, next_toward}
+use Rattle.roam_exchange.specs.OnRequest.{admit, position_after}
+use Rattle.roam_exchange.specs.Turn.{Turn}
+use Rattle.roam_realm.specs.Sound.{AreOwnLanes, IsEntry, IsRequest, IsSound, IsWaiting, LanesTell, StandsWell, cursors_of, standing_place, marks_of}
+use Rattle.roam_book.specs.Replacing.{CountsAsReplaced, replaced_ticket}
+use Rattle.roam_exchange.proofs.SendingLemmas.{position-below}
+use Rattle.roam_realm.proofs.SoundLemmas.{kept-later, kept-put, kept-ticket, kept-without}
+use Rattle.roam_realm.proofs.LaneLemmas.{next-tells, tells-replaced}
 
 -- the link and the Identifier of a place
 link_at : (a b : Link × ℕ) → Some a ≡ Some b → a.0 ≡ b.0
@@ -45,7 +42,7 @@ stands-there :
 stands-there (waiting link id forwarded sends_left deadline signs) l i h =
     let same_l : link ≡ l = link_at (link, id) (l, i) h in
     let same_i : id ≡ i = id_at (link, id) (l, i) h in
-    rw (same_l, same_i, same_link-self l) (same i i refl)
+    rw (same_l, same_i, link_is_same l) (same i i refl)
 stands-there (done reply deadline from) l i h = absurd (let k : None ≡ Some (l, i) = h in cc)
 
 stands-on_link :

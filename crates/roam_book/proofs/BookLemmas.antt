@@ -9,14 +9,14 @@ use Rattle.roam_pending.specs.PlainEntry.{PlainEntry}
 use Rattle.roam_pending.specs.EntryList.{Held, IsEntryList}
 use Rattle.roam_pending.specs.Realms.{entries_in, keeps_in}
 use Rattle.roam_pending.proofs.TestLemmas.{same}
-use Rattle.roam_book.specs.RealmConfig.{RealmConfig, link_count, realm_config}
-use Rattle.roam_book.specs.RealmState.{RealmState}
-use Rattle.roam_book.specs.Turn.{Turn, Gives, packets_of}
-use Rattle.roam_book.specs.Sound.{AreOwnLanes, IsSound, LanesTell, state_of, marks_of}
+use Rattle.roam_realm.specs.RealmConfig.{RealmConfig, link_count, realm_config}
+use Rattle.roam_realm.specs.RealmState.{RealmState}
+use Rattle.roam_exchange.specs.Turn.{Turn, Gives, packets_of}
+use Rattle.roam_realm.specs.Sound.{AreOwnLanes, IsSound, LanesTell, state_of, marks_of}
 use Rattle.roam_book.specs.BookView.{BookView, IsBook, settings_of}
-use Rattle.roam_book.specs.declared.packets.answer.Answer.{Answer}
-use Rattle.roam_book.specs.declared.state.realm_numbers.RealmNumbers.{RealmNumbers}
-use Rattle.roam_book.specs.declared.state.start.Start.{Start}
+use Rattle.roam_exchange.specs.declared.answer.Answer.{Answer}
+use Rattle.roam_realm.specs.declared.realm_numbers.RealmNumbers.{RealmNumbers}
+use Rattle.roam_realm.specs.declared.start.Start.{Start}
 
 -- the entries of a list's own realm
 pub own-entries : (p : Held) (realm : ℕ) → p.realm ≡ realm → entries_in p realm ≡ p.entries

@@ -3,14 +3,14 @@ use Rattle.std.proofs.Common.{◌≡◌, ℕ, is_some, List, refl, ap, ◌∙◌
 use Rattle.roam_pending.specs.PlainEntry.{PlainEntry, PlainRequest}
 use Rattle.roam_pending.specs.EntryList.{IsEntryList, besides}
 use Rattle.roam_reverse.specs.Shown.{Ledger}
-use Rattle.roam_book.specs.declared.state.realm_numbers.RealmNumbers.{RealmNumbers}
+use Rattle.roam_realm.specs.declared.realm_numbers.RealmNumbers.{RealmNumbers}
 use Rattle.roam_book.specs.declared.rules.admit_plan.AdmitPlan.{AdmitPlan}
 use Rattle.roam_book.specs.Private.NewEntry.{IsAdmitPlan, MakesWay, admits, cleared, left_by, once_replaced}
-use Rattle.roam_book.specs.RealmConfig.{RealmConfig, IsLink}
-use Rattle.roam_book.specs.Conversing.{rests_chosen}
-use Rattle.roam_book.specs.RealmState.{next_toward, with_rests}
-use Rattle.roam_book.specs.declared.state.rest.Rest.{Rest}
-use Rattle.roam_book.specs.Sound.{IsSameButSlots, IsSound, cursors_of, state_of}
+use Rattle.roam_realm.specs.RealmConfig.{RealmConfig, IsLink}
+use Rattle.roam_realm.specs.Conversing.{rests_chosen}
+use Rattle.roam_realm.specs.RealmState.{next_toward, with_rests}
+use Rattle.roam_realm.specs.declared.rest.Rest.{Rest}
+use Rattle.roam_realm.specs.Sound.{IsSameButSlots, IsSound, cursors_of, state_of}
 use Rattle.roam_book.proofs.AdmissionLemmas.{admit-same, client-besides, next-besides, target-same}
 
 -- the entries and numbers before, between, and once those that had to go are gone

@@ -8,17 +8,18 @@ use Rattle.roam_pending.specs.PlainEntry.{PlainEntry, PlainRequest, has_ticket, 
 use Rattle.roam_pending.specs.EntryList.{IsEntryList, besides, find_ticket, without}
 use Rattle.roam_pending.proofs.OrderLemmas.{list-without}
 use Rattle.roam_pending.proofs.TestLemmas.{all-find, all-weaker}
-use Rattle.roam_book.specs.Conversing.{asked_state, bound_link, bound_links, bound_target, new_target, same_end, untried}
+use Rattle.roam_realm.specs.Conversing.{asked_state, bound_link, bound_links, bound_target, new_target, same_end, untried}
 use Rattle.roam_book.specs.Private.NewEntry.{bound_way, freed_link, way_link}
-use Rattle.roam_book.specs.RealmConfig.{RealmConfig, IsLink}
-use Rattle.roam_book.specs.RealmState.{RealmState, Target, chosen_target, first_target, next_toward, this_or}
-use Rattle.roam_book.specs.Rests.{has_moment}
-use Rattle.roam_book.specs.Sound.{CountsAsReplaced, IsEntry, IsSound, cursors_of, replaced_ticket, is_open, is_wanted, standing_place, state_of}
+use Rattle.roam_realm.specs.RealmConfig.{RealmConfig, IsLink}
+use Rattle.roam_realm.specs.RealmState.{RealmState, Target, chosen_target, first_target, next_toward, this_or}
+use Rattle.roam_realm.specs.Rests.{has_moment}
+use Rattle.roam_book.specs.Replacing.{CountsAsReplaced, replaced_ticket}
+use Rattle.roam_realm.specs.Sound.{IsEntry, IsSound, cursors_of, is_open, is_wanted, standing_place, state_of}
 use Rattle.roam_book.specs.declared.rules.replaced.Replaced.{Replaced}
-use Rattle.roam_book.specs.declared.state.link_rests.Wanted.TheVariants as wanted
-use Rattle.roam_book.specs.declared.state.realm_numbers.RealmNumbers.{RealmNumbers}
-use Rattle.roam_book.specs.declared.state.rest.Rest.{Rest}
-use Rattle.roam_book.proofs.LaneLemmas.{chosen-by, either, first-next, link-or, next-tells, open-freed, or-same, placed-octet, placeless-done, target-among, target-next, tells-replaced}
+use Rattle.roam_realm.specs.declared.link_rests.Wanted.TheVariants as wanted
+use Rattle.roam_realm.specs.declared.realm_numbers.RealmNumbers.{RealmNumbers}
+use Rattle.roam_realm.specs.declared.rest.Rest.{Rest}
+use Rattle.roam_realm.proofs.LaneLemmas.{chosen-by, either, first-next, link-or, next-tells, open-freed, or-same, placed-octet, placeless-done, target-among, target-next, tells-replaced}
 
 -- ---- which links have a free Identifier
 

@@ -6,13 +6,13 @@ use Rattle.roam_pending.specs.PlainEntry.{PlainEntry, waits_at}
 use Rattle.roam_pending.specs.EntryList.{IsEntryList, find_link, find_ticket}
 use Rattle.roam_pending.proofs.TestLemmas.{same}
 use Rattle.roam_pending.proofs.ChangeLemmas.{find-passes, found-is}
-use Rattle.roam_book.specs.RealmConfig.{RealmConfig, IsLink}
-use Rattle.roam_book.specs.Sound.{IsSound, lane_of}
-use Rattle.roam_book.specs.declared.state.realm_numbers.RealmNumbers.{RealmNumbers}
-use Rattle.roam_book.proofs.SoundLemmas.{kept-link}
+use Rattle.roam_realm.specs.RealmConfig.{RealmConfig, IsLink}
+use Rattle.roam_realm.specs.Sound.{IsSound, lane_of}
+use Rattle.roam_realm.specs.declared.realm_numbers.RealmNumbers.{RealmNumbers}
+use Rattle.roam_realm.proofs.SoundLemmas.{kept-link}
 use Rattle.roam_book.proofs.ReplyLemmas.{link-of}
-use Rattle.roam_book.proofs.UsedLemmas.{parked_as_found, parked-one}
-use Rattle.roam_book.proofs.WaitingLemmas.{waits_as, parks}
+use Rattle.roam_realm.proofs.UsedLemmas.{parked_as_found, parked-one}
+use Rattle.roam_realm.proofs.WaitingLemmas.{waits_as, parks}
 
 -- an entry that waits on a link waits on a link of the realm, and its ticket is parked there
 on_link : {A : Type 0} (c : RealmConfig) (es : List PlainEntry) (n : RealmNumbers A) (l : Link) (i : ℕ)

@@ -18,7 +18,7 @@ use Rattle.roam_route.specs.Events.{IsConfigured, IsEvent, IsForwardable}
 use Rattle.roam_route.specs.declared.job.Side.{Side}
 use Rattle.roam_route.specs.declared.job.Side.TheVariants as side
 use Rattle.roam_route.proofs.EventLemmas.{event_realm, event_sound}
-use Rattle.roam_book.specs.RealmConfig.{RealmConfig, no_realm, realm_config}
+use Rattle.roam_realm.specs.RealmConfig.{RealmConfig, no_realm, realm_config}
 use Rattle.roam_book.specs.BookView.{EventIsTaken, IsTakenFrom}
 
 -- a realm has as many sources of reverse requests as a configuration has for its index

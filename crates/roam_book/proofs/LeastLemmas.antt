@@ -11,11 +11,11 @@ use Rattle.roam_reverse.specs.declared.error_cause.TheConstants.{OTHER_PROXY_PRO
 use Rattle.roam_pending.proofs.OrderLemmas.{order-put, order-filter, without-absent}
 use Rattle.roam_pending.proofs.ChangeLemmas.{found-ticket, put-without}
 use Rattle.roam_pending.proofs.DueListLemmas.{due-taken, due-put}
-use Rattle.roam_book.specs.RealmConfig.{RealmConfig, later_targets}
-use Rattle.roam_book.specs.RealmState.{RealmState, Target, chosen_target}
-use Rattle.roam_book.specs.Rests.{after_choice, after_silence, signs_of}
-use Rattle.roam_book.specs.OnRequest.{forwarded_entry, is_reverse, nak_octets}
-use Rattle.roam_book.specs.OnTick.{Progress, fail_over, given_up, once_refused, without_entry, due_standing, due_entry, due_one, due_each}
+use Rattle.roam_realm.specs.RealmConfig.{RealmConfig, later_targets}
+use Rattle.roam_realm.specs.RealmState.{RealmState, Target, chosen_target}
+use Rattle.roam_realm.specs.Rests.{after_choice, after_silence, signs_of}
+use Rattle.roam_exchange.specs.OnRequest.{forwarded_entry, is_reverse, nak_octets}
+use Rattle.roam_exchange.specs.OnTick.{Progress, fail_over, given_up, once_refused, without_entry, due_standing, due_entry, due_one, due_each}
 use Rattle.roam_book.specs.LeastFirst.{least_first}
 
 -- the list stays in order, and what is due is what was due without a ticket

@@ -7,12 +7,12 @@ use Rattle.roam_route.specs.Admission.{PlainOut}
 use Rattle.roam_pending.specs.declared.due.Due.{Due}
 use Rattle.roam_pending.specs.DueOrder.{due_list}
 use Rattle.roam_pending.specs.EntryList.{without}
-use Rattle.roam_book.specs.RealmConfig.{RealmConfig}
-use Rattle.roam_book.specs.RealmState.{RealmState, with_entries}
-use Rattle.roam_book.specs.Rooms.{is_done_at}
-use Rattle.roam_book.specs.Turn.{Turn, in_time, latest_moment, packets_of, refuses, sends, state_after}
-use Rattle.roam_book.specs.OnTick.{Progress, as_turn, due_each, on_tick, silent}
-use Rattle.roam_book.specs.OneRealm.{RealmEvent, one_realm_run}
+use Rattle.roam_realm.specs.RealmConfig.{RealmConfig}
+use Rattle.roam_realm.specs.RealmState.{RealmState, with_entries}
+use Rattle.roam_exchange.specs.Rooms.{is_done_at}
+use Rattle.roam_exchange.specs.Turn.{Turn, in_time, latest_moment, packets_of, refuses, sends, state_after}
+use Rattle.roam_exchange.specs.OnTick.{Progress, as_turn, due_each, on_tick, silent}
+use Rattle.roam_exchange.specs.OneRealm.{RealmEvent, one_realm_run}
 use Rattle.roam_book.specs.LostTicks.{NothingIsLost, OnlyDoneGo, without_each}
 use Rattle.roam_book.proofs.LettingGoLemmas.{all-without, both, goes-one}
 

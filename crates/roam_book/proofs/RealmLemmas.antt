@@ -1,8 +1,8 @@
 -- What the rules of a realm keep, one after the other.
 use Rattle.std.proofs.Common.{ap, ◌∙◌, refl}
 use Rattle.roam_pending.specs.declared.entries.Entries.{Ghosts}
-use Rattle.roam_book.specs.declared.state.realm_broker.RealmBroker.{RealmBroker}
-use Rattle.roam_book.specs.RealmConfig.{RealmConfig}
+use Rattle.roam_book.specs.declared.realm_broker.RealmBroker.{RealmBroker}
+use Rattle.roam_realm.specs.RealmConfig.{RealmConfig}
 use Rattle.roam_book.specs.RealmTurn.{IsRealm, Keeps, KeepsLoans}
 
 pub loans-none : {A E : Type 0} (g : Ghosts E A) (r : RealmBroker A E) → KeepsLoans g r r

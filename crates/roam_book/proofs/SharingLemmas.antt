@@ -11,16 +11,16 @@ use Rattle.roam_ids.specs.LaneState.{ticket_at}
 use Rattle.roam_pending.specs.PlainEntry.{PlainEntry, PlainRequest, PlainStanding, waiting, done, has_ticket, stands_at, waits_at}
 use Rattle.roam_pending.specs.EntryList.{IsEntryList, IsInOrder, besides, find_link, find_ticket}
 use Rattle.roam_pending.proofs.TestLemmas.{differs, same}
-use Rattle.roam_book.specs.declared.state.realm_numbers.RealmNumbers.{RealmNumbers}
-use Rattle.roam_book.specs.declared.state.service.Service.{Service}
-use Rattle.roam_book.specs.declared.state.service.Service.TheVariants as service
+use Rattle.roam_realm.specs.declared.realm_numbers.RealmNumbers.{RealmNumbers}
+use Rattle.roam_realm.specs.declared.service.Service.{Service}
+use Rattle.roam_realm.specs.declared.service.Service.TheVariants as service
 use Rattle.roam_book.specs.Private.Sharing.{held_as, held_below, is_kept_as, sum_below}
-use Rattle.roam_book.specs.RealmConfig.{RealmConfig, IsLink, server_link}
-use Rattle.roam_book.specs.Shares.{waits_for}
-use Rattle.roam_book.specs.Sound.{IsEntry, IsSound, StandsWell, lane_of}
+use Rattle.roam_realm.specs.RealmConfig.{RealmConfig, IsLink, server_link}
+use Rattle.roam_exchange.specs.Shares.{waits_for}
+use Rattle.roam_realm.specs.Sound.{IsEntry, IsSound, StandsWell, lane_of}
 use Rattle.roam_book.proofs.SumLemmas.{all-both, all-none, all-same, in_all, one-in_all, one_if}
-use Rattle.roam_book.proofs.WaitingLemmas.{parks, waits_as}
-use Rattle.roam_book.proofs.WaysToLemmas.{server-is}
+use Rattle.roam_realm.proofs.WaitingLemmas.{parks, waits_as}
+use Rattle.roam_realm.proofs.WaysToLemmas.{server-is}
 
 -- ---- one entry: it waits for the service at one place, or nowhere
 

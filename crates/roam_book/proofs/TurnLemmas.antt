@@ -4,17 +4,17 @@ use Rattle.std.specs.Prelude.{IfErr, IfOk, IsErr, IsOk, Result, Ok, Err}
 use Rattle.roam_wire.specs.declared.refusal.NoMemory.{NoMemory}
 use Rattle.roam_conf.specs.declared.place.Link.{Link}
 use Rattle.roam_pending.specs.declared.entries.Entries.{Ghosts}
-use Rattle.roam_book.specs.declared.packets.answer.Turned.{Turned}
-use Rattle.roam_book.specs.declared.state.realm_broker.RealmBroker.{RealmBroker}
+use Rattle.roam_exchange.specs.declared.answer.Turned.{Turned}
+use Rattle.roam_book.specs.declared.realm_broker.RealmBroker.{RealmBroker}
 use Rattle.roam_book.specs.declared.rules.replies.Settled.{Settled}
-use Rattle.roam_book.specs.Happenings.{PlainHappening}
-use Rattle.roam_book.specs.RealmConfig.{RealmConfig}
-use Rattle.roam_book.specs.RealmState.{RealmState}
-use Rattle.roam_book.specs.RealmTurn.{Keeps, state}
-use Rattle.roam_book.specs.Turned.{GivesTurned, TurnsTelling}
+use Rattle.roam_exchange.specs.Happenings.{PlainHappening}
+use Rattle.roam_realm.specs.RealmConfig.{RealmConfig}
+use Rattle.roam_realm.specs.RealmState.{RealmState}
+use Rattle.roam_book.specs.RealmTurn.{Keeps, state, TurnsTelling}
+use Rattle.roam_exchange.specs.Turned.{GivesTurned}
 use Rattle.roam_book.specs.Private.ReplyPlans.{IsReplyPlan, once_settled}
-use Rattle.roam_book.specs.HappeningsShown.{shown_happening}
-use Rattle.roam_book.specs.Turn.{Answers, Turn, packets_of}
+use Rattle.roam_exchange.specs.HappeningsShown.{shown_happening}
+use Rattle.roam_exchange.specs.Turn.{Answers, Turn, packets_of}
 use Rattle.roam_book.proofs.RealmLemmas.{keeps-both}
 
 -- what met want of memory didn't succeed

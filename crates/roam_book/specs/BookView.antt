@@ -11,11 +11,11 @@ use Rattle.roam_route.specs.declared.job.Side.{Side}
 use Rattle.roam_route.specs.declared.job.Side.TheVariants as side
 use Rattle.roam_pending.specs.declared.key.Requester.TheVariants as requester
 use Rattle.roam_pending.specs.EntryList.{Held, IsEntryList}
-use Rattle.roam_book.specs.RealmConfig.{RealmConfig, realm_config}
-use Rattle.roam_book.specs.RealmState.{RealmState}
-use Rattle.roam_book.specs.OneRealm.{request_of}
-use Rattle.roam_book.specs.Sound.{IsRequest, IsSound}
-use Rattle.roam_book.specs.declared.state.realm_numbers.RealmNumbers.{RealmNumbers}
+use Rattle.roam_realm.specs.RealmConfig.{RealmConfig, realm_config}
+use Rattle.roam_realm.specs.RealmState.{RealmState}
+use Rattle.roam_exchange.specs.OneRealm.{request_of}
+use Rattle.roam_realm.specs.Sound.{IsRequest, IsSound}
+use Rattle.roam_realm.specs.declared.realm_numbers.RealmNumbers.{RealmNumbers}
 
 -- a book: the configuration that it was made with, its realm's index there, and its realm's state
 pub record BookView : Type 0 where

@@ -1,12 +1,17 @@
 -- A realm that is borrowed for an event (ours): what it stands for, and what each of its rules
 -- keeps.
-use Rattle.std.specs.Prelude.{◌≡◌, ℕ, IsTrue, List}
+use Rattle.std.specs.Prelude.{◌≡◌, ℕ, IsTrue, List, IsOk, [], Result}
 use Rattle.roam_pending.specs.declared.entries.Entries.{Ghosts}
 use Rattle.roam_pending.specs.PlainEntry.{PlainEntry}
 use Rattle.roam_pending.specs.EntryList.{IsEntryList}
-use Rattle.roam_book.specs.declared.state.realm_broker.RealmBroker.{RealmBroker}
-use Rattle.roam_book.specs.RealmState.{RealmState}
-use Rattle.roam_book.specs.Sound.{IsSound, OthersStay, state_of}
+use Rattle.roam_book.specs.declared.realm_broker.RealmBroker.{RealmBroker}
+use Rattle.roam_realm.specs.RealmState.{RealmState}
+use Rattle.roam_realm.specs.Sound.{IsSound, OthersStay, state_of}
+use Rattle.roam_wire.specs.declared.refusal.NoMemory.{NoMemory}
+use Rattle.roam_exchange.specs.Happenings.{PlainHappening}
+use Rattle.roam_exchange.specs.Turn.{Turn, packets_of}
+use Rattle.roam_exchange.specs.Turned.{GivesTurned}
+use Rattle.roam_exchange.specs.declared.answer.Turned.{Turned}
 
 -- its entries, its state, and for how many more entries there is room without memory
 abbrev pub entries : {A E : Type 0} → Ghosts E A → RealmBroker A E → List PlainEntry
@@ -24,7 +29,7 @@ room g r = g.room_for r.entries.now r.settings.now.index
 -- sent; and keeps all other realms' entries.
 -- Source: ours
 -- Rules out: a rule that reaches another realm's entries; one that says what didn't happen
--- Stands in: `roam_book` `RealmTurn.antt`: `IsRealm`, `Keeps`; `Turned.antt`: `TurnsTelling`; the methods of
+-- Stands in: `roam_book` `RealmTurn.antt`: `IsRealm`, `Keeps`, `TurnsTelling`; the methods of
 -- `RealmBroker`
 --
 -- its entries are kept there, in order of ticket with distinct keys, and fit its numbers
@@ -48,3 +53,12 @@ pub record Keeps {A E : Type 0} (g : Ghosts E A) (old new : RealmBroker A E) : T
   pub loans : KeepsLoans g old new
   pub others : OthersStay old.settings.now.index (g.entries_of old.entries.now)
       (g.entries_of new.entries.now)
+
+-- a rule gives this turn of the old state, and what happened in it; or it wants memory, and nothing happened; none is
+-- wanted where nothing is sent; the rest is kept
+pub record TurnsTelling {A E : Type 0} (g : Ghosts E A) (old new : RealmBroker A E)
+    (result : Result (Turned A) NoMemory) (turn : RealmState → Turn) (happening : RealmState → PlainHappening)
+    : Type 0 where
+  pub gives : GivesTurned result (state g old) (state g new) (turn (state g old)) (happening (state g old))
+  pub succeeds : packets_of (turn (state g old)) ≡ [] → IsOk result
+  pub rest : Keeps g old new

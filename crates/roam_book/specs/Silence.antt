@@ -7,15 +7,15 @@ use Rattle.roam_pending.specs.declared.due.Due.{Due}
 use Rattle.roam_pending.specs.DueOrder.{due_list}
 use Rattle.roam_pending.specs.PlainEntry.{PlainStanding, PlainEntry, waiting, done}
 use Rattle.roam_pending.specs.EntryList.{find_ticket}
-use Rattle.roam_book.specs.RealmConfig.{RealmConfig, IsLink, end_place}
-use Rattle.roam_book.specs.Conversing.{same_end}
-use Rattle.roam_book.specs.RealmState.{RealmState, chosen_target, first_target}
-use Rattle.roam_book.specs.RestLaws.{IsUp}
-use Rattle.roam_book.specs.Rests.{rest_of, signs_of, stands_back}
-use Rattle.roam_book.specs.OnTick.{due_one}
-use Rattle.roam_book.specs.OneRealm.{RealmEvent, reply_came, tick_came, on_event, one_realm_run}
-use Rattle.roam_book.specs.Turn.{Turn, latest_moment, refuses, hears, sends, state_after}
-use Rattle.roam_book.specs.declared.state.rest.Rest.{Rest}
+use Rattle.roam_realm.specs.RealmConfig.{RealmConfig, IsLink, end_place}
+use Rattle.roam_realm.specs.Conversing.{same_end}
+use Rattle.roam_realm.specs.RealmState.{RealmState, chosen_target, first_target}
+use Rattle.roam_exchange.specs.RestLaws.{IsUp}
+use Rattle.roam_realm.specs.Rests.{rest_of, signs_of, stands_back}
+use Rattle.roam_exchange.specs.OnTick.{due_one}
+use Rattle.roam_exchange.specs.OneRealm.{RealmEvent, reply_came, tick_came, on_event, one_realm_run}
+use Rattle.roam_exchange.specs.Turn.{Turn, latest_moment, refuses, hears, sends, state_after}
+use Rattle.roam_realm.specs.declared.rest.Rest.{Rest}
 
 -- a link leads to the end of this one, by whichever `out`: its end has the same place among the realm's ends, of which
 -- each has a place of its own

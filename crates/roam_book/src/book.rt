@@ -6,26 +6,23 @@ ghost use Rattle.roam_conf.specs.Shown.{shown};
 ghost use Rattle.roam_route.specs.Events.{IsEvent};
 ghost use Rattle.roam_route.specs.Shown.{shown_job};
 ghost use Rattle.roam_pending.specs.DueOrder.{due_list};
-ghost use Rattle.roam_book.specs.RealmConfig.{realm_config};
-ghost use Rattle.roam_book.specs.RealmState.{opening};
-ghost use Rattle.roam_book.specs.Turn.{Answers, Gives, packets_of, sends};
-ghost use Rattle.roam_book.specs.OnTick.{on_tick};
-ghost use Rattle.roam_book.specs.OneRealm.{event_of, on_event, request_came};
-ghost use Rattle.roam_book.specs.Sound.{IsRequest, shown_request};
-ghost use Rattle.roam_book.specs.Rooms.{IsRoomFor, only_done_due};
+ghost use Rattle.roam_realm.specs.RealmConfig.{realm_config};
+ghost use Rattle.roam_realm.specs.RealmState.{opening};
+ghost use Rattle.roam_exchange.specs.Turn.{Answers, Gives, packets_of, sends};
+ghost use Rattle.roam_exchange.specs.OnTick.{on_tick};
+ghost use Rattle.roam_exchange.specs.OneRealm.{event_of, on_event, request_came};
+ghost use Rattle.roam_realm.specs.Sound.{IsRequest};
+ghost use Rattle.roam_exchange.specs.Shown.{shown_request};
+ghost use Rattle.roam_exchange.specs.Rooms.{IsRoomFor, only_done_due};
 ghost use Rattle.roam_book.specs.BookView.{IsTakenFrom, is_link, settings_of};
 
-use crate::packets::answer::{Answer, answer_of, nothing, refused};
-use crate::packets::forwarding::RequestRef;
-use crate::packets::tick_memory::{Room, room_for};
+use crate::realm_broker::RealmBroker;
 use crate::rules::evict_done::only_done_due;
 use crate::rules::requests::LATEST;
-use crate::state::realm_broker::RealmBroker;
-use crate::state::realm_numbers::RealmNumbers;
-use crate::state::realm_settings::RealmSettings;
-use crate::state::start::Start;
 use roam_conf::{Config, ExchangeLines, Link};
+use roam_exchange::{Answer, RequestRef, Room, answer_of, nothing, refused, room_for};
 use roam_pending::{Key, Pending, Requester};
+use roam_realm::{RealmNumbers, RealmSettings, Start};
 use roam_route::{Job, Side};
 use roam_wire::{NoMemory, Refusal, View};
 use std::alloc::Allocator;
@@ -44,7 +41,7 @@ pub struct Book<'c, A: Allocator> {
 impl<'c, A: Allocator> Model for Book<'c, A> {
     ghost use Rattle.roam_conf.specs.Shown.{shown};
     ghost use Rattle.roam_book.specs.BookView.{BookView, IsBook};
-    ghost use Rattle.roam_book.specs.Sound.{state_of};
+    ghost use Rattle.roam_realm.specs.Sound.{state_of};
 
     ghost Value = { BookView };
 

@@ -5,8 +5,8 @@
 ghost use Rattle.roam_book.specs.BookView.{EventIsTaken};
 ghost use Rattle.roam_book.specs.LeastFirst.{LeastDueFirst, NoneIsDueAfter};
 ghost use Rattle.roam_book.specs.LostTicks.{NothingIsLost, OnlyDoneGo};
-ghost use Rattle.roam_book.specs.RestLaws.{AccessServersNeverStandBack, UpTheFirstIsChosen, WithoutRestAllStayUp};
-ghost use Rattle.roam_book.specs.Saving.{RestoredIsSaved};
+ghost use Rattle.roam_exchange.specs.RestLaws.{AccessServersNeverStandBack, UpTheFirstIsChosen, WithoutRestAllStayUp};
+ghost use Rattle.roam_realm.specs.Saving.{RestoredIsSaved};
 ghost use Rattle.roam_book.specs.Silence.{ChoiceIsNeverWorse, EndsHaveOwnPlaces, RestsOnlyWhenSilent};
 
 /// A tick takes the least due entry, until none is due. Each due entry is taken once, since what waits

@@ -2,7 +2,7 @@
 //! packets leave.
 //!
 //! The rules are written once, over whatever keeps the entries ([`roam_pending::Entries`]) and the
-//! numbers that a realm hands out ([`RealmNumbers`]). [`Book`] is a realm with a plain list of entries.
+//! numbers that a realm hands out ([`roam_realm::RealmNumbers`]). [`Book`] is a realm with a plain list of entries.
 //!
 //! Nothing here touches a socket or a clock: moments and packets are values.
 //!
@@ -42,26 +42,12 @@
 #![tactic(auto)]
 
 mod book;
-mod happening;
 mod laws;
-mod packets;
+mod realm_broker;
 mod rules;
-mod state;
 
 pub use book::{Book, request_of_job};
-pub use happening::{Became, DueHappening, Happening, Waited};
 pub use laws::{events, restored_is_saved, silent_servers, ticks_take_the_least_due_first};
-pub use packets::answer::{Answer, Turned, nothing, one_packet, refused, refused_turn};
-pub use packets::forwarding::RequestRef;
-pub use packets::outs::Outs;
-pub use packets::tick_memory::{Room, room_for};
+pub use realm_broker::RealmBroker;
 pub use rules::evict_done::only_done_due;
 pub use rules::requests::LATEST;
-pub use rules::saving::save_realm;
-pub use state::gauges::{Gauges, SERVER_LINKS};
-pub use state::hash_key::{HASH_STREAM, hash_key};
-pub use state::realm_broker::RealmBroker;
-pub use state::realm_numbers::{RealmNumbers, new_lanes, new_rests, tag_of};
-pub use state::realm_settings::RealmSettings;
-pub use state::rest::Rest;
-pub use state::start::Start;

@@ -6,7 +6,7 @@ use Rattle.roam_conf.specs.Config.{PeerView, RealmView}
 use Rattle.roam_conf.specs.Secrets as secrets
 use Rattle.roam_reload.specs.Reload.{peer_part, realm_part}
 use Rattle.roam_route.specs.Shapings.{shaping_between}
-use Rattle.roam_book.specs.RealmConfig.{RealmConfig}
+use Rattle.roam_realm.specs.RealmConfig.{RealmConfig}
 
 -- a part of a configuration without what isn't looked at
 abbrev pub bare : RealmConfig → RealmConfig

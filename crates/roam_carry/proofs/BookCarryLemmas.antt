@@ -12,10 +12,10 @@ use Rattle.roam_pending.specs.PlainEntry.{PlainEntry}
 use Rattle.roam_pending.specs.Realms.{entries_in}
 use Rattle.roam_reload.specs.Numbers.{is_here}
 use Rattle.roam_book.specs.BookView.{BookView, settings_of}
-use Rattle.roam_book.specs.RealmConfig.{RealmConfig, no_realm, realm_config}
-use Rattle.roam_book.specs.RealmState.{RealmState}
-use Rattle.roam_book.specs.Sound.{IsSound, state_of}
-use Rattle.roam_book.specs.declared.state.realm_numbers.RealmNumbers.{RealmNumbers}
+use Rattle.roam_realm.specs.RealmConfig.{RealmConfig, no_realm, realm_config}
+use Rattle.roam_realm.specs.RealmState.{RealmState}
+use Rattle.roam_realm.specs.Sound.{IsSound, state_of}
+use Rattle.roam_realm.specs.declared.realm_numbers.RealmNumbers.{RealmNumbers}
 use Rattle.roam_carry.specs.Carrying.{AreChanged}
 use Rattle.roam_carry.specs.Reload.{carried}
 use Rattle.roam_book.proofs.BookLemmas.{held-entries}

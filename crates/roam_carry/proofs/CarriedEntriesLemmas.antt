@@ -5,7 +5,7 @@ use Rattle.std.specs.Prelude.{option_and_then}
 use Rattle.roam_conf.specs.declared.place.Link.{Link}
 use Rattle.roam_pending.specs.declared.key.Requester.{Requester}
 use Rattle.roam_pending.specs.PlainEntry.{PlainEntry, PlainRequest, PlainStanding, waiting, done, is_done}
-use Rattle.roam_book.specs.RealmConfig.{RealmConfig}
+use Rattle.roam_realm.specs.RealmConfig.{RealmConfig}
 use Rattle.roam_carry.specs.Reload.{CarriedAddsNothing, CarriedTakesNoMore, ComesOver, SameStanding}
 use Rattle.roam_carry.specs.Reload.{entry_of, entry_then, few_enough, outgrows, request_from, request_then, requester_then, standing_then, way_then, without_done}
 

@@ -6,10 +6,10 @@ use Rattle.roam_ids.specs.LaneState.{LaneState}
 use Rattle.roam_pending.specs.EntryList.{IsInOrder}
 use Rattle.roam_pending.specs.PlainEntry.{PlainEntry}
 use Rattle.roam_reverse.specs.Shown.{Ledger}
-use Rattle.roam_book.specs.RealmConfig.{RealmConfig, link_count}
-use Rattle.roam_book.specs.Sound.{AreOwnLanes, IsEntry, IsSound, LanesTell, cursors_of, marks_of, state_of}
-use Rattle.roam_book.specs.Stays.{KeepsButLanes}
-use Rattle.roam_book.specs.declared.state.realm_numbers.RealmNumbers.{RealmNumbers}
+use Rattle.roam_realm.specs.RealmConfig.{RealmConfig, link_count}
+use Rattle.roam_realm.specs.Sound.{AreOwnLanes, IsEntry, IsSound, LanesTell, cursors_of, marks_of, state_of}
+use Rattle.roam_realm.specs.Stays.{KeepsButLanes}
+use Rattle.roam_realm.specs.declared.realm_numbers.RealmNumbers.{RealmNumbers}
 use Rattle.roam_carry.specs.Carrying.{HaveDistinctServers, IsReadyToCarry, StandAsBefore}
 use Rattle.roam_carry.specs.Private.MoreLanes.{AreMoreLanes}
 use Rattle.roam_carry.specs.Private.Moving.{AreMoved, staying}

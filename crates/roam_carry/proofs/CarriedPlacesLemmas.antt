@@ -3,8 +3,8 @@ use Rattle.std.proofs.Common.{◌≡◌, Bool, true, false, List, length, map, r
 use Rattle.std.proofs.lemmas.List.{length-map}
 use Rattle.std.specs.Cmp.Lexicographic.{as_long}
 use Rattle.roam_reload.specs.Kept.{same_server, same_servers}
-use Rattle.roam_book.specs.RealmConfig.{RealmConfig, server_link_count}
-use Rattle.roam_book.specs.declared.state.rest.Rest.{Rest}
+use Rattle.roam_realm.specs.RealmConfig.{RealmConfig, server_link_count}
+use Rattle.roam_realm.specs.declared.rest.Rest.{Rest}
 use Rattle.roam_carry.specs.Reload.{CarriedHasPlaces, cursor_then, links_of, rest_then, rests_then, server_links_of}
 use Rattle.roam_carry.proofs.LinkListLemmas.{links_number, server_links_number}
 

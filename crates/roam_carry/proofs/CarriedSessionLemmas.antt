@@ -10,7 +10,7 @@ use Rattle.roam_pending.proofs.TestLemmas.{differs, same}
 use Rattle.roam_reload.specs.Kept.{keeps_sessions, of_peer, same_sessions}
 use Rattle.roam_reload.proofs.KeptLemmas.{sessions_stay}
 use Rattle.roam_reverse.specs.Sessions.{Session, without_peer}
-use Rattle.roam_book.specs.RealmConfig.{RealmConfig}
+use Rattle.roam_realm.specs.RealmConfig.{RealmConfig}
 use Rattle.roam_carry.specs.Carrying.{AreChanged}
 use Rattle.roam_carry.specs.Reload.{newest, sessions_then}
 use Rattle.roam_carry.proofs.RenewLemmas.{is_told, taken_all, taken_one}

@@ -11,14 +11,14 @@ use Rattle.roam_pending.specs.ListLaws.{IsIn, IsNextEntry}
 use Rattle.roam_pending.specs.PlainEntry.{PlainEntry}
 use Rattle.roam_pending.specs.Realms.{PutsChanged, RealmBecomes, with_ends}
 use Rattle.roam_pending.proofs.OrderLemmas.{without-absent}
-use Rattle.roam_book.specs.RealmConfig.{RealmConfig, link_count}
-use Rattle.roam_book.specs.Sound.{IsEntry, LanesTell, OthersStay, cursors_of, lane_of, marks_of}
-use Rattle.roam_book.specs.Stays.{KeepsButLanes}
-use Rattle.roam_book.specs.declared.state.realm_numbers.RealmNumbers.{RealmNumbers}
+use Rattle.roam_realm.specs.RealmConfig.{RealmConfig, link_count}
+use Rattle.roam_realm.specs.Sound.{IsEntry, LanesTell, OthersStay, cursors_of, lane_of, marks_of}
+use Rattle.roam_realm.specs.Stays.{KeepsButLanes}
+use Rattle.roam_realm.specs.declared.realm_numbers.RealmNumbers.{RealmNumbers}
 use Rattle.roam_carry.specs.Private.Moving.{kept_or_gone, set_or_gone, staying, then_at}
 use Rattle.roam_carry.specs.Reload.{entry_then}
-use Rattle.roam_book.proofs.SoundLemmas.{kept-ticket}
-use Rattle.roam_book.proofs.WaitingLemmas.{tells-same, waits_as}
+use Rattle.roam_realm.proofs.SoundLemmas.{kept-ticket}
+use Rattle.roam_realm.proofs.WaitingLemmas.{tells-same, waits_as}
 use Rattle.roam_carry.proofs.ByTicketLemmas.{found_in}
 use Rattle.roam_carry.proofs.EntryThenLemmas.{due_stays}
 use Rattle.roam_carry.proofs.WalkLemmas.{IsWalk, fewer_after, kept_ends, next_found, next_kept, next_was, walk_begins, walk_ends, walk_goes_on}

@@ -8,7 +8,7 @@ use Rattle.roam_conf.specs.declared.place.Link.{Link}
 use Rattle.roam_conf.specs.declared.place.Link.TheVariants as link
 use Rattle.roam_reload.specs.Kept.{server_then}
 use Rattle.roam_reload.proofs.KeptLemmas.{coa_stays, server_stays}
-use Rattle.roam_book.specs.RealmConfig.{IsLink, RealmConfig, link_count, link_place}
+use Rattle.roam_realm.specs.RealmConfig.{IsLink, RealmConfig, link_count, link_place}
 use Rattle.roam_carry.specs.Reload.{Carries, cursor_then, cursors_then, link_before, links_of}
 use Rattle.roam_carry.proofs.LinkListLemmas.{by_links, links_number, links_stand}
 use Rattle.roam_carry.proofs.ReloadLemmas.{grows, place_stays}

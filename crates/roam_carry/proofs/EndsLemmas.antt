@@ -10,9 +10,9 @@ use Rattle.roam_pending.specs.declared.key.Requester.TheVariants as requester
 use Rattle.roam_pending.specs.PlainEntry.{PlainEntry, PlainRequest, PlainStanding, waiting, done}
 use Rattle.roam_pending.specs.Realms.{with_ends, with_home}
 use Rattle.roam_reload.specs.Kept.{home_then, keeps_requests, of_peer}
-use Rattle.roam_book.specs.RealmConfig.{RealmConfig}
-use Rattle.roam_book.specs.Shapings.{shaping_from}
-use Rattle.roam_book.specs.Sound.{IsOfPeer}
+use Rattle.roam_realm.specs.RealmConfig.{RealmConfig}
+use Rattle.roam_realm.specs.Shapings.{shaping_from}
+use Rattle.roam_realm.specs.Sound.{IsOfPeer}
 use Rattle.roam_carry.specs.Reload.{entry_of, entry_then, fits, outgrows, request_from, request_then, requester_then, standing_then, way_then}
 use Rattle.roam_carry.proofs.EntryThenLemmas.{does_fit, has_size, peer_there}
 

@@ -11,9 +11,9 @@ use Rattle.roam_pending.specs.PlainEntry.{PlainEntry, waiting, waits_at}
 use Rattle.roam_pending.specs.Realms.{RealmBecomes, with_ends}
 use Rattle.roam_pending.proofs.ChangeLemmas.{found-ticket}
 use Rattle.roam_pending.proofs.TestLemmas.{link_is_same}
-use Rattle.roam_book.specs.RealmConfig.{IsLink, RealmConfig, link_count, server_link_count}
-use Rattle.roam_book.specs.Sound.{IsEntry, LanesTell, StandsWell}
-use Rattle.roam_book.specs.declared.state.rest.Rest.{Rest}
+use Rattle.roam_realm.specs.RealmConfig.{IsLink, RealmConfig, link_count, server_link_count}
+use Rattle.roam_realm.specs.Sound.{IsEntry, LanesTell, StandsWell}
+use Rattle.roam_realm.specs.declared.rest.Rest.{Rest}
 use Rattle.roam_carry.specs.Carrying.{StandAsBefore}
 use Rattle.roam_carry.specs.Private.Moving.{then_at}
 use Rattle.roam_carry.specs.Reload.{entries_then, entry_then, few_enough, rests_then, without_done}

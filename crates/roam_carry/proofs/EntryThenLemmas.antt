@@ -21,9 +21,9 @@ use Rattle.roam_pending.specs.declared.key.Requester.TheVariants as requester
 use Rattle.roam_pending.specs.DueOrder.{due_at}
 use Rattle.roam_pending.specs.PlainEntry.{PlainEntry, PlainRequest, PlainStanding, deadline_of, waiting, done}
 use Rattle.roam_reload.specs.Kept.{Source, both_or_none, client_source, closes_reverse, home_then, keeps_requests, of_peer, same_source, server_source, source}
-use Rattle.roam_book.specs.RealmConfig.{RealmConfig, IsRequester}
-use Rattle.roam_book.specs.Shapings.{shaping_from}
-use Rattle.roam_book.specs.Sound.{CanGo, IsEntry, IsOfPeer, IsRequest, IsWaiting, StandsWell}
+use Rattle.roam_realm.specs.RealmConfig.{RealmConfig, IsRequester}
+use Rattle.roam_realm.specs.Shapings.{shaping_from}
+use Rattle.roam_realm.specs.Sound.{CanGo, IsEntry, IsOfPeer, IsRequest, IsWaiting, StandsWell}
 use Rattle.roam_carry.specs.Carrying.{HaveDistinctServers}
 use Rattle.roam_carry.specs.Reload.{entry_of, entry_then, fits, outgrows, request_from, request_then, requester_then, standing_then, way_then}
 use Rattle.roam_carry.proofs.LinkThenLemmas.{way_back}

@@ -11,11 +11,11 @@ use Rattle.roam_pending.proofs.ChangeLemmas.{found-ticket, length-without}
 use Rattle.roam_pending.proofs.ClientLemmas.{done-found}
 use Rattle.roam_pending.proofs.OrderLemmas.{IsAbove, find-above, without-absent}
 use Rattle.roam_pending.proofs.TestLemmas.{differs, same}
-use Rattle.roam_book.specs.RealmConfig.{RealmConfig}
-use Rattle.roam_book.specs.Sound.{LanesTell, lane_of, waits_there}
+use Rattle.roam_realm.specs.RealmConfig.{RealmConfig}
+use Rattle.roam_realm.specs.Sound.{LanesTell, lane_of, waits_there}
 use Rattle.roam_carry.specs.Reload.{without_done}
-use Rattle.roam_book.proofs.LaneLemmas.{done-waits_nowhere}
-use Rattle.roam_book.proofs.WaitingLemmas.{tells-same, waits_as}
+use Rattle.roam_realm.proofs.LaneLemmas.{done-waits_nowhere}
+use Rattle.roam_realm.proofs.WaitingLemmas.{tells-same, waits_as}
 use Rattle.roam_carry.proofs.ByTicketLemmas.{found_in, later_found, first_found, all_in}
 
 -- ---- one goes

@@ -8,8 +8,8 @@ use Rattle.roam_conf.specs.declared.place.Link.{Link}
 use Rattle.roam_conf.specs.declared.place.Link.TheVariants as link
 use Rattle.roam_ids.specs.LaneState.{LaneState, place_at}
 use Rattle.roam_reload.specs.Kept.{keeps_coa, of_peer}
-use Rattle.roam_book.specs.RealmConfig.{IsLink, RealmConfig, link_count, link_place, server_link_count}
-use Rattle.roam_book.specs.Sound.{AreOwnLanes, Mark, cursors_of, lane_of, marks_of, no_lane, own_tags}
+use Rattle.roam_realm.specs.RealmConfig.{IsLink, RealmConfig, link_count, link_place, server_link_count}
+use Rattle.roam_realm.specs.Sound.{AreOwnLanes, Mark, cursors_of, lane_of, marks_of, no_lane, own_tags}
 use Rattle.roam_carry.specs.Carrying.{AreChanged, StandAsBefore}
 use Rattle.roam_carry.specs.Private.MoreLanes.{AreMoreLanes}
 use Rattle.roam_carry.specs.Private.Moving.{AreMoved, AreRenewed, StandsFor, coa_place, lane_before}

@@ -5,9 +5,9 @@ use Rattle.roam_address.specs.declared.endpoint.Endpoint.{Endpoint}
 use Rattle.roam_conf.specs.Config.{PeerView, ServerView}
 use Rattle.roam_conf.specs.declared.place.Link.{Link}
 use Rattle.roam_conf.specs.declared.place.Link.TheVariants as link
-use Rattle.roam_book.specs.RealmConfig.{IsLink, RealmConfig, end_place, link_count, link_place, server_link, server_link_count}
-use Rattle.roam_book.specs.declared.state.service.Service.{Service}
-use Rattle.roam_book.specs.declared.state.service.Service.TheVariants as service
+use Rattle.roam_realm.specs.RealmConfig.{IsLink, RealmConfig, end_place, link_count, link_place, server_link, server_link_count}
+use Rattle.roam_realm.specs.declared.service.Service.{Service}
+use Rattle.roam_realm.specs.declared.service.Service.TheVariants as service
 use Rattle.roam_carry.proofs.LinkPlaceLemmas.{IsFirst}
 use Rattle.roam_carry.specs.Reload.{all_server_links, by_each, links_of, peer_links, server_ends, server_links_of}
 

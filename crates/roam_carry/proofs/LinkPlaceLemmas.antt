@@ -9,10 +9,10 @@ use Rattle.roam_conf.specs.Lookup.{out_of}
 use Rattle.roam_conf.specs.declared.place.Link.{Link}
 use Rattle.roam_conf.specs.declared.place.Link.TheVariants as link
 use Rattle.roam_ids.specs.LaneState.{LaneState}
-use Rattle.roam_book.specs.Private.Ends.{IsEnd}
-use Rattle.roam_book.specs.RealmConfig.{IsLink, RealmConfig, end_place, link_count, link_place, server_link_count}
-use Rattle.roam_book.specs.Sound.{Mark, cursors_of, mark_of, marks_of, no_lane, own_tags}
-use Rattle.roam_book.proofs.LinkLaneLemmas.{link_place-one}
+use Rattle.roam_realm.specs.Private.Ends.{IsEnd}
+use Rattle.roam_realm.specs.RealmConfig.{IsLink, RealmConfig, end_place, link_count, link_place, server_link_count}
+use Rattle.roam_realm.specs.Sound.{Mark, cursors_of, mark_of, marks_of, no_lane, own_tags}
+use Rattle.roam_realm.proofs.LinkLaneLemmas.{link_place-one}
 
 -- ---- a place is one link's
 

@@ -10,7 +10,7 @@ use Rattle.std.proofs.lemmas.Nat.{mul-le}
 use Rattle.roam_address.specs.declared.endpoint.Endpoint.{Endpoint}
 use Rattle.roam_conf.specs.Lookup.{out_of}
 use Rattle.roam_reload.specs.Kept.{both_or_none, keeps_coa, of_peer, same_out, server_then}
-use Rattle.roam_book.specs.RealmConfig.{IsLink, RealmConfig, end_place, link_count, link_place, server_link_count}
+use Rattle.roam_realm.specs.RealmConfig.{IsLink, RealmConfig, end_place, link_count, link_place, server_link_count}
 use Rattle.roam_carry.specs.Carrying.{HaveDistinctServers}
 use Rattle.roam_carry.specs.Reload.{link_before, link_then, way_before, way_then}
 use Rattle.roam_carry.proofs.LinkPlaceLemmas.{way_bound}

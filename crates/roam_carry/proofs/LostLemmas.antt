@@ -4,7 +4,7 @@ use Rattle.std.specs.List.{cons_option, filter_map}
 use Rattle.std.specs.Prelude.{option_and_then}
 use Rattle.roam_conf.specs.declared.place.Link.{Link}
 use Rattle.roam_pending.specs.PlainEntry.{PlainEntry, PlainRequest, PlainStanding, waiting, done, is_done, stands_done}
-use Rattle.roam_book.specs.RealmConfig.{RealmConfig}
+use Rattle.roam_realm.specs.RealmConfig.{RealmConfig}
 use Rattle.roam_carry.specs.Losses.{count_held, count_waiting}
 use Rattle.roam_carry.specs.Private.Lost.{counted, held_and_goes, held_lost, one_if, waits_and_goes}
 use Rattle.roam_carry.specs.Reload.{entries_then, entry_of, entry_then, request_then, standing_then, way_then, without_done}

@@ -11,7 +11,7 @@ use Rattle.roam_pending.proofs.TestLemmas.{differs, same}
 use Rattle.roam_reload.specs.Kept.{keeps_sessions, of_peer, same_sessions}
 use Rattle.roam_reload.specs.Reload.{peer_part}
 use Rattle.roam_reverse.specs.Sessions.{Session, count_of_peer}
-use Rattle.roam_book.specs.RealmConfig.{RealmConfig}
+use Rattle.roam_realm.specs.RealmConfig.{RealmConfig}
 use Rattle.roam_carry.specs.Carrying.{AreChanged, AreRising}
 use Rattle.roam_carry.specs.Private.Lost.{counted, is_of_gone, newest_lost, of_one_peer, one_if, sessions_lost}
 use Rattle.roam_carry.specs.Reload.{newest, sessions_then}

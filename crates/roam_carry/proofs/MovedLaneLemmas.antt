@@ -11,13 +11,13 @@ use Rattle.roam_ids.specs.Standing.{is_in_use, ticket_of}
 use Rattle.roam_ids.specs.declared.id_state.IdState.{IdState}
 use Rattle.roam_pending.specs.EntryList.{IsInOrder, find_ticket}
 use Rattle.roam_pending.specs.PlainEntry.{PlainEntry, PlainRequest, PlainStanding, waiting, done, same_link, stands_at, waits_at}
-use Rattle.roam_book.specs.RealmConfig.{IsLink, RealmConfig, link_count, link_place}
-use Rattle.roam_book.specs.Sound.{AreOwnLanes, IsEntry, LanesTell, StandsWell, TellsAt, cursors_of, is_parked, lane_of, marks_of, no_lane, waits_there}
+use Rattle.roam_realm.specs.RealmConfig.{IsLink, RealmConfig, link_count, link_place}
+use Rattle.roam_realm.specs.Sound.{AreOwnLanes, IsEntry, LanesTell, StandsWell, TellsAt, cursors_of, is_parked, lane_of, marks_of, no_lane, waits_there}
 use Rattle.roam_carry.specs.Carrying.{HaveDistinctServers}
 use Rattle.roam_carry.specs.Private.Moving.{AreMoved, if_stays, staying}
 use Rattle.roam_carry.specs.Reload.{cursor_then, cursors_then, entry_then, links_of, standing_then, way_before, way_then}
 use Rattle.roam_pending.proofs.TestLemmas.{link_is_same}
-use Rattle.roam_book.proofs.SoundLemmas.{kept-ticket, same_link-equal}
+use Rattle.roam_realm.proofs.SoundLemmas.{kept-ticket, same_link-equal}
 use Rattle.roam_carry.proofs.ByTicketLemmas.{found_kept}
 use Rattle.roam_carry.proofs.EntryThenLemmas.{entry_parts}
 use Rattle.roam_carry.proofs.LinkListLemmas.{by_links, links_number, links_stand}

@@ -4,9 +4,9 @@ use Rattle.std.proofs.lemmas.Bool.{cases_lt}
 use Rattle.std.proofs.lemmas.List.{get_or-set_other, get_or-set_same, length-set}
 use Rattle.roam_conf.specs.declared.place.Link.{Link}
 use Rattle.roam_reload.specs.Kept.{same_servers}
-use Rattle.roam_book.specs.RealmConfig.{RealmConfig, end_place, server_link_count}
-use Rattle.roam_book.specs.Rests.{awake}
-use Rattle.roam_book.specs.declared.state.rest.Rest.{Rest}
+use Rattle.roam_realm.specs.RealmConfig.{RealmConfig, end_place, server_link_count}
+use Rattle.roam_realm.specs.Rests.{awake}
+use Rattle.roam_realm.specs.declared.rest.Rest.{Rest}
 use Rattle.roam_carry.specs.Reload.{rest_then, rests_then, server_links_of}
 use Rattle.roam_carry.proofs.LinkListLemmas.{by_links, server_links_number, server_links_stand}
 use Rattle.roam_carry.proofs.LinkPlaceLemmas.{IsFirst, one_end}

@@ -6,8 +6,8 @@ use Rattle.std.proofs.lemmas.List.{get_or_default, get_or-replicate, get_or-set_
 use Rattle.roam_conf.specs.declared.place.Link.{Link}
 use Rattle.roam_ids.specs.LaneState.{LaneState, place_at, with_tag}
 use Rattle.roam_ids.specs.declared.id_state.IdState.TheVariants.{Free}
-use Rattle.roam_book.specs.RealmConfig.{IsLink, RealmConfig, link_count, link_place}
-use Rattle.roam_book.specs.Sound.{AreOwnLanes, cursors_of, lane_of, marks_of, no_lane}
+use Rattle.roam_realm.specs.RealmConfig.{IsLink, RealmConfig, link_count, link_place}
+use Rattle.roam_realm.specs.Sound.{AreOwnLanes, cursors_of, lane_of, marks_of, no_lane}
 use Rattle.roam_carry.specs.Carrying.{HaveDistinctServers}
 use Rattle.roam_carry.specs.Private.Moving.{AreFresh, AreMoved, IsLeft, IsMoving, IsPlaceBefore, StandsFor, lane_before}
 use Rattle.roam_carry.specs.Reload.{way_before}

@@ -2,8 +2,8 @@
 use Rattle.std.proofs.Common.{◌≡◌, ℕ, ◌-◌, List, refl, sym, ap, ◌∙◌, arith, length}
 use Rattle.roam_pending.specs.PlainEntry.{PlainEntry}
 use Rattle.roam_reverse.specs.Sessions.{Session}
-use Rattle.roam_book.specs.RealmConfig.{RealmConfig}
-use Rattle.roam_book.specs.RealmState.{RealmState}
+use Rattle.roam_realm.specs.RealmConfig.{RealmConfig}
+use Rattle.roam_realm.specs.RealmState.{RealmState}
 use Rattle.roam_carry.specs.Carrying.{StandsAsItIs}
 use Rattle.roam_carry.specs.Losses.{LossView, count_held, count_waiting, losses}
 use Rattle.roam_carry.specs.Reload.{Carries, entries_then, sessions_then}

@@ -7,8 +7,8 @@ use Rattle.roam_conf.specs.declared.place.Link.TheVariants as link
 use Rattle.roam_ids.specs.LaneState.{LaneState, place_at}
 use Rattle.roam_ids.specs.declared.id_state.IdState.TheVariants.{Free}
 use Rattle.roam_reload.specs.Kept.{keeps_coa, of_peer}
-use Rattle.roam_book.specs.RealmConfig.{RealmConfig, link_count, server_link_count}
-use Rattle.roam_book.specs.Sound.{no_lane}
+use Rattle.roam_realm.specs.RealmConfig.{RealmConfig, link_count, server_link_count}
+use Rattle.roam_realm.specs.Sound.{no_lane}
 use Rattle.roam_carry.specs.Carrying.{StandAsBefore}
 use Rattle.roam_carry.specs.Private.Moving.{AreRenewed, StandsFor, coa_place}
 use Rattle.roam_carry.proofs.LinkPlaceLemmas.{place_below}

@@ -18,13 +18,13 @@ use Rattle.roam_pending.specs.declared.key.Requester.{Requester}
 use Rattle.roam_pending.specs.declared.key.Requester.TheVariants as requester
 use Rattle.roam_pending.specs.PlainEntry.{PlainEntry, PlainRequest, PlainStanding, waiting, done, has_ticket, same_link, stands_at}
 use Rattle.roam_reload.specs.Reload.{IsUntouched, peer_part, realm_part}
-use Rattle.roam_book.specs.RealmConfig.{RealmConfig, IsLink, IsRequester, link_count, link_place, no_realm, realm_config, server_link_count}
-use Rattle.roam_book.specs.Shapings.{shaping_from}
-use Rattle.roam_book.specs.Sound.{AreOwnLanes, CanGo, IsEntry, IsSound, LanesTell, Mark, StandsWell, TellsAt, cursors_of, lane_of, mark_of, marks_of, no_lane, own_tags, waits_there}
-use Rattle.roam_book.specs.declared.state.realm_numbers.RealmNumbers.{RealmNumbers}
+use Rattle.roam_realm.specs.RealmConfig.{RealmConfig, IsLink, IsRequester, link_count, link_place, no_realm, realm_config, server_link_count}
+use Rattle.roam_realm.specs.Shapings.{shaping_from}
+use Rattle.roam_realm.specs.Sound.{AreOwnLanes, CanGo, IsEntry, IsSound, LanesTell, Mark, StandsWell, TellsAt, cursors_of, lane_of, mark_of, marks_of, no_lane, own_tags, waits_there}
+use Rattle.roam_realm.specs.declared.realm_numbers.RealmNumbers.{RealmNumbers}
 use Rattle.roam_carry.specs.Private.MoreLanes.{AreMoreLanes}
 use Rattle.roam_carry.specs.Reload.{Carries}
-use Rattle.roam_book.proofs.SoundLemmas.{same_link-equal}
+use Rattle.roam_realm.proofs.SoundLemmas.{same_link-equal}
 use Rattle.roam_carry.proofs.LinkPlaceLemmas.{place_below}
 
 -- the servers are the same, and the peers aren't fewer

@@ -13,8 +13,8 @@ use Rattle.roam_pending.specs.ListLaws.{IsIn}
 use Rattle.roam_reload.specs.Kept.{both_or_none, keeps_coa, of_peer, same_server, server_then}
 use Rattle.roam_reload.specs.Reload.{peer_part}
 use Rattle.roam_reload.proofs.KeptLemmas.{coa_stays}
-use Rattle.roam_book.specs.RealmConfig.{RealmConfig}
-use Rattle.roam_book.specs.Sound.{no_lane}
+use Rattle.roam_realm.specs.RealmConfig.{RealmConfig}
+use Rattle.roam_realm.specs.Sound.{no_lane}
 use Rattle.roam_carry.specs.Carrying.{AreChanged, StandAsBefore}
 use Rattle.roam_carry.specs.Private.Moving.{AreRenewed, StandsFor, coa_place}
 use Rattle.roam_carry.specs.Reload.{link_before, way_before}

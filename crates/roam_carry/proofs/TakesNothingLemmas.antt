@@ -1,8 +1,8 @@
 -- The laws of a realm that a change doesn't touch.
 use Rattle.std.proofs.Common.{◌≡◌, ℕ, ◌+◌, ◌-◌, ◌*◌, List, ◌++◌, length, replicate, ap, sym, ◌∙◌, arith, append-nil}
-use Rattle.roam_book.specs.OneRealm.{one_realm_run}
-use Rattle.roam_book.specs.RealmConfig.{RealmConfig, link_count}
-use Rattle.roam_book.specs.RealmState.{RealmState}
+use Rattle.roam_exchange.specs.OneRealm.{one_realm_run}
+use Rattle.roam_realm.specs.RealmConfig.{RealmConfig, link_count}
+use Rattle.roam_realm.specs.RealmState.{RealmState}
 use Rattle.roam_carry.specs.Reload.{AsIfNothingChanged, Carries, HasPlaces, PlacesStay, TakesNothing, carried}
 use Rattle.roam_carry.proofs.CursorLemmas.{cursors_are}
 use Rattle.roam_carry.proofs.ReloadLemmas.{servers, ways}

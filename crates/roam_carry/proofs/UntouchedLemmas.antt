@@ -22,8 +22,8 @@ use Rattle.roam_pending.specs.PlainEntry.{PlainEntry, PlainRequest, PlainStandin
 use Rattle.roam_reload.specs.Kept.{both_or_none, home_then, keeps_sessions, of_peer, same_out, same_servers, same_sessions, same_values, server_then}
 use Rattle.roam_reload.proofs.KeptLemmas.{coa_stays, home_stays, requests_stay, server_stays, servers_itself, sessions_stay, values_itself}
 use Rattle.roam_reverse.specs.Sessions.{Session}
-use Rattle.roam_book.specs.RealmConfig.{RealmConfig}
-use Rattle.roam_book.specs.declared.state.rest.Rest.{Rest}
+use Rattle.roam_realm.specs.RealmConfig.{RealmConfig}
+use Rattle.roam_realm.specs.declared.rest.Rest.{Rest}
 use Rattle.roam_carry.specs.Reload.{Carries, entries_then, entry_then, few_enough, fits, link_then, newest, outgrows, request_then, requester_then, rests_then, sessions_then, standing_then, way_then, without_done}
 use Rattle.roam_carry.proofs.ReloadLemmas.{shaping_stays}
 

@@ -6,9 +6,9 @@ use Rattle.roam_conf.specs.Duplicates.{has_pair_of_servers}
 use Rattle.roam_pending.specs.ListLaws.{IsIn}
 use Rattle.roam_reload.specs.Kept.{same_outs, same_servers}
 use Rattle.roam_reload.specs.Reload.{KeepsPeers, peer_part, realm_part}
-use Rattle.roam_book.specs.RealmConfig.{RealmConfig, link_count}
-use Rattle.roam_book.specs.Rests.{all_awake}
-use Rattle.roam_book.specs.declared.state.realm_numbers.RealmNumbers.{RealmNumbers}
+use Rattle.roam_realm.specs.RealmConfig.{RealmConfig, link_count}
+use Rattle.roam_realm.specs.Rests.{all_awake}
+use Rattle.roam_realm.specs.declared.realm_numbers.RealmNumbers.{RealmNumbers}
 use Rattle.roam_carry.specs.Private.Moving.{AreFresh}
 use Rattle.roam_carry.specs.Losses.{LossView}
 use Rattle.roam_carry.specs.declared.lanes.FreshLanes.{FreshLanes}

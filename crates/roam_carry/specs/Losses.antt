@@ -1,8 +1,8 @@
 -- What goes of a realm by a change, counted (ours).
 use Rattle.std.specs.Prelude.{ℕ, ◌-◌, List, filter, length, not}
 use Rattle.roam_pending.specs.PlainEntry.{PlainEntry, is_done}
-use Rattle.roam_book.specs.RealmConfig.{RealmConfig}
-use Rattle.roam_book.specs.RealmState.{RealmState}
+use Rattle.roam_realm.specs.RealmConfig.{RealmConfig}
+use Rattle.roam_realm.specs.RealmState.{RealmState}
 use Rattle.roam_carry.specs.Reload.{entries_then, sessions_then}
 
 -- ## Losses of a change

@@ -19,14 +19,14 @@ use Rattle.roam_pending.specs.PlainEntry.{PlainEntry, PlainRequest, PlainStandin
 use Rattle.roam_reload.specs.Kept.{home_then, keeps_coa, keeps_requests, keeps_sessions, of_peer, same_out, same_servers, same_sessions, server_then}
 use Rattle.roam_reload.specs.Reload.{IsUntouched, KeepsPeers, realm_part}
 use Rattle.roam_reverse.specs.Sessions.{Session}
-use Rattle.roam_book.specs.RealmConfig.{RealmConfig, link_count, link_place, realm_config, server_link, server_link_count}
-use Rattle.roam_book.specs.RealmState.{RealmState}
-use Rattle.roam_book.specs.Rests.{awake, rest_of}
-use Rattle.roam_book.specs.Shapings.{shaping_from}
-use Rattle.roam_book.specs.OneRealm.{RealmEvent, one_realm_run}
-use Rattle.roam_book.specs.declared.state.rest.Rest.{Rest}
-use Rattle.roam_book.specs.declared.state.service.Service.{Service}
-use Rattle.roam_book.specs.declared.state.service.Service.TheVariants as service
+use Rattle.roam_realm.specs.RealmConfig.{RealmConfig, link_count, link_place, realm_config, server_link, server_link_count}
+use Rattle.roam_realm.specs.RealmState.{RealmState}
+use Rattle.roam_realm.specs.Rests.{awake, rest_of}
+use Rattle.roam_realm.specs.Shapings.{shaping_from}
+use Rattle.roam_exchange.specs.OneRealm.{RealmEvent, one_realm_run}
+use Rattle.roam_realm.specs.declared.rest.Rest.{Rest}
+use Rattle.roam_realm.specs.declared.service.Service.{Service}
+use Rattle.roam_realm.specs.declared.service.Service.TheVariants as service
 
 -- the link that a link is under another part, if it is there and the same: a server's, wherever the server stands; a
 -- peer's, where its `coa` and its secret are what they were

@@ -6,15 +6,15 @@ ghost use Rattle.roam_wire.specs.Reading.{IsPacketText, packet_of};
 ghost use Rattle.roam_pending.specs.Realms.{with_ends, with_home};
 ghost use Rattle.roam_pending.specs.Shown.{shown, shown_request};
 ghost use Rattle.roam_reload.specs.Kept.{keeps_coa, of_peer};
-ghost use Rattle.roam_book.specs.RealmConfig.{RealmConfig};
-ghost use Rattle.roam_book.specs.Sound.{IsOfPeer, IsRequest};
+ghost use Rattle.roam_realm.specs.RealmConfig.{RealmConfig};
+ghost use Rattle.roam_realm.specs.Sound.{IsOfPeer, IsRequest};
 ghost use Rattle.roam_carry.specs.Reload.{entry_then, fits, link_before, link_then, request_from, request_then};
 ghost use Rattle.roam_carry.specs.Reload.{way_before, way_then};
 
-use roam_book::RealmSettings;
 use roam_conf::Link;
 use roam_fwd::can_be_shaped;
 use roam_pending::{Entry, Request, Requester, Standing};
+use roam_realm::RealmSettings;
 use roam_reload::{home_then, is_same_out, peer_keeps_coa, peer_keeps_requests, server_then};
 use roam_wire::View;
 use std::alloc::Allocator;

@@ -6,15 +6,15 @@ ghost use Rattle.roam_pending.specs.EntryList.{IsEntryList, IsInOrder, find_tick
 ghost use Rattle.roam_pending.specs.PlainEntry.{PlainEntry};
 ghost use Rattle.roam_pending.specs.Realms.{RealmBecomes, with_ends};
 ghost use Rattle.roam_pending.specs.Shown.{shown};
-ghost use Rattle.roam_book.specs.RealmConfig.{link_count};
-ghost use Rattle.roam_book.specs.Sound.{IsEntry, IsRequest, LanesTell, cursors_of, marks_of};
-ghost use Rattle.roam_book.specs.Stays.{KeepsButLanes};
+ghost use Rattle.roam_realm.specs.RealmConfig.{link_count};
+ghost use Rattle.roam_realm.specs.Sound.{IsEntry, IsRequest, LanesTell, cursors_of, marks_of};
+ghost use Rattle.roam_realm.specs.Stays.{KeepsButLanes};
 ghost use Rattle.roam_carry.specs.Private.Moving.{kept_or_gone, set_or_gone, staying, then_at};
 ghost use Rattle.roam_carry.specs.Reload.{entries_then, entry_then, few_enough, without_done};
 
 use crate::ends::{Ends, ends_then};
-use roam_book::{RealmNumbers, RealmSettings};
 use roam_pending::{Entries, Entry, Standing};
+use roam_realm::{RealmNumbers, RealmSettings};
 use std::alloc::Allocator;
 
 /// Gives back the Identifier with which an entry waited that is gone.

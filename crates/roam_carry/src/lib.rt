@@ -1,7 +1,7 @@
 //! A realm that goes on when the configuration changes: what of its state is carried over, and what goes by that.
 //!
 //! The rules are written once, over whatever keeps the entries ([`roam_pending::Entries`]) and the numbers that a realm
-//! hands out ([`roam_book::RealmNumbers`]).
+//! hands out ([`roam_realm::RealmNumbers`]).
 //!
 //! # Proved
 //!

@@ -2,15 +2,15 @@
 
 ghost use Rattle.std.specs.Prelude.{◌≡◌, ◌<◌, length, map, slice_index_or};
 ghost use Rattle.roam_conf.specs.Lookup.{out_of};
-ghost use Rattle.roam_book.specs.RealmConfig.{IsLink, end_place, server_link_count};
-ghost use Rattle.roam_book.specs.Rests.{awake};
-ghost use Rattle.roam_book.specs.Stays.{RestsBecome};
+ghost use Rattle.roam_realm.specs.RealmConfig.{IsLink, end_place, server_link_count};
+ghost use Rattle.roam_realm.specs.Rests.{awake};
+ghost use Rattle.roam_realm.specs.Stays.{RestsBecome};
 ghost use Rattle.roam_carry.specs.Reload.{rest_then, rests_then, server_links_of};
 
 use crate::ends::link_before;
 use crate::lanes::link_to_end;
-use roam_book::{RealmNumbers, RealmSettings, Rest};
 use roam_conf::Link;
+use roam_realm::{RealmNumbers, RealmSettings, Rest};
 use roam_reload::has_same_servers;
 use std::alloc::Allocator;
 

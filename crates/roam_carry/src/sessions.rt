@@ -6,7 +6,7 @@ ghost use Rattle.roam_reverse.specs.Sessions.{without_peer};
 ghost use Rattle.roam_carry.specs.Carrying.{AreChanged};
 ghost use Rattle.roam_carry.specs.Reload.{sessions_then};
 
-use roam_book::{RealmNumbers, RealmSettings};
+use roam_realm::{RealmNumbers, RealmSettings};
 use roam_reload::peer_keeps_sessions;
 use roam_reverse::Sessions;
 use std::alloc::Allocator;

@@ -15,16 +15,16 @@ use Rattle.roam_pending.specs.declared.due.Due.{Due}
 use Rattle.roam_pending.specs.DueOrder.{due_list}
 use Rattle.roam_pending.specs.PlainEntry.{PlainRequest, PlainStanding, PlainEntry, waiting, done}
 use Rattle.roam_pending.specs.EntryList.{find_client, find_link, find_ticket, first_done, without, without_client}
-use Rattle.roam_book.specs.RealmConfig.{RealmConfig, later_targets, link_endpoint, link_secret, seal_required}
-use Rattle.roam_book.specs.RealmState.{RealmState, Target, chosen_target, opening, with_rests}
-use Rattle.roam_book.specs.Rests.{after_silence}
-use Rattle.roam_book.specs.Turn.{Turn, packets_of, state_after, in_time}
-use Rattle.roam_book.specs.Shares.{share_taken}
-use Rattle.roam_book.specs.OnRequest.{make_way, at_target, is_reverse, nak_or_new, of_key, held_reply, reverse_cause, targets}
-use Rattle.roam_book.specs.OnReply.{reply_turn, passing_to, returning, to_entry, to_standing, shows_life}
-use Rattle.roam_book.specs.OnTick.{Progress, fail_over, given_up_at, due_standing, due_entry, due_one, due_each}
-use Rattle.roam_book.specs.OneRealm.{RealmEvent, request_came, reply_came, tick_came, on_event, one_realm_run}
-use Rattle.roam_book.specs.Conversing.{bound_target, new_target, rests_for}
+use Rattle.roam_realm.specs.RealmConfig.{RealmConfig, later_targets, link_endpoint, link_secret, seal_required}
+use Rattle.roam_realm.specs.RealmState.{RealmState, Target, chosen_target, opening, with_rests}
+use Rattle.roam_realm.specs.Rests.{after_silence}
+use Rattle.roam_exchange.specs.Turn.{Turn, packets_of, state_after, in_time}
+use Rattle.roam_exchange.specs.Shares.{share_taken}
+use Rattle.roam_exchange.specs.OnRequest.{make_way, at_target, is_reverse, nak_or_new, of_key, held_reply, reverse_cause, targets}
+use Rattle.roam_exchange.specs.OnReply.{reply_turn, passing_to, returning, to_entry, to_standing, shows_life}
+use Rattle.roam_exchange.specs.OnTick.{Progress, fail_over, given_up_at, due_standing, due_entry, due_one, due_each}
+use Rattle.roam_exchange.specs.OneRealm.{RealmEvent, request_came, reply_came, tick_came, on_event, one_realm_run}
+use Rattle.roam_realm.specs.Conversing.{bound_target, new_target, rests_for}
 use Rattle.roam_core.specs.Amplification.{Ends, NoAmplification, NoAmplificationFromStart, NoMoreAnswersThanRequests, OnePacketEach, caused_by, counted, counted_links, may_be_caused, may_still_follow, requests_from}
 use Rattle.roam_core.proofs.RequestCauseLemmas.{reply-answers, request-pays}
 use Rattle.roam_core.proofs.SentLemmas.{either}

@@ -19,22 +19,22 @@ use Rattle.roam_pending.specs.DueOrder.{due_list}
 use Rattle.roam_pending.specs.PlainEntry.{PlainRequest, PlainStanding, PlainEntry, waiting, done}
 use Rattle.roam_pending.proofs.TestLemmas.{compared}
 use Rattle.roam_pending.specs.EntryList.{find_client, find_link, find_ticket, first_done, without_client}
-use Rattle.roam_book.specs.RealmConfig.{RealmConfig, link_secret, seal_required}
-use Rattle.roam_book.specs.RealmState.{RealmState, Target, opening, with_rests}
-use Rattle.roam_book.specs.Turn.{Turn, state_after}
-use Rattle.roam_book.specs.Shares.{share_taken}
-use Rattle.roam_book.specs.OnRequest.{draws, make_way, at_target, is_reverse, nak_or_new, new_request, of_key, position_after, reverse_cause}
-use Rattle.roam_book.specs.OnReply.{reply_turn, passing_to, returning, to_entry, to_standing, shows_life}
-use Rattle.roam_book.specs.OnTick.{Progress, fail_over, once_refused, due_standing, due_entry, due_one, due_each}
-use Rattle.roam_book.specs.OneRealm.{RealmEvent, request_came, reply_came, tick_came, on_event, one_realm_run}
-use Rattle.roam_book.specs.declared.state.start.Start.{Start}
+use Rattle.roam_realm.specs.RealmConfig.{RealmConfig, link_secret, seal_required}
+use Rattle.roam_realm.specs.RealmState.{RealmState, Target, opening, with_rests}
+use Rattle.roam_exchange.specs.Turn.{Turn, state_after}
+use Rattle.roam_exchange.specs.Shares.{share_taken}
+use Rattle.roam_exchange.specs.OnRequest.{draws, make_way, at_target, is_reverse, nak_or_new, new_request, of_key, position_after, reverse_cause}
+use Rattle.roam_exchange.specs.OnReply.{reply_turn, passing_to, returning, to_entry, to_standing, shows_life}
+use Rattle.roam_exchange.specs.OnTick.{Progress, fail_over, once_refused, due_standing, due_entry, due_one, due_each}
+use Rattle.roam_exchange.specs.OneRealm.{RealmEvent, request_came, reply_came, tick_came, on_event, one_realm_run}
+use Rattle.roam_realm.specs.declared.start.Start.{Start}
 use Rattle.roam_core.specs.Draws.{DrawsAt, drawn, drawn_between, drawn_by, drawn_by_dues}
 use Rattle.roam_core.specs.Openings.{state_then}
 use Rattle.roam_core.specs.ProvenanceLaws.{DrawsAreApart, WordsAreDrawnInOrder, WordsAreDrawnOnce}
 use Rattle.roam_core.proofs.OriginRequestLemmas.{moves, next_position}
 use Rattle.roam_core.proofs.SentLemmas.{either}
 use Rattle.roam_core.proofs.TicketLemmas.{Places, places, one, later, earlier}
-use Rattle.roam_book.specs.declared.state.rest.Rest.{Rest}
+use Rattle.roam_realm.specs.declared.rest.Rest.{Rest}
 
 -- the stream stays, or moves on by the words of one draw
 abbrev Moved : ℕ → ℕ → Type 0

@@ -17,22 +17,22 @@ use Rattle.roam_pending.specs.DueOrder.{due_list}
 use Rattle.roam_pending.specs.PlainEntry.{PlainRequest, PlainStanding, PlainEntry, waiting, done, has_key, has_ticket}
 use Rattle.roam_pending.specs.EntryList.{find_client, find_link, find_ticket, first_done, put, without, without_client}
 use Rattle.roam_pending.specs.Realms.{sent_again, with_standing}
-use Rattle.roam_book.specs.RealmConfig.{RealmConfig, later_targets, link_secret, seal_required}
-use Rattle.roam_book.specs.RealmState.{RealmState, Target, chosen_target, with_rests}
-use Rattle.roam_book.specs.Rests.{after_silence, after_choice, signs_of}
-use Rattle.roam_book.specs.Turn.{Turn, state_after}
-use Rattle.roam_book.specs.Shares.{share_taken}
-use Rattle.roam_book.specs.OnRequest.{forwarded_entry, make_way, at_target, is_reverse, nak_octets, nak_or_new, of_key, reverse_cause, targets}
-use Rattle.roam_book.specs.OnReply.{reply_turn, passing_to, returned_octets, returning, to_entry, to_standing, shows_life}
+use Rattle.roam_realm.specs.RealmConfig.{RealmConfig, later_targets, link_secret, seal_required}
+use Rattle.roam_realm.specs.RealmState.{RealmState, Target, chosen_target, with_rests}
+use Rattle.roam_realm.specs.Rests.{after_silence, after_choice, signs_of}
+use Rattle.roam_exchange.specs.Turn.{Turn, state_after}
+use Rattle.roam_exchange.specs.Shares.{share_taken}
+use Rattle.roam_exchange.specs.OnRequest.{forwarded_entry, make_way, at_target, is_reverse, nak_octets, nak_or_new, of_key, reverse_cause, targets}
+use Rattle.roam_exchange.specs.OnReply.{reply_turn, passing_to, returned_octets, returning, to_entry, to_standing, shows_life}
 use Rattle.roam_reverse.specs.declared.error_cause.TheConstants.{OTHER_PROXY_PROCESSING_ERROR}
-use Rattle.roam_book.specs.OnTick.{Progress, fail_over, given_up_at, once_refused, due_standing, due_entry, due_one, due_each}
-use Rattle.roam_book.specs.OneRealm.{request_came, reply_came, tick_came, on_event}
-use Rattle.roam_book.specs.Conversing.{new_target}
+use Rattle.roam_exchange.specs.OnTick.{Progress, fail_over, given_up_at, once_refused, due_standing, due_entry, due_one, due_each}
+use Rattle.roam_exchange.specs.OneRealm.{request_came, reply_came, tick_came, on_event}
+use Rattle.roam_realm.specs.Conversing.{new_target}
 use Rattle.roam_core.specs.Amplification.{Ends, counted_links}
 use Rattle.roam_core.proofs.SentLemmas.{either}
 use Rattle.roam_core.proofs.SumLemmas.{chosen-holds, found-in, new-holds}
 use Rattle.roam_core.proofs.TargetLemmas.{FitsIn, later-fit, targets-fit}
-use Rattle.roam_book.specs.declared.state.rest.Rest.{Rest}
+use Rattle.roam_realm.specs.declared.rest.Rest.{Rest}
 
 -- all packets are counted
 abbrev pub all_ends : Ends

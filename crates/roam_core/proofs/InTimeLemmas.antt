@@ -13,13 +13,13 @@ use Rattle.roam_pending.specs.Realms.{waits_on}
 use Rattle.roam_pending.proofs.TestLemmas.{all-filter}
 use Rattle.roam_pending.proofs.OrderLemmas.{all-put, order-filter, order-put}
 use Rattle.roam_pending.proofs.DueListLemmas.{in-due}
-use Rattle.roam_book.specs.RealmConfig.{RealmConfig, later_targets}
-use Rattle.roam_book.specs.RealmState.{RealmState, opening}
-use Rattle.roam_book.specs.Turn.{state_after}
-use Rattle.roam_book.specs.OnRequest.{targets}
-use Rattle.roam_book.specs.OnTick.{due_each}
-use Rattle.roam_book.specs.OneRealm.{RealmEvent, request_came, reply_came, tick_came, on_event, one_realm_run}
-use Rattle.roam_book.specs.declared.state.start.Start.{Start}
+use Rattle.roam_realm.specs.RealmConfig.{RealmConfig, later_targets}
+use Rattle.roam_realm.specs.RealmState.{RealmState, opening}
+use Rattle.roam_exchange.specs.Turn.{state_after}
+use Rattle.roam_exchange.specs.OnRequest.{targets}
+use Rattle.roam_exchange.specs.OnTick.{due_each}
+use Rattle.roam_exchange.specs.OneRealm.{RealmEvent, request_came, reply_came, tick_came, on_event, one_realm_run}
+use Rattle.roam_realm.specs.declared.start.Start.{Start}
 use Rattle.roam_book.proofs.LeastLemmas.{none-due_after}
 use Rattle.roam_core.specs.Amplification.{counted_links, is_counted, one_each}
 use Rattle.roam_core.specs.InTime.{AreInTime, NoneWaitsLonger, last_moment, last_tick, longest_wait, moment_of}

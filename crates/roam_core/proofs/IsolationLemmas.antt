@@ -3,14 +3,14 @@ use Rattle.std.proofs.Common.{◌≡◌, ℕ, zero, suc, ◌+◌, ◌<◌, List,
 use Rattle.std.specs.List.{AllByRecursion}
 use Rattle.roam_conf.specs.Config.{ConfigView}
 use Rattle.roam_route.specs.Admission.{PlainOut}
-use Rattle.roam_book.specs.RealmConfig.{RealmConfig, realm_config}
-use Rattle.roam_book.specs.RealmState.{RealmState, opening}
-use Rattle.roam_book.specs.OneRealm.{RealmEvent, one_realm_run}
+use Rattle.roam_realm.specs.RealmConfig.{RealmConfig, realm_config}
+use Rattle.roam_realm.specs.RealmState.{RealmState, opening}
+use Rattle.roam_exchange.specs.OneRealm.{RealmEvent, one_realm_run}
 use Rattle.roam_core.specs.Events.{PlainEvent, given_to_realm, events_of_realm, rejects_by, local_rejects}
 use Rattle.roam_core.specs.Isolation.{packets_for, packets_for_none, HasRealm, IsIsolated, IsIsolatedFromStart, EachIsIsolatedFromStart, EachRealmIsIsolated, EachRealmStandsAlone, EachRealmOpens, SameInTwoWorlds, SameInTwoWorldsFromStart, EachLedgerIsIsolated}
 use Rattle.roam_core.specs.ManyRealms.{BrokerTurn, packets_in_turn, states_after, state_at, answer_to, answers_to}
 use Rattle.roam_core.specs.Openings.{openings, openings_from, start_of}
-use Rattle.roam_book.specs.declared.state.start.Start.{Start}
+use Rattle.roam_realm.specs.declared.start.Start.{Start}
 use Rattle.roam_core.proofs.PacketLemmas.{joined, packets_for-append, packets_for_none-append, have_realms-append}
 use Rattle.roam_core.proofs.RealmRunLemmas.{packets-append, state-append}
 use Rattle.roam_core.proofs.EventLemmas.{event_turn, event-length, event_rejects, event_realms}

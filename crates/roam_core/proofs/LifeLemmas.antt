@@ -1,10 +1,10 @@
 -- Lives: what happens in two lists in a row, and what stays the same.
 use Rattle.std.proofs.Common.{◌≡◌, ℕ, List, [], ◌∷◌, ◌++◌, map, refl, sym, ap, ◌∙◌, append_assoc}
 use Rattle.roam_route.specs.Admission.{PlainOut}
-use Rattle.roam_book.specs.RealmConfig.{RealmConfig}
-use Rattle.roam_book.specs.RealmState.{RealmState}
-use Rattle.roam_book.specs.Turn.{packets_of, state_after}
-use Rattle.roam_book.specs.OneRealm.{RealmEvent, on_event, one_realm_run}
+use Rattle.roam_realm.specs.RealmConfig.{RealmConfig}
+use Rattle.roam_realm.specs.RealmState.{RealmState}
+use Rattle.roam_exchange.specs.Turn.{packets_of, state_after}
+use Rattle.roam_exchange.specs.OneRealm.{RealmEvent, on_event, one_realm_run}
 use Rattle.roam_core.specs.Draws.{drawn, drawn_by}
 use Rattle.roam_core.specs.Lives.{Happening, Stage, draws_at, draws_in, event, goes_on, begins_anew, sent_at, sent_in, stage_after, stage_then}
 

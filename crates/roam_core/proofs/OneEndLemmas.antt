@@ -7,8 +7,8 @@ use Rattle.roam_address.specs.declared.endpoint.Endpoint.{Endpoint}
 use Rattle.roam_conf.specs.Ways.{same_kind}
 use Rattle.roam_conf.specs.declared.place.Link.{Link}
 use Rattle.roam_pending.proofs.TestLemmas.{all-weaker}
-use Rattle.roam_book.specs.Conversing.{same_end}
-use Rattle.roam_book.specs.RealmConfig.{ways_from, ways_to}
+use Rattle.roam_realm.specs.Conversing.{same_end}
+use Rattle.roam_realm.specs.RealmConfig.{ways_from, ways_to}
 use Rattle.roam_core.specs.Amplification.{one_each}
 
 -- to how many ends those of some links lead that pass a test

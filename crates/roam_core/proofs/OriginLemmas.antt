@@ -6,12 +6,12 @@ use Rattle.roam_route.specs.Admission.{PlainOut}
 use Rattle.roam_pending.specs.ListLaws.{IsIn}
 use Rattle.roam_pending.specs.PlainEntry.{PlainRequest, PlainStanding, PlainEntry, waiting, done}
 use Rattle.roam_pending.proofs.TestLemmas.{all-weaker}
-use Rattle.roam_book.specs.RealmConfig.{RealmConfig}
-use Rattle.roam_book.specs.RealmState.{RealmState, Target}
-use Rattle.roam_book.specs.Turn.{Turn, packets_of, state_after, in_time}
-use Rattle.roam_book.specs.OnRequest.{packet_to_requester}
-use Rattle.roam_book.specs.OneRealm.{RealmEvent, request_came, reply_came, tick_came, on_event}
-use Rattle.roam_book.specs.declared.state.start.Start.{Start}
+use Rattle.roam_realm.specs.RealmConfig.{RealmConfig}
+use Rattle.roam_realm.specs.RealmState.{RealmState, Target}
+use Rattle.roam_exchange.specs.Turn.{Turn, packets_of, state_after, in_time}
+use Rattle.roam_exchange.specs.OnRequest.{packet_to_requester}
+use Rattle.roam_exchange.specs.OneRealm.{RealmEvent, request_came, reply_came, tick_came, on_event}
+use Rattle.roam_realm.specs.declared.start.Start.{Start}
 use Rattle.roam_core.specs.Openings.{state_then}
 use Rattle.roam_core.specs.Provenance.{IsRequestOf, IsSentBy, AtLaterTick, Forwards, IsForwarded, IsReturned, HasOrigin, StandsFrom, ComesFrom, IsNak}
 use Rattle.roam_core.proofs.RealmRunLemmas.{state-next}

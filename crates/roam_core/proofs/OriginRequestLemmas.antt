@@ -13,19 +13,19 @@ use Rattle.roam_pending.proofs.TestLemmas.{all-filter, all-find}
 use Rattle.roam_pending.proofs.OrderLemmas.{all-put}
 use Rattle.roam_pending.proofs.ChangeLemmas.{find-passes}
 use Rattle.roam_pending.proofs.ClientLemmas.{key-equal}
-use Rattle.roam_book.specs.RealmConfig.{RealmConfig}
-use Rattle.roam_book.specs.RealmState.{RealmState, Target, with_rests}
-use Rattle.roam_book.specs.Turn.{Turn, refuses, state_after}
-use Rattle.roam_book.specs.Shares.{share_taken}
-use Rattle.roam_book.specs.OnRequest.{packet_to_requester, forwarded_entry, admit, make_way, at_target, new_request, held_reply, first_seen, nak_octets, nak_or_new, of_key, on_request, reverse_cause, targets}
-use Rattle.roam_book.specs.OneRealm.{RealmEvent, request_came}
-use Rattle.roam_book.specs.declared.state.start.Start.{Start}
-use Rattle.roam_book.specs.Rests.{signs_of}
-use Rattle.roam_book.specs.Conversing.{bound_target, new_target, rests_for}
+use Rattle.roam_realm.specs.RealmConfig.{RealmConfig}
+use Rattle.roam_realm.specs.RealmState.{RealmState, Target, with_rests}
+use Rattle.roam_exchange.specs.Turn.{Turn, refuses, state_after}
+use Rattle.roam_exchange.specs.Shares.{share_taken}
+use Rattle.roam_exchange.specs.OnRequest.{packet_to_requester, forwarded_entry, admit, make_way, at_target, new_request, held_reply, first_seen, nak_octets, nak_or_new, of_key, on_request, reverse_cause, targets}
+use Rattle.roam_exchange.specs.OneRealm.{RealmEvent, request_came}
+use Rattle.roam_realm.specs.declared.start.Start.{Start}
+use Rattle.roam_realm.specs.Rests.{signs_of}
+use Rattle.roam_realm.specs.Conversing.{bound_target, new_target, rests_for}
 use Rattle.roam_core.specs.Draws.{DrawsAt, drawn_between, drawn_by}
 use Rattle.roam_core.specs.Provenance.{IsReturned, IsNak, IsForwarded, StandsFrom, ComesFrom, forwarded_packet}
 use Rattle.roam_core.proofs.OriginLemmas.{EachComes, EachHasOrigin, TurnKeeps, IsTurnAfter, sent-by, state-by}
-use Rattle.roam_book.specs.declared.state.rest.Rest.{Rest}
+use Rattle.roam_realm.specs.declared.rest.Rest.{Rest}
 
 -- a reply that is held goes back to the key of its request
 held-origin :

@@ -12,22 +12,22 @@ use Rattle.roam_pending.specs.Realms.{sent_again, waits_on, with_standing}
 use Rattle.roam_reverse.specs.declared.error_cause.TheConstants.{OTHER_PROXY_PROCESSING_ERROR}
 use Rattle.roam_pending.proofs.TestLemmas.{all-append, all-filter, all-find, all-weaker}
 use Rattle.roam_pending.proofs.OrderLemmas.{all-put}
-use Rattle.roam_book.specs.RealmConfig.{RealmConfig, later_targets}
-use Rattle.roam_book.specs.Rests.{after_silence, after_choice, signs_of}
-use Rattle.roam_book.specs.RealmState.{RealmState, Target, chosen_target, with_rests}
-use Rattle.roam_book.specs.Turn.{packets_of}
+use Rattle.roam_realm.specs.RealmConfig.{RealmConfig, later_targets}
+use Rattle.roam_realm.specs.Rests.{after_silence, after_choice, signs_of}
+use Rattle.roam_realm.specs.RealmState.{RealmState, Target, chosen_target, with_rests}
+use Rattle.roam_exchange.specs.Turn.{packets_of}
 use Rattle.roam_route.specs.Admission.{PlainOut}
-use Rattle.roam_book.specs.OnRequest.{draws, forwarded_entry, is_reverse, nak_octets, once_forwarded, packet_to_requester, packet_to_link}
-use Rattle.roam_book.specs.OnTick.{Progress, fail_over, given_up, once_refused, due_standing, due_entry, due_one, due_each, as_turn, on_tick, given_up_at}
-use Rattle.roam_book.specs.OneRealm.{RealmEvent, tick_came}
-use Rattle.roam_book.specs.declared.state.start.Start.{Start}
+use Rattle.roam_exchange.specs.OnRequest.{draws, forwarded_entry, is_reverse, nak_octets, once_forwarded, packet_to_requester, packet_to_link}
+use Rattle.roam_exchange.specs.OnTick.{Progress, fail_over, given_up, once_refused, due_standing, due_entry, due_one, due_each, as_turn, on_tick, given_up_at}
+use Rattle.roam_exchange.specs.OneRealm.{RealmEvent, tick_came}
+use Rattle.roam_realm.specs.declared.start.Start.{Start}
 use Rattle.roam_core.specs.Openings.{state_then}
 use Rattle.roam_core.specs.Draws.{DrawsAt, drawn_between, drawn_by, drawn_by_dues}
 use Rattle.roam_core.specs.Provenance.{IsRequestOf, IsSentBy, IsHeld, AtLaterTick, Forwards, IsForwarded, IsNak, StandsFrom, ComesFrom}
 use Rattle.roam_core.proofs.OriginRequestLemmas.{drawn-there}
 use Rattle.roam_core.proofs.RealmRunLemmas.{all-in, all-left, all-right, in-all}
 use Rattle.roam_core.proofs.OriginLemmas.{EachComes, EachHasOrigin, AreSentBy, TurnKeeps, request-later, stands-later}
-use Rattle.roam_book.specs.declared.state.rest.Rest.{Rest}
+use Rattle.roam_realm.specs.declared.rest.Rest.{Rest}
 
 -- of a tick at this moment, which comes after some events
 module _ (c : RealmConfig) (start : Start) (before : List RealmEvent) (now : ℕ) where

@@ -14,12 +14,12 @@ use Rattle.roam_pending.specs.ListLaws.{AreInDueOrder, IsIn}
 use Rattle.roam_pending.specs.PlainEntry.{PlainEntry}
 use Rattle.roam_pending.proofs.DueListLemmas.{due-in, due-taken, in-due, strict-due}
 use Rattle.roam_pending.proofs.OrderLemmas.{list-without}
-use Rattle.roam_book.specs.RealmConfig.{RealmConfig, realm_config}
-use Rattle.roam_book.specs.RealmState.{RealmState, with_entries}
-use Rattle.roam_book.specs.Rooms.{is_done_at}
-use Rattle.roam_book.specs.Turn.{Turn, in_time, packets_of, sends, state_after}
-use Rattle.roam_book.specs.OnTick.{Progress, as_turn, due_each, silent}
-use Rattle.roam_book.specs.OneRealm.{RealmEvent, request_came, reply_came, tick_came, one_realm_run}
+use Rattle.roam_realm.specs.RealmConfig.{RealmConfig, realm_config}
+use Rattle.roam_realm.specs.RealmState.{RealmState, with_entries}
+use Rattle.roam_exchange.specs.Rooms.{is_done_at}
+use Rattle.roam_exchange.specs.Turn.{Turn, in_time, packets_of, sends, state_after}
+use Rattle.roam_exchange.specs.OnTick.{Progress, as_turn, due_each, silent}
+use Rattle.roam_exchange.specs.OneRealm.{RealmEvent, request_came, reply_came, tick_came, one_realm_run}
 use Rattle.roam_book.specs.LostTicks.{without_each}
 use Rattle.roam_book.proofs.LettingGoLemmas.{all-without, both, goes-one}
 use Rattle.roam_book.proofs.LostTickLemmas.{nothing-is_lost, only-done_go}

@@ -4,11 +4,11 @@ use Rattle.std.specs.List.{AllByRecursion}
 use Rattle.std.proofs.lemmas.List.{append-nil}
 use Rattle.roam_route.specs.Admission.{PlainOut}
 use Rattle.roam_pending.specs.ListLaws.{IsIn}
-use Rattle.roam_book.specs.RealmConfig.{RealmConfig}
-use Rattle.roam_book.specs.RealmState.{RealmState, opening}
-use Rattle.roam_book.specs.Turn.{packets_of, state_after}
-use Rattle.roam_book.specs.OneRealm.{RealmEvent, on_event, one_realm_run}
-use Rattle.roam_book.specs.declared.state.start.Start.{Start}
+use Rattle.roam_realm.specs.RealmConfig.{RealmConfig}
+use Rattle.roam_realm.specs.RealmState.{RealmState, opening}
+use Rattle.roam_exchange.specs.Turn.{packets_of, state_after}
+use Rattle.roam_exchange.specs.OneRealm.{RealmEvent, on_event, one_realm_run}
+use Rattle.roam_realm.specs.declared.start.Start.{Start}
 use Rattle.roam_core.specs.Openings.{one_realm_packets, state_then}
 
 -- an element of one of two lists is one of both in a row

@@ -13,20 +13,20 @@ use Rattle.roam_pending.specs.ListLaws.{IsIn}
 use Rattle.roam_pending.specs.PlainEntry.{PlainRequest, PlainStanding, PlainEntry, waiting, done, has_key, has_ticket, waits_at}
 use Rattle.roam_pending.specs.EntryList.{find_client, find_link, first_done, without, without_client}
 use Rattle.roam_pending.specs.Realms.{with_standing}
-use Rattle.roam_book.specs.RealmConfig.{RealmConfig, link_secret, seal_required}
-use Rattle.roam_book.specs.RealmState.{RealmState, Target, with_rests}
-use Rattle.roam_book.specs.Turn.{Turn, refuses, sends, packets_of, state_after, in_time, hears}
-use Rattle.roam_book.specs.Shares.{share_taken}
-use Rattle.roam_book.specs.OnRequest.{packet_to_requester, forwarded_entry, admit, make_way, at_target, nak_octets, nak_or_new, new_request, of_key, held_reply, reverse_cause, targets}
-use Rattle.roam_book.specs.OnReply.{reply_turn, passing_to, return_reply, returned_octets, returning, to_entry, to_standing, shows_life, once_heard_from}
-use Rattle.roam_book.specs.Rests.{signs_of}
-use Rattle.roam_book.specs.Conversing.{new_target}
+use Rattle.roam_realm.specs.RealmConfig.{RealmConfig, link_secret, seal_required}
+use Rattle.roam_realm.specs.RealmState.{RealmState, Target, with_rests}
+use Rattle.roam_exchange.specs.Turn.{Turn, refuses, sends, packets_of, state_after, in_time, hears}
+use Rattle.roam_exchange.specs.Shares.{share_taken}
+use Rattle.roam_exchange.specs.OnRequest.{packet_to_requester, forwarded_entry, admit, make_way, at_target, nak_octets, nak_or_new, new_request, of_key, held_reply, reverse_cause, targets}
+use Rattle.roam_exchange.specs.OnReply.{reply_turn, passing_to, return_reply, returned_octets, returning, to_entry, to_standing, shows_life, once_heard_from}
+use Rattle.roam_realm.specs.Rests.{signs_of}
+use Rattle.roam_realm.specs.Conversing.{new_target}
 use Rattle.roam_core.specs.Amplification.{Ends, counted, counted_back, counted_links, may_cause, may_follow}
 use Rattle.roam_core.proofs.SentLemmas.{either}
 use Rattle.roam_core.proofs.SumLemmas.{found-in, sum-filter, sum-put, sum-replaced, new-holds}
 use Rattle.roam_core.proofs.TargetLemmas.{FitsIn, targets-fit}
 use Rattle.roam_core.proofs.AmplificationLemmas.{at_most, back as back_of, follow as follow_of, forwarded-fits as forwarded-fits_of, guard, more, nothing, weight as weight_of}
-use Rattle.roam_book.specs.declared.state.rest.Rest.{Rest}
+use Rattle.roam_realm.specs.declared.rest.Rest.{Rest}
 
 module _ (c : RealmConfig) (ends : Ends) (looked : ℕ → Bool) (tries : 1 ≤ c.realm.tries) where
   abbrev weight : PlainEntry → ℕ

@@ -4,11 +4,11 @@ use Rattle.std.specs.List.{AllByRecursion}
 use Rattle.std.proofs.lemmas.List.{append-nil, take_more, take_all, length-take}
 use Rattle.roam_conf.specs.Config.{ConfigView}
 use Rattle.roam_route.specs.Admission.{PlainOut}
-use Rattle.roam_book.specs.RealmState.{RealmState}
+use Rattle.roam_realm.specs.RealmState.{RealmState}
 use Rattle.roam_core.specs.Events.{PlainEvent, kept, local_rejects}
 use Rattle.roam_core.specs.Isolation.{IsIsolated, IsIsolatedFromStart, packets_for_none, HasRealm}
 use Rattle.roam_core.specs.ManyRealms.{packets_in_turn, states_after, answer_to, answers_to}
-use Rattle.roam_book.specs.declared.state.start.Start.{Start}
+use Rattle.roam_realm.specs.declared.start.Start.{Start}
 use Rattle.roam_core.specs.Openings.{openings}
 use Rattle.roam_core.specs.OwnLosses.{LostForItself}
 use Rattle.roam_core.specs.Provenance.{HasProvenance}

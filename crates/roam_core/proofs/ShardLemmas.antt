@@ -7,10 +7,10 @@ use Rattle.std.proofs.lemmas.List.{append-nil, length-append, map-append, length
 use Rattle.roam_conf.specs.Config.{ConfigView}
 use Rattle.roam_route.specs.Admission.{PlainOut}
 use Rattle.roam_book.specs.BookView.{BookView}
-use Rattle.roam_book.specs.RealmState.{RealmState}
-use Rattle.roam_book.specs.Turn.{Turn, packets_of, state_after, shown_outs}
-use Rattle.roam_book.specs.declared.packets.answer.Answer.{Answer}
-use Rattle.roam_book.specs.declared.packets.tick_memory.Room.{Room}
+use Rattle.roam_realm.specs.RealmState.{RealmState}
+use Rattle.roam_exchange.specs.Turn.{Turn, packets_of, state_after, shown_outs}
+use Rattle.roam_exchange.specs.declared.answer.Answer.{Answer}
+use Rattle.roam_exchange.specs.declared.tick_memory.Room.{Room}
 use Rattle.roam_core.specs.ManyRealms.{AllRealms, no_state, state_at, tick_of, tick_from, to_tick}
 use Rattle.roam_core.specs.Steps.{IsAnswer}
 use Rattle.roam_core.specs.BrokerView.{states_of}

@@ -12,11 +12,11 @@ use Rattle.roam_pending.specs.ListLaws.{IsIn}
 use Rattle.roam_pending.specs.PlainEntry.{PlainEntry, PlainRequest, same_link}
 use Rattle.roam_pending.specs.EntryList.{above, below, put, without}
 use Rattle.roam_pending.proofs.TestLemmas.{all-append, all-filter, compared, less, not_less, same}
-use Rattle.roam_book.specs.RealmConfig.{RealmConfig}
-use Rattle.roam_book.specs.RealmState.{Target, chosen_target, first_target, next_toward, ready_links, this_or, RealmState}
-use Rattle.roam_book.specs.Rests.{stands_back, has_moment}
-use Rattle.roam_book.specs.declared.state.rest.Rest.{Rest}
-use Rattle.roam_book.specs.Conversing.{asked_state, bound_link, bound_links, bound_target, new_target, same_end, untried}
+use Rattle.roam_realm.specs.RealmConfig.{RealmConfig}
+use Rattle.roam_realm.specs.RealmState.{Target, chosen_target, first_target, next_toward, ready_links, this_or, RealmState}
+use Rattle.roam_realm.specs.Rests.{stands_back, has_moment}
+use Rattle.roam_realm.specs.declared.rest.Rest.{Rest}
+use Rattle.roam_realm.specs.Conversing.{asked_state, bound_link, bound_links, bound_target, new_target, same_end, untried}
 use Rattle.roam_core.proofs.SentLemmas.{either}
 use Rattle.roam_core.specs.Amplification.{Ends, counted, sum_over}
 

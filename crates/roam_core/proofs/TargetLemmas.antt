@@ -14,11 +14,11 @@ use Rattle.roam_wire.specs.Reading.{packet_of}
 use Rattle.roam_reverse.specs.Target as reverse
 use Rattle.roam_pending.specs.PlainEntry.{PlainRequest}
 use Rattle.roam_pending.proofs.TestLemmas.{all-append, all-weaker}
-use Rattle.roam_book.specs.Conversing.{same_end}
-use Rattle.roam_book.specs.RealmConfig.{RealmConfig, coa_of, later_targets, links_from, peer_ways, server_link, server_links, service_at, service_of, ways_to}
-use Rattle.roam_book.specs.OnRequest.{coa_links, is_reverse, targets}
-use Rattle.roam_book.specs.declared.state.service.Service.{Service}
-use Rattle.roam_book.specs.declared.state.service.Service.TheVariants as service
+use Rattle.roam_realm.specs.Conversing.{same_end}
+use Rattle.roam_realm.specs.RealmConfig.{RealmConfig, coa_of, later_targets, links_from, peer_ways, server_link, server_links, service_at, service_of, ways_to}
+use Rattle.roam_exchange.specs.OnRequest.{coa_links, is_reverse, targets}
+use Rattle.roam_realm.specs.declared.service.Service.{Service}
+use Rattle.roam_realm.specs.declared.service.Service.TheVariants as service
 use Rattle.roam_core.specs.Amplification.{Ends, TargetsAreFew, counted_links, is_counted, one_each}
 use Rattle.roam_core.proofs.OneEndLemmas.{LeadElsewhere, alike-one, apart-more, each-passes, further-more, to-all, to-alike, to-none}
 use Rattle.roam_core.proofs.SentLemmas.{either}

@@ -12,24 +12,24 @@ use Rattle.roam_pending.specs.declared.due.Due.{Due}
 use Rattle.roam_pending.specs.DueOrder.{due_list}
 use Rattle.roam_pending.specs.PlainEntry.{PlainRequest, PlainStanding, PlainEntry, waiting, done}
 use Rattle.roam_pending.specs.EntryList.{find_client, find_link, find_ticket, first_done, without, without_client}
-use Rattle.roam_book.specs.RealmConfig.{RealmConfig, later_targets, link_secret, seal_required}
-use Rattle.roam_book.specs.Rests.{after_silence}
-use Rattle.roam_book.specs.RealmState.{RealmState, Target, chosen_target, with_rests}
-use Rattle.roam_book.specs.Turn.{Turn, state_after, in_time}
-use Rattle.roam_book.specs.Shares.{share_taken}
-use Rattle.roam_book.specs.OnRequest.{make_way, at_target, is_reverse, nak_or_new, new_request, of_key, reverse_cause, targets}
+use Rattle.roam_realm.specs.RealmConfig.{RealmConfig, later_targets, link_secret, seal_required}
+use Rattle.roam_realm.specs.Rests.{after_silence}
+use Rattle.roam_realm.specs.RealmState.{RealmState, Target, chosen_target, with_rests}
+use Rattle.roam_exchange.specs.Turn.{Turn, state_after, in_time}
+use Rattle.roam_exchange.specs.Shares.{share_taken}
+use Rattle.roam_exchange.specs.OnRequest.{make_way, at_target, is_reverse, nak_or_new, new_request, of_key, reverse_cause, targets}
 use Rattle.roam_back.specs.ReplyCheck.{reply_fault}
-use Rattle.roam_book.specs.OnReply.{reply_turn, passing_to, returning, to_entry, to_standing, shows_life}
-use Rattle.roam_book.specs.OnTick.{Progress, fail_over, once_refused, due_standing, due_entry, due_one, due_each, as_turn, given_up_at}
-use Rattle.roam_book.specs.OneRealm.{RealmEvent, request_came, reply_came, tick_came, on_event}
-use Rattle.roam_book.specs.declared.state.start.Start.{Start}
-use Rattle.roam_book.specs.Conversing.{new_target}
+use Rattle.roam_exchange.specs.OnReply.{reply_turn, passing_to, returning, to_entry, to_standing, shows_life}
+use Rattle.roam_exchange.specs.OnTick.{Progress, fail_over, once_refused, due_standing, due_entry, due_one, due_each, as_turn, given_up_at}
+use Rattle.roam_exchange.specs.OneRealm.{RealmEvent, request_came, reply_came, tick_came, on_event}
+use Rattle.roam_realm.specs.declared.start.Start.{Start}
+use Rattle.roam_realm.specs.Conversing.{new_target}
 use Rattle.roam_core.specs.Openings.{state_then}
 use Rattle.roam_core.specs.Provenance.{TakesTicket}
 use Rattle.roam_core.specs.ProvenanceLaws.{OneRequestHasTicket, TicketIsGivenOnce}
 use Rattle.roam_core.proofs.RealmRunLemmas.{state-next}
 use Rattle.roam_core.proofs.SentLemmas.{either}
-use Rattle.roam_book.specs.declared.state.rest.Rest.{Rest}
+use Rattle.roam_realm.specs.declared.rest.Rest.{Rest}
 
 -- a turn doesn't lower the next ticket
 abbrev Rises : RealmState → Turn → Type 0

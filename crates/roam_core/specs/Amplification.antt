@@ -12,13 +12,13 @@ use Rattle.roam_route.specs.Admission.{PlainOut}
 use Rattle.roam_pending.specs.declared.key.Key.{Key}
 use Rattle.roam_pending.specs.DueOrder.{due_list}
 use Rattle.roam_pending.specs.PlainEntry.{PlainEntry, PlainRequest, PlainStanding, waiting, done}
-use Rattle.roam_book.specs.Conversing.{same_end}
-use Rattle.roam_book.specs.RealmConfig.{RealmConfig, later_targets, link_endpoint}
-use Rattle.roam_book.specs.RealmState.{RealmState}
-use Rattle.roam_book.specs.Turn.{packets_of}
-use Rattle.roam_book.specs.OnRequest.{is_reverse, targets}
-use Rattle.roam_book.specs.OneRealm.{RealmEvent, request_came, reply_came, tick_came, on_event, one_realm_run}
-use Rattle.roam_book.specs.declared.state.start.Start.{Start}
+use Rattle.roam_realm.specs.Conversing.{same_end}
+use Rattle.roam_realm.specs.RealmConfig.{RealmConfig, later_targets, link_endpoint}
+use Rattle.roam_realm.specs.RealmState.{RealmState}
+use Rattle.roam_exchange.specs.Turn.{packets_of}
+use Rattle.roam_exchange.specs.OnRequest.{is_reverse, targets}
+use Rattle.roam_exchange.specs.OneRealm.{RealmEvent, request_came, reply_came, tick_came, on_event, one_realm_run}
+use Rattle.roam_realm.specs.declared.start.Start.{Start}
 use Rattle.roam_core.specs.Openings.{one_realm_packets}
 
 -- ## Amplification

@@ -2,7 +2,7 @@
 use Rattle.std.specs.Prelude.{◌≡◌, ℕ, ◌+◌, ◌≤◌, List, [], ◌∷◌, length, map}
 use Rattle.roam_conf.specs.Config.{ConfigView}
 use Rattle.roam_book.specs.BookView.{BookView}
-use Rattle.roam_book.specs.RealmState.{RealmState}
+use Rattle.roam_realm.specs.RealmState.{RealmState}
 
 -- a broker: its configuration, and the state of each realm, in the order of their indexes
 pub record BrokerView : Type 0 where

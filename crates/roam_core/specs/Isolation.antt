@@ -9,10 +9,10 @@ use Rattle.std.specs.Prelude.{◌≡◌, ℕ, ◌<◌, ◌≤◌, ◌==◌, Bool
 use Rattle.std.specs.List.{filter}
 use Rattle.roam_conf.specs.Config.{ConfigView}
 use Rattle.roam_route.specs.Admission.{PlainOut}
-use Rattle.roam_book.specs.RealmConfig.{realm_config}
-use Rattle.roam_book.specs.RealmState.{RealmState, opening}
-use Rattle.roam_book.specs.OneRealm.{one_realm_run}
-use Rattle.roam_book.specs.declared.state.start.Start.{Start}
+use Rattle.roam_realm.specs.RealmConfig.{realm_config}
+use Rattle.roam_realm.specs.RealmState.{RealmState, opening}
+use Rattle.roam_exchange.specs.OneRealm.{one_realm_run}
+use Rattle.roam_realm.specs.declared.start.Start.{Start}
 use Rattle.roam_core.specs.Events.{PlainEvent, events_of_realm}
 use Rattle.roam_core.specs.ManyRealms.{state_at, answers_to}
 use Rattle.roam_core.specs.Openings.{openings, start_of, state_then, one_realm_packets}

@@ -5,12 +5,12 @@ use Rattle.roam_route.specs.Admission.{PlainOut}
 use Rattle.roam_pending.specs.declared.due.Due.{Due}
 use Rattle.roam_pending.specs.DueOrder.{due_list}
 use Rattle.roam_pending.specs.PlainEntry.{PlainRequest}
-use Rattle.roam_book.specs.RealmConfig.{RealmConfig}
-use Rattle.roam_book.specs.RealmState.{RealmState, Target}
-use Rattle.roam_book.specs.Turn.{Turn, latest_moment, packets_of, state_after}
-use Rattle.roam_book.specs.OnRequest.{draws}
-use Rattle.roam_book.specs.OnTick.{Progress, due_one}
-use Rattle.roam_book.specs.OneRealm.{RealmEvent, request_came, reply_came, tick_came, on_event}
+use Rattle.roam_realm.specs.RealmConfig.{RealmConfig}
+use Rattle.roam_realm.specs.RealmState.{RealmState, Target}
+use Rattle.roam_exchange.specs.Turn.{Turn, latest_moment, packets_of, state_after}
+use Rattle.roam_exchange.specs.OnRequest.{draws}
+use Rattle.roam_exchange.specs.OnTick.{Progress, due_one}
+use Rattle.roam_exchange.specs.OneRealm.{RealmEvent, request_came, reply_came, tick_came, on_event}
 use Rattle.roam_core.specs.Draws.{drawn_between}
 use Rattle.roam_core.specs.Provenance.{forwarded_packet}
 

@@ -7,10 +7,10 @@ use Rattle.roam_route.specs.Admission.{PlainOut}
 use Rattle.roam_reverse.specs.CauseLaws.{IsOfOneSession}
 use Rattle.roam_pending.specs.ListLaws.{IsIn}
 use Rattle.roam_pending.specs.PlainEntry.{PlainRequest}
-use Rattle.roam_book.specs.OnRequest.{is_reverse}
-use Rattle.roam_book.specs.OneRealm.{RealmEvent}
-use Rattle.roam_book.specs.RealmConfig.{RealmConfig, realm_config}
-use Rattle.roam_book.specs.declared.state.start.Start.{Start}
+use Rattle.roam_exchange.specs.OnRequest.{is_reverse}
+use Rattle.roam_exchange.specs.OneRealm.{RealmEvent}
+use Rattle.roam_realm.specs.RealmConfig.{RealmConfig, realm_config}
+use Rattle.roam_realm.specs.declared.start.Start.{Start}
 use Rattle.roam_core.specs.Events.{PlainEvent, events_of_realm}
 use Rattle.roam_core.specs.Isolation.{packets_for}
 use Rattle.roam_core.specs.ManyRealms.{answers_to}

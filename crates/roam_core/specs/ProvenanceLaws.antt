@@ -3,10 +3,10 @@ use Rattle.std.specs.Prelude.{◌≡◌, ◌≤◌, ◌+◌, ◌*◌, ◌%◌, �
 use Rattle.roam_route.specs.Admission.{PlainOut}
 use Rattle.roam_pending.specs.ListLaws.{IsIn}
 use Rattle.roam_pending.specs.PlainEntry.{PlainEntry, PlainRequest}
-use Rattle.roam_book.specs.RealmConfig.{RealmConfig}
-use Rattle.roam_book.specs.RealmState.{opening}
-use Rattle.roam_book.specs.OneRealm.{RealmEvent}
-use Rattle.roam_book.specs.declared.state.start.Start.{Start}
+use Rattle.roam_realm.specs.RealmConfig.{RealmConfig}
+use Rattle.roam_realm.specs.RealmState.{opening}
+use Rattle.roam_exchange.specs.OneRealm.{RealmEvent}
+use Rattle.roam_realm.specs.declared.start.Start.{Start}
 use Rattle.roam_core.specs.Draws.{DrawsAt, drawn}
 use Rattle.roam_core.specs.Openings.{one_realm_packets, state_then}
 use Rattle.roam_core.specs.Provenance.{TakesTicket, IsRequestOf, HasOrigin, ComesFrom}

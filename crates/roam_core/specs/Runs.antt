@@ -2,7 +2,7 @@
 use Rattle.std.specs.Prelude.{◌≡◌, ℕ, ◌+◌, ◌<◌, ◌≤◌, Bool, not, List, [], ◌∷◌, length, take, slice_get, IsSomeAnd}
 use Rattle.std.specs.List.{AllByRecursion}
 use Rattle.roam_conf.specs.Config.{ConfigView}
-use Rattle.roam_book.specs.RealmState.{RealmState}
+use Rattle.roam_realm.specs.RealmState.{RealmState}
 use Rattle.roam_core.specs.Events.{PlainEvent, is_lost, kept}
 use Rattle.roam_core.specs.ManyRealms.{answers_to}
 use Rattle.roam_core.specs.Steps.{EventWantsMemory}

@@ -4,9 +4,9 @@ use Rattle.roam_wire.specs.declared.refusal.NoMemory.{NoMemory}
 use Rattle.roam_conf.specs.Config.{ConfigView}
 use Rattle.roam_route.specs.Admission.{admission}
 use Rattle.roam_route.specs.Shown.{WantsMemory}
-use Rattle.roam_book.specs.RealmState.{RealmState}
-use Rattle.roam_book.specs.Turn.{latest_moment, shown_outs}
-use Rattle.roam_book.specs.declared.packets.answer.Answer.{Answer}
+use Rattle.roam_realm.specs.RealmState.{RealmState}
+use Rattle.roam_exchange.specs.Turn.{latest_moment, shown_outs}
+use Rattle.roam_exchange.specs.declared.answer.Answer.{Answer}
 use Rattle.roam_core.specs.Events.{PlainEvent, arrives, ticks}
 use Rattle.roam_core.specs.BrokerView.{BrokerView}
 use Rattle.roam_core.specs.ShardRooms.{only_done_from}

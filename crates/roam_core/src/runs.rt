@@ -2,8 +2,8 @@
 
 ghost use Rattle.std.specs.Prelude.{◌≡◌, ◌++◌, ◌∷◌, [], IfOk, List, OnErr, OnOk, length};
 ghost use Rattle.std.specs.List.{AllByRecursion};
-ghost use Rattle.roam_book.specs.Turn.{shown_outs};
-ghost use Rattle.roam_book.specs.declared.state.start.Start.{Start};
+ghost use Rattle.roam_exchange.specs.Turn.{shown_outs};
+ghost use Rattle.roam_realm.specs.declared.start.Start.{Start};
 ghost use Rattle.roam_core.specs.ManyRealms.{answers_to};
 ghost use Rattle.roam_core.specs.Openings.{openings};
 ghost use Rattle.roam_core.specs.OwnLosses.{LostForItself};
@@ -15,7 +15,7 @@ ghost use Rattle.roam_core.specs.Shown.{shown_events};
 
 use crate::event::Event;
 use crate::stepper::Stepper;
-use roam_book::Outs;
+use roam_exchange::Outs;
 use roam_route::Out;
 use roam_wire::NoMemory;
 use std::alloc::Allocator;

@@ -2,14 +2,14 @@
 
 ghost use Rattle.std.specs.Prelude.{◌≡◌, ◌≤◌, ⊤, Bool, IsErr, List, is_ok, length};
 ghost use Rattle.roam_conf.specs.Config.{ConfigView};
-ghost use Rattle.roam_book.specs.RealmState.{RealmState};
+ghost use Rattle.roam_realm.specs.RealmState.{RealmState};
 ghost use Rattle.roam_core.specs.Events.{PlainEvent};
 ghost use Rattle.roam_core.specs.ManyRealms.{answer_to};
 ghost use Rattle.roam_core.specs.Steps.{EventWantsMemory, GivesAnswer};
 ghost use Rattle.roam_core.specs.Shown.{shown_event};
 
 use crate::event::Event;
-use roam_book::Answer;
+use roam_exchange::Answer;
 use roam_wire::NoMemory;
 use std::alloc::Allocator;
 

@@ -1,7 +1,7 @@
 //! Which counts rise by what became of a request in a tick.
 
 ghost use Rattle.std.specs.Prelude.{◌≡◌};
-ghost use Rattle.roam_book.specs.HappeningsShown.{shown_due, shown_waited};
+ghost use Rattle.roam_exchange.specs.HappeningsShown.{shown_due, shown_waited};
 ghost use Rattle.roam_counters.specs.Increments as spec;
 
 use crate::cell::Subject;
@@ -10,8 +10,8 @@ use crate::event::CountedEvent;
 use crate::event_of_code::{nak_by_tick, sent_again, taken_over};
 use crate::increments::{Increments, of_waited, one, requester_of};
 use crate::kinds::NakCause;
-use roam_book::{Became, DueHappening, Waited};
 use roam_conf::Link;
+use roam_exchange::{Became, DueHappening, Waited};
 use std::alloc::Allocator;
 
 /// The counts that rise where a request goes to another server.

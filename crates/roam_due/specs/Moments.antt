@@ -2,7 +2,7 @@
 -- several,
 -- each at a moment at which a part of it is due.
 use Rattle.std.specs.Prelude.{◌≡◌, ◌⊎◌, ℕ, ◌-◌, ◌<◌, ◌≤◌, List}
-use Rattle.roam_book.specs.RealmState.{RealmState}
+use Rattle.roam_realm.specs.RealmState.{RealmState}
 use Rattle.roam_shard.specs.Turns.{NothingDue}
 use Rattle.roam_shard.specs.DueCount.{due_count}
 

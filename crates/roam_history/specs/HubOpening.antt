@@ -1,8 +1,8 @@
 -- How a hub opened, and what its shards' histories are (ours).
 use Rattle.std.specs.Prelude.{ℕ, List, [], None, false}
 use Rattle.roam_conf.specs.Config.{ConfigView}
-use Rattle.roam_book.specs.declared.state.start.Start.{Start}
-use Rattle.roam_book.specs.RealmState.{RealmState}
+use Rattle.roam_realm.specs.declared.start.Start.{Start}
+use Rattle.roam_realm.specs.RealmState.{RealmState}
 use Rattle.roam_core.specs.Openings.{openings}
 use Rattle.roam_trace.specs.History.{Beginning}
 

@@ -1,7 +1,7 @@
 //! A step with its answer, as a history has it: in proofs alone.
 
-use roam_book::Answer;
 use roam_core::Event;
+use roam_exchange::Answer;
 use std::alloc::Global;
 use std::marker::Model;
 

@@ -2,7 +2,7 @@
 
 use crate::answered_step::AnsweredStep;
 use logbook::{Gain, Plain, Play, Rule};
-use roam_book::Answer;
+use roam_exchange::Answer;
 use roam_trace::Traced;
 use std::alloc::Allocator;
 

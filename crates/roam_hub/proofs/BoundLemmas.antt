@@ -2,10 +2,10 @@
 use Rattle.std.proofs.Common.{◌≡◌, ◌<◌, ◌+◌, ℕ, suc, List, [], ◌∷◌, refl, ap, subst, ◌∙◌, arith, length}
 use Rattle.roam_conf.specs.Config.{ConfigView}
 use Rattle.roam_pending.specs.ListLaws.{IsIn}
-use Rattle.roam_book.specs.RealmConfig.{realm_config}
-use Rattle.roam_book.specs.RealmState.{RealmState, opening}
-use Rattle.roam_book.specs.OneRealm.{RealmEvent, one_realm_run}
-use Rattle.roam_book.specs.declared.state.start.Start.{Start}
+use Rattle.roam_realm.specs.RealmConfig.{realm_config}
+use Rattle.roam_realm.specs.RealmState.{RealmState, opening}
+use Rattle.roam_exchange.specs.OneRealm.{RealmEvent, one_realm_run}
+use Rattle.roam_realm.specs.declared.start.Start.{Start}
 use Rattle.roam_core.specs.Amplification.{counted, may_still_follow}
 use Rattle.roam_core.specs.Events.{events_of_realm}
 use Rattle.roam_core.specs.ManyRealms.{state_at}

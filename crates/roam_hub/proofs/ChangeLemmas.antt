@@ -3,9 +3,9 @@ use Rattle.std.proofs.Common.{◌≡◌, ℕ, true, List, [], ◌∷◌, ◌++�
 use Rattle.std.proofs.lemmas.List.{append-nil}
 use Rattle.roam_conf.specs.Config.{ConfigView}
 use Rattle.roam_route.specs.Admission.{PlainOut}
-use Rattle.roam_book.specs.RealmConfig.{realm_config}
-use Rattle.roam_book.specs.RealmState.{RealmState}
-use Rattle.roam_book.specs.OneRealm.{RealmEvent, one_realm_run}
+use Rattle.roam_realm.specs.RealmConfig.{realm_config}
+use Rattle.roam_realm.specs.RealmState.{RealmState}
+use Rattle.roam_exchange.specs.OneRealm.{RealmEvent, one_realm_run}
 use Rattle.roam_carry.specs.Reload.{HasPlaces, carried}
 use Rattle.roam_carry.proofs.CarriedPlacesLemmas.{carried_has_places}
 use Rattle.roam_carry.proofs.PlacesLemmas.{places_stay}

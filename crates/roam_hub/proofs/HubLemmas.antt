@@ -6,8 +6,8 @@ use Rattle.std.proofs.lemmas.List.{length-append}
 use Rattle.std.proofs.lemmas.Option.{slice_get-get_or}
 use Rattle.roam_conf.specs.Config.{ConfigView}
 use Rattle.roam_route.specs.Admission.{PlainOut}
-use Rattle.roam_book.specs.RealmState.{RealmState}
-use Rattle.roam_book.specs.declared.state.start.Start.{Start}
+use Rattle.roam_realm.specs.RealmState.{RealmState}
+use Rattle.roam_realm.specs.declared.start.Start.{Start}
 use Rattle.roam_core.specs.Isolation.{packets_for}
 use Rattle.roam_core.specs.ManyRealms.{answer_to, answers_to, packets_in_turn, state_at}
 use Rattle.roam_core.specs.Openings.{openings}

@@ -3,9 +3,9 @@ use Rattle.std.proofs.Common.{◌≡◌, ◌+◌, ◌≤◌, ℕ, zero, suc, tru
 use Rattle.std.specs.Prelude.{slice_get}
 use Rattle.std.proofs.lemmas.List.{map-append}
 use Rattle.std.proofs.lemmas.Option.{same_Some}
-use Rattle.roam_book.specs.RealmState.{RealmState}
-use Rattle.roam_book.specs.OneRealm.{RealmEvent}
-use Rattle.roam_book.specs.RealmConfig.{realm_config}
+use Rattle.roam_realm.specs.RealmState.{RealmState}
+use Rattle.roam_exchange.specs.OneRealm.{RealmEvent}
+use Rattle.roam_realm.specs.RealmConfig.{realm_config}
 use Rattle.roam_core.specs.Events.{is_in_shard}
 use Rattle.roam_core.specs.Lives.{Happening, Stage, event, goes_on, begins_anew, stage_then}
 use Rattle.roam_core.specs.LifeOrigins.{TakesTicketIn}

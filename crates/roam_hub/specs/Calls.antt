@@ -7,9 +7,9 @@ use Rattle.roam_route.specs.Admission.{PlainJob}
 use Rattle.roam_route.specs.Events.{arrival_of}
 use Rattle.roam_route.specs.Shown.{shown_job}
 use Rattle.roam_conf.specs.declared.exchange_lines.ExchangeLines.{ExchangeLines}
-use Rattle.roam_book.specs.Happenings.{PlainHappening}
-use Rattle.roam_book.specs.HappeningsShown.{shown_happening}
-use Rattle.roam_book.specs.RealmState.{RealmState}
+use Rattle.roam_exchange.specs.Happenings.{PlainHappening}
+use Rattle.roam_exchange.specs.HappeningsShown.{shown_happening}
+use Rattle.roam_realm.specs.RealmState.{RealmState}
 use Rattle.roam_core.specs.HappeningsTo.{happening_to}
 use Rattle.roam_core.specs.Events.{PlainEvent, arrives, ticks}
 use Rattle.roam_shard.specs.Turns.{NothingDue}

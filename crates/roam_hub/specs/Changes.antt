@@ -3,10 +3,10 @@
 use Rattle.std.specs.Prelude.{◌≡◌, ℕ, ◌<◌, ◌≤◌, true, List, [], ◌∷◌, ◌++◌, length}
 use Rattle.roam_reload.specs.Reload.{IsCarried, IsUntouched}
 use Rattle.roam_route.specs.Admission.{PlainOut}
-use Rattle.roam_book.specs.RealmConfig.{realm_config}
-use Rattle.roam_book.specs.RealmState.{RealmState, opening}
-use Rattle.roam_book.specs.OnTick.{Progress, silent}
-use Rattle.roam_book.specs.OneRealm.{RealmEvent, one_realm_run}
+use Rattle.roam_realm.specs.RealmConfig.{realm_config}
+use Rattle.roam_realm.specs.RealmState.{RealmState, opening}
+use Rattle.roam_exchange.specs.OnTick.{Progress, silent}
+use Rattle.roam_exchange.specs.OneRealm.{RealmEvent, one_realm_run}
 use Rattle.roam_carry.specs.Reload.{HasPlaces, carried}
 use Rattle.roam_core.specs.Events.{events_of_realm, is_in_shard}
 use Rattle.roam_core.specs.Isolation.{packets_for}

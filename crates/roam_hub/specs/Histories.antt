@@ -1,7 +1,7 @@
 -- What the histories of a hub's shards are, and where its realms stand at their end (ours).
 use Rattle.std.specs.Prelude.{◌≡◌, ℕ, ◌+◌, ◌<◌, ◌%◌, zero, suc, List, [], ◌∷◌, length}
-use Rattle.roam_book.specs.RealmState.{RealmState}
-use Rattle.roam_book.specs.declared.state.start.Start.{Start}
+use Rattle.roam_realm.specs.RealmState.{RealmState}
+use Rattle.roam_realm.specs.declared.start.Start.{Start}
 use Rattle.roam_core.specs.ManyRealms.{state_at}
 use Rattle.roam_trace.specs.History.{IsHistory, end_of}
 use Rattle.roam_trace.specs.Steps.{PlainStep}

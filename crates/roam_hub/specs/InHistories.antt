@@ -3,7 +3,7 @@
 -- one: of the steps that were let go of, too.
 use Rattle.std.specs.Prelude.{◌≡◌, ℕ, ◌<◌, ◌≤◌, List, [], ◌∷◌, ◌++◌, length, map}
 use Rattle.roam_route.specs.Admission.{PlainOut}
-use Rattle.roam_book.specs.RealmConfig.{realm_config}
+use Rattle.roam_realm.specs.RealmConfig.{realm_config}
 use Rattle.roam_core.specs.Events.{PlainEvent, events_of_realm}
 use Rattle.roam_core.specs.Isolation.{packets_for}
 use Rattle.roam_core.specs.Openings.{one_realm_packets, start_of}

@@ -4,9 +4,9 @@ use Rattle.std.specs.Prelude.{◌≡◌, ℕ, ◌+◌, ◌%◌, ◌^◌, ◌≤�
 use Rattle.roam_reload.specs.Reload.{IsCarried}
 use Rattle.roam_route.specs.Admission.{PlainOut}
 use Rattle.roam_pending.specs.ListLaws.{IsIn}
-use Rattle.roam_book.specs.RealmConfig.{realm_config}
-use Rattle.roam_book.specs.RealmState.{RealmState}
-use Rattle.roam_book.specs.OneRealm.{RealmEvent}
+use Rattle.roam_realm.specs.RealmConfig.{realm_config}
+use Rattle.roam_realm.specs.RealmState.{RealmState}
+use Rattle.roam_exchange.specs.OneRealm.{RealmEvent}
 use Rattle.roam_core.specs.Draws.{drawn}
 use Rattle.roam_core.specs.Isolation.{packets_for}
 use Rattle.roam_core.specs.Lives.{Happening, Stage, draws_in, event, goes_on, begins_anew, sent_in, stage_then}

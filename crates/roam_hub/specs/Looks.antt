@@ -2,7 +2,7 @@
 use Rattle.std.specs.Prelude.{ℕ, ◌%◌, List}
 use mathlib.Core.List.{IsPrefix}
 use Rattle.roam_conf.specs.Config.{ConfigView}
-use Rattle.roam_book.specs.declared.state.gauges.Gauges.{Gauges}
+use Rattle.roam_realm.specs.declared.gauges.Gauges.{Gauges}
 use Rattle.roam_carry.specs.declared.losses.Loss.{Loss}
 use Rattle.roam_core.specs.ManyRealms.{state_at}
 use Rattle.roam_shard.specs.Looks.{IsLoss, StandsAs}

@@ -1,7 +1,7 @@
 -- The shards of a hub that go on in another one (ours).
 use Rattle.std.specs.Prelude.{◌≡◌, ℕ, List, [], Option, Some, None, length, slice_get}
 use Rattle.roam_conf.specs.Config.{ConfigView}
-use Rattle.roam_book.specs.RealmState.{RealmState}
+use Rattle.roam_realm.specs.RealmState.{RealmState}
 use Rattle.roam_shard.specs.ShardView.{ShardView}
 use Rattle.roam_shard.specs.Pausing.{StandsUnder, states_under}
 pub use Rattle.roam_follow.specs.Paused.{ArePaused, IsPaused}

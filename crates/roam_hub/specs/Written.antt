@@ -1,8 +1,8 @@
 -- What a hub's realms have in a file of ledgers (ours).
 use Rattle.std.specs.Prelude.{◌≡◌, ◌⊎◌, ℕ, ◌%◌, List}
 use mathlib.Core.List.{IsPrefix}
-use Rattle.roam_book.specs.RealmConfig.{realm_config}
-use Rattle.roam_book.specs.Written.{GainsOpen, GainsRealm}
+use Rattle.roam_realm.specs.RealmConfig.{realm_config}
+use Rattle.roam_realm.specs.Written.{GainsOpen, GainsRealm}
 use Rattle.roam_core.specs.ManyRealms.{state_at}
 use Rattle.roam_trace.specs.History.{IsHistory, end_of}
 use Rattle.roam_history.specs.Entries.{HistoryEntry, steps_in}
@@ -14,7 +14,7 @@ use Rattle.roam_audit.specs.Seats.{SeatView, front_of}
 -- earlier than a seat has seen it. Nothing else is written; that none is missing isn't said.
 -- Source: ours
 -- Rules out: a session of another realm, or one that was never open
--- Stands in: `roam_hub` `Written.antt`: `SavesThen`; `roam_book` `Written.antt`: `GainsOpen`; `Hub::save`
+-- Stands in: `roam_hub` `Written.antt`: `SavesThen`; `roam_realm` `Written.antt`: `GainsOpen`; `Hub::save`
 --
 -- sessions are written, each of which is open in the realm's state there
 pub record SavesIn (o : HubOpening) (shard index : ℕ) (seat : SeatView) (old new : List ℕ) : Type 0 where

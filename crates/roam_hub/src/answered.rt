@@ -1,7 +1,7 @@
 //! What a caller gets of a call that is recorded without a receipt.
 
 use crate::fault::HubFault;
-use roam_book::{Answer, Happening};
+use roam_exchange::{Answer, Happening};
 use roam_route::Job;
 use std::alloc::Allocator;
 

@@ -86,10 +86,11 @@ pub use laws::{
 pub use pause_room::PauseRoom;
 pub use pausing::PausedHub;
 pub use roam_audit::{AuditFault, Audited, Receipt, Report, Seat, split};
-pub use roam_book::{Became, DueHappening, Gauges, Happening, Rest, SERVER_LINKS, Waited};
 pub use roam_due::{LATE, MOST};
+pub use roam_exchange::{Became, DueHappening, Happening, Waited};
 pub use roam_follow::follow;
 pub use roam_history::{Blanks, Front, Opened};
 pub use roam_pending::{Key, Requester};
+pub use roam_realm::{Gauges, Rest, SERVER_LINKS};
 pub use roam_shard::Paused;
 pub use saving::SESSIONS_AT_ONCE;

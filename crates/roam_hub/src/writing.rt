@@ -9,7 +9,7 @@ ghost use Rattle.roam_history.specs.Entries.{IsOpen, closed_entry, last_of, let_
 ghost use Rattle.roam_audit.specs.Seats.{after_call};
 
 use roam_audit::Seat;
-use roam_book::Answer;
+use roam_exchange::Answer;
 use roam_history::{Front, Head, Opened};
 use roam_trace::Traced;
 use std::alloc::Allocator;

@@ -8,7 +8,7 @@ use Rattle.roam_conf.specs.declared.place.Link.{Link}
 use Rattle.roam_conf.specs.declared.place.Link.TheVariants as link
 use Rattle.roam_pending.specs.declared.key.Requester.{Requester}
 use Rattle.roam_pending.specs.declared.key.Requester.TheVariants as requester
-use Rattle.roam_book.specs.Happenings.{PlainWaited}
+use Rattle.roam_exchange.specs.Happenings.{PlainWaited}
 use Rattle.roam_notices.specs.Said.{AreTold, charged_by}
 use Rattle.roam_notices.specs.Values.{octets_if}
 use Rattle.roam_notices.specs.declared.details.Details.{Details}

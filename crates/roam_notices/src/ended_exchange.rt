@@ -2,14 +2,14 @@
 
 ghost use Rattle.std.specs.Prelude.{◌≡◌, ◌-◌, IfSome};
 ghost use Rattle.roam_conf.specs.Shown.{shown};
-ghost use Rattle.roam_book.specs.HappeningsShown.{shown_waited};
+ghost use Rattle.roam_exchange.specs.HappeningsShown.{shown_waited};
 ghost use Rattle.roam_notices.specs.EndedExchanges as spec;
 ghost use Rattle.roam_notices.specs.EndedExchanges.{IsLineOf};
 
 use crate::exchange::{Exchange, ExchangeEnd};
 use crate::said::{charged_by, said_by};
-use roam_book::Waited;
 use roam_conf::{Config, Endpoint, Link};
+use roam_exchange::Waited;
 use roam_pending::Requester;
 use std::alloc::Allocator;
 

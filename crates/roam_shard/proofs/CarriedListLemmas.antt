@@ -4,7 +4,7 @@ use Rattle.std.specs.List.{AllByRecursion, cons_option, filter_map}
 use Rattle.roam_pending.specs.declared.key.Key.{Key}
 use Rattle.roam_pending.specs.EntryList.{HasDistinctKeys, IsEntryList, IsInOrder}
 use Rattle.roam_pending.specs.PlainEntry.{PlainEntry, is_done}
-use Rattle.roam_book.specs.RealmConfig.{RealmConfig}
+use Rattle.roam_realm.specs.RealmConfig.{RealmConfig}
 use Rattle.roam_carry.specs.Reload.{entries_then, entry_then, without_done}
 use Rattle.roam_carry.proofs.CarriedEntriesLemmas.{comes_over}
 

@@ -11,11 +11,11 @@ use Rattle.roam_pending.specs.Realms.{RealmBecomes}
 use Rattle.roam_tables.specs.Stands.{RealmView, entries_in}
 use Rattle.roam_tables.proofs.RealmLemmas.{get-read, get-set_same}
 use Rattle.roam_reload.specs.Numbers.{is_here}
-use Rattle.roam_book.specs.RealmConfig.{RealmConfig, realm_config}
-use Rattle.roam_book.specs.RealmState.{RealmState}
-use Rattle.roam_book.specs.Sound.{IsSound, state_of}
-use Rattle.roam_book.specs.declared.state.realm_numbers.RealmNumbers.{RealmNumbers}
-use Rattle.roam_book.specs.declared.state.start.Start.{Start}
+use Rattle.roam_realm.specs.RealmConfig.{RealmConfig, realm_config}
+use Rattle.roam_realm.specs.RealmState.{RealmState}
+use Rattle.roam_realm.specs.Sound.{IsSound, state_of}
+use Rattle.roam_realm.specs.declared.realm_numbers.RealmNumbers.{RealmNumbers}
+use Rattle.roam_realm.specs.declared.start.Start.{Start}
 use Rattle.roam_carry.specs.Carrying.{IsReadyToCarry}
 use Rattle.roam_carry.specs.declared.lanes.FreshLanes.{FreshLanes}
 use Rattle.roam_core.specs.Events.{is_in_shard}

@@ -6,10 +6,10 @@ use Rattle.std.proofs.Common.{get_or}
 use Rattle.roam_conf.specs.Config.{ConfigView}
 use Rattle.roam_reload.specs.Reload.{IsCarried}
 use Rattle.roam_tables.specs.Stands.{RealmView, entries_in}
-use Rattle.roam_book.specs.RealmConfig.{RealmConfig, realm_config}
-use Rattle.roam_book.specs.RealmState.{RealmState}
-use Rattle.roam_book.specs.Sound.{state_of}
-use Rattle.roam_book.specs.declared.state.realm_numbers.RealmNumbers.{RealmNumbers}
+use Rattle.roam_realm.specs.RealmConfig.{RealmConfig, realm_config}
+use Rattle.roam_realm.specs.RealmState.{RealmState}
+use Rattle.roam_realm.specs.Sound.{state_of}
+use Rattle.roam_realm.specs.declared.realm_numbers.RealmNumbers.{RealmNumbers}
 use Rattle.roam_carry.specs.Carrying.{shown_loss}
 use Rattle.roam_carry.specs.Losses.{all_lost, losses}
 use Rattle.roam_carry.specs.declared.losses.Loss.{Loss}

@@ -5,9 +5,9 @@ use Rattle.std.proofs.lemmas.List.{length-append}
 use Rattle.roam_conf.specs.Config.{ConfigView, RealmView as RealmTable}
 use Rattle.roam_conf.specs.Duplicates.{has_duplicate_server, has_pair_of_servers}
 use Rattle.roam_pending.specs.PlainEntry.{PlainEntry}
-use Rattle.roam_book.specs.RealmConfig.{RealmConfig, no_realm, realm_config}
-use Rattle.roam_book.specs.Sound.{IsSound, state_of}
-use Rattle.roam_book.specs.declared.state.realm_numbers.RealmNumbers.{RealmNumbers}
+use Rattle.roam_realm.specs.RealmConfig.{RealmConfig, no_realm, realm_config}
+use Rattle.roam_realm.specs.Sound.{IsSound, state_of}
+use Rattle.roam_realm.specs.declared.realm_numbers.RealmNumbers.{RealmNumbers}
 use Rattle.roam_carry.specs.Carrying.{IsReadyToCarry}
 use Rattle.roam_carry.specs.Reload.{carried}
 use Rattle.roam_carry.specs.declared.lanes.FreshLanes.{FreshLanes}

@@ -5,10 +5,10 @@ use Rattle.std.specs.List.{AllByRecursion}
 use Rattle.std.proofs.lemmas.Option.{slice_get_within}
 use Rattle.roam_pending.specs.PlainEntry.{PlainEntry}
 use Rattle.roam_tables.specs.Stands.{RealmView, entries_in}
-use Rattle.roam_book.specs.RealmConfig.{RealmConfig, realm_config}
-use Rattle.roam_book.specs.Sound.{AreOwnLanes, IsEntry, IsSound, LanesTell, marks_of}
-use Rattle.roam_book.specs.Stays.{KeepsButSessions}
-use Rattle.roam_book.specs.declared.state.realm_numbers.RealmNumbers.{RealmNumbers}
+use Rattle.roam_realm.specs.RealmConfig.{RealmConfig, realm_config}
+use Rattle.roam_realm.specs.Sound.{AreOwnLanes, IsEntry, IsSound, LanesTell, marks_of}
+use Rattle.roam_realm.specs.Stays.{KeepsButSessions}
+use Rattle.roam_realm.specs.declared.realm_numbers.RealmNumbers.{RealmNumbers}
 use Rattle.roam_shard.specs.ShardView.{IsShard, OpeningView}
 use Rattle.roam_shard.proofs.ShardLemmas.{shard_written}
 

@@ -5,12 +5,12 @@ use Rattle.std.proofs.lemmas.List.{set-get_or}
 use Rattle.std.proofs.lemmas.Option.{slice_get-get_or, slice_get_within}
 use Rattle.roam_conf.specs.Config.{ConfigView}
 use Rattle.roam_ledgers.specs.Ledgers.{SavedSession}
-use Rattle.roam_book.specs.RealmConfig.{RealmConfig, realm_config}
-use Rattle.roam_book.specs.RealmState.{RealmState}
-use Rattle.roam_book.specs.Saving.{taken_up}
-use Rattle.roam_book.specs.Sound.{cursors_of, state_of}
-use Rattle.roam_book.specs.Stays.{KeepsButSessions}
-use Rattle.roam_book.specs.declared.state.realm_numbers.RealmNumbers.{RealmNumbers}
+use Rattle.roam_realm.specs.RealmConfig.{RealmConfig, realm_config}
+use Rattle.roam_realm.specs.RealmState.{RealmState}
+use Rattle.roam_realm.specs.Saving.{taken_up}
+use Rattle.roam_realm.specs.Sound.{cursors_of, state_of}
+use Rattle.roam_realm.specs.Stays.{KeepsButSessions}
+use Rattle.roam_realm.specs.declared.realm_numbers.RealmNumbers.{RealmNumbers}
 use Rattle.roam_reverse.specs.Sessions.{Session}
 use Rattle.roam_pending.specs.PlainEntry.{PlainEntry}
 use Rattle.roam_tables.specs.Stands.{RealmView, entries_in}

@@ -1,7 +1,7 @@
 -- The states of all realms, each in its own shard (ours).
 use Rattle.std.specs.Prelude.{◌≡◌, ℕ, zero, suc, ◌+◌, ◌≤◌, ◌%◌, List, [], ◌∷◌, Some, length, slice_get, slice_index_or}
 use Rattle.roam_conf.specs.Config.{ConfigView}
-use Rattle.roam_book.specs.RealmState.{RealmState}
+use Rattle.roam_realm.specs.RealmState.{RealmState}
 use Rattle.roam_core.specs.ManyRealms.{state_at}
 use Rattle.roam_shard.specs.ShardView.{ShardView}
 

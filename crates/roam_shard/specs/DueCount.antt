@@ -1,7 +1,7 @@
 -- How many entries of a shard are due (ours).
 use Rattle.std.specs.Prelude.{ℕ, ◌+◌, List, [], ◌∷◌, length}
 use Rattle.roam_pending.specs.DueOrder.{due_list}
-use Rattle.roam_book.specs.RealmState.{RealmState}
+use Rattle.roam_realm.specs.RealmState.{RealmState}
 
 -- in all its realms
 abbrev pub due_count : ℕ → List RealmState → ℕ

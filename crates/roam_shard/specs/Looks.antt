@@ -2,10 +2,10 @@
 use Rattle.std.specs.Prelude.{◌≡◌, ℕ, ◌<◌, true, List, Option, Some, length, slice_get}
 use Rattle.roam_conf.specs.Config.{ConfigView}
 use Rattle.roam_reload.specs.Reload.{IsCarried}
-use Rattle.roam_book.specs.RealmConfig.{realm_config}
-use Rattle.roam_book.specs.RealmState.{RealmState}
-use Rattle.roam_book.specs.declared.state.gauges.Gauges.{Gauges}
-use Rattle.roam_book.specs.declared.state.realm_numbers.RealmNumbers.{RealmNumbers}
+use Rattle.roam_realm.specs.RealmConfig.{realm_config}
+use Rattle.roam_realm.specs.RealmState.{RealmState}
+use Rattle.roam_realm.specs.declared.gauges.Gauges.{Gauges}
+use Rattle.roam_realm.specs.declared.realm_numbers.RealmNumbers.{RealmNumbers}
 use Rattle.roam_carry.specs.Carrying.{shown_loss}
 use Rattle.roam_carry.specs.Losses.{all_lost, losses}
 use Rattle.roam_carry.specs.declared.losses.Loss.{Loss}

@@ -1,11 +1,11 @@
 -- The numbers of a shard's realms when it begins: words of private functions alone (ours).
 use Rattle.std.specs.Prelude.{◌≡◌, ℕ, Bool, List, [], Option, Some, is_some, IfSome, length, replicate, slice_get}
 use Rattle.roam_conf.specs.Config.{ConfigView}
-use Rattle.roam_book.specs.RealmConfig.{RealmConfig, link_count, realm_config}
-use Rattle.roam_book.specs.Rests.{all_awake}
-use Rattle.roam_book.specs.Sound.{AreOwnLanes, LanesTell, cursors_of, marks_of}
-use Rattle.roam_book.specs.declared.state.realm_numbers.RealmNumbers.{RealmNumbers}
-use Rattle.roam_book.specs.declared.state.start.Start.{Start}
+use Rattle.roam_realm.specs.RealmConfig.{RealmConfig, link_count, realm_config}
+use Rattle.roam_realm.specs.Rests.{all_awake}
+use Rattle.roam_realm.specs.Sound.{AreOwnLanes, LanesTell, cursors_of, marks_of}
+use Rattle.roam_realm.specs.declared.realm_numbers.RealmNumbers.{RealmNumbers}
+use Rattle.roam_realm.specs.declared.start.Start.{Start}
 use Rattle.roam_core.specs.Events.{is_in_shard}
 use Rattle.roam_core.specs.Openings.{start_of}
 

@@ -6,9 +6,9 @@ use Rattle.roam_conf.specs.Config.{ConfigView}
 use Rattle.roam_conf.specs.Lookup.{first_place}
 use Rattle.roam_ledgers.specs.Ledgers.{SavedItem, SavedSession, realm, session}
 use Rattle.roam_reload.specs.Kept.{same_values}
-use Rattle.roam_book.specs.RealmConfig.{realm_config}
-use Rattle.roam_book.specs.RealmState.{RealmState}
-use Rattle.roam_book.specs.Saving.{taken_up}
+use Rattle.roam_realm.specs.RealmConfig.{realm_config}
+use Rattle.roam_realm.specs.RealmState.{RealmState}
+use Rattle.roam_realm.specs.Saving.{taken_up}
 use Rattle.roam_core.specs.Events.{is_in_shard}
 
 -- the index of the realm that is here and has a name, without ASCII case

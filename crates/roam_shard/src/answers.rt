@@ -3,7 +3,7 @@
 ghost use Rattle.std.specs.Prelude.{◌≡◌, ◌+◌, ◌≤◌, ◌++◌, length, vec_len, vec_capacity};
 ghost use Rattle.roam_shard.specs.Private.Lost.{IsAnswerOf, IsLostOrRefused};
 
-use roam_book::{Answer, Outs, Turned, refused};
+use roam_exchange::{Answer, Outs, Turned, refused};
 use roam_route::Out;
 use roam_wire::{NoMemory, Refusal};
 use std::alloc::Allocator;

@@ -8,8 +8,8 @@ ghost use Rattle.roam_shard.specs.Turns.{NothingDue};
 ghost use Rattle.roam_shard.specs.DueCount.{due_count};
 
 use crate::shard::Shard;
-use roam_book::RealmNumbers;
 use roam_pending::Entries;
+use roam_realm::RealmNumbers;
 use roam_tables::Tables;
 use std::alloc::Allocator;
 

@@ -3,13 +3,14 @@
 ghost use Rattle.std.specs.Prelude.{◌≡◌};
 ghost use Rattle.roam_route.specs.Shown.{shown_job};
 ghost use Rattle.roam_book.specs.BookView.{IsTakenFrom};
-ghost use Rattle.roam_book.specs.OneRealm.{event_of, on_event};
-ghost use Rattle.roam_book.specs.Happenings.{event_happening};
+ghost use Rattle.roam_exchange.specs.OneRealm.{event_of, on_event};
+ghost use Rattle.roam_exchange.specs.Happenings.{event_happening};
 ghost use Rattle.roam_book.specs.RealmTurn.{IsRealm};
-ghost use Rattle.roam_book.specs.Turned.{TurnsTelling};
+ghost use Rattle.roam_book.specs.RealmTurn.{TurnsTelling};
 
-use roam_book::{RealmBroker, Turned, request_of_job};
+use roam_book::{RealmBroker, request_of_job};
 use roam_conf::ExchangeLines;
+use roam_exchange::Turned;
 use roam_pending::Entries;
 use roam_route::{Job, Side};
 use roam_wire::NoMemory;

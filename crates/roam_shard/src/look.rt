@@ -7,10 +7,10 @@ ghost use Rattle.roam_carry.specs.Carrying.{AreChanged};
 ghost use Rattle.roam_shard.specs.Looks.{IsLoss, IsOwn, NoneThere, StandsAs};
 
 use crate::shard::Shard;
-use roam_book::{Gauges, RealmNumbers, RealmSettings};
 use roam_carry::{Loss, all_of, losses_of};
 use roam_conf::Config;
 use roam_pending::Entries;
+use roam_realm::{Gauges, RealmNumbers, RealmSettings};
 use roam_reload::is_carried;
 use std::alloc::Allocator;
 

@@ -5,8 +5,8 @@ ghost use Rattle.roam_conf.specs.Shown.{shown};
 ghost use Rattle.roam_core.specs.Openings.{fresh_starts};
 ghost use Rattle.roam_shard.specs.ShardView.{AreStarts};
 
-use roam_book::Start;
 use roam_conf::Config;
+use roam_realm::Start;
 use roam_wire::NoMemory;
 use std::alloc::Allocator;
 

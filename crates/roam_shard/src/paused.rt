@@ -6,8 +6,8 @@ ghost use Rattle.roam_shard.specs.Pausing.{StandsUnder, opening_under, states_un
 
 use crate::opening::Opening;
 use crate::shard::Shard;
-use roam_book::{RealmNumbers, Start};
 use roam_conf::Config;
+use roam_realm::{RealmNumbers, Start};
 use roam_tables::Tables;
 use std::alloc::Allocator;
 

@@ -2,15 +2,15 @@
 
 ghost use Rattle.std.specs.Prelude.{◌≡◌, ◌<◌, IfOk, length, vec_len};
 ghost use Rattle.roam_conf.specs.Shown.{shown};
-ghost use Rattle.roam_book.specs.RealmConfig.{realm_config};
+ghost use Rattle.roam_realm.specs.RealmConfig.{realm_config};
 ghost use Rattle.roam_core.specs.Events.{is_in_shard};
 ghost use Rattle.roam_shard.specs.NumbersView.{AreOpened, IsOpened};
 ghost use Rattle.roam_shard.specs.Pausing.{begin_at};
 ghost use Rattle.roam_shard.specs.ShardView.{AreStarts, IsStart};
 
 use crate::look::numbers_at;
-use roam_book::{RealmNumbers, RealmSettings, Start};
 use roam_conf::Config;
+use roam_realm::{RealmNumbers, RealmSettings, Start};
 use roam_wire::NoMemory;
 use std::alloc::Allocator;
 

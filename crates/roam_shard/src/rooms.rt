@@ -3,16 +3,18 @@
 ghost use Rattle.std.specs.Prelude.{◌≡◌, ◌&&◌, [], not, IfOk};
 ghost use Rattle.roam_conf.specs.Shown.{shown};
 ghost use Rattle.roam_tables.specs.Stands.{entries_in};
-ghost use Rattle.roam_book.specs.Rooms.{only_done_due};
+ghost use Rattle.roam_exchange.specs.Rooms.{only_done_due};
 ghost use Rattle.roam_core.specs.ShardRooms.{AreRooms, IsRealmRoom, most_of_all};
 ghost use Rattle.roam_shard.specs.Private.Rooms.{AllForLines, HasPlaces, IsForLines};
 ghost use Rattle.roam_shard.specs.ShardView.{IsShard, shown_opening, states_in};
 
 use crate::gathered::Gathered;
 use crate::opening::Opening;
-use roam_book::{RealmNumbers, Room, only_done_due, room_for};
+use roam_book::only_done_due;
 use roam_conf::ExchangeLines;
 use roam_core::with_room;
+use roam_exchange::{Room, room_for};
+use roam_realm::RealmNumbers;
 use roam_tables::Tables;
 use roam_wire::NoMemory;
 use std::alloc::Allocator;

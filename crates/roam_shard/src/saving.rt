@@ -7,8 +7,8 @@ ghost use Rattle.roam_conf.specs.Lookup.{first_place};
 ghost use Rattle.roam_conf.specs.Parts.{shown_realm};
 ghost use Rattle.roam_conf.specs.Shown.{shown};
 ghost use Rattle.roam_ledgers.specs.Shown.{shown_item, shown_items, shown_session, shown_text};
-ghost use Rattle.roam_book.specs.RealmConfig.{realm_config};
-ghost use Rattle.roam_book.specs.Written.{GainsOpen, GainsRealm};
+ghost use Rattle.roam_realm.specs.RealmConfig.{realm_config};
+ghost use Rattle.roam_realm.specs.Written.{GainsOpen, GainsRealm};
 ghost use Rattle.roam_core.specs.ManyRealms.{state_at};
 ghost use Rattle.roam_shard.specs.Pausing.{StandsUnder, states_under};
 ghost use Rattle.roam_shard.specs.Private.Items.{TakesUp};
@@ -17,9 +17,9 @@ ghost use Rattle.roam_shard.specs.Restoring.{is_named, restored_states, with_one
 use crate::look::numbers_at;
 use crate::paused::Paused;
 use crate::shard::Shard;
-use roam_book::{RealmSettings, save_realm};
 use roam_conf::{Config, Realm, is_same_name};
 use roam_ledgers::{Item, SessionItem, Text, Writing};
+use roam_realm::{RealmSettings, save_realm};
 use roam_wire::NoMemory;
 use std::alloc::{AllocError, Allocator};
 

@@ -7,8 +7,8 @@ use Rattle.std.specs.Result.{IsErrAnd}
 use Rattle.std.specs.Io.KnownBytes.{Appends}
 use Rattle.roam_conf.specs.Config.{ConfigView}
 use Rattle.roam_route.specs.Admission.{PlainOut}
-use Rattle.roam_book.specs.RealmState.{RealmState}
-use Rattle.roam_book.specs.declared.state.start.Start.{Start}
+use Rattle.roam_realm.specs.RealmState.{RealmState}
+use Rattle.roam_realm.specs.declared.start.Start.{Start}
 use Rattle.roam_core.specs.Events.{PlainEvent, kept, kept_from}
 use Rattle.roam_core.specs.Isolation.{IsIsolatedFromStart}
 use Rattle.roam_core.specs.ManyRealms.{answers_to}

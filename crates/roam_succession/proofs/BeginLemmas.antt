@@ -7,10 +7,10 @@ use Rattle.std.proofs.lemmas.List.{length-append}
 use Rattle.std.proofs.lemmas.Option.{slice_get-get_or, slice_get_within}
 use Rattle.roam_conf.specs.Config.{ConfigView}
 use Rattle.roam_ledgers.specs.Ledgers.{SavedItem}
-use Rattle.roam_book.specs.RealmState.{RealmState}
+use Rattle.roam_realm.specs.RealmState.{RealmState}
 use Rattle.roam_tables.proofs.RealmLemmas.{get-set_other, get-set_same}
 use Rattle.roam_core.specs.Events.{is_in_shard}
-use Rattle.roam_book.specs.declared.state.start.Start.{Start}
+use Rattle.roam_realm.specs.declared.start.Start.{Start}
 use Rattle.roam_core.specs.Openings.{fresh, fresh_starts, openings}
 use Rattle.roam_shard.specs.ShardView.{OpeningView, ShardView}
 use Rattle.roam_shard.specs.Pausing.{StandsUnder, states_under}

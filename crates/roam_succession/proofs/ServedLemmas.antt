@@ -3,7 +3,7 @@ use Rattle.std.proofs.Common.{arith, ◌≡◌, ℕ, ◌<◌, ◌≤◌, List, [
 use Rattle.std.specs.Prelude.{get_or}
 use Rattle.std.proofs.lemmas.Option.{slice_get-get_or, slice_get_cases, slice_get_within}
 use Rattle.roam_conf.specs.Config.{ConfigView}
-use Rattle.roam_book.specs.RealmState.{RealmState}
+use Rattle.roam_realm.specs.RealmState.{RealmState}
 use Rattle.roam_ledgers.specs.Ledgers.{SavedItem}
 use Rattle.roam_trace.specs.History.{AreSteps, Beginning, IsHistory, end_of, states_next, states_then}
 use Rattle.roam_trace.specs.Steps.{PlainStep}

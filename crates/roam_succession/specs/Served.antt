@@ -2,7 +2,7 @@
 use Rattle.std.specs.Prelude.{◌≡◌, ℕ, ◌<◌, List, [], ◌∷◌, ◌++◌, Some, slice_get}
 use Rattle.roam_conf.specs.Config.{ConfigView}
 use Rattle.roam_ledgers.specs.Ledgers.{SavedItem}
-use Rattle.roam_book.specs.RealmState.{RealmState}
+use Rattle.roam_realm.specs.RealmState.{RealmState}
 use Rattle.roam_shard.specs.Pausing.{states_under}
 use Rattle.roam_shard.specs.declared.paused.Paused.{Paused}
 use Rattle.roam_trace.specs.History.{Beginning, end_of}

@@ -1,7 +1,7 @@
 -- What a thread counts of what it does. Ours.
 use Rattle.std.specs.Prelude.{◌≡◌, ℕ, List, Option, Some, None, slice_get}
 use Rattle.std.specs.List.{flat_map}
-use Rattle.roam_book.specs.Happenings.{PlainDue}
+use Rattle.roam_exchange.specs.Happenings.{PlainDue}
 use Rattle.roam_conf.specs.Config.{ConfigView, RealmView}
 use Rattle.roam_counters.specs.Increments.{due_increments}
 use Rattle.roam_counters.specs.OwnCounts.{CountsView, raised_all}

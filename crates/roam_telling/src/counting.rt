@@ -1,8 +1,8 @@
 //! What a thread counts of what it does.
 
 ghost use Rattle.std.specs.Prelude.{◌≡◌};
-ghost use Rattle.roam_book.specs.Happenings.{ticked};
-ghost use Rattle.roam_book.specs.HappeningsShown.{shown_dues, shown_happening};
+ghost use Rattle.roam_exchange.specs.Happenings.{ticked};
+ghost use Rattle.roam_exchange.specs.HappeningsShown.{shown_dues, shown_happening};
 ghost use Rattle.roam_conf.specs.Shown.{shown};
 ghost use Rattle.roam_counters.specs.Arrivals as arrivals;
 ghost use Rattle.roam_counters.specs.Ends.{end_at};

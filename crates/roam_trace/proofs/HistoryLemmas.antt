@@ -5,8 +5,8 @@ use Rattle.roam_conf.specs.Config.{ConfigView}
 use Rattle.roam_conf.specs.declared.exchange_lines.ExchangeLines.{ExchangeLines}
 use Rattle.roam_route.specs.Admission.{Admission, PlainJob, admitted}
 use Rattle.roam_route.specs.Events.{IsEvent, arrival_of}
-use Rattle.roam_book.specs.RealmState.{RealmState}
-use Rattle.roam_book.specs.declared.packets.answer.Answer.{Answer}
+use Rattle.roam_realm.specs.RealmState.{RealmState}
+use Rattle.roam_exchange.specs.declared.answer.Answer.{Answer}
 use Rattle.roam_core.specs.Events.{PlainEvent, arrives, is_in_shard}
 use Rattle.roam_core.specs.HappeningsTo.{arrival_happening, happening_to, job_happening}
 use Rattle.roam_core.specs.ManyRealms.{BrokerTurn, answer_to, to_arrival}

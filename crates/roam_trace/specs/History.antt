@@ -3,7 +3,7 @@ use Rattle.std.specs.Prelude.{◌≡◌, ◌↔◌, ℕ, ◌+◌, ◌<◌, ◌�
 use Rattle.std.specs.Prelude.{Result, IfOk, OnErr, OnOk}
 use Rattle.roam_conf.specs.Config.{ConfigView}
 use Rattle.roam_route.specs.Admission.{PlainJob, admission, admitted}
-use Rattle.roam_book.specs.RealmState.{RealmState}
+use Rattle.roam_realm.specs.RealmState.{RealmState}
 use Rattle.roam_core.specs.Events.{PlainEvent, arrives, ticks, is_in_shard}
 use Rattle.roam_core.specs.ManyRealms.{BrokerTurn, answer_to, packets_in_turn, refusal_given, states_after}
 use Rattle.roam_shard.specs.ShardView.{OpeningView, opened}

@@ -5,7 +5,7 @@ use Rattle.roam_wire.specs.declared.refusal.Refusal.{Refusal}
 use Rattle.roam_wire.specs.declared.refusal.Refusal.TheVariants as refusal
 use Rattle.roam_conf.specs.Config.{ConfigView}
 use Rattle.roam_conf.specs.declared.exchange_lines.ExchangeLines.{ExchangeLines}
-use Rattle.roam_book.specs.HappeningsShown.{shown_happening}
+use Rattle.roam_exchange.specs.HappeningsShown.{shown_happening}
 use Rattle.roam_route.specs.Admission.{Arrival, PlainJob, admission, admitted, refused, answered_here}
 use Rattle.roam_route.specs.Events.{arrival_of}
 use Rattle.roam_route.specs.Shown.{IsAdmission, WantsMemory, shown_job, shown_out}

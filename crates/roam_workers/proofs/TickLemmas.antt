@@ -3,7 +3,7 @@ use Rattle.std.proofs.Common.{◌≡◌, ℕ, Option, Some, None, subst}
 use Rattle.std.specs.declared.alloc.Global.{Global}
 use Rattle.roam_counters.specs.OwnCounts.{raised_all}
 use Rattle.roam_conf.specs.declared.exchange_lines.ExchangeLines.{ExchangeLines}
-use Rattle.roam_book.specs.HappeningsShown.{shown_happening}
+use Rattle.roam_exchange.specs.HappeningsShown.{shown_happening}
 use Rattle.roam_history.specs.HubOpening.{HubOpening}
 use Rattle.roam_audit.specs.Seats.{SeatView}
 use Rattle.roam_hub.specs.Calls.{IsTick, IsTicked}

@@ -3,7 +3,7 @@
 ghost use Rattle.std.specs.Prelude.{◌≡◌};
 ghost use Rattle.roam_counters.specs.OwnCounts.{raised_all};
 ghost use Rattle.roam_workers.specs.Remedies as remedies;
-ghost use Rattle.roam_book.specs.HappeningsShown.{shown_happening};
+ghost use Rattle.roam_exchange.specs.HappeningsShown.{shown_happening};
 ghost use Rattle.roam_counters.specs.Arrivals.{tick_increments};
 ghost use Rattle.roam_telling.specs.Counting.{counts_in};
 ghost use Rattle.roam_workers.specs.Handlings.{at_work};

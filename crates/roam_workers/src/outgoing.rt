@@ -7,7 +7,7 @@ ghost use Rattle.roam_port.specs.Outbox.{account_of, port_count, told_of};
 use crate::losses::SharedLosses;
 use mio::unix::SourceFd;
 use mio::{Events, Interest, Poll, Token};
-use roam_book::Outs;
+use roam_exchange::Outs;
 use roam_port::{Outbox, Sent, Standing};
 use roam_route::Out;
 use roam_sockets::{PlaceSockets, Polls};

@@ -1,6 +1,6 @@
 //! Answers as lines, and the first line in which two texts differ.
 
-use roam_book::{Answer, Outs};
+use roam_exchange::{Answer, Outs};
 use roam_hub::HubFault;
 use roam_route::Out;
 use roam_sim::print_packet;

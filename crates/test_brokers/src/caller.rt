@@ -6,9 +6,9 @@ ghost use Rattle.roam_route.specs.Events.{IsEvent};
 ghost use Rattle.roam_route.specs.Shown.{shown_job};
 
 use crate::early::lost_or_refused;
-use roam_book::{Answer, one_packet};
 use roam_conf::Config;
 use roam_core::Event;
+use roam_exchange::{Answer, one_packet};
 use roam_hub::{Hub, HubFault, Open, Opened, Receipt, Seat};
 use roam_route::{Datagram, Job, Prepared, prepare};
 use std::alloc::Allocator;

@@ -1,6 +1,6 @@
 //! Answers to arrivals that come to no realm.
 
-use roam_book::{Answer, refused};
+use roam_exchange::{Answer, refused};
 use roam_hub::HubFault;
 use roam_wire::Refusal;
 use std::alloc::Allocator;

@@ -12,10 +12,11 @@ ghost use Rattle.roam_core.specs.Events.{is_in_shard};
 ghost use Rattle.roam_shard.specs.ShardView.{AreStarts};
 
 use crate::early::lost_or_refused;
-use roam_book::{Answer, Start, one_packet, refused};
 use roam_conf::{Config, ExchangeLines};
 use roam_core::{Event, Outcome};
+use roam_exchange::{Answer, one_packet, refused};
 use roam_hub::HubFault;
+use roam_realm::Start;
 use roam_route::{Datagram, Job, Prepared, prepare};
 use roam_shard::{Shard, first_starts};
 use roam_trace::{Step, Traced};

@@ -1,7 +1,7 @@
 -- What a run over a fresh broker says.
 use Rattle.std.proofs.Common.{◌≡◌, List, ap, sym, ◌∙◌}
 use Rattle.roam_conf.specs.Config.{ConfigView}
-use Rattle.roam_book.specs.RealmState.{RealmState}
+use Rattle.roam_realm.specs.RealmState.{RealmState}
 use Rattle.roam_core.specs.BrokerView.{BrokerView}
 use Rattle.roam_core.specs.Openings.{fresh, fresh_starts, openings}
 use Rattle.test_callers.specs.FreshBroker.{fresh_broker}

@@ -16,8 +16,9 @@ ghost use Rattle.test_callers.specs.Admitted.{IsAdmittedFor};
 
 use roam_auth::Secret;
 use roam_back::check_reply;
-use roam_book::{Book, Outs};
+use roam_book::Book;
 use roam_conf::Config;
+use roam_exchange::Outs;
 use roam_fwd::forward;
 use roam_pending::{Entry, Pending};
 use roam_random::{next_position, request_authenticator};

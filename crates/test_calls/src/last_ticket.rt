@@ -3,8 +3,8 @@
 
 use crate::configuration::two_servers;
 use crate::realm::Realm;
-use roam_book::Answer;
 use roam_conf::Config;
+use roam_exchange::Answer;
 use roam_sim::{print_packet, read_script};
 use std::alloc::{Allocator, Global};
 use std::io;

@@ -5,9 +5,11 @@ ghost use Rattle.roam_conf.specs.Shown.{shown};
 ghost use Rattle.roam_route.specs.Events.{IsEvent};
 ghost use Rattle.roam_route.specs.Shown.{shown_job};
 
-use roam_book::{Answer, Book, Start};
+use roam_book::Book;
 use roam_conf::Config;
 use roam_core::Event;
+use roam_exchange::Answer;
+use roam_realm::Start;
 use roam_route::{Datagram, Job, Prepared, Side, prepare};
 use roam_wire::{NoMemory, Refusal};
 use std::alloc::Allocator;

@@ -5,9 +5,9 @@ ghost use Rattle.std.specs.Prelude.{◌≡◌};
 ghost use Rattle.roam_conf.specs.Shown.{shown};
 
 use crate::caller::{Caller, FIRST, OTHER_FIRST, OTHER_REQUEST_7, REQUEST_7, sends};
-use roam_book::Start;
 use roam_conf::Config;
 use roam_hub::{Gate, Hub, Opened, Receipt, Report, Seat, split};
+use roam_realm::Start;
 use std::alloc::Global;
 use std::process::Abort;
 use std::sync::Wait;

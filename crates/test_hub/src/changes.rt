@@ -10,9 +10,9 @@ ghost use Rattle.roam_hub.specs.Pausing.{ArePaused, opening_over};
 
 use crate::caller::{OTHER_FIRST, OTHER_REQUEST_7, datagram, nas, sends};
 use crate::configuration::config_of;
-use roam_book::Start;
 use roam_conf::{Address, Config, Endpoint, ExchangeLines, Place};
 use roam_hub::{Blanks, Call, Hub, Open, Opened, Paused, PausedHub, Seat};
+use roam_realm::Start;
 use roam_reload::hindrance_of;
 use roam_route::{Prepared, prepare};
 use std::alloc::{Allocator, Global};

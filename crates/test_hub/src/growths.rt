@@ -8,9 +8,9 @@ ghost use Rattle.roam_history.specs.Books.{books_of, count_of};
 
 use crate::caller::{Caller, REQUEST_7};
 use crate::configuration::config_of;
-use roam_book::Start;
 use roam_conf::Config;
 use roam_hub::{Blanks, Hub, Open, Opened};
+use roam_realm::Start;
 use roam_shard::first_starts;
 use std::alloc::Global;
 use std::marker::Brand;

@@ -10,9 +10,9 @@ ghost use Rattle.roam_hub.specs.Pausing.{ArePaused, opening_over};
 
 use crate::changes::{are_answered, before, goes_on, paused, two_configurations, what_goes_on};
 use crate::growths::{Over, blanks};
-use roam_book::Start;
 use roam_conf::Config;
 use roam_hub::{Blanks, Hub, Opened, Paused, follow};
+use roam_realm::Start;
 use roam_shard::first_starts;
 use std::alloc::Global;
 use std::marker::Brand;

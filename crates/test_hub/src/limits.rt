@@ -7,9 +7,9 @@ ghost use Rattle.roam_history.specs.HubOpening.{fresh_opening};
 ghost use Rattle.roam_history.specs.Books.{books_of, count_of};
 
 use crate::caller::{Caller, REQUEST_7, REQUEST_8, SECOND, sends};
-use roam_book::Start;
 use roam_conf::Config;
 use roam_hub::{Blanks, Hub, HubFault, Open, Opened, Seat};
+use roam_realm::Start;
 use std::alloc::Global;
 use std::marker::Brand;
 use std::process::Abort;

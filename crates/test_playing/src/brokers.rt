@@ -2,9 +2,9 @@
 //! stores its history too.
 
 use crate::player::Over;
-use roam_book::Answer;
 use roam_conf::Config;
 use roam_core::{Broker, Event, Outcome, Stepper, run};
+use roam_exchange::Answer;
 use roam_hub::HubFault;
 use roam_shard::Shards;
 use roam_wire::NoMemory;

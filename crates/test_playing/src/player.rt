@@ -3,8 +3,8 @@
 use crate::brokers::{Kept, Playing};
 use crate::row::Step;
 use crate::tally::Tally;
-use roam_book::Answer;
 use roam_conf::Config;
+use roam_exchange::Answer;
 use std::alloc::Global;
 use std::io;
 use test_allocator::Refusing;

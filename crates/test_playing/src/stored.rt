@@ -3,8 +3,8 @@
 use crate::brokers::Playing;
 use crate::player::{Over, Player};
 use crate::row::{Row, Step};
-use roam_book::Answer;
 use roam_core::Event;
+use roam_exchange::Answer;
 use roam_hub::{Opened, Receipt, Report};
 use roam_route::Datagram;
 use roam_trace::Step as Stored;

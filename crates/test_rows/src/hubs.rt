@@ -7,9 +7,9 @@ ghost use Rattle.roam_shard.specs.ShardView.{AreStarts};
 ghost use Rattle.roam_history.specs.HubOpening.{fresh_opening};
 ghost use Rattle.roam_history.specs.Books.{books_of, count_of};
 
-use roam_book::Start;
 use roam_conf::Config;
 use roam_hub::{Blanks, Hub, Opened, Receipt, Report, Seat};
+use roam_realm::Start;
 use roam_shard::first_starts;
 use std::marker::Brand;
 use std::sync::Wait;

@@ -4,21 +4,22 @@ use Rattle.roam_wire.specs.declared.refusal.Refusal.{Refusal}
 use Rattle.roam_conf.specs.declared.place.Link.{Link}
 use Rattle.roam_pending.specs.PlainEntry.{PlainEntry, PlainRequest}
 use Rattle.roam_pending.specs.EntryList.{besides, find_client, find_ticket, first_done}
-use Rattle.roam_book.specs.RealmConfig.{RealmConfig, IsLink, links_from, peer_ways}
+use Rattle.roam_realm.specs.RealmConfig.{RealmConfig, IsLink, links_from, peer_ways}
 use Rattle.std.specs.List.{find}
 use Rattle.std.specs.Option.{option_and_then, option_or}
 use Rattle.roam_ids.specs.LaneState.{LaneState}
-use Rattle.roam_book.specs.Conversing.{asked_state, bound_link, new_target, rests_chosen}
-use Rattle.roam_book.specs.Happenings.{PlainHappening, by_turn, forwarded, replaced_by, to_target}
-use Rattle.roam_book.specs.RealmState.{RealmState, Target, next_toward, with_rests}
-use Rattle.roam_book.specs.Shapings.{forwarded_size}
-use Rattle.roam_book.specs.Turn.{Turn, refuses}
-use Rattle.roam_book.specs.Turned.{IsTurned}
-use Rattle.roam_book.specs.OnRequest.{admit, new_request, targets}
-use Rattle.roam_book.specs.Sound.{CountsAsReplaced, IsRequest, chosen_link, replaced_ticket, is_sought}
-use Rattle.roam_book.specs.Private.Memory.{HasBuffers}
-use Rattle.roam_book.specs.declared.state.link_rests.Wanted.TheVariants as wanted
-use Rattle.roam_book.specs.declared.state.rest.Rest.{Rest}
+use Rattle.roam_realm.specs.Conversing.{asked_state, bound_link, new_target, rests_chosen}
+use Rattle.roam_exchange.specs.Happenings.{PlainHappening, by_turn, forwarded, replaced_by, to_target}
+use Rattle.roam_realm.specs.RealmState.{RealmState, Target, next_toward, with_rests}
+use Rattle.roam_realm.specs.Shapings.{forwarded_size}
+use Rattle.roam_exchange.specs.Turn.{Turn, refuses}
+use Rattle.roam_exchange.specs.Turned.{IsTurned}
+use Rattle.roam_exchange.specs.OnRequest.{admit, new_request, targets}
+use Rattle.roam_book.specs.Replacing.{CountsAsReplaced, replaced_ticket}
+use Rattle.roam_realm.specs.Sound.{IsRequest, chosen_link, is_sought}
+use Rattle.roam_exchange.specs.Memory.{HasBuffers}
+use Rattle.roam_realm.specs.declared.link_rests.Wanted.TheVariants as wanted
+use Rattle.roam_realm.specs.declared.rest.Rest.{Rest}
 use Rattle.roam_book.specs.declared.rules.admit.Supplies.{Supplies}
 use Rattle.roam_book.specs.declared.rules.replaced.Replaced.{Replaced}
 use Rattle.roam_book.specs.declared.rules.requests.RequestPlan.{RequestPlan}

@@ -3,16 +3,14 @@ use Rattle.std.specs.Prelude.{◌≡◌, true, List, [], Option, Some, None, IsS
 use Rattle.roam_pending.specs.PlainEntry.{PlainEntry, done, waits_at}
 use Rattle.roam_pending.specs.EntryList.{find_ticket, put}
 use Rattle.roam_pending.specs.Realms.{with_standing}
-use Rattle.roam_reverse.specs.Sessions.{LedgerChange, Session, changed}
-use Rattle.roam_reverse.specs.Shown.{HasRoomFor, Ledger}
 use Rattle.roam_conf.specs.declared.place.Link.{Link}
-use Rattle.roam_book.specs.RealmConfig.{RealmConfig, IsLink}
-use Rattle.roam_book.specs.Rests.{after_sign}
-use Rattle.roam_book.specs.RealmState.{RealmState}
-use Rattle.roam_book.specs.Happenings.{PlainHappening}
-use Rattle.roam_book.specs.Turn.{Turn, packets_of}
-use Rattle.roam_book.specs.Turned.{IsTurned}
-use Rattle.roam_book.specs.OnReply.{counted, once_heard_from}
+use Rattle.roam_realm.specs.RealmConfig.{RealmConfig, IsLink}
+use Rattle.roam_realm.specs.Rests.{after_sign}
+use Rattle.roam_realm.specs.RealmState.{RealmState}
+use Rattle.roam_exchange.specs.Happenings.{PlainHappening}
+use Rattle.roam_exchange.specs.Turn.{Turn, packets_of}
+use Rattle.roam_exchange.specs.Turned.{IsTurned}
+use Rattle.roam_exchange.specs.OnReply.{counted, once_heard_from}
 use Rattle.roam_book.specs.declared.rules.replies.Settled.{Settled}
 use Rattle.roam_book.specs.declared.rules.replies.ReplyPlan.{ReplyPlan}
 
@@ -46,13 +44,6 @@ once_settled c s heard (Some d) = with_done c s d (find_ticket d.ticket s.entrie
 abbrev pub IsHeard : RealmConfig → Option Link → Type 0
 IsHeard c None = Unit {0}
 IsHeard c (Some l) = IsLink c l
-
--- the ledger has room for a change that was prepared, if one was, which then makes these sessions of
--- its own
-abbrev pub IsPrepared : Ledger → Option LedgerChange → List Session → Type 0
-IsPrepared ledger None sessions = sessions ≡ ledger.sessions
-IsPrepared ledger (Some change) sessions =
-    HasRoomFor change ledger × (sessions ≡ changed ledger.limit change ledger.sessions)
 
 -- to answer so, to note that sign of life, and to settle that entry, is to do this turn, by which this happened; where
 -- nothing is sent no entry is settled

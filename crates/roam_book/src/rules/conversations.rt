@@ -5,21 +5,21 @@
 
 ghost use Rattle.std.specs.Prelude.{◌≡◌, [], IfSome, is_some, option_map};
 ghost use Rattle.std.specs.List.{find};
-ghost use Rattle.roam_book.specs.Conversing.{asked_state, bound_link, round_link, state_in};
+ghost use Rattle.roam_realm.specs.Conversing.{asked_state, bound_link, round_link, state_in};
 ghost use Rattle.roam_book.specs.Private.NewEntry.{AreConfigured, bound_way, links_of, untried_way, way_link};
 ghost use Rattle.roam_book.specs.Private.NewEntry.{way_of_end};
-ghost use Rattle.roam_book.specs.RealmConfig.{IsLink};
+ghost use Rattle.roam_realm.specs.RealmConfig.{IsLink};
 ghost use Rattle.roam_book.specs.RealmTurn.{IsRealm, entries};
-ghost use Rattle.roam_book.specs.Sound.{IsRequest, is_sought, shown_request};
+ghost use Rattle.roam_realm.specs.Sound.{IsRequest, is_sought};
+ghost use Rattle.roam_exchange.specs.Shown.{shown_request};
 
-use crate::packets::forwarding::RequestRef;
+use crate::realm_broker::RealmBroker;
 use crate::rules::admit_plan::LinkChoice;
 use crate::rules::targets::Targets;
-use crate::state::link_rests::Wanted;
-use crate::state::realm_broker::RealmBroker;
-use crate::state::realm_settings::RealmSettings;
 use roam_conf::Link;
+use roam_exchange::RequestRef;
 use roam_pending::{Entries, Requester};
+use roam_realm::{RealmSettings, Wanted};
 use roam_wire::View;
 use roam_wire::attribute_type::STATE;
 use roam_wire::code::ACCESS_REQUEST;

@@ -3,13 +3,13 @@
 ghost use Rattle.std.specs.Prelude.{◌≡◌, ◌≤◌, ◌^◌, [], true};
 ghost use Rattle.roam_pending.specs.EntryList.{find_ticket, without};
 ghost use Rattle.roam_pending.specs.Shown.{seen};
-ghost use Rattle.roam_book.specs.OnTick.{on_tick};
-ghost use Rattle.roam_book.specs.RealmState.{with_entries};
+ghost use Rattle.roam_exchange.specs.OnTick.{on_tick};
+ghost use Rattle.roam_realm.specs.RealmState.{with_entries};
 ghost use Rattle.roam_book.specs.RealmTurn.{IsRealm, Keeps, entries, state};
-ghost use Rattle.roam_book.specs.Rooms.{done_or_gone, only_done_due};
-ghost use Rattle.roam_book.specs.Turn.{sends};
+ghost use Rattle.roam_exchange.specs.Rooms.{done_or_gone, only_done_due};
+ghost use Rattle.roam_exchange.specs.Turn.{sends};
 
-use crate::state::realm_broker::RealmBroker;
+use crate::realm_broker::RealmBroker;
 use roam_pending::{Entries, Entry, Standing};
 use std::alloc::Allocator;
 

@@ -2,7 +2,7 @@
 
 ghost use Rattle.std.specs.Prelude.{◌≡◌, Some};
 ghost use Rattle.roam_pending.specs.Shown.{shown_standing};
-ghost use Rattle.roam_book.specs.Sound.{standing_place};
+ghost use Rattle.roam_realm.specs.Sound.{standing_place};
 
 use roam_conf::Link;
 use roam_pending::{Entry, Standing};

@@ -1,6 +1,6 @@
 //! Where a new request may go.
 
-use crate::state::service::Service;
+use roam_realm::Service;
 
 /// The targets of a request, in the order of their use.
 #[derive(Clone, Copy)]

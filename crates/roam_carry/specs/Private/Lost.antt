@@ -4,7 +4,7 @@ use Rattle.roam_conf.specs.Config.{PeerView}
 use Rattle.roam_pending.specs.PlainEntry.{PlainEntry, is_done}
 use Rattle.roam_reload.specs.Kept.{keeps_sessions, of_peer, same_sessions}
 use Rattle.roam_reverse.specs.Sessions.{Session, count_of_peer}
-use Rattle.roam_book.specs.RealmConfig.{RealmConfig}
+use Rattle.roam_realm.specs.RealmConfig.{RealmConfig}
 use Rattle.roam_carry.specs.Losses.{count_held}
 use Rattle.roam_carry.specs.Reload.{entry_then}
 

@@ -2,8 +2,8 @@
 use Rattle.std.specs.Prelude.{◌≡◌, ℕ, ◌-◌, ◌≤◌, List, ◌++◌, length, map, replicate, slice_index_or, take}
 use Rattle.roam_ids.specs.LaneState.{LaneState, place_at}
 use Rattle.roam_ids.specs.declared.id_state.IdState.TheVariants.{Free}
-use Rattle.roam_book.specs.RealmConfig.{RealmConfig}
-use Rattle.roam_book.specs.Sound.{cursors_of, marks_of, no_lane, own_tags}
+use Rattle.roam_realm.specs.RealmConfig.{RealmConfig}
+use Rattle.roam_realm.specs.Sound.{cursors_of, marks_of, no_lane, own_tags}
 
 -- lanes, and behind them lanes of which nothing is in use, so many in all
 pub record AreMoreLanes (c : RealmConfig) (count : ℕ) (old new : List LaneState) : Type 0 where

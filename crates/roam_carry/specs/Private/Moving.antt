@@ -9,8 +9,8 @@ use Rattle.roam_pending.specs.ListLaws.{IsIn}
 use Rattle.roam_pending.specs.PlainEntry.{PlainEntry}
 use Rattle.roam_reload.specs.Kept.{keeps_coa, of_peer}
 use Rattle.roam_pending.specs.EntryList.{find_ticket, put, without}
-use Rattle.roam_book.specs.RealmConfig.{IsLink, RealmConfig, link_count, link_place}
-use Rattle.roam_book.specs.Sound.{lane_of, no_lane}
+use Rattle.roam_realm.specs.RealmConfig.{IsLink, RealmConfig, link_count, link_place}
+use Rattle.roam_realm.specs.Sound.{lane_of, no_lane}
 use Rattle.roam_carry.specs.Reload.{entry_then, way_before}
 
 -- the entry of a ticket is another one, or gone

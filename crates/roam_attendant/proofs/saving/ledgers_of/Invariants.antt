@@ -1,5 +1,5 @@
 use Rattle.roam_ledgers.specs.Ledgers.{head}
-use Rattle.roam_book.specs.Written.{GainsItems}
+use Rattle.roam_realm.specs.Written.{GainsItems}
 use Rattle.roam_attendant.proofs.saving.ledgers_of.Given as goal
 
 -- what was written so far

@@ -1,4 +1,4 @@
-use Rattle.roam_book.specs.Written.{GainsItems}
+use Rattle.roam_realm.specs.Written.{GainsItems}
 use Rattle.roam_attendant.proofs.saving.write_sessions.Given as goal
 
 -- what was written so far

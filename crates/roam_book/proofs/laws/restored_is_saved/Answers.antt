@@ -1,4 +1,4 @@
-use Rattle.roam_book.proofs.SavingLemmas.{restored_is_saved}
+use Rattle.roam_realm.proofs.SavingLemmas.{restored_is_saved}
 use Rattle.roam_book.proofs.laws.restored_is_saved.Goals as goal
 
 pub returns : goal.returns

@@ -2,8 +2,8 @@ use Rattle.std.proofs.Common.{◌<◌, ◌∙◌, length, subst, sym}
 use Rattle.roam_wire.specs.Reading.{packet_of}
 use Rattle.roam_pending.specs.declared.key.Requester.{Requester}
 use Rattle.roam_pending.specs.Shown.{shown_request}
-use Rattle.roam_book.specs.RealmConfig.{IsRequester}
-use Rattle.roam_book.specs.Sound.{CanGo, IsOfPeer}
+use Rattle.roam_realm.specs.RealmConfig.{IsRequester}
+use Rattle.roam_realm.specs.Sound.{CanGo, IsOfPeer}
 use Rattle.roam_carry.proofs.EndsLemmas.{peer_big, peer_off, peer_on}
 use Rattle.roam_carry.proofs.EntryThenLemmas.{peer_below}
 use Rattle.roam_carry.proofs.ends.peer_stays.Goals as goal

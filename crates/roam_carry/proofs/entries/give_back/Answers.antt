@@ -1,7 +1,7 @@
 use Rattle.std.proofs.Common.{ap}
 use Rattle.roam_pending.specs.PlainEntry.{stands_done}
 use Rattle.roam_pending.specs.Shown.{shown, shown_standing}
-use Rattle.roam_book.proofs.LaneLemmas.{tells-replaced}
+use Rattle.roam_realm.proofs.LaneLemmas.{tells-replaced}
 use Rattle.roam_carry.proofs.EntriesOverLemmas.{on_link, waits_here}
 use Rattle.roam_carry.proofs.entries.give_back.Goals as goal
 

@@ -1,6 +1,6 @@
 use Rattle.std.proofs.Common.{◌∙◌, sym}
 use Rattle.roam_pending.specs.Shown.{shown}
-use Rattle.roam_book.proofs.LaneLemmas.{tells-nothing}
+use Rattle.roam_realm.proofs.LaneLemmas.{tells-nothing}
 use Rattle.roam_carry.proofs.EntriesOverLemmas.{goes_told}
 use Rattle.roam_carry.proofs.entries.let_go.Goals as goal
 

@@ -1,5 +1,5 @@
 use Rattle.std.proofs.Common.{◌≡◌, ◌-◌, length}
-use Rattle.roam_book.specs.Sound.{OthersStay}
+use Rattle.roam_realm.specs.Sound.{OthersStay}
 use Rattle.roam_carry.specs.Reload.{without_done}
 use Rattle.roam_carry.proofs.entries.make_way.Given as goal
 

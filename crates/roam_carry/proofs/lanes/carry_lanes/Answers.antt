@@ -1,7 +1,7 @@
 use Rattle.std.proofs.Common.{◌∙◌, ap, length}
 use Rattle.std.proofs.lemmas.List.{length-replicate}
-use Rattle.roam_book.specs.RealmConfig.{server_link_count}
-use Rattle.roam_book.specs.Rests.{awake}
+use Rattle.roam_realm.specs.RealmConfig.{server_link_count}
+use Rattle.roam_realm.specs.Rests.{awake}
 use Rattle.roam_carry.proofs.EntriesOverLemmas.{rests_stay}
 use Rattle.roam_carry.proofs.lanes.carry_lanes.Goals as goal
 

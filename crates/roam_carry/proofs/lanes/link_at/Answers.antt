@@ -1,6 +1,6 @@
 use Rattle.std.proofs.Common.{ℕ, ◌+◌, ◌*◌, ◌<◌, ◌∙◌, ap, arith, length, sym}
 use Rattle.std.proofs.lemmas.Nat.{div-add-mod', div_below}
-use Rattle.roam_book.specs.RealmConfig.{server_link_count}
+use Rattle.roam_realm.specs.RealmConfig.{server_link_count}
 use Rattle.roam_carry.proofs.lanes.link_at.Goals as goal
 
 -- the place of its end is one of the realm's

@@ -1,6 +1,6 @@
 use Rattle.std.proofs.Common.{◌≡◌, ◌∙◌, None, Some, subst, sym}
 use Rattle.std.proofs.lemmas.Option.{same_Some}
-use Rattle.roam_book.specs.RealmConfig.{IsLink}
+use Rattle.roam_realm.specs.RealmConfig.{IsLink}
 use Rattle.roam_carry.proofs.lanes.place_before.Goals as goal
 
 pub place_of-requires : goal.place_of-requires

@@ -3,7 +3,7 @@ use Rattle.std.specs.List.{AllByRecursion}
 use Rattle.std.specs.Option.{option_map_or}
 use Rattle.roam_pending.specs.PlainEntry.{PlainEntry, has_ticket}
 use Rattle.roam_pending.proofs.TestLemmas.{all-find}
-use Rattle.roam_book.specs.Sound.{IsEntry}
+use Rattle.roam_realm.specs.Sound.{IsEntry}
 use Rattle.roam_carry.specs.Private.Lost.{counted, held_and_goes, one_if, waits_and_goes}
 use Rattle.roam_carry.proofs.LossLemmas.{all_read, few_count, fewer_left, more_read, none_read, room_read}
 use Rattle.roam_carry.proofs.losses.count_going.Goals as goal

@@ -1,5 +1,5 @@
 use Rattle.std.proofs.Common.{ℕ, ap, ◌∙◌, arith}
-use Rattle.roam_book.specs.Sound.{state_of}
+use Rattle.roam_realm.specs.Sound.{state_of}
 use Rattle.roam_carry.specs.Private.Lost.{held_lost}
 use Rattle.roam_carry.proofs.LostLemmas.{few_go, held_goes, waiting_goes}
 use Rattle.roam_carry.proofs.LostSessionLemmas.{sessions_go}

@@ -5,8 +5,8 @@ use Rattle.roam_conf.specs.Duplicates.{has_pair_of_servers}
 use Rattle.roam_conf.specs.Parts.{shown_realm}
 use Rattle.roam_conf.specs.Shown.{shown}
 use Rattle.roam_pending.specs.Realms.{entries_in}
-use Rattle.roam_book.specs.RealmConfig.{RealmConfig, realm_config}
-use Rattle.roam_book.specs.Sound.{IsSound}
+use Rattle.roam_realm.specs.RealmConfig.{RealmConfig, realm_config}
+use Rattle.roam_realm.specs.Sound.{IsSound}
 use Rattle.roam_book.proofs.BookLemmas.{held-entries, own-realm}
 use Rattle.roam_carry.proofs.BookCarryLemmas.{carried-book, carried-sound, configured, peers-changed, same-view, servers-apart, whatever}
 use Rattle.roam_carry.proofs.reload.carry_book_over.Goals as goal

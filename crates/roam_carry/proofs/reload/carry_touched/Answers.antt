@@ -1,6 +1,6 @@
 use Rattle.std.proofs.Common.{List, ◌∙◌, ap, sym, subst}
 use Rattle.roam_reverse.specs.Shown.{Ledger}
-use Rattle.roam_book.specs.Sound.{AreOwnLanes, Mark}
+use Rattle.roam_realm.specs.Sound.{AreOwnLanes, Mark}
 use Rattle.roam_carry.proofs.CarriedOverLemmas.{carried_sound, carried_state, still_ready}
 use Rattle.roam_carry.proofs.reload.carry_touched.Goals as goal
 

@@ -2,7 +2,7 @@ use Rattle.std.proofs.Common.{◌<◌, ◌∙◌, Option, ap, arith, get_or, len
 use Rattle.std.specs.Option.{option_map_or}
 use Rattle.roam_conf.specs.Lookup.{out_of}
 use Rattle.roam_conf.specs.declared.place.Link.{Link}
-use Rattle.roam_book.specs.Rests.{awake, rest_of}
+use Rattle.roam_realm.specs.Rests.{awake, rest_of}
 use Rattle.roam_carry.proofs.LinkThenLemmas.{rest_there}
 use Rattle.roam_carry.proofs.rests.rest_then.Goals as goal
 

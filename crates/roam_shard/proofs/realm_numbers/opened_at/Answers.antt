@@ -1,7 +1,7 @@
 use Rattle.std.proofs.Common.{◌==◌, ◌≡◌, ℕ, true, ap, sym, subst, ◌∙◌, arith}
 use Rattle.std.proofs.lemmas.Bool.Decides.{nat_tests}
 use Rattle.roam_conf.specs.Shown.{shown}
-use Rattle.roam_book.specs.RealmConfig.{RealmConfig}
+use Rattle.roam_realm.specs.RealmConfig.{RealmConfig}
 use Rattle.roam_shard.specs.NumbersView.{IsFresh}
 use Rattle.roam_shard.proofs.realm_numbers.opened_at.Goals as goal
 

@@ -2,7 +2,7 @@ use Rattle.std.proofs.Common.{◌≡◌, ◌∙◌, List, Option, None, Some, Re
 use Rattle.std.specs.Result.{IfOk, result_ok}
 use Rattle.roam_conf.specs.Config.{ConfigView}
 use Rattle.roam_conf.specs.Shown.{shown}
-use Rattle.roam_book.specs.declared.state.start.Start.{Start}
+use Rattle.roam_realm.specs.declared.start.Start.{Start}
 use Rattle.roam_shard.specs.ShardView.{AreStarts}
 use Rattle.test_hub.proofs.growths_of_changes.are_refused.Goals as goal
 

@@ -2,11 +2,11 @@ use Rattle.std.proofs.Common.{◌≡◌, ◌∙◌, List, [], sym, subst, true}
 use Rattle.roam_conf.specs.Shown.{shown}
 use Rattle.roam_pending.specs.PlainEntry.{PlainEntry}
 use Rattle.roam_pending.specs.Realms.{entries_in}
-use Rattle.roam_book.specs.RealmConfig.{RealmConfig}
-use Rattle.roam_book.specs.OnTick.{on_tick}
-use Rattle.roam_book.specs.Rooms.{only_done_due}
-use Rattle.roam_book.specs.Sound.{IsSound}
-use Rattle.roam_book.specs.Turn.{sends}
+use Rattle.roam_realm.specs.RealmConfig.{RealmConfig}
+use Rattle.roam_exchange.specs.OnTick.{on_tick}
+use Rattle.roam_exchange.specs.Rooms.{only_done_due}
+use Rattle.roam_realm.specs.Sound.{IsSound}
+use Rattle.roam_exchange.specs.Turn.{sends}
 use Rattle.roam_book.proofs.BookLemmas.{held-entries, held-kept, kept-book, realm-becomes}
 use Rattle.roam_book.proofs.book.Book.let_go.Goals as goal
 

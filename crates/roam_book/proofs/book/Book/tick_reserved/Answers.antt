@@ -3,10 +3,10 @@ use Rattle.std.specs.Prelude.{Ok}
 use Rattle.roam_conf.specs.Shown.{shown}
 use Rattle.roam_pending.specs.PlainEntry.{PlainEntry}
 use Rattle.roam_pending.specs.Realms.{entries_in}
-use Rattle.roam_book.specs.RealmConfig.{RealmConfig}
-use Rattle.roam_book.specs.OnTick.{on_tick}
-use Rattle.roam_book.specs.Rooms.{IsRoomFor}
-use Rattle.roam_book.specs.Sound.{IsSound}
+use Rattle.roam_realm.specs.RealmConfig.{RealmConfig}
+use Rattle.roam_exchange.specs.OnTick.{on_tick}
+use Rattle.roam_exchange.specs.Rooms.{IsRoomFor}
+use Rattle.roam_realm.specs.Sound.{IsSound}
 use Rattle.roam_book.proofs.BookLemmas.{held-entries, held-kept, kept-book, realm-gives}
 use Rattle.roam_book.proofs.book.Book.tick_reserved.Goals as goal
 

@@ -1,5 +1,5 @@
-use Rattle.roam_book.specs.Sound.{shown_request}
-use Rattle.roam_book.proofs.NakLemmas.{refused-fits}
+use Rattle.roam_exchange.specs.Shown.{shown_request}
+use Rattle.roam_exchange.proofs.NakLemmas.{refused-fits}
 use Rattle.roam_book.proofs.rules.requests.refused_by_nak.Goals as goal
 
 -- the NAK fits into a packet

@@ -1,8 +1,8 @@
 -- The realm's name is written, or nothing.
 use Rattle.std.proofs.Common.{◌≡◌, ◌⊎◌, inl, refl, ap, subst, ◌∙◌}
 use Rattle.roam_conf.specs.Config.{ConfigView}
-use Rattle.roam_book.specs.RealmConfig.{realm_config}
-use Rattle.roam_book.specs.Written.{GainsRealm}
+use Rattle.roam_realm.specs.RealmConfig.{realm_config}
+use Rattle.roam_realm.specs.Written.{GainsRealm}
 use Rattle.roam_shard.specs.ShardView.{OpeningView}
 use Rattle.roam_hub.proofs.locked_trace.LockedTrace.begin_saving.Goals as goal
 

@@ -1,6 +1,6 @@
 -- What is due in the shard is due in the trace.
 use Rattle.std.proofs.Common.{◌≡◌, false, List, subst, sym}
-use Rattle.roam_book.specs.RealmState.{RealmState}
+use Rattle.roam_realm.specs.RealmState.{RealmState}
 use Rattle.roam_shard.specs.Turns.{NothingDue}
 use Rattle.roam_due.specs.Moments.{IsTickMoment}
 use Rattle.roam_hub.specs.Keeping.{KeptView}

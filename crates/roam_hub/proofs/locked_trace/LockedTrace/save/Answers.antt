@@ -3,10 +3,10 @@ use Rattle.std.proofs.Common.{◌≡◌, true, List, inl, inr, refl, ap, subst, 
 use mathlib.Core.List.{IsPrefix}
 use Rattle.roam_conf.specs.Config.{ConfigView}
 use Rattle.roam_audit.specs.Seats.{front_of}
-use Rattle.roam_book.specs.RealmConfig.{realm_config}
-use Rattle.roam_book.specs.RealmState.{RealmState}
-use Rattle.roam_book.specs.Written.{GainsOpen}
-use Rattle.roam_book.proofs.WrittenLemmas.{on_one}
+use Rattle.roam_realm.specs.RealmConfig.{realm_config}
+use Rattle.roam_realm.specs.RealmState.{RealmState}
+use Rattle.roam_realm.specs.Written.{GainsOpen}
+use Rattle.roam_realm.proofs.WrittenLemmas.{on_one}
 use Rattle.roam_core.specs.ManyRealms.{state_at}
 use Rattle.roam_shard.specs.ShardView.{OpeningView}
 use Rattle.roam_hub.specs.Keeping.{KeptView}

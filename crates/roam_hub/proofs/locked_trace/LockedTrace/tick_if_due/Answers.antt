@@ -1,6 +1,6 @@
 -- Something was due where the shard stands, at the end of its history, or nothing.
 use Rattle.std.proofs.Common.{◌≡◌, ◌↔◌, ℕ, ◌++◌, ◌∷◌, [], List, false, Ok, Err, ap, refl, sym, subst, ◌∙◌}
-use Rattle.roam_book.specs.RealmState.{RealmState}
+use Rattle.roam_realm.specs.RealmState.{RealmState}
 use Rattle.roam_shard.specs.Turns.{NothingDue}
 use mathlib.Core.List.{IsPrefix}
 use Rattle.roam_due.specs.Moments.{IsTickMoment}

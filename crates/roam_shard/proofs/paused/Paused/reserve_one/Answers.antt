@@ -1,7 +1,7 @@
 -- A realm that goes on gets lanes; one that doesn't, numbers that nothing uses.
 use Rattle.std.proofs.Common.{◌∙◌, ℕ, List, ap, refl, sym, subst}
 use Rattle.roam_conf.specs.Shown.{shown}
-use Rattle.roam_book.specs.declared.state.start.Start.{Start}
+use Rattle.roam_realm.specs.declared.start.Start.{Start}
 use Rattle.roam_shard.specs.Pausing.{GoesOn, begin_at, opening_under}
 use Rattle.roam_shard.specs.ShardView.{IsStart}
 use Rattle.roam_shard.proofs.FollowLemmas.{good_begin, ready_fresh, ready_over}

@@ -7,10 +7,10 @@ use Rattle.roam_tables.specs.Stands.{entries_in}
 use Rattle.roam_tables.proofs.RealmLemmas.{get-read}
 use Rattle.roam_shard.specs.Pausing.{opening_under, states_under}
 use Rattle.roam_shard.specs.Restoring.{with_one}
-use Rattle.roam_book.specs.RealmConfig.{RealmConfig, realm_config}
-use Rattle.roam_book.specs.Saving.{taken_up}
+use Rattle.roam_realm.specs.RealmConfig.{RealmConfig, realm_config}
+use Rattle.roam_realm.specs.Saving.{taken_up}
 use Rattle.roam_ledgers.specs.Shown.{shown_session}
-use Rattle.roam_book.proofs.WrittenLemmas.{on_one}
+use Rattle.roam_realm.proofs.WrittenLemmas.{on_one}
 use Rattle.roam_shard.proofs.RestoredLemmas.{restored_shard}
 use Rattle.roam_shard.proofs.ShardLemmas.{length-states}
 use Rattle.roam_shard.proofs.TakenUpLemmas.{no-numbers, numbers-taken, past-taken}

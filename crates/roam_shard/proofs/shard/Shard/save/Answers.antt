@@ -4,9 +4,9 @@ use Rattle.std.proofs.lemmas.List.{length-map}
 use Rattle.std.proofs.lemmas.Option.{slice_get_within}
 use Rattle.roam_conf.specs.Parts.{shown_realm}
 use Rattle.roam_reverse.specs.Sessions.{Session}
-use Rattle.roam_book.specs.RealmConfig.{RealmConfig, realm_config}
-use Rattle.roam_book.specs.Written.{GainsOpen}
-use Rattle.roam_book.proofs.WrittenLemmas.{gains_none, on_one}
+use Rattle.roam_realm.specs.RealmConfig.{RealmConfig, realm_config}
+use Rattle.roam_realm.specs.Written.{GainsOpen}
+use Rattle.roam_realm.proofs.WrittenLemmas.{gains_none, on_one}
 use Rattle.roam_core.specs.ManyRealms.{state_at}
 use Rattle.roam_shard.specs.ShardView.{ShardView, shown_opening}
 use Rattle.roam_shard.proofs.LookLemmas.{sessions-seen}

@@ -3,9 +3,9 @@ use Rattle.std.proofs.Common.{arith, ◌∙◌, inl, inr, refl, List, length, ap
 use Rattle.std.proofs.lemmas.List.{length-map}
 use Rattle.std.proofs.lemmas.Option.{slice_get_within}
 use Rattle.roam_conf.specs.Parts.{shown_realm}
-use Rattle.roam_book.specs.RealmConfig.{RealmConfig, realm_config}
-use Rattle.roam_book.specs.Written.{GainsRealm}
-use Rattle.roam_book.proofs.WrittenLemmas.{on_one}
+use Rattle.roam_realm.specs.RealmConfig.{RealmConfig, realm_config}
+use Rattle.roam_realm.specs.Written.{GainsRealm}
+use Rattle.roam_realm.proofs.WrittenLemmas.{on_one}
 use Rattle.roam_shard.specs.ShardView.{ShardView}
 use Rattle.roam_shard.proofs.shard.Shard.save_realm.Goals as goal
 

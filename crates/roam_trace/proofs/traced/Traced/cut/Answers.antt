@@ -1,6 +1,6 @@
 -- The history that the type keeps.
 use Rattle.std.proofs.Common.{◌≡◌, List, length, subst}
-use Rattle.roam_book.specs.RealmState.{RealmState}
+use Rattle.roam_realm.specs.RealmState.{RealmState}
 use Rattle.roam_trace.specs.History.{Ends, TraceView}
 use Rattle.roam_trace.specs.Steps.{PlainStep}
 use Rattle.roam_trace.proofs.traced.Traced.cut.Goals as goal

@@ -1,7 +1,7 @@
 -- A job was taken, or the call for it failed.
 use Rattle.std.proofs.Common.{◌∙◌, ap, sym, subst, inr}
 use Rattle.roam_counters.specs.OwnCounts.{raised_all}
-use Rattle.roam_book.specs.HappeningsShown.{shown_happening}
+use Rattle.roam_exchange.specs.HappeningsShown.{shown_happening}
 use Rattle.roam_counters.specs.Arrivals.{failed_increments}
 use Rattle.roam_counters.specs.Increments.{job_increments}
 use Rattle.roam_route.specs.Shown.{WantsMemory, shown_job}

@@ -2,7 +2,7 @@
 use Rattle.std.proofs.Common.{◌∙◌, ap, inl, inr}
 use Rattle.roam_counters.specs.Arrivals.{tick_increments}
 use Rattle.roam_counters.specs.OwnCounts.{CountsView, raised_all}
-use Rattle.roam_book.specs.HappeningsShown.{shown_happening}
+use Rattle.roam_exchange.specs.HappeningsShown.{shown_happening}
 use Rattle.roam_workers.proofs.TickLemmas.{not_ticked_so, ticked_so}
 use Rattle.roam_workers.proofs.context.WorkerContext.tick.Goals as goal
 

@@ -1,0 +1,88 @@
+//! The packets of a tick and what became of its requests, while they are gathered.
+
+ghost use Rattle.std.specs.Prelude.{◌≡◌, ℕ, ◌+◌, ◌++◌, ◌<◌, ◌≤◌, ◌∷◌, List, [], None, Some, IfOk, IsOk, length};
+ghost use Rattle.std.specs.Prelude.{vec_capacity, vec_len};
+ghost use Rattle.roam_route.specs.Admission.{PlainOut};
+ghost use Rattle.roam_route.specs.Shown.{shown_out};
+ghost use Rattle.roam_exchange.specs.Happenings as happenings;
+ghost use Rattle.roam_exchange.specs.Happenings.{PlainDue};
+ghost use Rattle.roam_exchange.specs.HappeningsShown.{shown_dues, shown_happening};
+ghost use Rattle.roam_exchange.specs.Turn.{shown_outs};
+ghost use Rattle.roam_exchange.specs.Dues.{noted_of};
+ghost use Rattle.roam_exchange.specs.Memory.{AreDues, IsOuts};
+
+use crate::answer::{Answer, Turned, refused_turn};
+use crate::happening::{DueHappening, Happening};
+use crate::outs::Outs;
+use roam_route::Out;
+use roam_wire::{NoMemory, Refusal};
+use std::alloc::Allocator;
+
+/// The packets of a tick and what became of its requests, while they are gathered.
+#[derive(Drop)]
+pub struct AnswerBuilder<A: Allocator> {
+    pub sent: Vec<Out<A>, A>,
+    pub dues: Vec<DueHappening<A>, A>,
+}
+
+impl<A: Allocator + Copy> AnswerBuilder<A> {
+    /// None of either, and places for so many of each.
+    pub fn new(alloc: A, places: usize) -> Result<AnswerBuilder<A>, NoMemory>
+        ensures outs { IfOk result (λ o. IsOuts places [] o.sent) }
+        ensures dues { IfOk result (λ o. AreDues places [] o.dues) }
+        ensures succeeds { places ≡ 0 → IsOk result }
+    {
+        let sent = Vec::with_capacity(alloc, places)?;
+        let dues = Vec::with_capacity(alloc, places)?;
+        Ok(AnswerBuilder { sent, dues })
+    }
+
+    /// One packet more, where there is a place for it. Takes no memory.
+    pub fn push(&mut self, out: Out<A>)
+        requires place { vec_len self.old.sent < vec_capacity self.old.sent }
+        ensures outs { (places : ℕ) (packets : List PlainOut) → IsOuts (places + 1) packets self.old.sent
+            → IsOuts places (packets ++ shown_out out ∷ []) self.new.sent }
+        ensures count { length self.new.sent.items ≡ length self.old.sent.items + 1 }
+        ensures dues { self.new.dues ≡ self.old.dues }
+    {
+        self.sent.push_reserved(out);
+    }
+
+    /// What became of one request more, if anything is noted of it, where there is a place for that. Takes no memory.
+    pub fn note(&mut self, due: Option<DueHappening<A>>)
+        requires place { vec_len self.old.dues < vec_capacity self.old.dues }
+        ensures dues { (places : ℕ) (dues : List PlainDue) → AreDues (places + 1) dues self.old.dues
+            → AreDues places (dues ++ noted_of due) self.new.dues }
+        ensures count { length self.new.dues.items ≤ length self.old.dues.items + 1 }
+        ensures outs { self.new.sent ≡ self.old.sent }
+    {
+        if let Some(due) = due {
+            self.dues.push_reserved(due);
+        }
+    }
+
+    /// The tick's answer, and what happened. Takes no memory.
+    pub fn finish(self) -> Turned<A>
+        ensures packets { result.answer.outs ≡ self.sent.items }
+        ensures refusal { result.answer.refusal ≡ None }
+        ensures happening { shown_happening result.happening ≡ happenings.ticked (shown_dues self.dues.items) }
+    {
+        let AnswerBuilder { sent, dues } = self;
+        Turned {
+            answer: Answer {
+                outs: Outs::of_vec(sent),
+                refusal: None,
+            },
+            happening: Happening::Ticked(dues),
+        }
+    }
+
+    /// A refusal in place of all. Takes no memory.
+    pub fn refused(self, alloc: A, why: Refusal) -> Turned<A>
+        ensures packets { shown_outs result.answer.outs ≡ [] }
+        ensures refusal { result.answer.refusal ≡ Some why }
+        ensures happening { shown_happening result.happening ≡ happenings.refused why }
+    {
+        refused_turn(alloc, why)
+    }
+}

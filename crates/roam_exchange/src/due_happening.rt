@@ -1,0 +1,104 @@
+//! What became of a request that was due and waited.
+
+ghost use Rattle.std.specs.Prelude.{◌≡◌, ◌+◌, Some, is_some, length};
+ghost use Rattle.roam_pending.specs.Shown.{shown, shown_request, shown_standing};
+ghost use Rattle.roam_pending.specs.declared.entry.Standing.TheVariants as standing;
+ghost use Rattle.roam_conf.specs.declared.exchange_lines.ExchangeLines.{ExchangeLines};
+ghost use Rattle.roam_exchange.specs.Happenings.{code_in, due_octets, due_with, keeps_given_up, waited_at};
+ghost use Rattle.roam_exchange.specs.HappeningsShown.{shown_waited};
+ghost use Rattle.roam_exchange.specs.Dues.{HasRequestRoom, became_by, became_of, noted_of};
+ghost use Rattle.roam_pending.specs.PlainEntry.{PlainEntry};
+
+use crate::buffers::copied_into;
+use crate::due_action::DueAction;
+use crate::happening::{Became, DueHappening, Waited};
+use roam_pending::{Entry, Request, Standing, Waiting};
+use roam_realm::RealmSettings;
+use roam_wire::Octets;
+use std::alloc::Allocator;
+
+/// The code of a packet (RFC 2865, section 3).
+pub fn code_in(octets: &[u8]) -> u8
+    ensures { result ≡ code_in octets.now }
+{
+    match octets {
+        [code, ..] => *code,
+        [] => 0,
+    }
+}
+
+/// A request as it waits, with its octets where they are kept.
+pub(crate) fn waited_as<A: Allocator>(
+    request: &Request<A>,
+    ticket: u64,
+    waiting: &Waiting<A>,
+    octets: Option<Octets<A>>,
+) -> Waited<A>
+    ensures { (e : PlainEntry) → e.request ≡ shown_request request.now → e.ticket ≡ ticket
+        → Some (shown_waited result) ≡ waited_at e octets (shown_standing (standing.Waiting waiting.now)) }
+{
+    Waited {
+        ticket,
+        key: request.key,
+        requester: request.requester,
+        came: request.came,
+        code: code_in(request.octets.as_slice()),
+        link: waiting.link,
+        sends_left: waiting.sends_left,
+        deadline: waiting.deadline,
+        octets,
+    }
+}
+
+/// What became of a request that waited, by what is done with it.
+fn became_by<A: Allocator>(action: &DueAction<A>) -> Became
+    ensures { result ≡ became_by action.now }
+{
+    match action {
+        DueAction::Expired => Became::GivenUp { by_nak: false },
+        DueAction::SentAgain(_) => Became::SentAgain,
+        DueAction::Forwarded(_, waiting) => Became::FailedOver(waiting.link),
+        DueAction::Refused(_, _) => Became::GivenUp { by_nak: true },
+    }
+}
+
+/// The octets of a request of which this became, in the buffer that was made for them, where one was.
+fn octets_for<A: Allocator>(
+    became: Became,
+    request: &Request<A>,
+    buffer: Option<Vec<u8, A>>,
+) -> Option<Octets<A>>
+    requires room { HasRequestRoom (is_some buffer) (length request.now.octets + 304) buffer }
+    ensures { (lines : ExchangeLines) → is_some buffer ≡ keeps_given_up lines
+        → result ≡ due_octets lines request.now.octets became }
+{
+    match (became, buffer) {
+        (Became::GivenUp { .. }, Some(buffer)) => {
+            Some(copied_into(buffer, request.octets.as_slice()))
+        }
+        _ => None,
+    }
+}
+
+/// What is noted of an entry that was due, by what is done with it; nothing of one that is done.
+pub fn happening_of<A: Allocator>(
+    settings: &RealmSettings<'_>,
+    entry: &Entry<A>,
+    action: &DueAction<A>,
+    buffer: Option<Vec<u8, A>>,
+) -> Option<DueHappening<A>>
+    requires room { HasRequestRoom (is_some buffer) (length entry.now.request.octets + 304) buffer }
+    ensures { (lines : ExchangeLines) → is_some buffer ≡ keeps_given_up lines → noted_of result
+        ≡ due_with lines settings.now (shown entry.now) (became_of (shown entry.now).standing action.now) }
+{
+    let Standing::Waiting(waiting) = &entry.standing else {
+        return None;
+    };
+    let became = became_by(action);
+    let octets = octets_for(became, &entry.request, buffer);
+    Some(DueHappening {
+        realm: settings.index(),
+        became,
+        waited: waited_as(&entry.request, entry.ticket, waiting, octets),
+    })
+}

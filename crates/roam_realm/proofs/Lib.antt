@@ -1,0 +1,12 @@
+pub mod LaneLemmas
+pub mod LinkLaneLemmas
+pub mod LookingLemmas
+pub mod SavingLemmas
+pub mod ShapingLemmas
+pub mod SoundLemmas
+pub mod TakenLaneLemmas
+pub mod TargetLemmas
+pub mod UsedLemmas
+pub mod WaitingLemmas
+pub mod WaysToLemmas
+pub mod WrittenLemmas

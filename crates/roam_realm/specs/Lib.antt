@@ -1,0 +1,13 @@
+-- What of one realm is read and kept, in the order in which it is read.
+pub mod RealmConfig
+pub mod Shapings
+pub mod Rests
+pub mod RealmState
+pub mod Conversing
+-- What the contracts of public calls say beside that.
+pub mod Saving
+pub mod Written
+pub mod Sound
+pub mod Stays
+-- Words that no contract of a public call names: those of private functions and of invariants.
+pub mod Private

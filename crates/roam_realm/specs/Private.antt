@@ -1,0 +1,3 @@
+-- Words of private functions and of invariants: no contract of a public call names one.
+pub mod Ends
+pub mod Looking

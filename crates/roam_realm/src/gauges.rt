@@ -1,0 +1,92 @@
+//! What a realm's entries and numbers tell who looks at them. Nothing changes by it.
+
+ghost use Rattle.std.specs.Prelude.{◌≡◌, ◌≤◌, length, if◌then◌else◌};
+ghost use Rattle.roam_realm.specs.Private.Looking.{used_below};
+
+use crate::realm_numbers::RealmNumbers;
+use crate::rest::Rest;
+use roam_ids::LazyLane;
+use std::alloc::Allocator;
+
+/// How many ends at home servers a realm has at most: two at each of eight.
+pub const SERVER_LINKS: usize = 16;
+
+/// How a realm stands, in numbers.
+#[derive(Clone, Copy)]
+pub struct Gauges {
+    /// How many entries it has: requests that wait for a reply, and answered ones whose reply is held.
+    pub entries: usize,
+    /// How many Identifiers are in use toward all its links: one for each request that waits.
+    pub in_use: usize,
+    /// How many sessions are open in its ledger.
+    pub sessions: usize,
+    /// How many Identifiers are in use toward each of its servers' ends, by all `out`: in the order of the servers
+    /// their `auth`, and then their `acct`. What is behind these is 0.
+    pub in_use_at: [u16; SERVER_LINKS],
+    /// How the links to each of these ends rest.
+    pub rests: [Rest; SERVER_LINKS],
+}
+
+/// One, where that is so.
+fn one_if(is_so: bool) -> u16
+    ensures value { result ≡ if is_so then 1 else 0 }
+    ensures small { result ≤ 1 }
+{
+    if is_so { 1 } else { 0 }
+}
+
+/// How many Identifiers of a lane are in use: under so many a request waits.
+fn in_use<A: Allocator>(lane: &LazyLane<A>) -> u16
+    ensures { result ≡ used_below lane.now 256 }
+{
+    if lane.is_unmade() {
+        return 0;
+    }
+    let mut count = 0;
+    for id in 0..256u16 {
+        count += one_if(lane.holder(id as u8).is_some());
+    }
+    count
+}
+
+impl<A: Allocator + Copy> RealmNumbers<A> {
+    /// How many sessions are open. Takes no memory.
+    fn session_count(&self) -> usize
+        ensures { result ≡ length self.now.sessions.sessions }
+    {
+        self.sessions.len()
+    }
+
+    /// How a link rests, by its place among those of the servers. One that isn't there is awake.
+    fn rest_at(&self, place: usize) -> Rest {
+        match self.rests.get(place) {
+            Some(rest) => *rest,
+            None => Rest::awake(),
+        }
+    }
+
+    /// How a realm stands that has so many entries, and so many `out`. Takes no memory.
+    pub fn gauges(&self, entries: usize, outs: usize) -> Gauges
+        ensures entries { result.entries ≡ entries }
+        ensures sessions { result.sessions ≡ length self.now.sessions.sessions }
+    {
+        let mut gauges = Gauges {
+            entries,
+            in_use: 0,
+            sessions: self.session_count(),
+            in_use_at: [0; SERVER_LINKS],
+            rests: [Rest::awake(); SERVER_LINKS],
+        };
+        let servers = self.rests.len().min(SERVER_LINKS);
+        for (place, lane) in self.lanes.iter().enumerate() {
+            let count = in_use(lane);
+            gauges.in_use = gauges.in_use.saturating_add(usize::from(count));
+            let end = place / outs.max(1);
+            if end < servers {
+                gauges.in_use_at[end] = gauges.in_use_at[end].saturating_add(count);
+                gauges.rests[end] = self.rest_at(end);
+            }
+        }
+        gauges
+    }
+}

@@ -1,0 +1,21 @@
+//! What keys the hashes of a broker's maps.
+
+ghost use Rattle.std.specs.Prelude.{◌≡◌};
+ghost use Rattle.roam_conf.specs.Shown.{shown};
+ghost use Rattle.roam_hash.specs.Keyed.{keyed};
+ghost use Rattle.roam_realm.specs.declared.hashing.TheConstants.{HASH_STREAM};
+ghost use Rattle.roam_random.specs.RandomWords.{request_authenticator_at};
+
+use roam_conf::Config;
+use roam_hash::HashKey;
+use roam_random::request_authenticator;
+
+/// The stream of random words from which the key of hashes is: no realm's, whose streams are their indexes.
+pub const HASH_STREAM: u64 = 1 << 32;
+
+/// What keys the hashes of a broker's maps: the first words of a stream of its seed that no realm draws from.
+pub fn hash_key(config: &Config) -> HashKey
+    ensures { result ≡ keyed (request_authenticator_at (shown config.now).seed HASH_STREAM 0) }
+{
+    HashKey::new(request_authenticator(config.seed, HASH_STREAM, 0))
+}

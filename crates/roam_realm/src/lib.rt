@@ -1,0 +1,43 @@
+//! What one realm keeps besides its entries, what of its configuration it reads, and which link is chosen.
+//!
+//! [`RealmSettings`] is what the rules read of a configuration: the realm's own table, the peers and the seed. [`RealmNumbers`]
+//! is what a realm hands out and keeps: Identifiers toward its links, tickets, random words, the ledger of sessions, and how
+//! its servers' links rest. What is done with these, and with entries, is said by the crates above.
+//!
+//! # Proved
+//!
+//! - a realm begins with nothing in use, no session open, and all servers awake | `RealmNumbers::new`
+//! - an Identifier that is taken toward a link is the next free one, and what the lanes tell of entries stays true when one
+//!   is taken and when one is given back | `RealmNumbers::take_next`, `give_back`: `next`, `tells`
+//! - the link that is chosen is the first with a free Identifier that doesn't stand back, or where each such does, the
+//!   first of them | `RealmNumbers::chosen`, `open_to_peer`: `chosen`
+//! - how a link rests once it is chosen, kept silent or gave a sign of life is as it is written; all else stays |
+//!   `RealmNumbers::put_off`, `count_silence`, `hear`
+//! - each request is shaped as the lists of its peer and realm say | `RealmSettings::shaping_of`, `removal_for`
+//! - what a file of ledgers has of a realm's sessions is what is open, and is taken up as it was saved |
+//!   `RealmNumbers::save`, `restore`, `save_realm`
+#![tactic(auto)]
+
+mod gauges;
+mod hashing;
+mod link_choice;
+mod link_rests;
+mod links;
+mod nowhere;
+mod realm_numbers;
+mod realm_settings;
+mod rest;
+mod saving;
+mod service;
+mod shapings;
+mod start;
+
+pub use gauges::{Gauges, SERVER_LINKS};
+pub use hashing::{HASH_STREAM, hash_key};
+pub use link_rests::Wanted;
+pub use realm_numbers::{RealmNumbers, new_lanes, new_rests, tag_of};
+pub use realm_settings::RealmSettings;
+pub use rest::Rest;
+pub use saving::save_realm;
+pub use service::{ServersFrom, Service};
+pub use start::Start;
