@@ -27,7 +27,6 @@ pub mod LostLemmas
 pub mod LostSessionLemmas
 pub mod ChangedLemmas
 pub mod NothingLostLemmas
-pub mod BookCarryLemmas
 pub mod EndsLemmas
 pub mod EntriesOverLemmas
 pub mod ServerThenLemmas

@@ -186,7 +186,7 @@ sessions_then old new ss =
 -- Rules out: one peer's new secret that takes all entries and sessions; a reply signed with another secret than the
 -- request; an entry at a server that stands where its own stood; a session of a peer back under another number
 -- Stands in: `roam_carry` `Reload.antt`: `carried`, `entries_then`, `sessions_then`, `link_then`, `requester_then`;
--- `carry_book_over`, `carry_over`, the laws `untouched_realms_go_on`, `carried_takes_no_more`
+-- `carry_over`, the laws `untouched_realms_go_on`, `carried_takes_no_more`
 --
 abbrev pub carried : RealmConfig → RealmConfig → RealmState → RealmState
 carried old new s = record {

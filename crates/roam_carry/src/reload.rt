@@ -1,12 +1,10 @@
 //! A realm that goes on under another part of a configuration.
 
-ghost use Rattle.std.specs.Prelude.{◌≡◌, ◌<◌, ◌≤◌, ◌^◌, IfOk, List, None, OnErr, OnOk, length, map, slice_get};
+ghost use Rattle.std.specs.Prelude.{◌≡◌, ◌<◌, ◌≤◌, ◌^◌, IfOk, List, None, OnOk, length, map, slice_get};
 ghost use Rattle.std.specs.Prelude.{true, vec_capacity};
 ghost use Rattle.roam_conf.specs.Parts.{shown_peer};
-ghost use Rattle.roam_conf.specs.Shown.{shown};
 ghost use Rattle.roam_pending.specs.PlainEntry.{PlainEntry};
-ghost use Rattle.roam_reload.specs.Reload.{IsCarried, peer_part};
-ghost use Rattle.roam_book.specs.BookView.{settings_of};
+ghost use Rattle.roam_reload.specs.Reload.{peer_part};
 ghost use Rattle.roam_realm.specs.RealmConfig.{RealmConfig, link_count};
 ghost use Rattle.roam_realm.specs.Sound.{IsSound, OthersStay, state_of};
 ghost use Rattle.roam_carry.specs.Carrying.{AreChanged, HaveDistinctServers, IsReadyToCarry, StandsAsItIs};
@@ -19,8 +17,7 @@ ghost use Rattle.roam_carry.specs.Reload.{carried};
 use crate::entries::carry_entries;
 use crate::lanes::{FreshLanes, carry_lanes, fresh_lanes, stand_as_before};
 use crate::sessions::carry_sessions;
-use roam_book::Book;
-use roam_conf::{Config, Peer};
+use roam_conf::Peer;
 use roam_ids::LazyLane;
 use roam_pending::Entries;
 use roam_realm::{RealmNumbers, RealmSettings, tag_of};
@@ -249,35 +246,3 @@ pub fn carried_takes_no_more()
     ensures takes_no_more { CarriedTakesNoMore }
     ensures places { CarriedHasPlaces }
 {}
-
-/// For tests: a book goes on under another configuration, in which its realm is here. `NoMemory` comes where a
-/// growth was refused, and the book is then as it was.
-pub fn carry_book_over<'c, A: Allocator + Copy>(
-    book: &mut Book<'c, A>,
-    config: &'c Config,
-) -> Result<(), NoMemory>
-    requires seed { config.now.seed ≡ book.old.config.seed }
-    requires carried { IsCarried book.old.config (shown config.now) book.old.realm }
-    ensures config { OnOk result (book.new.config ≡ shown config.now) }
-    ensures state { OnOk result (book.new.state
-        ≡ carried (settings_of book.old) (settings_of book.new) book.old.state) }
-    ensures realm { book.new.realm ≡ book.old.realm }
-    ensures err { OnErr result (book.new ≡ book.old) }
-{
-    let old = RealmSettings::new(book.config, book.realm);
-    let new = RealmSettings::new(config, book.realm);
-    let changed = changed_peers(book.numbers.alloc, old.peers(), new.peers())?;
-    let fresh = reserve_carry(&old, &new, &mut book.numbers)?;
-    carry_over(
-        &old,
-        &new,
-        changed.as_slice(),
-        &mut book.entries,
-        &mut book.numbers,
-        fresh,
-    );
-    // What the list keeps is said where it is counted.
-    let _count = book.entries.len();
-    book.config = config;
-    Ok(())
-}
