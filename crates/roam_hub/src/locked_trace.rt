@@ -1,10 +1,8 @@
 //! What lies under a shard's lock.
 
 ghost use Rattle.std.specs.Prelude.{◌≡◌, ◌≢◌, ◌+◌, ◌<◌, ◌-◌, ◌^◌, ◌++◌, ◌∷◌, [], false, length, min, true};
-ghost use Rattle.std.specs.Prelude.{IfErr, IfOk, IfSome, IsErrOf, OnErr, OnOk};
+ghost use Rattle.std.specs.Prelude.{IfErr, IfOk, IsErrOf, OnErr, OnOk};
 ghost use mathlib.Core.List.{IsPrefix};
-ghost use Rattle.roam_conf.specs.Shown.{shown};
-ghost use Rattle.roam_carry.specs.Carrying.{AreChanged};
 ghost use Rattle.roam_route.specs.Events.{IsEvent, arrival_of};
 ghost use Rattle.roam_route.specs.Shown.{shown_job};
 ghost use Rattle.roam_core.specs.Events.{arrives, is_in_shard, ticks};
@@ -15,21 +13,18 @@ ghost use Rattle.roam_history.specs.Entries.{IsWhole, step_entry, steps_in, stor
 ghost use Rattle.roam_history.specs.HubOpening.{opening_at};
 ghost use Rattle.roam_audit.specs.Seats.{front_of};
 ghost use Rattle.roam_hub.specs.Calls.{AreGone, Calls, HasHappened, IsCall, IsFull, Sees, answered_step};
-ghost use Rattle.roam_hub.specs.Looks.{LosesIn, StandsIn};
 
 mod due;
 mod saving;
+mod standing;
 
 use crate::answered::{Answered, Refused};
 use crate::call::Call;
 use crate::fault::HubFault;
 use crate::writing::{closed, recorded, without_steps};
 use roam_audit::Seat;
-use roam_carry::Loss;
-use roam_conf::Config;
 use roam_exchange::Turned;
 use roam_history::{Front, Head, Opened};
-use roam_realm::Gauges;
 use roam_route::Job;
 use roam_shard::Shard;
 use roam_trace::{Step, Traced};
@@ -246,37 +241,6 @@ impl<'c, A: Allocator + Copy, N: Opened> LockedTrace<'c, A, N> {
         self.front = without_steps(rt, &self.head, &self.front);
         seat.note_let_go(self.front.again());
         Ok(steps)
-    }
-
-    /// How a realm stands where the history ends; none where it isn't one of the shard's own, or this is another
-    /// shard's trace. Takes no memory.
-    pub(crate) fn gauges(&self, seat: &Seat<A, N>, shard: u16, realm: u16) -> Option<Gauges>
-        requires { shard < N.opening.config.shards }
-        ensures { IfSome result (StandsIn N.opening shard realm seat.now) }
-    {
-        if !self.goes_on(seat, shard) {
-            return None;
-        }
-        self.traced.shard().gauges(realm)
-    }
-
-    /// What goes of a realm where another configuration is followed; none as for `gauges`. Takes no memory.
-    pub(crate) fn losses(
-        &self,
-        seat: &Seat<A, N>,
-        shard: u16,
-        realm: u16,
-        next: &Config,
-        changed: &[u16],
-    ) -> Option<Loss>
-        requires shard { shard < N.opening.config.shards }
-        requires changed { AreChanged N.opening.config.peers (shown next.now).peers changed.now }
-        ensures { IfSome result (LosesIn N.opening (shown next.now) shard realm seat.now) }
-    {
-        if !self.goes_on(seat, shard) {
-            return None;
-        }
-        self.traced.shard().losses(realm, next, changed)
     }
 
     /// Closes the history, once nobody calls any more: the shard, the stored steps and all that was ever written;

@@ -20,6 +20,7 @@ mod look;
 mod octets;
 mod step;
 mod stored_event;
+mod storing;
 mod traced;
 
 pub use event::{copy_of, job_event};

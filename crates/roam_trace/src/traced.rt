@@ -1,31 +1,28 @@
 //! A shard with its history, of which the last steps are stored.
 
-ghost use Rattle.std.specs.Prelude.{List, ◌≡◌, ◌↔◌, ◌+◌, ◌-◌, ◌<◌, ◌≤◌, ◌/◌, ◌^◌, ◌++◌, [], ◌∷◌, false, true};
-ghost use Rattle.std.specs.Prelude.{length, max, min, vec_capacity, vec_len, IfErr, IfOk};
-ghost use Rattle.std.specs.Prelude.{IsErrAnd, IsErrOf, IsOk, OnOk};
+ghost use Rattle.std.specs.Prelude.{List, ◌≡◌, ◌↔◌, ◌+◌, ◌-◌, ◌<◌, ◌≤◌, ◌^◌, ◌++◌, [], false, true};
+ghost use Rattle.std.specs.Prelude.{length, min, IfErr, IfOk};
+ghost use Rattle.std.specs.Prelude.{IsErrAnd, IsErrOf, OnOk};
 ghost use Rattle.roam_route.specs.Events.{IsEvent, arrival_of};
 ghost use Rattle.roam_route.specs.Shown.{shown_job};
 ghost use Rattle.roam_core.specs.Events.{arrives, is_in_shard, ticks};
-ghost use Rattle.roam_core.specs.Shown.{shown_event};
 ghost use Rattle.roam_realm.specs.RealmState.{RealmState};
 ghost use Rattle.roam_shard.specs.ShardView.{shown_opening};
 ghost use Rattle.roam_shard.specs.Turns.{NothingDue};
 ghost use Rattle.roam_exchange.specs.HappeningsShown.{shown_happening};
 ghost use Rattle.roam_core.specs.HappeningsTo.{happening_to};
 ghost use Rattle.roam_trace.specs.History.{Ends, Stores, TraceView, stored_steps, without_steps};
-ghost use Rattle.roam_trace.specs.Stored.{HasNoClock};
-ghost use Rattle.roam_trace.specs.Steps.{PlainStep, octets_came, octets_in, shown_answer};
+ghost use Rattle.roam_trace.specs.Steps.{PlainStep, octets_in, shown_answer};
 
 use crate::event::{copy_of, event_of};
 use crate::fault::TraceFault;
-use crate::octets::octets_of;
 use crate::step::Step;
+use crate::storing::{reserve_one, store};
 use roam_conf::ExchangeLines;
 use roam_core::Event;
 use roam_exchange::{Answer, Turned};
 use roam_route::Job;
 use roam_shard::{Opening, Shard};
-use roam_wire::NoMemory;
 use std::alloc::Allocator;
 use std::marker::Model;
 use std::mem;
@@ -84,37 +81,6 @@ impl<'c, A: Allocator> Model for Traced<'c, A> {
       events = t.steps.items;
       limit = t.limit;
     }) × (t.octets ≡ min (octets_in t.steps.items) (2 ^ 64 - 1)) };
-}
-
-/// Makes room for one step more, where fewer than the limit are stored. A full list grows by an eighth of
-/// its steps and by eight, but not past the limit: so what stands unused is at most that, where a list
-/// that doubles could have as much again as its steps take.
-fn reserve_one<A: Allocator>(steps: &mut Vec<Step<A>, A>, limit: usize) -> Result<(), NoMemory>
-    requires { vec_len steps.old < limit }
-    ensures items { steps.new.items ≡ steps.old.items }
-    ensures room { OnOk result (vec_len steps.new < vec_capacity steps.new) }
-    ensures unused { vec_capacity steps.new
-        ≤ max (vec_capacity steps.old) (min limit (vec_len steps.old + vec_len steps.old / 8 + 8)) }
-    ensures succeeds { vec_len steps.old < vec_capacity steps.old → IsOk result }
-{
-    let len = steps.len();
-    if len < steps.capacity() {
-        return Ok(());
-    }
-    let more = (len / 8 + 8).min(limit - len);
-    steps.reserve_exact(more)?;
-    Ok(())
-}
-
-/// Stores the step of an event for which there is room, with its octets. Takes no memory.
-fn store<A: Allocator>(steps: &mut Vec<Step<A>, A>, octets: &mut u64, event: Event<A>)
-    requires room { vec_len steps.old < vec_capacity steps.old }
-    requires clock { HasNoClock (shown_event event) }
-    ensures items { steps.new.items ≡ steps.old.items ++ shown_event event ∷ [] }
-    ensures octets { octets.new ≡ min (octets.old + octets_came (shown_event event)) (2 ^ 64 - 1) }
-{
-    *octets = octets.saturating_add(octets_of(&event));
-    steps.push_reserved(Step::new(event));
 }
 
 impl<'c, A: Allocator + Copy> Traced<'c, A> {
