@@ -3,8 +3,8 @@
 use crate::manner::Manner;
 use roam_conf::Config;
 use roam_control::Reply;
+use roam_counting::Counters;
 use roam_sockets::BoundSocket;
-use roam_telling::Counters;
 
 /// A configuration that is served, with its sockets and its counts.
 pub struct Configured {

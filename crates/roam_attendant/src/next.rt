@@ -12,11 +12,12 @@ use crate::source::{Following, Source};
 use log::Log;
 use roam_conf::Config;
 use roam_control::{Course, Reply, plain_reply};
+use roam_counting::Counters;
 use roam_hub::{Blanks, Opened};
 use roam_sockets::{
     BoundSocket, RECEIVE_BUFFER, ServeFault, bind_following, descriptors_wanted, open_beside, widen,
 };
-use roam_telling::{Counters, Notice};
+use roam_telling::Notice;
 use roam_threads::{Kits, can_start};
 use roam_workers::{Rests, Shared, tell_or_drop};
 use std::alloc::Global;

@@ -2,9 +2,9 @@
 
 use roam_conf::Config;
 use roam_counters::{CountedEvent, Process, Subject};
+use roam_counting::Counters;
 use roam_hub::{Gauges, Opened, Seat};
 use roam_metrics::{Counts, Gauge};
-use roam_telling::Counters;
 use roam_workers::Shared;
 use std::alloc::{AllocError, Global};
 use std::sync::Wait;

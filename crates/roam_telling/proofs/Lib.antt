@@ -1,2 +1,1 @@
-pub mod CountingLemmas
 pub mod SaidLemmas

@@ -1,5 +1,3 @@
-pub mod Counting
 pub mod Notices
 pub mod Origins
-pub mod Packets
 pub mod SaidLately

@@ -1,12 +1,10 @@
-//! What a server's threads count and tell of what happens, each by its own counts and its own queues.
+//! What a server's threads tell of what happens, each by its own queues.
 //!
 //! Nothing here writes a line or waits: what is told goes into a queue, whose other end the logger has, and what finds no
 //! room there is counted.
 //!
 //! # Proved
 //!
-//! - the counts of a thread's own rise by what happened, as the rules say it, by what came and what was refused, and by
-//!   nothing else | `Counting::gave`, `ticked`, `came`, `refused`, `failed`, `answered`
 //! - each refused arrival or tick is counted in the thread's tallies, and logged a second after the first of
 //!   them: with that the notices that its queue was given and those that it dropped are as many more as were
 //!   tallied, up to 2^64 - 1, and nothing is left to log. A notice of lost packets, of dropped lines, of a
@@ -15,24 +13,15 @@
 //!   them it writes together, no contract says | `Notices::refused`, `tell_refused`, `tell_due`, `time_left`
 #![tactic(auto)]
 
-mod counted;
-mod counters;
-mod counting;
 mod ended;
-mod event_counts;
 mod exchanges;
 mod notice;
 mod notices;
 mod reload_lines;
 mod said_lately;
-mod sheet;
 mod state_lines;
 
-pub use counted::turn_of;
-pub use counters::{Counters, ThreadCounts};
-pub use counting::Counting;
 pub use ended::{local_reject_of, local_response_of, nak_of, origin_of};
-pub use event_counts::EventCounts;
 pub use exchanges::{Exchanges, queue_of_lines};
 pub use notice::{Notice, notices_in, serving, tell};
 pub use notices::{Notices, queue_of_notices};

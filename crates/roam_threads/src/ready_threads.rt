@@ -7,11 +7,12 @@ use crate::kits::{Kit, ThreadKits};
 use crate::parts::{Part, Parts, parts_of};
 use mio::{Events, Poll};
 use roam_counters::Datagrams;
+use roam_counting::{Counting, EventCounts};
 use roam_hub::{Opened, Seat};
 use roam_notices::Exchange;
 use roam_port::{Outbox, socket_numbers};
 use roam_sockets::{BoundSocket, ServeFault, ports, receivers};
-use roam_telling::{Counting, EventCounts, Notice};
+use roam_telling::Notice;
 use roam_workers::{
     ExchangeQueues, Logger, Outgoing, Rests, RoomEvents, Shared, Timer, Worker, WorkerContext,
 };

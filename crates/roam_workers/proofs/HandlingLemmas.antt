@@ -23,7 +23,7 @@ use Rattle.roam_counters.specs.declared.datagrams.Handling.TheVariants as handli
 use Rattle.roam_counters.specs.Arrivals.{arrival_increments}
 use Rattle.roam_counters.specs.OwnCounts.{CountsView, raised_all}
 use Rattle.roam_counters.specs.declared.turn.CountedTurn.{CountedTurn}
-use Rattle.roam_telling.specs.Packets.{turn_of}
+use Rattle.roam_counting.specs.Packets.{turn_of}
 use Rattle.roam_workers.specs.Handlings.{AtWork, came, HasFailed, IsAnswered, IsHandled, IsRefused, refused_as, refused_counts}
 
 -- the job that was handed in first is the one that was answered, at the same moment

@@ -11,7 +11,7 @@ use Rattle.roam_counters.specs.OwnCounts.{CountsView, count_of, raised_all, rais
 use Rattle.roam_counters.specs.declared.datagrams.Handling.{Handling}
 use Rattle.roam_counters.specs.declared.datagrams.Handling.TheVariants as handling
 use Rattle.roam_counters.specs.declared.increments.Increment.{Increment}
-use Rattle.roam_telling.specs.Packets.{turn_of}
+use Rattle.roam_counting.specs.Packets.{turn_of}
 use Rattle.roam_workers.specs.Handlings.{AtWork, FailedCounts, IsHandled}
 use Rattle.roam_workers.specs.Ticks.{HasNotTicked, Ticks}
 use Rattle.roam_workers.specs.Work.{DoesOne, HasWorked, WorkIsCounted, WorkedBy, all_by, failed_by, handled_by, one_by, ticked_by}

@@ -19,8 +19,8 @@ use Rattle.roam_counters.specs.declared.datagrams.Handling.{Handling}
 use Rattle.roam_counters.specs.declared.datagrams.Handling.TheVariants as handling
 use Rattle.roam_counters.specs.declared.event.CountedEvent.{CountedEvent}
 use Rattle.roam_counters.specs.declared.increments.Increment.{Increment}
-use Rattle.roam_telling.specs.Counting.{wait_of}
-use Rattle.roam_telling.specs.Packets.{turn_of}
+use Rattle.roam_counting.specs.Counting.{wait_of}
+use Rattle.roam_counting.specs.Packets.{turn_of}
 use Rattle.roam_workers.specs.Handlings.{AtWork, FailedCounts, IsHandled}
 use Rattle.roam_workers.specs.Ticks.{HasNotTicked, Ticks}
 
@@ -38,8 +38,9 @@ abbrev pub DoesOne : HubOpening → AtWork → AtWork → Type 0
 DoesOne o old new = TakesOne o old new ⊎ (TicksOne o old new ⊎ HasNotTicked old new)
 
 -- ## What a thread did
--- One thing after the other, and nothing beside: a datagram that it took, a shard that it ticked, or what its seat counts no
--- call of and no count rises by. So all that a seat counted of its calls, and all that the counts rose by, is of these.
+-- One thing after the other, and nothing beside: a datagram that it took, a shard that it ticked, or what its seat
+-- counts no call of and no count rises by. So all that a seat counted of its calls, and all that the counts rose by, is
+-- of these.
 -- Source: ours
 -- Rules out: a thread that counts beside what it does, or that gives the hub what it doesn't count
 -- Stands in: `roam_workers` `Work.antt`: `HasWorked`, `DoesOne`; `receive_on`, `tick_on`
@@ -69,7 +70,8 @@ abbrev pub handled_by :
     → IsHandled o lines now d old new handling → List (Option Increment)
 handled_by o lines now d old new handling.Taken taken =
     arrival_increments (turn_of taken.job)
-    ++ job_increments (turn_of taken.job) (shown_happening taken.answered.happening) now (wait_of o.config taken.job.realm)
+    ++ job_increments (turn_of taken.job) (shown_happening taken.answered.happening) now
+    (wait_of o.config taken.job.realm)
 handled_by o lines now d old new handling.Answered here =
     local_increments (end_at o.config here.out.from here.out.to) (code_of here.what)
 handled_by o lines now d old new handling.Refused is = refused_increments d.at (end_at o.config d.at d.from) is.why
@@ -95,9 +97,9 @@ all_by o start [] end none = []
 all_by o start (before ∷ earlier) end did = all_by o start earlier before did.0 ++ one_by o before end did.1
 
 -- ## What a thread counted
--- Each of its own counts is what it was at the start and the sum of the increments, of its event and its subject, of all
--- that the thread did: of what happened by each call that its seat counts, as the shard's history has it, and of each
--- answer and refusal, modulo 2^64.
+-- Each of its own counts is what it was at the start and the sum of the increments, of its event and its subject, of
+-- all that the thread did: of what happened by each call that its seat counts, as the shard's history has it, and of
+-- each answer and refusal, modulo 2^64.
 -- Source: ours
 -- Rules out: a count of what no history has; a happening that isn't counted, or twice
 -- Stands in: `roam_workers` `Work.antt`: `WorkIsCounted`; law `work_is_counted`

@@ -1,7 +1,7 @@
 //! What a worker tells of the exchanges that end by what it does.
 
 ghost use Rattle.std.specs.Prelude.{◌≡◌};
-ghost use Rattle.roam_telling.specs.Counting.{counts_in};
+ghost use Rattle.roam_counting.specs.Counting.{counts_in};
 
 use crate::context::WorkerContext;
 use roam_counters::Process;

@@ -37,6 +37,7 @@ mod logger;
 mod losses;
 mod old_history;
 mod outgoing;
+mod ready;
 mod rest;
 mod rests;
 mod shared;

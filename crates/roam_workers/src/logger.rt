@@ -4,9 +4,10 @@
 use log::{Level, Log, info, log_enabled};
 use roam_conf::Config;
 use roam_counters::Process;
+use roam_counting::ThreadCounts;
 use roam_notices::{Exchange, push_exchange};
 use roam_stations::StationForm;
-use roam_telling::{Notice, ThreadCounts, notices_in, tell};
+use roam_telling::{Notice, notices_in, tell};
 use rtrb::Consumer;
 use std::str;
 use std::sync::Wait;

@@ -1,7 +1,7 @@
 //! Which home servers keep silent is told when that changes.
 
 ghost use Rattle.std.specs.Prelude.{◌≡◌};
-ghost use Rattle.roam_telling.specs.Counting.{counts_in};
+ghost use Rattle.roam_counting.specs.Counting.{counts_in};
 
 use crate::context::WorkerContext;
 use crate::rests::Rests;
@@ -35,7 +35,8 @@ fn tell_realm<R: Wait, G: Gate, N: Opened>(
     number: u16,
     servers: usize,
 )
-    ensures kept { (context.new.seat ≡ context.old.seat) × (counts_in context.new.counting ≡ counts_in context.old.counting) }
+    ensures kept { (context.new.seat ≡ context.old.seat)
+        × (counts_in context.new.counting ≡ counts_in context.old.counting) }
 {
     let Some(gauges) = context.shared.hub.look(rt, &context.seat, number) else {
         return;
@@ -60,7 +61,8 @@ pub fn tell_rests<R: Wait, G: Gate, N: Opened>(
     context: &mut WorkerContext<'_, '_, G, N>,
     rests: &mut Rests,
 )
-    ensures kept { (context.new.seat ≡ context.old.seat) × (counts_in context.new.counting ≡ counts_in context.old.counting) }
+    ensures kept { (context.new.seat ≡ context.old.seat)
+        × (counts_in context.new.counting ≡ counts_in context.old.counting) }
 {
     let now = context.now;
     if now < rests.next {

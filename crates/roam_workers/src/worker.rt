@@ -1,13 +1,14 @@
 //! The worker that receives from sockets.
 
 ghost use Rattle.std.specs.Prelude.{◌≡◌};
-ghost use Rattle.roam_telling.specs.Counting.{counts_in};
+ghost use Rattle.roam_counting.specs.Counting.{counts_in};
 ghost use Rattle.roam_workers.specs.Handlings.{at_work};
 ghost use Rattle.roam_workers.specs.Work.{HasWorked, HasWorkedTo};
 
 use crate::context::WorkerContext;
 use crate::ending::{Ending, WorkerEnd};
-use mio::{Events, Poll, Token};
+use crate::ready::{keep_ready, mark_all_ready, mark_ready};
+use mio::{Events, Poll};
 use roam_hub::{Gate, Opened};
 use roam_port::Heard;
 use roam_route::Datagram;
@@ -66,30 +67,6 @@ impl<'s, 'c, G, N: Opened> Drop for Worker<'s, 'c, G, N> {
     }
 }
 
-/// Marks a receiver as ready.
-fn mark(receivers: &mut [Receiver<'_>], ready: &mut Vec<usize>, at: usize) {
-    if let Some(receiver) = receivers.get_mut(at) {
-        if !receiver.is_ready {
-            receiver.is_ready = ready.push(at).is_ok();
-        }
-    }
-}
-
-/// Marks the receivers at which something may have arrived.
-fn mark_ready(receivers: &mut [Receiver<'_>], ready: &mut Vec<usize>, events: &Events<Global>) {
-    for event in events.iter() {
-        let Token(at) = event.token();
-        mark(receivers, ready, at);
-    }
-}
-
-/// Marks all receivers.
-fn mark_all_ready(receivers: &mut [Receiver<'_>], ready: &mut Vec<usize>) {
-    for at in 0..receivers.len() {
-        mark(receivers, ready, at);
-    }
-}
-
 /// Whether the receiver of this place is to be received from now.
 fn is_due(receivers: &[Receiver<'_>], at: usize, now: u64) -> bool {
     receivers
@@ -145,8 +122,8 @@ fn give_back(buffer: &mut Vec<u8>, datagram: Datagram<Global>) {
     *buffer = block;
 }
 
-/// Takes what arrived at one socket, up to `IN_A_ROUND` datagrams: why the worker ends with it, if it does. Once all are
-/// to end it takes no other one: what is there waits for whoever serves next.
+/// Takes what arrived at one socket, up to `IN_A_ROUND` datagrams: why the worker ends with it, if it does. Once all
+/// are to end it takes no other one: what is there waits for whoever serves next.
 fn take_portion<R: Wait + Clock, G: Gate, N: Opened>(
     rt: &R,
     alloc: Global,
@@ -207,8 +184,8 @@ fn receive_portion<R: Wait + Clock, G: Gate, N: Opened>(
     ending
 }
 
-/// Takes what arrived at the socket at a place among those that are marked, where it is to be received from now: why the
-/// worker ends with it, if it does.
+/// Takes what arrived at the socket at a place among those that are marked, where it is to be received from now: why
+/// the worker ends with it, if it does.
 fn receive_at<R: Wait + Clock, G: Gate, N: Opened>(
     rt: &R,
     alloc: Global,
@@ -247,11 +224,6 @@ fn receive_all<R: Wait + Clock, G: Gate, N: Opened>(
         }
     }
     None
-}
-
-/// Keeps the places of the receivers that are still ready.
-fn keep_ready(receivers: &[Receiver<'_>], ready: &mut Vec<usize>) {
-    ready.retain(|at| receivers.get(*at).is_some_and(|receiver| receiver.is_ready));
 }
 
 /// One round over the sockets: why the worker ends with it, if it does.

@@ -8,7 +8,8 @@ returns-then-is_asked g c =
 
 pub returns-then-not-can_rest : goal.returns-then-not-can_rest
 returns-then-not-can_rest g c =
-    worked_kept _ _ _ _ (worked_looked _ _ _ _ (worked_none _ _) c.can_rest.ensures.looks) c.wait.ensures.kept.0 c.wait.ensures.kept.1
+    worked_kept _ _ _ _ (worked_looked _ _ _ _ (worked_none _ _) c.can_rest.ensures.looks) c.wait.ensures.kept.0
+    c.wait.ensures.kept.1
 
 pub returns : goal.returns
 returns g c =

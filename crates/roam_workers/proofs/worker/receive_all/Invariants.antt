@@ -5,4 +5,6 @@ use Rattle.roam_workers.proofs.worker.receive_all.Given as goal
 -- what was done of the sockets so far
 abbrev pub invariant-loop-place : goal.invariant-loop-place
 invariant-loop-place g l =
-    HasWorked g.N.Opened.opening (at_work l.fn.worker.context.seat l.fn.worker.context.counting) (at_work l.worker.context.seat l.worker.context.counting)
+    HasWorked g.N.Opened.opening
+    (at_work l.fn.worker.context.seat l.fn.worker.context.counting)
+    (at_work l.worker.context.seat l.worker.context.counting)

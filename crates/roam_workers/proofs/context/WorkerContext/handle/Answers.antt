@@ -10,7 +10,7 @@ use Rattle.roam_counters.specs.Increments.{local_increments}
 use Rattle.roam_route.specs.Admission.{admission}
 use Rattle.roam_route.specs.Shown.{IsAdmission, shown_arrival, shown_out}
 use Rattle.roam_route.specs.declared.job.Prepared.{Prepared}
-use Rattle.roam_telling.specs.Counting.{counts_in}
+use Rattle.roam_counting.specs.Counting.{counts_in}
 use Rattle.roam_workers.specs.Handlings.{IsHandled, at_work}
 use Rattle.roam_workers.proofs.HandlingLemmas.{answer_is, job_is, refusal_is}
 use Rattle.roam_workers.proofs.context.WorkerContext.handle.Goals as goal

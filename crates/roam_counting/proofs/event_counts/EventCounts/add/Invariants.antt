@@ -1,7 +1,7 @@
 -- The counts rose by those that were gone through.
 use Rattle.std.proofs.Common.{◌≡◌, take}
 use Rattle.roam_counters.specs.OwnCounts.{raised_all}
-use Rattle.roam_telling.proofs.event_counts.EventCounts.add.Given as goal
+use Rattle.roam_counting.proofs.event_counts.EventCounts.add.Given as goal
 
 abbrev pub invariant-loop-increment : goal.invariant-loop-increment
 invariant-loop-increment l =

@@ -1,8 +1,8 @@
 -- What became of one more was counted.
 use Rattle.std.proofs.Common.{arith}
-use Rattle.roam_telling.specs.Counting.{counts_in}
-use Rattle.roam_telling.proofs.CountingLemmas.{dues-more}
-use Rattle.roam_telling.proofs.counting.Counting.dues.Goals as goal
+use Rattle.roam_counting.specs.Counting.{counts_in}
+use Rattle.roam_counting.proofs.CountingLemmas.{dues-more}
+use Rattle.roam_counting.proofs.counting.Counting.dues.Goals as goal
 
 pub loop-due-preserved : goal.loop-due-preserved
 loop-due-preserved c =

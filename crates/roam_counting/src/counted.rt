@@ -2,7 +2,7 @@
 
 ghost use Rattle.std.specs.Prelude.{◌≡◌};
 ghost use Rattle.roam_route.specs.Shown.{shown_job};
-ghost use Rattle.roam_telling.specs.Packets as spec;
+ghost use Rattle.roam_counting.specs.Packets as spec;
 
 use roam_counters::CountedTurn;
 use roam_route::Job;

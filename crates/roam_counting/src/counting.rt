@@ -7,8 +7,8 @@ ghost use Rattle.roam_conf.specs.Shown.{shown};
 ghost use Rattle.roam_counters.specs.Arrivals as arrivals;
 ghost use Rattle.roam_counters.specs.Ends.{end_at};
 ghost use Rattle.roam_counters.specs.Increments as increments;
-ghost use Rattle.roam_telling.specs.Counting as spec;
-ghost use Rattle.roam_telling.specs.Counting.{IsCounted};
+ghost use Rattle.roam_counting.specs.Counting as spec;
+ghost use Rattle.roam_counting.specs.Counting.{IsCounted};
 
 use crate::counters::ThreadCounts;
 use crate::event_counts::EventCounts;
@@ -18,7 +18,7 @@ use roam_counters::{
     failed_increments, job_increments, local_increments, refused_here_increments,
     refused_increments,
 };
-use roam_hub::{DueHappening, Happening};
+use roam_exchange::{DueHappening, Happening};
 use roam_wire::Refusal;
 use std::alloc::Global;
 

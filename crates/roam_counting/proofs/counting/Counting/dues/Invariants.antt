@@ -2,8 +2,8 @@
 use Rattle.std.proofs.Common.{◌≡◌, take}
 use Rattle.roam_exchange.specs.HappeningsShown.{shown_dues}
 use Rattle.roam_counters.specs.OwnCounts.{raised_all}
-use Rattle.roam_telling.specs.Counting.{counts_in, dues_counted}
-use Rattle.roam_telling.proofs.counting.Counting.dues.Given as goal
+use Rattle.roam_counting.specs.Counting.{counts_in, dues_counted}
+use Rattle.roam_counting.proofs.counting.Counting.dues.Given as goal
 
 abbrev pub invariant-loop-due : goal.invariant-loop-due
 invariant-loop-due l =

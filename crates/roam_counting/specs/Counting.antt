@@ -6,7 +6,7 @@ use Rattle.roam_conf.specs.Config.{ConfigView, RealmView}
 use Rattle.roam_counters.specs.Increments.{due_increments}
 use Rattle.roam_counters.specs.OwnCounts.{CountsView, raised_all}
 use Rattle.roam_counters.specs.declared.increments.Increment.{Increment}
-use Rattle.roam_telling.specs.declared.counting.Counting.{Counting}
+use Rattle.roam_counting.specs.declared.counting.Counting.{Counting}
 
 -- how long a request of a realm waits for a server
 abbrev pub wait_in : Option RealmView → ℕ
@@ -25,7 +25,7 @@ counts_in counting = counting.events.own
 -- else.
 -- Source: ours
 -- Rules out: a count that rises by anything else
--- Stands in: `roam_telling` `Counting.antt`: `IsCounted`, `counts_in`; the functions of `Counting`
+-- Stands in: `roam_counting` `Counting.antt`: `IsCounted`, `counts_in`; the functions of `Counting`
 --
 abbrev pub IsCounted : Counting → Counting → List (Option Increment) → Type 0
 IsCounted old new increments = counts_in new ≡ raised_all (counts_in old) increments

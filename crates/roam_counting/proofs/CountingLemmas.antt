@@ -7,7 +7,7 @@ use Rattle.roam_exchange.specs.HappeningsShown.{shown_due, shown_dues}
 use Rattle.roam_exchange.specs.declared.happening.DueHappening.{DueHappening}
 use Rattle.roam_counters.specs.Increments.{due_increments}
 use Rattle.roam_counters.specs.OwnCounts.{CountsView, raised_all, raised_by}
-use Rattle.roam_telling.specs.Counting.{dues_counted}
+use Rattle.roam_counting.specs.Counting.{dues_counted}
 
 -- one more was gone through
 pub dues-more : {A : Type 0} (c : CountsView) (dues : List (DueHappening A)) (i : ℕ) (d : DueHappening A) →
