@@ -10,12 +10,13 @@ use Rattle.roam_conf.specs.Duplicates.{own_endpoints}
 -- ## Socket numbers
 -- `auth` is 0, `acct` 1, `out` of realm i is 2i + 2, its `reverse` 2i + 3; where there are several of one, they have
 -- one number, and each its place among them, from 0. Each is bound where the configuration says, and the number of a
--- `reverse` that isn't there is nobody's. A socket is served by the worker of its number and its place together, modulo
--- the number of workers; with `spread` a realm's by the worker of its shard, and each worker has its own of each `auth`
--- and `acct`.
+-- `reverse` that isn't there is nobody's. `auth` is served by the first worker, `acct` by the next, a realm's `out` and
+-- `reverse` by that of its number and one, several of one kind from there on, modulo the number of workers: so the replies
+-- to what one socket takes are shared by all workers. With `spread` a realm's are served by the worker of its shard, and
+-- each worker has its own of each `auth` and `acct`.
 -- Source: ours
 -- Rules out: two places with one socket; a place that is configured without one
--- Stands in: `roam_port` `Sockets.antt`: `socket_number`, `socket_endpoint`, `socket_endpoints`, `worker_number`;
+-- Stands in: `roam_port` `Sockets.antt`: `socket_number`, `socket_endpoint`, `socket_endpoints`, `place_turn`, `worker_number`;
 -- `socket_of`, `place_of`, `endpoint_of`, `socket_numbers`, `socket_count`, `worker_of`
 --
 -- the number of a place's sockets
@@ -52,11 +53,17 @@ socket_endpoint config (place.Out realm nth) = option_and_then (own_out nth) (sl
 socket_endpoint config (place.Reverse realm nth) =
     option_and_then (own_reverse nth) (slice_get config.realms realm)
 
--- the worker that hears a place's socket, of so many: in turn, several of one number from that on; or, where `auth`
--- and `acct` are spread over the workers, that of the realm's shard, and of those two the first worker, beside which
--- each other has its own
+-- a place's turn, where the sockets are dealt out to the workers
+abbrev pub place_turn : Place → ℕ
+place_turn (place.Auth nth) = nth
+place_turn (place.Acct nth) = nth + 1
+place_turn (place.Out realm nth) = realm + nth + 1
+place_turn (place.Reverse realm nth) = realm + nth + 1
+
+-- the worker that hears a place's socket, of so many: by its turn; or, where `auth` and `acct` are spread over the
+-- workers, that of the realm's shard, and of those two the first worker, beside which each other has its own
 abbrev pub worker_number : Bool → Place → ℕ → ℕ
-worker_number false place workers = (socket_number place + place_nth place) % workers
+worker_number false place workers = place_turn place % workers
 worker_number true (place.Auth nth) workers = 0
 worker_number true (place.Acct nth) workers = 0
 worker_number true (place.Out realm nth) workers = realm % workers

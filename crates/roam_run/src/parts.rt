@@ -9,11 +9,12 @@ use roam_attendant::{Handover, HubEnd, Watch};
 use roam_control::{Office, Stopping};
 use roam_counters::Datagrams;
 use roam_hub::Opened;
+use roam_outgoing::{OldHistory, SharedLosses};
 use roam_port::Outbox;
 use roam_shard::Paused;
 use roam_sockets::ServeFault;
 use roam_threads::Kits;
-use roam_workers::{OldHistory, Rests, SharedLosses};
+use roam_workers::Rests;
 use std::alloc::Global;
 use std::time::Instant;
 

@@ -2,8 +2,8 @@
 
 use log::Log;
 use roam_control::{Asker, Door, Office, answer_on};
+use roam_outgoing::OldHistory;
 use roam_sockets::ControlSocket;
-use roam_workers::OldHistory;
 use std::alloc::Global;
 use std::net::TcpListener;
 use std::random::RandomSource;

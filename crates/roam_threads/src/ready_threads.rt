@@ -10,12 +10,11 @@ use roam_counters::Datagrams;
 use roam_counting::{Counting, EventCounts};
 use roam_hub::{Opened, Seat};
 use roam_notices::Exchange;
+use roam_outgoing::{Outgoing, RoomEvents};
 use roam_port::{Outbox, socket_numbers};
 use roam_sockets::{BoundSocket, ServeFault, ports, receivers};
 use roam_telling::Notice;
-use roam_workers::{
-    ExchangeQueues, Logger, Outgoing, Rests, RoomEvents, Shared, Timer, Worker, WorkerContext,
-};
+use roam_workers::{ExchangeQueues, Logger, Rests, Shared, Timer, Worker, WorkerContext};
 use rtrb::Consumer;
 use std::alloc::{AllocError, Global};
 

@@ -3,14 +3,17 @@ use Rattle.std.proofs.Common.{◌≡◌, ◌∙◌, ℕ, List, [], ◌∷◌, �
 use Rattle.std.proofs.lemmas.List.Sums.{fold-append}
 use Rattle.roam_route.specs.Admission.{Arrival}
 use Rattle.roam_conf.specs.declared.exchange_lines.ExchangeLines.{ExchangeLines}
+use Rattle.roam_exchange.specs.HappeningsShown.{shown_happening}
 use Rattle.roam_history.specs.HubOpening.{HubOpening}
 use Rattle.roam_audit.specs.Seats.{SeatView}
 use Rattle.roam_counters.proofs.OwnCountLemmas.{are-sums}
 use Rattle.roam_counters.specs.Arrivals.{arrival_increments, failed_increments}
+use Rattle.roam_counters.specs.Increments.{job_increments}
 use Rattle.roam_counters.specs.OwnCounts.{CountsView, count_of, raised_all, raised_by}
 use Rattle.roam_counters.specs.declared.datagrams.Handling.{Handling}
 use Rattle.roam_counters.specs.declared.datagrams.Handling.TheVariants as handling
 use Rattle.roam_counters.specs.declared.increments.Increment.{Increment}
+use Rattle.roam_counting.specs.Counting.{wait_of}
 use Rattle.roam_counting.specs.Packets.{turn_of}
 use Rattle.roam_workers.specs.Handlings.{AtWork, FailedCounts, IsHandled}
 use Rattle.roam_workers.specs.Ticks.{HasNotTicked, Ticks}
@@ -42,6 +45,13 @@ pub worked_kept : (o : HubOpening) (start before end : AtWork) → HasWorked o s
     → end.counts ≡ before.counts → HasWorked o start end
 worked_kept o start before end did seat counts =
     worked_idle o start before end did (ap (λ (s : SeatView). s.tallies) seat) counts
+
+-- the same, where the seat and the counts are named
+pub kept_on : (o : HubOpening) (start : AtWork) (s t : SeatView) (c d : CountsView)
+    → HasWorked o start (record { seat = s; counts = c }) → t ≡ s → d ≡ c
+    → HasWorked o start (record { seat = t; counts = d })
+kept_on o start s t c d did seat counts =
+    worked_kept o start (record { seat = s; counts = c }) (record { seat = t; counts = d }) did seat counts
 
 -- and all that follows
 worked-on : (o : HubOpening) (start middle : AtWork) (stands : List AtWork) (end : AtWork) → HasWorked o start middle
@@ -75,7 +85,11 @@ handled-counts :
     (did : IsHandled o lines now d old new handling)
     → new.counts ≡ raised_all old.counts (handled_by o lines now d old new handling did)
 handled-counts o lines now d old new handling.Taken taken =
-    twice old.counts _ new.counts (arrival_increments (turn_of taken.job)) _ refl taken.counts
+    twice old.counts (raised_all old.counts (arrival_increments (turn_of taken.job))) new.counts
+    (arrival_increments (turn_of taken.job))
+    (job_increments (turn_of taken.job) (shown_happening taken.answered.happening) now
+    (wait_of o.config taken.job.realm))
+    refl taken.counts
 handled-counts o lines now d old new handling.Answered here = here.counts
 handled-counts o lines now d old new handling.Refused is = is.counts
 handled-counts o lines now d old new handling.Failed has = failed-counts o d old.counts new.counts has.counts

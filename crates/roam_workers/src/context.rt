@@ -10,12 +10,12 @@ ghost use Rattle.roam_workers.specs.Handlings.{at_work};
 ghost use Rattle.roam_workers.specs.Ticks.{HasNotTicked, Ticks};
 
 use crate::ending::{Ending, WorkerEnd};
-use crate::outgoing::Outgoing;
 use crate::shared::Shared;
 use roam_counters::Datagrams;
 use roam_counting::Counting;
 use roam_hub::{Answered, Call, Gate, HubFault, Opened, Seat, Ticked};
 use roam_notices::Origin;
+use roam_outgoing::Outgoing;
 use roam_sockets::{now, wall_seconds};
 use roam_telling::{Exchanges, Notices};
 use roam_wire::Refusal;

@@ -1,5 +1,6 @@
 //! The rest of the timer, where nothing is due.
 
+use crate::timer::{REST, TICK};
 use mio::Waker;
 use std::sync::atomic::{AtomicBool, Ordering};
 
@@ -40,4 +41,9 @@ impl<'s> TimerRest<'s> {
             let _is_woken = waker.wake().is_ok();
         }
     }
+}
+
+/// How long the timer waits until its next round, in milliseconds.
+pub(crate) fn wait_for(can_rest: bool) -> u64 {
+    if can_rest { REST } else { TICK }
 }

@@ -3,14 +3,13 @@
 ghost use Rattle.std.specs.Prelude.{◌≡◌};
 ghost use Rattle.roam_conf.specs.Shown.{shown};
 
-use crate::losses::SharedLosses;
-use crate::old_history::OldHistory;
 use crate::rest::TimerRest;
 use mio::Waker;
 use roam_conf::{Config, ExchangeLines};
 use roam_control::{Office, Stopping};
 use roam_counting::Counters;
 use roam_hub::{Hub, Opened};
+use roam_outgoing::{OldHistory, SharedLosses};
 use roam_stations::StationForm;
 use std::alloc::Global;
 use std::sync::atomic::{AtomicBool, Ordering};

@@ -7,11 +7,12 @@ ghost use Rattle.roam_workers.specs.Work.{HasWorked, HasWorkedTo};
 
 use crate::context::WorkerContext;
 use crate::ending::{Ending, WorkerEnd};
-use crate::losses::CAUSES;
+use crate::rest::wait_for;
 use crate::rests::Rests;
 use crate::silence::{does_any_wait, tell_rests};
 use mio::{Events, Poll};
 use roam_hub::{Gate, LATE, Opened};
+use roam_outgoing::CAUSES;
 use std::alloc::Global;
 use std::sync::Wait;
 use std::thread;
@@ -238,11 +239,6 @@ fn wait<R: Clock, G, N: Opened>(rt: &R, timer: &mut Timer<'_, '_, G, N>, millise
     }
 }
 
-/// How long to wait until the next round, in milliseconds.
-fn wait_for(can_rest: bool) -> u64 {
-    if can_rest { REST } else { TICK }
-}
-
 /// Waits until the next round. Before it rests it says so, and looks at the shards once more: a job that one was
 /// given before that look is seen there, and who gives one a job after it wakes the timer.
 fn rest<R: Wait + Clock, G: Gate, N: Opened>(rt: &R, timer: &mut Timer<'_, '_, G, N>)
@@ -264,7 +260,9 @@ fn rest<R: Wait + Clock, G: Gate, N: Opened>(rt: &R, timer: &mut Timer<'_, '_, G
 
 impl<G: Gate, N: Opened> Timer<'_, '_, G, N> {
     /// Gives back what its context does, and which home servers keep silent, as it was told.
-    fn leave(self, ending: Ending) -> WorkerEnd<N> {
+    fn leave(self, ending: Ending) -> WorkerEnd<N>
+        ensures seat { result.seat ≡ self.entry.context.seat }
+    {
         let Self {
             context,
             poll,

@@ -248,7 +248,9 @@ fn round<R: Wait + Clock, G: Gate, N: Opened>(
 
 impl<G: Gate, N: Opened> Worker<'_, '_, G, N> {
     /// Gives back what its context does.
-    fn leave(self, ending: Ending) -> WorkerEnd<N> {
+    fn leave(self, ending: Ending) -> WorkerEnd<N>
+        ensures seat { result.seat ≡ self.entry.context.seat }
+    {
         let Self {
             context,
             receivers,

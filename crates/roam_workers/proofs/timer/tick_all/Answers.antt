@@ -4,7 +4,7 @@ use Rattle.roam_workers.proofs.timer.tick_all.Goals as goal
 
 pub loop-shard-init : goal.loop-shard-init
 loop-shard-init g c =
-    worked_none _ _
+    worked_none g.N.Opened.opening _
 
 pub loop-shard-preserved : goal.loop-shard-preserved
 loop-shard-preserved g c =

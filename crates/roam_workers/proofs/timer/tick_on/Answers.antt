@@ -1,11 +1,11 @@
 -- One round after the other.
 use Rattle.std.proofs.Common.{refl}
-use Rattle.roam_workers.proofs.WorkLemmas.{worked_after, worked_kept, worked_none}
+use Rattle.roam_workers.proofs.WorkLemmas.{kept_on, worked_after, worked_none}
 use Rattle.roam_workers.proofs.timer.tick_on.Goals as goal
 
 pub loop-init : goal.loop-init
 loop-init g c =
-    worked_none _ _
+    worked_none g.N.Opened.opening _
 
 pub loop-preserved : goal.loop-preserved
 loop-preserved g c =
@@ -13,4 +13,5 @@ loop-preserved g c =
 
 pub returns-in-Some : goal.returns-in-Some
 returns-in-Some g c =
-    (_, worked_kept _ _ _ _ (worked_after _ _ _ _ c.loop.invariant c.round.ensures) c.leave-end.ensures.seat refl)
+    let o = g.N.Opened.opening in
+    (_, kept_on o _ _ _ _ _ (worked_after _ _ _ _ c.loop.invariant c.round.ensures) c.leave.ensures.seat refl)

@@ -5,4 +5,4 @@ use Rattle.roam_workers.proofs.timer.tick_once.Goals as goal
 
 pub returns : goal.returns
 returns g c =
-    worked_more _ _ _ _ (worked_none _ _) (inr (inl (_, _, _, c.tick-is_more.ensures.ticks)))
+    worked_more _ _ _ _ (worked_none g.N.Opened.opening _) (inr (inl (_, _, _, c.tick-is_more.ensures.ticks)))

@@ -1,9 +1,10 @@
 -- A look at the clock, and what was taken.
-use Rattle.roam_workers.proofs.WorkLemmas.{worked_after, worked_kept, worked_none}
+use Rattle.roam_workers.proofs.WorkLemmas.{kept_on, worked_after, worked_none}
 use Rattle.roam_workers.proofs.worker.receive_at.Goals as goal
 
 pub returns : goal.returns
 returns g c =
+    let o = g.N.Opened.opening in
     worked_after _ _ _ _
-    (worked_kept _ _ _ _ (worked_none _ _) c.look_at_clock.ensures.kept.0 c.look_at_clock.ensures.kept.1)
+    (kept_on o _ _ _ _ _ (worked_none o _) c.look_at_clock.ensures.kept.0 c.look_at_clock.ensures.kept.1)
     c.receive_portion.ensures

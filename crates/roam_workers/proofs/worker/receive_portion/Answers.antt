@@ -1,8 +1,8 @@
 -- What was taken, and a look at the clock.
-use Rattle.roam_workers.proofs.WorkLemmas.{worked_kept}
+use Rattle.roam_workers.proofs.WorkLemmas.{kept_on}
 use Rattle.roam_workers.proofs.worker.receive_portion.Goals as goal
 
 pub returns : goal.returns
 returns g c =
-    worked_kept _ _ _ _ c.take_portion-ending.ensures c.look_after_faults.ensures.kept.0
+    kept_on g.N.Opened.opening _ _ _ _ _ c.take_portion-ending.ensures c.look_after_faults.ensures.kept.0
     c.look_after_faults.ensures.kept.1

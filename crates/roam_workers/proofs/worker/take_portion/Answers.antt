@@ -5,7 +5,7 @@ use Rattle.roam_workers.proofs.worker.take_portion.Goals as goal
 
 pub loop-init : goal.loop-init
 loop-init g c =
-    worked_none _ _
+    worked_none g.N.Opened.opening _
 
 pub loop-preserved : goal.loop-preserved
 loop-preserved g c =

@@ -92,7 +92,9 @@ fn outbox_for(
 
 impl<'s> Outgoing<'s> {
     /// The packets that still wait for room at a socket.
-    pub(crate) fn into_outbox(self) -> Outbox<Global> {
+    pub fn into_outbox(self) -> Outbox<Global>
+        ensures { result ≡ self.outbox }
+    {
         let Self {
             outbox,
             ports,

@@ -1,0 +1,17 @@
+//! What leaves a server's threads: packets on their way to the sockets, how many of them were lost, and stored steps that
+//! were let go of and are to be freed.
+//!
+//! # Proved
+//!
+//! - whenever packets were handed to their sockets, all that was counted of them was taken over, to be told
+//!   | `Outgoing::settle`
+//! - the packets that still wait at the end are given back | `Outgoing::into_outbox`
+#![tactic(auto)]
+
+mod losses;
+mod old_history;
+mod outgoing;
+
+pub use losses::{CAUSES, SharedLosses};
+pub use old_history::{OldHistory, Steps};
+pub use outgoing::{Outgoing, ROOM_EVENTS, RoomEvents};
