@@ -93,7 +93,7 @@ fn outbox_for(
 impl<'s> Outgoing<'s> {
     /// The packets that still wait for room at a socket.
     pub fn into_outbox(self) -> Outbox<Global>
-        ensures { result ≡ self.outbox }
+        ensures { result ≡ self.entry.outbox }
     {
         let Self {
             outbox,

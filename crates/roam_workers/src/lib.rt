@@ -40,6 +40,7 @@ mod rests;
 mod shared;
 mod silence;
 mod timer;
+mod told_losses;
 mod worker;
 
 pub use context::{Remedy, WorkerContext, remedy_for};

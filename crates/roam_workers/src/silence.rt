@@ -6,7 +6,7 @@ ghost use Rattle.roam_counting.specs.Counting.{counts_in};
 use crate::context::WorkerContext;
 use crate::rests::Rests;
 use crate::shared::Shared;
-use roam_conf::Link;
+use roam_conf::{Link, Realm};
 use roam_hub::{Gate, Opened, SERVER_LINKS, Seat};
 use std::alloc::Global;
 use std::sync::Wait;
@@ -27,17 +27,20 @@ fn link_at(servers: usize, place: usize) -> Option<Link> {
     None
 }
 
-/// Tells which home servers of a realm keep silent now, or answer again.
+/// Tells which home servers of a realm keep silent now, or answer again, where one rests that keeps silent.
 fn tell_realm<R: Wait, G: Gate, N: Opened>(
     rt: &R,
     context: &mut WorkerContext<'_, '_, G, N>,
     rests: &mut Rests,
     number: u16,
-    servers: usize,
+    realm: &Realm,
 )
     ensures kept { (context.new.seat ≡ context.old.seat)
         × (counts_in context.new.counting ≡ counts_in context.old.counting) }
 {
+    if realm.rest == 0 || realm.gone {
+        return;
+    }
     let Some(gauges) = context.shared.hub.look(rt, &context.seat, number) else {
         return;
     };
@@ -45,7 +48,7 @@ fn tell_realm<R: Wait, G: Gate, N: Opened>(
         return;
     };
     for place in 0..SERVER_LINKS {
-        let Some(link) = link_at(servers, place) else {
+        let Some(link) = link_at(realm.servers.len(), place) else {
             return;
         };
         let is_silent = gauges.rests[place].until.is_some();
@@ -71,9 +74,7 @@ pub fn tell_rests<R: Wait, G: Gate, N: Opened>(
     rests.next = now.saturating_add(BETWEEN_LOOKS);
     let config = context.shared.config;
     for (number, realm) in config.realms.iter().enumerate() {
-        if realm.rest > 0 && !realm.gone {
-            tell_realm(rt, context, rests, number as u16, realm.servers.len());
-        }
+        tell_realm(rt, context, rests, number as u16, realm);
     }
 }
 

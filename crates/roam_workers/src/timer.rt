@@ -1,6 +1,6 @@
 //! The worker that ticks the shards, and tells what was lost.
 
-ghost use Rattle.std.specs.Prelude.{◌≡◌, ◌↔◌, ◌≤◌, ◌+◌, ◌-◌, min, IsTrue, IsFalse, MatchOption};
+ghost use Rattle.std.specs.Prelude.{◌≡◌, ◌↔◌, ◌≤◌, ◌-◌, min, IsTrue, IsFalse, MatchOption};
 ghost use Rattle.roam_counting.specs.Counting.{counts_in};
 ghost use Rattle.roam_workers.specs.Handlings.{at_work};
 ghost use Rattle.roam_workers.specs.Work.{HasWorked, HasWorkedTo};
@@ -10,9 +10,9 @@ use crate::ending::{Ending, WorkerEnd};
 use crate::rest::wait_for;
 use crate::rests::Rests;
 use crate::silence::{does_any_wait, tell_rests};
+use crate::told_losses::tell_losses;
 use mio::{Events, Poll};
 use roam_hub::{Gate, LATE, Opened};
-use roam_outgoing::CAUSES;
 use std::alloc::Global;
 use std::sync::Wait;
 use std::thread;
@@ -27,9 +27,6 @@ pub const REST: u64 = 1000;
 /// A server that is asked to stop ends when no request waited for so long, in milliseconds: a worker that had taken one
 /// before has given it to its shard by then.
 pub const QUIET: u64 = 200;
-
-/// Lost packets of one cause are told once in so many milliseconds.
-pub const BETWEEN_LOSSES: u64 = 60_000;
 
 /// The worker that ticks the shards.
 pub struct Timer<'s, 'c, G, N: Opened> {
@@ -73,36 +70,6 @@ fn is_time_over(now: u64, end: Option<u64>) -> bool
     match end {
         Some(end) => now >= end,
         None => false,
-    }
-}
-
-/// Whether losses can be told again that were told last at this moment.
-fn may_tell(now: u64, last: Option<u64>) -> bool
-    ensures { MatchOption last (IsTrue result) (λ moment. IsTrue result ↔ (moment + 60000 ≤ now)) }
-{
-    match last {
-        Some(moment) => now.saturating_sub(moment) >= BETWEEN_LOSSES,
-        None => true,
-    }
-}
-
-/// Tells what was lost, each cause once a minute at most.
-fn tell_losses<G: Gate, N: Opened>(timer: &mut Timer<'_, '_, G, N>)
-    ensures kept { (timer.new.context.seat ≡ timer.old.context.seat)
-        × (counts_in timer.new.context.counting ≡ counts_in timer.old.context.counting) }
-{
-    let context = &mut timer.context;
-    let now = context.now;
-    for (last, cause) in timer.told.iter_mut().zip(CAUSES.iter()) {
-        if may_tell(now, *last) {
-            let count = context.shared.losses.take(*cause);
-            if count > 0 {
-                *last = Some(now);
-                if !context.notices.lost(*cause, count) {
-                    context.shared.losses.give_back(*cause, count);
-                }
-            }
-        }
     }
 }
 

@@ -186,6 +186,7 @@ fn receive_portion<R: Wait + Clock, G: Gate, N: Opened>(
 
 /// Takes what arrived at the socket at a place among those that are marked, where it is to be received from now: why
 /// the worker ends with it, if it does.
+#[tactic(auto, using(crate::proofs::WorkLemmas::worked_none))]
 fn receive_at<R: Wait + Clock, G: Gate, N: Opened>(
     rt: &R,
     alloc: Global,

@@ -3,6 +3,6 @@ use Rattle.roam_counting.specs.Counting.{counts_in}
 use Rattle.roam_workers.proofs.silence.tell_rests.Given as goal
 
 -- what is told changes nothing that is counted
-abbrev pub invariant-loop : goal.invariant-loop
-invariant-loop g l =
+abbrev pub invariant-loop-number : goal.invariant-loop-number
+invariant-loop-number g l =
     (l.context.seat ≡ l.fn.context.seat) × (counts_in l.context.counting ≡ counts_in l.fn.context.counting)

@@ -9,11 +9,11 @@ returns-then-is_asked g c =
 pub returns-then-not-can_rest : goal.returns-then-not-can_rest
 returns-then-not-can_rest g c =
     let o = g.N.Opened.opening in
-    kept_on o _ _ _ _ _ (worked_looked _ _ _ _ (worked_none o _) c.can_rest.ensures.looks) c.wait.ensures.kept.0
-    c.wait.ensures.kept.1
+    let looked = worked_looked _ _ _ _ (worked_none o _) c.can_rest.ensures.looks in
+    kept_on o _ _ _ _ _ looked c.wait-then-not-can_rest.ensures.kept.0 c.wait-then-not-can_rest.ensures.kept.1
 
 pub returns : goal.returns
 returns g c =
     let looked = worked_looked _ _ _ _ (worked_none g.N.Opened.opening _) c.can_rest.ensures.looks in
     let again = worked_looked _ _ _ _ looked c.can_rest-2.ensures.looks in
-    kept_on g.N.Opened.opening _ _ _ _ _ (again) c.wait.ensures.kept.0 c.wait.ensures.kept.1
+    kept_on g.N.Opened.opening _ _ _ _ _ again c.wait-2.ensures.kept.0 c.wait-2.ensures.kept.1

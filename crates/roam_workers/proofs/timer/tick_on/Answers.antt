@@ -11,7 +11,7 @@ pub loop-preserved : goal.loop-preserved
 loop-preserved g c =
     worked_after _ _ _ _ (worked_after _ _ _ _ c.loop.invariant c.round.ensures) c.rest.ensures
 
-pub returns-in-Some : goal.returns-in-Some
-returns-in-Some g c =
+pub returns-in-Some-round : goal.returns-in-Some-round
+returns-in-Some-round g c =
     let o = g.N.Opened.opening in
     (_, kept_on o _ _ _ _ _ (worked_after _ _ _ _ c.loop.invariant c.round.ensures) c.leave.ensures.seat refl)

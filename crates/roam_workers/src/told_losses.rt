@@ -1,0 +1,56 @@
+//! What packets were lost is told, each cause once a minute at most.
+
+ghost use Rattle.std.specs.Prelude.{◌≡◌, ◌↔◌, ◌≤◌, ◌+◌, IsTrue, MatchOption};
+ghost use Rattle.roam_counting.specs.Counting.{counts_in};
+
+use crate::timer::Timer;
+use roam_hub::{Gate, Opened};
+use roam_outgoing::CAUSES;
+
+/// Lost packets of one cause are told once in so many milliseconds.
+const BETWEEN_LOSSES: u64 = 60_000;
+
+/// Whether losses can be told again that were told last at this moment.
+fn may_tell(now: u64, last: Option<u64>) -> bool
+    ensures { MatchOption last (IsTrue result) (λ moment. IsTrue result ↔ (moment + 60000 ≤ now)) }
+{
+    match last {
+        Some(moment) => now.saturating_sub(moment) >= BETWEEN_LOSSES,
+        None => true,
+    }
+}
+
+/// Tells what was lost by the cause at a place, where it can be told again.
+fn tell_cause<G: Gate, N: Opened>(timer: &mut Timer<'_, '_, G, N>, at: usize)
+    ensures kept { (timer.new.context.seat ≡ timer.old.context.seat)
+        × (counts_in timer.new.context.counting ≡ counts_in timer.old.context.counting) }
+{
+    let now = timer.context.now;
+    let Some(last) = timer.told.get_mut(at) else {
+        return;
+    };
+    let Some(cause) = CAUSES.get(at) else {
+        return;
+    };
+    if !may_tell(now, *last) {
+        return;
+    }
+    let count = timer.context.shared.losses.take(*cause);
+    if count == 0 {
+        return;
+    }
+    *last = Some(now);
+    if !timer.context.notices.lost(*cause, count) {
+        timer.context.shared.losses.give_back(*cause, count);
+    }
+}
+
+/// Tells what was lost, each cause once a minute at most.
+pub(crate) fn tell_losses<G: Gate, N: Opened>(timer: &mut Timer<'_, '_, G, N>)
+    ensures kept { (timer.new.context.seat ≡ timer.old.context.seat)
+        × (counts_in timer.new.context.counting ≡ counts_in timer.old.context.counting) }
+{
+    for at in 0..CAUSES.len() {
+        tell_cause(timer, at);
+    }
+}
