@@ -108,7 +108,8 @@ def table() -> str:
         if of:
             rows.append(f"| {names[kind]} | {sum(taken for taken, _ in of):.0f} | {said}{', ' if said else ''}all others together {rest:.0f} |")
     whole = sum(sum(each.values()) for each in minutes.values())
-    return (f"{text.splitlines()[0].lstrip('# ')} In all {whole:.0f} processor minutes.\n\n"
+    gone = ", ".join(f"`{it}`" for it in sorted(minutes) if not (ROOT / "crates" / it).exists())
+    return (f"{text.splitlines()[0].lstrip('# ')} In all {whole:.0f} processor minutes.{f' Gone since: {gone}.' if gone else ''}\n\n"
             "| | minutes | |\n|---|---|---|\n" + "\n".join(rows) + "\n")
 
 
@@ -126,7 +127,9 @@ def main() -> int:
         if not minutes:
             print(f"{words[1]} has no minutes of crates", file=sys.stderr)
             return 1
-        KEPT.write_text(f"# Read on {datetime.date.today()} by tools/minutes.py.\n" + lines_of(minutes), encoding="utf-8")
+        head = KEPT.read_text(encoding="utf-8").splitlines()[0] if pathlib.Path(words[1]).samefile(KEPT) else (
+            f"# Read on {datetime.date.today()} by tools/minutes.py.")
+        KEPT.write_text(head + "\n" + lines_of(minutes), encoding="utf-8")
         PAGE.write_text(page(), encoding="utf-8")
         return 0
     if words == ["--check"]:

@@ -5,7 +5,9 @@
 
 It looks at README.md and docs/*.md: at paths in backticks and in links; at sections, in links and as `docs/PAGE.md`, "Section", or
 "Section", above or below; at `Type::function` and `crate::function` in backticks, which one crate has to have, and that one where
-it is named; at names whose link leads to a file of code, which has to have them; and at names behind "the law" or "the laws".
+it is named; at names whose link leads to a file of code, which has to have them; at names behind "the law" or "the laws"; at other
+names in backticks on the pages about the code, which some source has to have; and at blocks of Rust, which stand in
+crates/test_callers, so that the gate proves them.
 """
 import pathlib
 import re
@@ -14,6 +16,10 @@ import sys
 ROOT = pathlib.Path(__file__).resolve().parent.parent
 # Names of the toolchain and of the language, and forms that stand for a name.
 KNOWN_TYPES = {"Option", "Result", "Vec", "String", "Hash", "UdpSocket", "Scope", "Process", "Refusal", "Self", "Rattle", "std", "self"}
+# Names of others on pages about the code.
+KNOWN_NAMES = {"LoadCredential"}
+CODE_PAGES = ("ARCHITECTURE", "CONTRIBUTING", "DECISIONS", "GLOSSARY", "PROOFS", "TOUR")
+SOURCES = ("crates/*/src/**/*.rt", "crates/*/specs/**/*.antt", "crates/*/proofs/**/*.antt", "oracle/*.py", "packaging/**/*.*", "tools/*.py")
 OWN_FOLDERS = ("crates", "docs", "oracle", "load", "packaging", "mistakes", "tools", "examples")
 
 
@@ -77,6 +83,25 @@ def missing_sections(page: pathlib.Path, text: str) -> list[str]:
     return found
 
 
+def words_of_code() -> set[str]:
+    """All words of the sources, and the crates."""
+    texts = (it.read_text(encoding="utf-8", errors="ignore") for pattern in SOURCES for it in ROOT.glob(pattern) if it.is_file())
+    return {word for text in texts for word in re.findall(r"\w+", text)} | {it.name for it in (ROOT / "crates").iterdir()}
+
+
+def missing_words(text: str, words: set[str]) -> list[str]:
+    """The names in backticks, with an underscore or a capital within, that no source has; not what a tool made of a day's run."""
+    quoted = re.findall(r"`(\w+)`", re.sub(r"^```.*?^```|<!-- minutes: made .*?<!-- minutes: end -->", "", text, flags=re.M | re.S))
+    return [it for it in quoted if re.search(r"._|.[A-Z]", it) and not it.isupper() and it not in words]
+
+
+def missing_rust(text: str) -> list[str]:
+    """The first lines of the blocks of Rust on a page that no caller has, whatever the blanks."""
+    callers = "".join(it.read_text(encoding="utf-8") for it in sorted(ROOT.glob("crates/test_callers/src/*.rt")))
+    blocks = re.findall(r"^```rust\n(.*?)^```", text, re.M | re.S)
+    return [it.split("\n")[0] for it in blocks if "".join(it.split()) not in "".join(callers.split())]
+
+
 def faults_of(page: pathlib.Path, code, specs: set[str]) -> list[str]:
     """What a page names that isn't there."""
     functions = set().union(*(it for it, _ in code.values()))
@@ -111,8 +136,12 @@ def main() -> int:
     code, specs = names_of_code(), spec_names()
     pages = [ROOT / "README.md", *sorted((ROOT / "docs").glob("*.md"))]
     faults = [it for page in pages if page.name != "THEOREM.md" for it in faults_of(page, code, specs)]
-    faults += [f"{page.relative_to(ROOT)}: {it} isn't there" for page in pages if page.name != "THEOREM.md"
-               for it in missing_sections(page, page.read_text(encoding="utf-8"))]
+    texts = {page: page.read_text(encoding="utf-8") for page in pages if page.name != "THEOREM.md"}
+    faults += [f"{page.relative_to(ROOT)}: {it} isn't there" for page, text in texts.items()
+               for it in missing_sections(page, text) + missing_rust(text)]
+    words = words_of_code() | KNOWN_NAMES
+    faults += [f"{page.relative_to(ROOT)}: {it} isn't there" for page, text in texts.items() if page.stem in CODE_PAGES
+               for it in missing_words(text, words)]
     print("\n".join(faults) or "each name on the pages is there")
     return int(bool(faults))
 
