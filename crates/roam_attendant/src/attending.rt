@@ -15,9 +15,10 @@ use roam_control::{Course, Desk, Handed, Order, Reply, done, grace, plain_reply,
 use roam_counters::Process;
 use roam_counting::ThreadCounts;
 use roam_hub::{HubFault, Opened, Seat};
-use roam_metrics::{StatusForm, page, status};
+use roam_metrics::page;
 use roam_notices::ReloadEnd;
 use roam_sockets::{BoundSocket, now};
+use roam_status::{StatusForm, status};
 use roam_telling::tell_reload;
 use roam_trace::Step;
 use roam_workers::Shared;

@@ -6,7 +6,7 @@ use bytes::{BufMut, Bytes};
 use http::{HeaderValue, Method, Request, StatusCode, header};
 use http_server::{Response, Service};
 use roam_conf::decimal;
-use roam_metrics::StatusForm;
+use roam_status::StatusForm;
 use std::alloc::AllocError;
 use std::fmt;
 use std::fmt::{Display, Formatter};

@@ -3,7 +3,8 @@
 
 use crate::missing::{Handed, Missing};
 use crate::reloads::{Build, Tally};
-use roam_metrics::{About, StatusForm};
+use roam_metrics::About;
+use roam_status::StatusForm;
 use std::alloc::{AllocError, Global};
 use std::sync::atomic::{AtomicBool, Ordering};
 use std::sync::{Mutex, Wait};

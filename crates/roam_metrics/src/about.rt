@@ -31,7 +31,7 @@ pub struct About {
 
 impl About {
     /// A moment, in milliseconds since the start, as seconds since 1970.
-    pub(crate) fn second_at(&self, moment: u64) -> Option<u64>
+    pub fn second_at(&self, moment: u64) -> Option<u64>
         ensures { result ≡ spec.second_at self.now.began moment }
     {
         match self.began {
@@ -41,7 +41,7 @@ impl About {
     }
 
     /// How long ago a moment was, in seconds.
-    pub(crate) fn seconds_since(&self, moment: u64) -> u64
+    pub fn seconds_since(&self, moment: u64) -> u64
         ensures { result ≡ spec.seconds_since self.now.uptime moment }
     {
         self.uptime.saturating_sub(moment) / 1000

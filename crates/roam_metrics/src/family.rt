@@ -15,7 +15,7 @@ pub(crate) const SCOPES: [Scope; 3] = [Scope::Realm, Scope::Server, Scope::Peer]
 
 /// A metric that realms, home servers and peers have, each under a name of its own.
 #[derive(Clone, Copy)]
-pub(crate) struct Family {
+pub struct Family {
     pub realm: &'static str,
     pub server: &'static str,
     pub peer: &'static str,

@@ -5,7 +5,7 @@ use crate::family::Family;
 use roam_counters::{CountedEvent, NakCause, ReplyKind};
 use roam_wire::Refusal;
 
-pub(crate) const REPLIES: Family = Family {
+pub const REPLIES: Family = Family {
     realm: "roam_realm_replies_total",
     server: "roam_server_replies_total",
     peer: "roam_peer_replies_total",
@@ -41,7 +41,7 @@ pub(crate) const REPLIES: Family = Family {
     ],
 };
 
-pub(crate) const RETURNED: Family = Family {
+pub const RETURNED: Family = Family {
     realm: "roam_realm_returned_total",
     server: "roam_server_returned_total",
     peer: "roam_peer_returned_total",
@@ -168,7 +168,7 @@ pub(crate) const NAKS: Family = Family {
     ],
 };
 
-pub(crate) const REFUSED: Family = Family {
+pub const REFUSED: Family = Family {
     realm: "roam_realm_refusals_total",
     server: "roam_server_refusals_total",
     peer: "roam_peer_refusals_total",

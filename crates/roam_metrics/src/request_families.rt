@@ -3,7 +3,7 @@
 use crate::family::Family;
 use roam_counters::{CountedEvent, RequestKind};
 
-pub(crate) const CAME: Family = Family {
+pub const CAME: Family = Family {
     realm: "roam_realm_requests_total",
     server: "roam_server_requests_total",
     peer: "roam_peer_requests_total",
@@ -23,7 +23,7 @@ pub(crate) const CAME: Family = Family {
     ],
 };
 
-pub(crate) const FORWARDED: Family = Family {
+pub const FORWARDED: Family = Family {
     realm: "roam_realm_forwarded_total",
     server: "roam_server_forwarded_total",
     peer: "roam_peer_forwarded_total",
@@ -46,7 +46,7 @@ pub(crate) const FORWARDED: Family = Family {
     ],
 };
 
-pub(crate) const SENT_AGAIN: Family = Family {
+pub const SENT_AGAIN: Family = Family {
     realm: "roam_realm_sent_again_total",
     server: "roam_server_sent_again_total",
     peer: "roam_peer_sent_again_total",
@@ -69,7 +69,7 @@ pub(crate) const SENT_AGAIN: Family = Family {
     ],
 };
 
-pub(crate) const TAKEN_OVER: Family = Family {
+pub const TAKEN_OVER: Family = Family {
     realm: "roam_realm_taken_over_total",
     server: "roam_server_taken_over_total",
     peer: "roam_peer_taken_over_total",

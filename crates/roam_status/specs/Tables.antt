@@ -1,9 +1,9 @@
 -- A table of text. Ours.
 use Rattle.std.specs.Prelude.{ℕ, codes, ◌≤◌, ◌-◌, List, ◌++◌, Option, Some, None, length, replicate, slice_get, string_bytes, flat_map}
-use Rattle.roam_metrics.specs.declared.tables.CellSide.{CellSide}
-use Rattle.roam_metrics.specs.declared.tables.CellSide.TheVariants as side
-use Rattle.roam_metrics.specs.declared.tables.Cell.{Cell}
-use Rattle.roam_metrics.specs.declared.tables.Row.{Row}
+use Rattle.roam_status.specs.declared.tables.CellSide.{CellSide}
+use Rattle.roam_status.specs.declared.tables.CellSide.TheVariants as side
+use Rattle.roam_status.specs.declared.tables.Cell.{Cell}
+use Rattle.roam_status.specs.declared.tables.Row.{Row}
 
 -- a text with the blanks (32) that it lacks of a width
 abbrev pub padded : CellSide → ℕ → List ℕ → List ℕ

@@ -2,8 +2,8 @@
 use Rattle.std.proofs.Common.{◌≡◌, ◌+◌, ◌≤◌, ◌<◌, ℕ, List, max, All, take, length, get_or, subst}
 use Rattle.std.proofs.Math.Nat.{le_trans, le-max_left, le-max_right}
 use Rattle.std.proofs.lemmas.List.Elements.{All-more}
-use Rattle.roam_metrics.specs.Tables.{Fits, cell_width}
-use Rattle.roam_metrics.specs.declared.tables.Row.{Row}
+use Rattle.roam_status.specs.Tables.{Fits, cell_width}
+use Rattle.roam_status.specs.declared.tables.Row.{Row}
 
 -- those so far, and one more, fit into the larger of both widths
 pub fits_more : (at width found i : ℕ) (rows : List Row) (d : Row) → i < length rows →

@@ -1,6 +1,6 @@
 use Rattle.std.proofs.Common.{All, take}
-use Rattle.roam_metrics.specs.Tables.{Fits}
-use Rattle.roam_metrics.proofs.tables.width_of.Given as goal
+use Rattle.roam_status.specs.Tables.{Fits}
+use Rattle.roam_status.proofs.tables.width_of.Given as goal
 
 -- the cells so far fit
 abbrev pub invariant-loop-row : goal.invariant-loop-row

@@ -1,8 +1,8 @@
 -- How a home server's endpoint stands, by what was seen of it. Ours.
 use Rattle.std.specs.Prelude.{ℕ, ◌+◌, ◌/◌, ◌==◌, ◌&&◌, not, if◌then◌else◌}
-use Rattle.roam_metrics.specs.declared.servers.Seen.{Seen}
-use Rattle.roam_metrics.specs.declared.servers.Standing.{Standing}
-use Rattle.roam_metrics.specs.declared.servers.Standing.TheVariants as standing
+use Rattle.roam_status.specs.declared.servers.Seen.{Seen}
+use Rattle.roam_status.specs.declared.servers.Standing.{Standing}
+use Rattle.roam_status.specs.declared.servers.Standing.TheVariants as standing
 
 -- so many milliseconds, in seconds: what is begun counts whole
 abbrev pub begun_seconds : ℕ → ℕ
@@ -14,7 +14,7 @@ begun_seconds milliseconds = (milliseconds + 999) / 1000
 -- was asked; it never was.
 -- Source: ours
 -- Rules out: a server called well that rests; a rest that is over on the page and not in the server
--- Stands in: `roam_metrics` `Servers.antt`: `standing_of`; `Seen::standing`
+-- Stands in: `roam_status` `Servers.antt`: `standing_of`; `Seen::standing`
 --
 -- the first of these that holds: it rests; no reply of those that came was taken; requests were given up since one was
 -- taken; one was taken; it was asked; it never was

@@ -1,8 +1,8 @@
 -- How long something took, in two units. Ours.
 use Rattle.std.specs.Prelude.{ℕ, ◌+◌, ◌*◌, ◌≤◌, ◌<◌, ◌≡◌}
-use Rattle.roam_metrics.specs.declared.spans.TimeUnit.{TimeUnit}
-use Rattle.roam_metrics.specs.declared.spans.TimeUnit.TheVariants as unit
-use Rattle.roam_metrics.specs.declared.spans.Span.{Span}
+use Rattle.roam_status.specs.declared.spans.TimeUnit.{TimeUnit}
+use Rattle.roam_status.specs.declared.spans.TimeUnit.TheVariants as unit
+use Rattle.roam_status.specs.declared.spans.Span.{Span}
 
 -- how many seconds a unit has
 abbrev pub seconds_in : TimeUnit → ℕ
@@ -25,8 +25,9 @@ seconds_of_smaller unit.Day = 3600
 -- lacks of its column's width, which all cells of the column fit into.
 -- Source: ours
 -- Rules out: a minute that is lost in rounding; a cell that runs into the next column
--- Stands in: `roam_metrics` `Spans.antt`: `seconds_of`, `IsLargest`; `About.antt`: `second_at`, `seconds_since`;
--- `Tables.antt`: `row_text`, `Fits`; `span_of`, `About::second_at`, `About::seconds_since`, `push_row`, `width_of`
+-- Stands in: `roam_status` `Spans.antt`: `seconds_of`, `IsLargest`; `Tables.antt`: `row_text`, `Fits`; `span_of`,
+-- `push_row`, `width_of`; `roam_metrics` `About.antt`: `second_at`, `seconds_since`; `About::second_at`,
+-- `About::seconds_since`
 --
 -- how many seconds a span has
 abbrev pub seconds_of : Span → ℕ

@@ -1,6 +1,6 @@
 use Rattle.std.proofs.Common.{◌≡◌, ◌++◌, take}
-use Rattle.roam_metrics.specs.Tables.{cells_text}
-use Rattle.roam_metrics.proofs.tables.push_cells.Given as goal
+use Rattle.roam_status.specs.Tables.{cells_text}
+use Rattle.roam_status.proofs.tables.push_cells.Given as goal
 
 -- the cells so far
 abbrev pub invariant-loop-cell : goal.invariant-loop-cell

@@ -1,12 +1,10 @@
 //! What was counted of a realm, a home server or a peer, of requests and replies of all kinds.
 
-use crate::counts::Counts;
-use crate::family::Family;
-use crate::gauges::Gauge;
-use crate::reply_families::{REFUSED, REPLIES, RETURNED};
-use crate::request_families::{CAME, FORWARDED, SENT_AGAIN, TAKEN_OVER};
 use crate::servers::Seen;
 use roam_counters::{CountedEvent, ReplyKind, RequestKind, Subject};
+use roam_metrics::{
+    CAME, Counts, FORWARDED, Family, Gauge, REFUSED, REPLIES, RETURNED, SENT_AGAIN, TAKEN_OVER,
+};
 
 /// What is told of a realm, a home server or a peer.
 #[derive(Clone, Copy)]

@@ -1,7 +1,7 @@
 //! How long something took, in the two units that a person reads.
 
 ghost use Rattle.std.specs.Prelude.{◌≤◌, ◌<◌, ◌+◌};
-ghost use Rattle.roam_metrics.specs.Spans as spec;
+ghost use Rattle.roam_status.specs.Spans as spec;
 
 use std::fmt;
 use std::fmt::{Display, Formatter, Write};

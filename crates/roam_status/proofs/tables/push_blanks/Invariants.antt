@@ -1,5 +1,5 @@
 use Rattle.std.proofs.Common.{◌≡◌, ◌++◌, replicate}
-use Rattle.roam_metrics.proofs.tables.push_blanks.Given as goal
+use Rattle.roam_status.proofs.tables.push_blanks.Given as goal
 
 -- the blanks so far
 abbrev pub invariant-loop : goal.invariant-loop

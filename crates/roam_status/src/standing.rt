@@ -1,11 +1,10 @@
 //! How a server stands: what it serves, and how often of each realm, home server and peer, as tables that a person reads
 //! and as JSON (RFC 8259).
 
-use crate::about::About;
-use crate::counts::Counts;
 use crate::status_json::status_json;
 use crate::status_table::status_table;
 use roam_conf::Config;
+use roam_metrics::{About, Counts};
 use std::alloc::{AllocError, Global};
 
 /// In which form it is told.

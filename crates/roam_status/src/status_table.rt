@@ -1,14 +1,12 @@
 //! How a server stands, as tables that a person reads.
 
-use crate::about::{About, Reloads};
-use crate::counts::Counts;
-use crate::gauges::Gauge;
 use crate::spans::span_of;
 use crate::tables::{Cell, Row, push_table};
 use crate::totals::{Service, Totals};
 use httpdate::HttpDate;
 use roam_conf::{Config, Endpoint, Realm};
 use roam_counters::Subject;
+use roam_metrics::{About, Counts, Gauge, Reloads};
 use std::alloc::{AllocError, Global};
 use std::fmt::Display;
 

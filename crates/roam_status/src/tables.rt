@@ -1,7 +1,7 @@
 //! A table of text: columns of equally wide cells.
 
 ghost use Rattle.std.specs.Prelude.{◌≡◌, ◌++◌, replicate, All, OnOk};
-ghost use Rattle.roam_metrics.specs.Tables as spec;
+ghost use Rattle.roam_status.specs.Tables as spec;
 
 use std::alloc::AllocError;
 

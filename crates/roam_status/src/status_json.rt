@@ -1,12 +1,10 @@
 //! How a server stands, as JSON (RFC 8259).
 
-use crate::about::{About, Reloads};
-use crate::counts::Counts;
-use crate::gauges::Gauge;
 use crate::servers::Standing;
 use crate::totals::{Service, Totals};
 use roam_conf::{Config, Endpoint, Realm};
 use roam_counters::Subject;
+use roam_metrics::{About, Counts, Gauge, Reloads};
 use std::alloc::{AllocError, Global};
 use std::fmt;
 use std::fmt::{Display, Formatter, Write};

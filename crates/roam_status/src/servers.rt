@@ -1,7 +1,7 @@
 //! How the endpoints of home servers stand.
 
 ghost use Rattle.std.specs.Prelude.{◌≡◌};
-ghost use Rattle.roam_metrics.specs.Servers as spec;
+ghost use Rattle.roam_status.specs.Servers as spec;
 
 use std::fmt;
 use std::fmt::{Display, Formatter, Write};

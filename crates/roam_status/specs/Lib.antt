@@ -1,0 +1,3 @@
+pub mod Servers
+pub mod Spans
+pub mod Tables
