@@ -2,8 +2,8 @@
 
 use crate::manner::Manner;
 use roam_conf::Config;
-use roam_control::Reply;
 use roam_counting::Counters;
+use roam_desk::Reply;
 use roam_sockets::BoundSocket;
 
 /// A configuration that is served, with its sockets and its counts.

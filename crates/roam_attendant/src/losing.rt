@@ -9,7 +9,7 @@ use crate::next::out_of_memory;
 use log::Log;
 use roam_carry::{Loss, changed_peers};
 use roam_conf::Config;
-use roam_control::{Course, Reply, plain_reply};
+use roam_desk::{Course, Reply, plain_reply};
 use roam_hub::{Opened, Seat};
 use roam_notices::{DropCause, DroppedText};
 use roam_telling::tell_dropped;

@@ -11,8 +11,8 @@ use crate::manner::Manner;
 use crate::source::{Following, Source};
 use log::Log;
 use roam_conf::Config;
-use roam_control::{Course, Reply, plain_reply};
 use roam_counting::Counters;
+use roam_desk::{Course, Reply, plain_reply};
 use roam_hub::{Blanks, Opened};
 use roam_sockets::{
     BoundSocket, RECEIVE_BUFFER, ServeFault, bind_following, descriptors_wanted, open_beside, widen,

@@ -1,7 +1,7 @@
 //! Who watches a server.
 
 use roam_conf::Endpoint;
-use roam_control::Build;
+use roam_desk::Build;
 use roam_sockets::ControlSocket;
 
 /// That a server counts what it does, and where that can be read.

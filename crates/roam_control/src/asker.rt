@@ -1,11 +1,10 @@
 //! What is answered to who asks over HTTP: each order is put on a desk, and the server's own thread answers it.
 
-use crate::desk::{Course, Desk, Office, Order, Reply};
-use crate::missing::Handed;
 use bytes::{BufMut, Bytes};
 use http::{HeaderValue, Method, Request, StatusCode, header};
 use http_server::{Response, Service};
 use roam_conf::decimal;
+use roam_desk::{Course, Desk, Handed, Office, Order, Reply};
 use roam_status::StatusForm;
 use std::alloc::AllocError;
 use std::fmt;

@@ -4,7 +4,6 @@
 //! one that has been quiet for longest is closed. No other thread waits for it.
 
 use crate::asker::Asker;
-use crate::desk::Office;
 use crate::open_connection::{OpenConnection, Turn, step};
 use crate::pause::Pause;
 use http_server::{Config as Limits, Connection};
@@ -12,6 +11,7 @@ use libc::net::{POLLIN, POLLOUT, poll};
 use libc::types::pollfd;
 use log::{Log, warn};
 use mio::net::{UnixListener, UnixStream};
+use roam_desk::Office;
 use roam_sockets::now;
 use std::alloc::Global;
 use std::hash::RandomState;

@@ -1,28 +1,18 @@
-//! Metrics and control over HTTP: who asks, what for, and where that waits for an answer.
+//! Metrics and control over HTTP: who asks, and what for.
 //!
-//! A thread that speaks HTTP puts what it is asked for on a desk, and the server's own thread answers. What is answered
-//! is made elsewhere; here it is octets.
+//! A thread that speaks HTTP puts what it is asked for on a desk (`roam_desk`), and the server's own thread answers. What
+//! is answered is made elsewhere; here it is octets.
 //!
 //! # Proved
 //!
-//! - the time that a server has which is asked to stop is 30 seconds at most; the end is the earlier one | `grace`,
-//!   `earlier`
+//! - where the system gives no connection, none is taken for a second; that is said once a minute at most |
+//!   `Pause::begin`, `Pause::is_over`
 #![tactic(auto)]
 
 mod asker;
 mod connections;
-mod desk;
-mod missing;
 mod open_connection;
 mod pause;
-mod reloads;
-mod script;
-mod stopping;
 
 pub use asker::{Asker, Door};
 pub use connections::{Listener, answer_on};
-pub use desk::{Course, Desk, Office, Order, Reply, done, plain_reply};
-pub use missing::{Handed, Missing};
-pub use reloads::{Build, Tally};
-pub use script::script_of;
-pub use stopping::{Stopping, grace};

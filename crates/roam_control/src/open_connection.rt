@@ -1,9 +1,9 @@
 //! One connection over HTTP: it reads, answers and writes as far as that goes without waiting.
 
 use crate::asker::Asker;
-use crate::missing::Handed;
 use http_server::{Connection, Reason, State};
 use libc::net::shutdown;
+use roam_desk::Handed;
 use std::io;
 use std::io::{ErrorKind, Read, Write};
 use std::os::fd::AsRawFd;

@@ -6,8 +6,8 @@ ghost use Rattle.roam_run.specs.Closed.{EndSomewhere, EndsOf};
 
 use crate::audit::AuditedHub;
 use roam_attendant::{Handover, HubEnd, Watch};
-use roam_control::{Office, Stopping};
 use roam_counters::Datagrams;
+use roam_desk::{Office, Stopping};
 use roam_hub::Opened;
 use roam_outgoing::{OldHistory, SharedLosses};
 use roam_port::Outbox;

@@ -4,7 +4,7 @@ ghost use Rattle.roam_run.specs.Closed.{MayGoOn};
 
 use log::Log;
 use roam_attendant::{Attendant, Handover, HubEnd, Source};
-use roam_control::{Course, Reply};
+use roam_desk::{Course, Reply};
 use roam_hub::{Gate, Opened};
 use roam_notices::ReloadEnd;
 use roam_sockets::{ServeFault, now};

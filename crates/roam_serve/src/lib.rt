@@ -15,7 +15,7 @@
 
 mod server;
 
-pub use roam_control::Build;
+pub use roam_desk::Build;
 pub use roam_sockets::{
     ControlSocket, Reason, ServeFault, SocketPath, descriptors_wanted, reason_of, with_drawn_seed,
 };

@@ -7,7 +7,7 @@ ghost use Rattle.roam_sockets.specs.Faults.{IsAfterBinding, IsFaultOf};
 
 use log::Log;
 use roam_conf::{Config, ExchangeLines};
-use roam_control::{Build, Office, Stopping};
+use roam_desk::{Build, Office, Stopping};
 use roam_port::socket_numbers;
 use roam_sockets::{BoundSocket, ServeFault, bind_all, descriptors_wanted, listen_at, reason_of};
 use roam_succession::{

@@ -9,7 +9,7 @@ ghost use Rattle.roam_hub.specs.Pausing.{ArePaused};
 ghost use Rattle.roam_succession.specs.Served.{GoOn};
 
 use roam_conf::Config;
-use roam_control::done;
+use roam_desk::done;
 use roam_hub::{Blanks, follow};
 use roam_run::{Configured, Counters, Handover, Kits, Next, Rests, ServerParts, out_of_memory};
 use roam_shard::Paused;

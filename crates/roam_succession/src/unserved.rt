@@ -1,6 +1,6 @@
 //! Who asks while nothing serves is answered all the same.
 
-use roam_control::{Course, Desk, Order, plain_reply};
+use roam_desk::{Course, Desk, Order, plain_reply};
 use roam_run::{ServerParts, Source, stopping};
 use roam_sockets::ServeFault;
 use std::sync::Wait;

@@ -1,7 +1,8 @@
 //! The threads that outlast each configuration: the one that frees stored steps, and those that answer over HTTP.
 
 use log::Log;
-use roam_control::{Asker, Door, Office, answer_on};
+use roam_control::{Asker, Door, answer_on};
+use roam_desk::Office;
 use roam_outgoing::OldHistory;
 use roam_sockets::ControlSocket;
 use std::alloc::Global;
