@@ -11,13 +11,13 @@ use Rattle.roam_conf.specs.Duplicates.{own_endpoints}
 -- `auth` is 0, `acct` 1, `out` of realm i is 2i + 2, its `reverse` 2i + 3; where there are several of one, they have
 -- one number, and each its place among them, from 0. Each is bound where the configuration says, and the number of a
 -- `reverse` that isn't there is nobody's. `auth` is served by the first worker, `acct` by the next, a realm's `out` and
--- `reverse` by that of its number and one, several of one kind from there on, modulo the number of workers: so the replies
--- to what one socket takes are shared by all workers. With `spread` a realm's are served by the worker of its shard, and
--- each worker has its own of each `auth` and `acct`.
+-- `reverse` by that of its number and one, several of one kind from there on, modulo the number of workers: so the
+-- replies to what one socket takes are shared by all workers. With `spread` a realm's are served by the worker of its
+-- shard, and each worker has its own of each `auth` and `acct`.
 -- Source: ours
 -- Rules out: two places with one socket; a place that is configured without one
--- Stands in: `roam_port` `Sockets.antt`: `socket_number`, `socket_endpoint`, `socket_endpoints`, `place_turn`, `worker_number`;
--- `socket_of`, `place_of`, `endpoint_of`, `socket_numbers`, `socket_count`, `worker_of`
+-- Stands in: `roam_port` `Sockets.antt`: `socket_number`, `socket_endpoint`, `socket_endpoints`, `place_turn`,
+-- `worker_number`; `socket_of`, `place_of`, `endpoint_of`, `socket_numbers`, `socket_count`, `worker_of`
 --
 -- the number of a place's sockets
 abbrev pub socket_number : Place → ℕ

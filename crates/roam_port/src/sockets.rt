@@ -159,9 +159,10 @@ fn turn_of(place: Place) -> usize
     }
 }
 
-/// The worker that hears the socket of a place, of so many workers: `auth` the first, `acct` the next, a realm's that of
-/// its number and one, several of one kind from there on. So all workers share the replies. With `spread` a realm's sockets belong to the worker of its shard, and those that stand
-/// here as the first worker's, `auth` and `acct`, each worker has of its own.
+/// The worker that hears the socket of a place, of so many workers: `auth` the first, `acct` the next, a realm's that
+/// of its number and one, several of one kind from there on. So all workers share the replies. With `spread` a realm's
+/// sockets belong to the worker of its shard, and those that stand here as the first worker's, `auth` and `acct`, each
+/// worker has of its own.
 pub fn worker_of(place: Place, workers: usize, is_spread: bool) -> usize
     requires { 1 ≤ workers }
     ensures value { result ≡ worker_number is_spread place workers }
