@@ -1,5 +1,5 @@
 -- What a rule gives that wanted memory, or that settled an entry.
-use Rattle.std.proofs.Common.{◌≡◌, [], Option, ap, refl, ◌∙◌}
+use Rattle.std.proofs.Common.{◌≡◌, [], Option, refl, ◌∙◌}
 use Rattle.std.specs.Prelude.{IfErr, IfOk, IsErr, IsOk, Result, Ok, Err}
 use Rattle.roam_wire.specs.declared.refusal.NoMemory.{NoMemory}
 use Rattle.roam_conf.specs.declared.place.Link.{Link}
@@ -15,7 +15,6 @@ use Rattle.roam_exchange.specs.Turned.{GivesTurned}
 use Rattle.roam_book.specs.Private.ReplyPlans.{IsReplyPlan, once_settled}
 use Rattle.roam_exchange.specs.HappeningsShown.{shown_happening}
 use Rattle.roam_exchange.specs.Turn.{Answers, Turn, packets_of}
-use Rattle.roam_book.proofs.RealmLemmas.{keeps-both}
 
 -- what met want of memory didn't succeed
 pub not-ok : {T E : Type 0} (r : Result T E) (e : E) → r ≡ Err e → IsOk r → ⊥
@@ -37,31 +36,27 @@ turns-lost g old new r turn happening err same sends rest = record {
   rest = rest;
 }
 
--- an entry was settled, once the ledger had its memory
+-- an entry was settled, if one was
 pub turns-settled :
-    {A E : Type 0} (g : Ghosts E A) (old made new : RealmBroker A E) (turned : Turned A)
+    {A E : Type 0} (g : Ghosts E A) (old new : RealmBroker A E) (turned : Turned A)
     (heard : Option Link) (settled : Option (Settled A)) (turn : RealmState → Turn)
     (happening : RealmState → PlainHappening)
     → IsReplyPlan old.settings.now (state g old) (record { turned = turned; heard = heard; settled = settled })
     (turn (state g old)) (happening (state g old))
-    → state g made ≡ state g old → Keeps g old made
-    → state g new ≡ once_settled made.settings.now (state g made) heard settled → Keeps g made new
+    → state g new ≡ once_settled old.settings.now (state g old) heard settled → Keeps g old new
     → TurnsTelling g old new (Ok turned) turn happening
-turns-settled g old made new turned heard settled turn happening plan same first is then =
-    let at = is ∙ ap (λ (c : RealmConfig). once_settled c (state g made) heard settled) first.loans.settings
-    ∙ ap (λ (s : RealmState). once_settled old.settings.now s heard settled) same in
-    record {
-      gives = record {
-        answers = record {
-          packets = plan.turned.answers.packets;
-          refusal = plan.turned.answers.refusal;
-          state = at ∙ plan.turned.answers.state;
-        };
-        happened = plan.turned.happened;
-      };
-      succeeds = λ none. refl;
-      rest = keeps-both g old made new first then;
-    }
+turns-settled g old new turned heard settled turn happening plan is keeps = record {
+  gives = record {
+    answers = record {
+      packets = plan.turned.answers.packets;
+      refusal = plan.turned.answers.refusal;
+      state = is ∙ plan.turned.answers.state;
+    };
+    happened = plan.turned.happened;
+  };
+  succeeds = λ none. refl;
+  rest = keeps;
+}
 
 -- what an admission gives is what its turn gives, where it does that turn
 pub admitted-gives :

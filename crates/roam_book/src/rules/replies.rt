@@ -1,8 +1,8 @@
 //! What a reply does to its realm (RFC 2865, section 2.3).
 //!
-//! First it is decided what the answer is, whether its link gave a sign of life and which entry is done then, and all
-//! memory is taken, that of the ledger of sessions too; that changes nothing. Then the entry is settled: where
-//! its reply wants memory to be found by its State, that is taken first.
+//! First it is decided what the answer is, whether its link gave a sign of life and which entry is done then, and the
+//! memory of the answer is taken; that changes nothing. Then the entry is settled: what the ledger of sessions wants,
+//! where sessions change, and what its reply wants to be found by its State, is taken first.
 
 ghost use Rattle.std.specs.Prelude.{◌≡◌, ◌≤◌, ◌^◌, [], None, Some, IfOk, IsOk, OnErr, OnOk, if◌then◌else◌};
 ghost use Rattle.roam_wire.specs.Reading.{IsPacketText};
@@ -157,19 +157,15 @@ impl<A: Allocator + Copy, E: Entries<A>> RealmBroker<'_, '_, '_, '_, A, E> {
     /// session. Gives the change, if there is one.
     fn prepare_ledger(
         &mut self,
-        settled: &Option<Settled<A>>,
+        settled: &Settled<A>,
     ) -> Result<Option<PreparedChange<A>>, NoMemory>
         requires realm { IsRealm E.Entries self.old }
         ensures change { IfOk result (λ change. IsPrepared self.new.numbers.now.sessions change
-            (once_settled self.old.settings.now (state E.Entries self.old) None settled.now).sessions) }
-        ensures succeeds { settled.now ≡ None → IsOk result }
+            (once_settled self.old.settings.now (state E.Entries self.old) None (Some settled.now)).sessions) }
         ensures entries { entries E.Entries self.new ≡ entries E.Entries self.old }
         ensures state { state E.Entries self.new ≡ state E.Entries self.old }
         ensures keeps { Keeps E.Entries self.old self.new }
     {
-        let Some(settled) = settled else {
-            return Ok(None);
-        };
         let Some(peer) = settled.counted else {
             return Ok(None);
         };
@@ -196,21 +192,16 @@ impl<A: Allocator + Copy, E: Entries<A>> RealmBroker<'_, '_, '_, '_, A, E> {
         }
     }
 
-    /// The entry that is to be done is done: its Identifier is then free, the change of the ledger, if there
-    /// is one, is made, and its link gave a sign of life. `NoMemory` comes where a growth was refused; the
-    /// realm is then as it was.
-    fn settle(
-        &mut self,
-        settled: Settled<A>,
-        change: Option<PreparedChange<A>>,
-    ) -> Result<(), NoMemory>
+    /// The entry that is to be done is done, by which no session changes: its Identifier is then free, and its link
+    /// gave a sign of life. `NoMemory` comes where a growth was refused; the realm is then as it was.
+    fn settle(&mut self, settled: Settled<A>) -> Result<(), NoMemory>
         requires realm { IsRealm E.Entries self.old }
         requires settled { CanSettle self.old.settings.now (entries E.Entries self.old) (Some settled) }
-        requires change { IsPrepared self.old.numbers.now.sessions change
-            (once_settled self.old.settings.now (state E.Entries self.old) None (Some settled)).sessions }
+        requires uncounted { settled.counted ≡ None }
         ensures state { OnOk result (state E.Entries self.new
             ≡ once_settled self.old.settings.now (state E.Entries self.old) None (Some settled)) }
         ensures no_memory { OnErr result (state E.Entries self.new ≡ state E.Entries self.old) }
+        ensures ledger { self.new.numbers.now.sessions ≡ self.old.numbers.now.sessions }
         ensures keeps { Keeps E.Entries self.old self.new }
     {
         hold_standing(
@@ -222,8 +213,24 @@ impl<A: Allocator + Copy, E: Entries<A>> RealmBroker<'_, '_, '_, '_, A, E> {
         )?;
         self.numbers
             .give_back(self.settings, settled.link, settled.id);
-        self.numbers.change_ledger(change);
         self.numbers.hear(self.settings, settled.link);
+        Ok(())
+    }
+
+    /// The entry that is to be done is done, by which a peer's sessions change. `NoMemory` comes where a growth was
+    /// refused; the realm is then as it was.
+    fn settle_counted(&mut self, mut settled: Settled<A>) -> Result<(), NoMemory>
+        requires realm { IsRealm E.Entries self.old }
+        requires settled { CanSettle self.old.settings.now (entries E.Entries self.old) (Some settled) }
+        ensures state { OnOk result (state E.Entries self.new
+            ≡ once_settled self.old.settings.now (state E.Entries self.old) None (Some settled)) }
+        ensures no_memory { OnErr result (state E.Entries self.new ≡ state E.Entries self.old) }
+        ensures keeps { Keeps E.Entries self.old self.new }
+    {
+        let change = self.prepare_ledger(&settled)?;
+        settled.counted = None;
+        self.settle(settled)?;
+        self.numbers.change_ledger(change);
         Ok(())
     }
 
@@ -233,25 +240,25 @@ impl<A: Allocator + Copy, E: Entries<A>> RealmBroker<'_, '_, '_, '_, A, E> {
         &mut self,
         heard: Option<Link>,
         settled: Option<Settled<A>>,
-        change: Option<PreparedChange<A>>,
     ) -> Result<(), NoMemory>
         requires realm { IsRealm E.Entries self.old }
         requires heard { IsHeard self.old.settings.now heard }
         requires settled { CanSettle self.old.settings.now (entries E.Entries self.old) settled }
-        requires change { IsPrepared self.old.numbers.now.sessions change
-            (once_settled self.old.settings.now (state E.Entries self.old) None settled).sessions }
         ensures state { OnOk result (state E.Entries self.new
             ≡ once_settled self.old.settings.now (state E.Entries self.old) heard settled) }
         ensures no_memory { OnErr result (state E.Entries self.new ≡ state E.Entries self.old) }
         ensures succeeds { settled ≡ None → IsOk result }
         ensures keeps { Keeps E.Entries self.old self.new }
     {
-        match settled {
-            None => {
-                self.hear(heard);
-                Ok(())
-            }
-            Some(settled) => self.settle(settled, change),
+        let Some(settled) = settled else {
+            self.hear(heard);
+            return Ok(());
+        };
+        // What is prepared of the ledger is large: where nobody's sessions change it isn't touched.
+        if settled.counted.is_none() {
+            self.settle(settled)
+        } else {
+            self.settle_counted(settled)
         }
     }
 
@@ -280,8 +287,7 @@ impl<A: Allocator + Copy, E: Entries<A>> RealmBroker<'_, '_, '_, '_, A, E> {
             heard,
             settled,
         } = self.plan_reply(now, link, octets, lines)?;
-        let change = self.prepare_ledger(&settled)?;
-        self.carry_out(heard, settled, change)?;
+        self.carry_out(heard, settled)?;
         Ok(turned)
     }
 }

@@ -1,47 +1,29 @@
-use Rattle.std.proofs.Common.{◌∙◌}
 use Rattle.roam_exchange.specs.Happenings.{reply_happening}
 use Rattle.roam_exchange.specs.OnReply.{on_reply}
-use Rattle.roam_book.proofs.RealmLemmas.{keeps-both}
 use Rattle.roam_book.proofs.TurnLemmas.{not-ok, turns-lost, turns-settled}
 use Rattle.roam_book.proofs.realm_broker.RealmBroker.on_reply.Goals as goal
 
--- no memory for the ledger, so that a packet would have been sent
-pub returns-in_err-change : goal.returns-in_err-change
-returns-in_err-change g c =
-    let plan = c.in_ok-turned.ensures.plan in
-    let made = c.prepare_ledger.ensures in
-    record {
-      turn = turns-lost g.E.Entries c.args.self.now c.prepare_ledger.new.self
-          c.from_residual-in_err-change.result _ _ c.from_residual-in_err-change.ensures.0 made.state
-          (λ none. not-ok c.prepare_ledger.result _ c.in_err-change.was
-          (made.succeeds (plan.silent none)))
-          made.keeps;
-    }
-
--- nor for a State to be found by, with the same
+-- no memory for the ledger, nor for a State to be found by, so that a packet would have been sent
 pub returns-in_err-carry_out : goal.returns-in_err-carry_out
 returns-in_err-carry_out g c =
     let plan = c.in_ok-turned.ensures.plan in
-    let made = c.prepare_ledger.ensures in
     let out = c.carry_out.ensures in
     record {
       turn = turns-lost g.E.Entries c.args.self.now c.carry_out.new.self
           c.from_residual-in_err-carry_out.result _ _ c.from_residual-in_err-carry_out.ensures.0
-          (c.in_err-carry_out.ensures.no_memory ∙ made.state)
+          c.in_err-carry_out.ensures.no_memory
           (λ none. not-ok c.carry_out.result _ c.in_err-carry_out.was (out.succeeds (plan.silent none)))
-          (keeps-both g.E.Entries c.args.self.now c.prepare_ledger.new.self c.carry_out.new.self made.keeps out.keeps);
+          out.keeps;
     }
 
 -- the entry is settled
 pub returns : goal.returns
 returns g c =
-    let made = c.prepare_ledger.ensures in
     let settled = c.in_ok-carry_out.ensures in
     record {
-      turn = turns-settled g.E.Entries c.args.self.now c.prepare_ledger.new.self c.carry_out.new.self
+      turn = turns-settled g.E.Entries c.args.self.now c.carry_out.new.self
           c.in_ok-turned.field-0.turned c.in_ok-turned.field-0.heard c.in_ok-turned.field-0.settled
           (λ s. on_reply c.args.self.now.settings.now c.args.now s c.args.link c.args.octets.now)
           (λ s. reply_happening c.args.lines c.args.self.now.settings.now c.args.now s c.args.link c.args.octets.now)
-          c.in_ok-turned.ensures.plan made.state
-          made.keeps settled.state c.carry_out.ensures.keeps;
+          c.in_ok-turned.ensures.plan settled.state c.carry_out.ensures.keeps;
     }

@@ -10,7 +10,7 @@ pub of_packet-request-requires : goal.of_packet-request-requires
 of_packet-request-requires g c =
     let r = c.args.self.now in
     let e = shown c.in-Some-find_ticket.entry.now in
-    let t = c.in-Some.settled.ticket in
+    let t = c.args.settled.now.ticket in
     let es = entries g.E.Entries r in
     let found : find_ticket t es ≡ Some e = rw (← c.index-realm.ensures) (sym c.in-Some-find_ticket.ensures.found) in
     let kept = kept-ticket r.settings.now r.numbers.now.ticket t e es found c.requires.realm.sound.each in

@@ -22,20 +22,18 @@ returns-clause-keeps g c =
     ap (λ (n : ℕ). find_ticket n es) (found-ticket t es found.0 found.1) ∙ found.1 in
     let become = rw (c.index.ensures, found.1) at c.in_ok-hold_standing.ensures.entries in
     let back = c.give_back.ensures in
-    let made = c.change_ledger.ensures in
     let woken = c.hear.ensures in
-    let lanes = woken.lanes ∙ made.keeps.lanes in
+    let lanes = woken.lanes in
     record {
       realm = record {
         kept_here = rw c.hold_standing.ensures.keeps c.requires.realm.kept_here;
         sound = done-sound config t found.0 es _ c.args.settled.done.reply c.args.settled.done.deadline
             c.args.settled.done.from old.numbers.now c.hear.new.self c.requires.realm.sound found.1 become.here
             (rw lanes (back.tells found.0 es c.requires.realm.sound.lanes_tell here found.2))
-            (rw lanes back.keeps.count) (woken.ticket ∙ made.keeps.ticket ∙ back.keeps.ticket)
-            (woken.stream_position ∙ made.keeps.stream_position ∙ back.keeps.stream_position)
+            (rw lanes back.keeps.count) (woken.ticket ∙ back.keeps.ticket)
+            (woken.stream_position ∙ back.keeps.stream_position)
             (rw lanes back.marks)
-            (ap (λ (l : Ledger). l.limit) (woken.sessions) ∙ made.keeps.limit
-            ∙ ap (λ (l : Ledger). l.limit) back.keeps.sessions);
+            (ap (λ (l : Ledger). l.limit) woken.sessions ∙ ap (λ (l : Ledger). l.limit) back.keeps.sessions);
         list = rw become.here (list-standing _ found.0 es c.requires.realm.list here);
       };
       loans = record {
