@@ -206,19 +206,20 @@ impl<A: Allocator + Copy, E: Entries<A>> RealmBroker<'_, '_, '_, '_, A, E> {
             (state E.Entries self.now) request.entry.named (shown_request request.entry)
             (find_client request.entry.key (entries E.Entries self.now))) ≡ [] → IsOk result }
     {
-        match self
+        let replaced = match self
             .entries
             .find_client(self.settings.index(), &request.key)
         {
-            None => self.plan_first_seen(now, request, None),
+            None => None,
             Some(entry) => {
                 if entry.request.octets.as_slice() == request.octets {
                     let turned = held_reply(self.numbers.alloc, self.settings, entry)?;
                     return Ok(RequestPlan::Answered(turned));
                 }
-                self.plan_first_seen(now, request, Some(Replaced::of(entry)))
+                Some(Replaced::of(entry))
             }
-        }
+        };
+        self.plan_first_seen(now, request, replaced)
     }
 
     /// A request of the realm: a duplicate, a reverse request that is answered by a NAK, or a new one
