@@ -1,6 +1,6 @@
 //! The packet that is forwarded for a request as a peer and a realm have it forwarded.
 
-ghost use Rattle.std.specs.Prelude.{◌≡◌, ◌==◌, ◌&&◌, ◌+◌, ◌≤◌, ◌++◌, vec_len, vec_capacity};
+ghost use Rattle.std.specs.Prelude.{◌≡◌, ◌==◌, ◌&&◌, ◌+◌, ◌≤◌, ◌++◌, length, option_map, vec_len, vec_capacity};
 ghost use Rattle.roam_wire.specs.Attributes.{count_of};
 ghost use Rattle.std.specs.Option.{ForSome};
 ghost use Rattle.roam_wire.specs.Packet.{AreOctets, IsPacket, packet_length, packet_text};
@@ -11,9 +11,10 @@ ghost use Rattle.roam_filter.specs.Removal.{removed_by};
 ghost use Rattle.roam_filter.specs.Without.{without};
 ghost use Rattle.roam_fwd.specs.Forwarded.{forwarded, forwarded_length};
 ghost use Rattle.roam_fwd.specs.Rewriting.{shown};
-ghost use Rattle.roam_fwd.specs.Shaped.{CanBeShaped, HasShortName, shaped, shown_shaping};
+ghost use Rattle.roam_fwd.specs.Private.Added.{shown_added};
+ghost use Rattle.roam_fwd.specs.Shaped.{CanBeShaped, HasShortName, all_added, shaped, shown_shaping};
 
-use crate::added::{added_len, added_to, append_added, are_octets_of};
+use crate::added::{Added, added_len, added_to, append_added, are_octets_of};
 use crate::forwarding::rewrite;
 use crate::length::{ADDED_SIZE, TICKET_SIZE};
 use crate::shaping::Shaping;
@@ -29,16 +30,17 @@ use std::alloc::Allocator;
 /// ticket, a Message-Authenticator, a CHAP-Challenge, an Operator-Name and a Chargeable-User-Identity.
 pub(crate) const MAX_SHAPED_GROWTH: usize = 304;
 
-/// The size of a request as it is shaped, in octets.
-fn shaped_len(request: &View<'_>, shaping: &Shaping<'_>) -> usize
-    requires { HasShortName (shown_shaping shaping.now) }
+/// The size of a request as it is shaped, in octets, where this is added to it.
+fn len_with(request: &View<'_>, shaping: &Shaping<'_>, added: &Added<'_>) -> usize
+    requires added { shown_added added.now ≡ all_added (shown_shaping shaping.now) request.now }
+    requires short { ForSome (option_map (λ name. name.now) added.now.operator_name) (λ name. length name ≤ 252) }
     ensures size { result ≡ packet_length (shaped (shown_shaping shaping.now) request.now) }
     ensures few { result ≤ 4372 }
     ensures packet { IsPacket request.now }
     ensures octets { ForSome (shown_shaping shaping.now).operator_name AreOctets }
 {
     are_octets_of(shaping.operator_name);
-    20 + without_len(request, &shaping.removal) + added_len(&added_to(request, shaping))
+    20 + without_len(request, &shaping.removal) + added_len(added)
 }
 
 /// Whether a Message-Authenticator is added: to an Access-Request, where none passes (RFC 3579, section 3.2).
@@ -70,17 +72,19 @@ pub fn forwarded_shaped_len(request: &View<'_>, shaping: &Shaping<'_>) -> usize
     ensures size { result ≡ forwarded_length (shaped (shown_shaping shaping.now) request.now) }
     ensures few { result ≤ 4400 }
 {
-    shaped_len(request, shaping) + growth(request, shaping)
+    len_with(request, shaping, &added_to(request, shaping)) + growth(request, shaping)
 }
 
-/// Appends a request as it is shaped.
+/// Appends a request as it is shaped, to which this is added.
 fn append_shaped<A: Allocator>(
     out: &mut Vec<u8, A>,
     request: &View<'_>,
     shaping: &Shaping<'_>,
+    added: &Added<'_>,
     size: usize,
 )
-    requires name { HasShortName (shown_shaping shaping.now) }
+    requires added { shown_added added.now ≡ all_added (shown_shaping shaping.now) request.now }
+    requires name { ForSome (option_map (λ name. name.now) added.now.operator_name) (λ name. length name ≤ 252) }
     requires packet { IsPacket request.now }
     requires size { size ≡ packet_length (shaped (shown_shaping shaping.now) request.now) }
     requires short { size ≤ 4096 }
@@ -97,7 +101,7 @@ fn append_shaped<A: Allocator>(
         &request.authenticator(),
     );
     append_without(out, request, &shaping.removal);
-    append_added(out, &added_to(request, shaping));
+    append_added(out, added);
 }
 
 /// Appends the packet that is forwarded for a request as it is shaped (RFC 2865, section 2.3) to a buffer that has
@@ -120,9 +124,10 @@ pub fn forward_shaped_reserved<A: Allocator>(
     ensures capacity { vec_capacity out.new ≡ vec_capacity out.old }
 {
     let start = out.len();
-    let len = shaped_len(request, shaping);
+    let added = added_to(request, shaping);
+    let len = len_with(request, shaping, &added);
     let more = growth(request, shaping);
-    append_shaped(out, request, shaping, len);
+    append_shaped(out, request, shaping, &added, len);
     append_zeros(out, more);
     rewrite(&mut out.as_mut_slice()[start..], len, forwarding);
 }

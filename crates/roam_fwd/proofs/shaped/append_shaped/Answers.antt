@@ -52,7 +52,7 @@ append_added-requires-clause-room g c =
       ap length c.append_without.ensures.items,
       length-append c.append_header.new.out.items (attributes_text (without s.removed q.attributes)),
       c.append_without.ensures.capacity,
-      ap (λ (l : List Attribute). length (attributes_text l)) c.added_to.ensures.all,
+      ap (λ (l : List Attribute). length (attributes_text l)) c.requires.added,
     )
 
 -- one stands behind another
@@ -63,7 +63,7 @@ returns-clause-items g c =
     let header = rw (c.code.ensures, c.id.ensures, c.authenticator.ensures) at c.append_header.ensures.items in
     let passing : List ℕ = attributes_text (without s.removed q.attributes) in
     c.append_added.ensures.items
-    ∙ ap (λ (t : List ℕ). t ++ attributes_text (shown_added c.added_to.result)) (c.append_without.ensures.items
+    ∙ ap (λ (t : List ℕ). t ++ attributes_text (shown_added c.args.added.now)) (c.append_without.ensures.items
     ∙ ap (λ (t : List ℕ). t ++ passing) header)
-    ∙ shaped-text c.args.out.now.items s q c.args.size (shown_added c.added_to.result) c.requires.size
-    c.added_to.ensures.all
+    ∙ shaped-text c.args.out.now.items s q c.args.size (shown_added c.args.added.now) c.requires.size
+    c.requires.added

@@ -22,11 +22,11 @@ packet_shaped s q more name octets packet grown limit =
 pub append_shaped-requires-clause-short : goal.append_shaped-requires-clause-short
 append_shaped-requires-clause-short g c =
     let limit = c.requires.can_be_shaped.size in
-    omega (arith, limit, c.growth-more.ensures.size, c.shaped_len-len.ensures.size)
+    omega (arith, limit, c.growth-more.ensures.size, c.len_with-len.ensures.size)
 
 pub append_shaped-requires-clause-room : goal.append_shaped-requires-clause-room
 append_shaped-requires-clause-room g c =
-    omega (arith, c.requires.room, c.growth-more.ensures.size, c.shaped_len-len.ensures.size)
+    omega (arith, c.requires.room, c.growth-more.ensures.size, c.len_with-len.ensures.size)
 
 -- behind it there is room for what is added
 pub append_zeros-requires : goal.append_zeros-requires
@@ -35,8 +35,8 @@ append_zeros-requires g c =
     let q = c.args.request.now in
     let p : Packet = shaped s q in
     let grown = c.growth-more.ensures.size in
-    let packet : IsPacket p = packet_shaped s q c.growth-more.result c.requires.name c.shaped_len-len.ensures.octets
-    c.shaped_len-len.ensures.packet grown c.requires.can_be_shaped.size in
+    let packet : IsPacket p = packet_shaped s q c.growth-more.result c.requires.name c.len_with-len.ensures.octets
+    c.len_with-len.ensures.packet grown c.requires.can_be_shaped.size in
     omega (
       arith,
       c.requires.room,
@@ -56,8 +56,8 @@ rewrite-requires-clause-rewritable g c =
     let q = c.args.request.now in
     let p : Packet = shaped s q in
     let grown = c.growth-more.ensures.size in
-    let packet : IsPacket p = packet_shaped s q c.growth-more.result c.requires.name c.shaped_len-len.ensures.octets
-    c.shaped_len-len.ensures.packet grown c.requires.can_be_shaped.size in
+    let packet : IsPacket p = packet_shaped s q c.growth-more.result c.requires.name c.len_with-len.ensures.octets
+    c.len_with-len.ensures.packet grown c.requires.can_be_shaped.size in
     let old : List ℕ = c.args.out.now.items in
     let all : List ℕ = c.as_mut_slice.result.now in
     let start : ℕ = c.len-start.result in
@@ -65,8 +65,8 @@ rewrite-requires-clause-rewritable g c =
     held-padded p start c.growth-more.result old c.append_shaped.new.out.items c.append_zeros.new.out.items all packet
     (c.len-start.ensures ∙ c.args.out.now.ok.0) grown c.growth-more.ensures.least c.append_shaped.ensures.items
     c.append_zeros.ensures.items c.as_mut_slice.ensures.value in
-    let as_long : c.shaped_len-len.result ≡ length (packet_text p) =
-    c.shaped_len-len.ensures.size ∙ sym (length-packet_text p packet) in
+    let as_long : c.len_with-len.result ≡ length (packet_text p) =
+    c.len_with-len.ensures.size ∙ sym (length-packet_text p packet) in
     rw as_long
     (can_be_rewritten p start (forwarded_length p) old (packet_text p) all held
     (CanBeForwarded-shaped s q c.requires.can_be_shaped))
@@ -78,8 +78,8 @@ returns-clause-octets g c =
     let q = c.args.request.now in
     let p : Packet = shaped s q in
     let grown = c.growth-more.ensures.size in
-    let packet : IsPacket p = packet_shaped s q c.growth-more.result c.requires.name c.shaped_len-len.ensures.octets
-    c.shaped_len-len.ensures.packet grown c.requires.can_be_shaped.size in
+    let packet : IsPacket p = packet_shaped s q c.growth-more.result c.requires.name c.len_with-len.ensures.octets
+    c.len_with-len.ensures.packet grown c.requires.can_be_shaped.size in
     let old : List ℕ = c.args.out.now.items in
     let all : List ℕ = c.as_mut_slice.result.now in
     let start : ℕ = c.len-start.result in
@@ -87,8 +87,8 @@ returns-clause-octets g c =
     held-padded p start c.growth-more.result old c.append_shaped.new.out.items c.append_zeros.new.out.items all packet
     (c.len-start.ensures ∙ c.args.out.now.ok.0) grown c.growth-more.ensures.least c.append_shaped.ensures.items
     c.append_zeros.ensures.items c.as_mut_slice.ensures.value in
-    let as_long : c.shaped_len-len.result ≡ length (packet_text p) =
-    c.shaped_len-len.ensures.size ∙ sym (length-packet_text p packet) in
+    let as_long : c.len_with-len.result ≡ length (packet_text p) =
+    c.len_with-len.ensures.size ∙ sym (length-packet_text p packet) in
     let f : Forwarding = shown c.args.forwarding.now in
     let text : List ℕ = packet_text p in
     let padded : List ℕ = text ++ replicate (forwarded_length p - length text) 0 in
