@@ -1,6 +1,6 @@
--- A packet that a Message-Authenticator takes in, in five pieces.
+-- A packet that a Message-Authenticator takes in, in pieces.
 use Rattle.std.proofs.Common.{◌≡◌, ℕ, ◌+◌, ◌≤◌, inr, List, ◌++◌, length, take, drop, refl, sym, ap, ◌∙◌, arith, append_assoc}
-use Rattle.std.proofs.lemmas.List.{drop-append-le, length-take-le, take-append-le, take-take}
+use Rattle.std.proofs.lemmas.List.{drop-append-le, drop-drop, length-take-le, take-append-drop, take-append-le, take-take}
 use Rattle.roam_wire.specs.Packet.{Packet, IsPacket, packet_text}
 use Rattle.roam_auth.specs.Authenticators.{AreSixteenOctets, zero_octets, with_authenticator}
 use Rattle.roam_auth.specs.MessageAuthenticator.{HasOneMessageAuthenticator, with_value}
@@ -50,21 +50,35 @@ hashed_pieces a o at p packet one place text =
     append_assoc (take 4 o ++ a ++ drop 20 (take at o)) zero_octets (drop (at + 16) o)
     ∙ append_assoc (take 4 o ++ a) (drop 20 (take at o)) (zero_octets ++ drop (at + 16) o) ∙ whole
 
--- the same where a hasher has taken in something before
+-- a hasher that has taken in something takes in what stands before the Value, with another Authenticator, and what
+-- stands from it on, with zeros
 pub update_pieces : (m a o : List ℕ) (at : ℕ) (p : Packet) → IsPacket p → HasOneMessageAuthenticator p →
     IsValuePlace at p.attributes → o ≡ packet_text p →
-    m ++ take 4 o ++ a ++ drop 20 (take at o) ++ zero_octets ++ drop (at + 16) o
+    (m ++ (take 4 (take at o) ++ a ++ drop 20 (take at o))) ++ (zero_octets ++ drop 16 (drop at o))
     ≡ m ++ packet_text (with_authenticator a (with_value zero_octets p))
 update_pieces m a o at p packet one place text =
-    let between : List ℕ = drop 20 (take at o) in
+    let front : take 4 (take at o) ≡ take 4 o = take-take 4 at o (omega (arith, place.place)) in
     let rest : List ℕ = drop (at + 16) o in
-    append_assoc (m ++ take 4 o ++ a ++ between) zero_octets rest
-    ∙ append_assoc (m ++ take 4 o ++ a) between (zero_octets ++ rest)
-    ∙ append_assoc (m ++ take 4 o) a (between ++ (zero_octets ++ rest))
-    ∙ append_assoc m (take 4 o) (a ++ (between ++ (zero_octets ++ rest)))
-    ∙ ap (λ (t : List ℕ). m ++ t) (
-    sym (append_assoc (take 4 o) a (between ++ (zero_octets ++ rest)))
-    ∙ sym (append_assoc (take 4 o ++ a) between (zero_octets ++ rest))
-    ∙ sym (append_assoc (take 4 o ++ a ++ between) zero_octets rest)
-    ∙ hashed_pieces a o at p packet one place text
-    )
+    let head : List ℕ = take 4 o ++ a ++ drop 20 (take at o) in
+    rw (front, drop-drop 16 at o)
+    (append_assoc m head (zero_octets ++ rest)
+    ∙ ap (λ (t : List ℕ). m ++ t)
+    (sym (append_assoc head zero_octets rest) ∙ hashed_pieces a o at p packet one place text))
+
+-- octets that are what is hashed are taken in as they are
+
+-- with this Authenticator in its field
+pub field_same : (a o : List ℕ) → drop 4 (take 20 o) ≡ a → take 4 o ++ a ++ drop 20 o ≡ o
+field_same a o is =
+    let front : take 4 o ++ a ≡ take 20 o =
+    rw (sym is, sym (take-take 4 20 o (omega arith))) (take-append-drop 4 (take 20 o)) in
+    ap (λ (t : List ℕ). t ++ drop 20 o) front ∙ take-append-drop 20 o
+
+-- with zeros for the first ones
+pub zeros_same : (z o : List ℕ) → take 16 o ≡ z → z ++ drop 16 o ≡ o
+zeros_same z o is = rw (sym is) (take-append-drop 16 o)
+
+-- three pieces, one behind another
+pub three_pieces : (m x a d : List ℕ) → m ++ x ++ a ++ d ≡ m ++ (x ++ a ++ d)
+three_pieces m x a d =
+    append_assoc (m ++ x) a d ∙ append_assoc m x (a ++ d) ∙ ap (λ (t : List ℕ). m ++ t) (sym (append_assoc x a d))

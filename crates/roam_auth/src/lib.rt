@@ -25,6 +25,7 @@ mod request;
 mod response;
 mod seal_place;
 mod secret;
+mod taking_in;
 
 pub use in_place::{seal, seal_and_sign, sign_reply, sign_request};
 pub use laws::{deciding, digests, sealing, signing, zeroing};

@@ -10,9 +10,10 @@ ghost use Rattle.roam_auth.specs.MessageAuthenticator.{message_authenticator};
 ghost use Rattle.roam_auth.specs.Sealing.{IsValuePlace};
 
 use crate::comparing::is_same_digest;
-use crate::pieces::{ZERO_OCTETS, before_authenticator, behind_sixteen, between_authenticator_and};
+use crate::pieces::{octets_before, octets_from};
 use crate::seal_place::seal_place;
 use crate::secret::Secret;
+use crate::taking_in::{update_with_field, update_zeroed};
 use md5::{Digest, Md5};
 use roam_wire::View;
 use roam_wire::attribute_type::MESSAGE_AUTHENTICATOR;
@@ -41,11 +42,8 @@ pub(crate) fn update_with_packet(
         (m ++ packet_text (with_authenticator authenticator (with_value zero_octets view.now))) }
 {
     let octets = view.octets();
-    hasher.update(before_authenticator(octets));
-    hasher.update(authenticator.as_slice());
-    hasher.update(between_authenticator_and(octets, at));
-    hasher.update(ZERO_OCTETS.as_slice());
-    hasher.update(behind_sixteen(octets, at));
+    update_with_field(hasher, octets_before(octets, at), authenticator);
+    update_zeroed(hasher, octets_from(octets, at));
 }
 
 /// The Message-Authenticator of a packet whose own begins at this octet, over an Authenticator.

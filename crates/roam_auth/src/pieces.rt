@@ -1,6 +1,6 @@
 //! A packet's octets in pieces, as digests take them (RFC 2865, section 3).
 
-ghost use Rattle.std.specs.Prelude.{◌≡◌, ◌+◌, ◌≤◌, length, take, drop, MatchOption};
+ghost use Rattle.std.specs.Prelude.{◌≡◌, ◌≤◌, length, take, drop, MatchOption};
 ghost use Rattle.roam_auth.specs.MessageAuthenticator.{HasNoMessageAuthenticator};
 ghost use Rattle.roam_auth.specs.Sealing.{IsValuePlace};
 
@@ -27,21 +27,28 @@ pub fn behind_authenticator(octets: &[u8]) -> &[u8]
     octets.split_at(20).1
 }
 
-/// What stands behind the Authenticator and before an octet.
-pub fn between_authenticator_and(octets: &[u8], at: usize) -> &[u8]
-    requires behind { 20 ≤ at }
-    requires within { at ≤ length octets.now }
-    ensures { result.now ≡ drop 20 (take at octets.now) }
+/// What stands in the Authenticator's field.
+pub fn authenticator_in(octets: &[u8]) -> &[u8]
+    requires { 20 ≤ length octets.now }
+    ensures { result.now ≡ drop 4 (take 20 octets.now) }
 {
-    octets.split_at(at).0.split_at(20).1
+    octets.split_at(20).0.split_at(4).1
 }
 
-/// What stands behind sixteen octets that begin at an octet.
-pub fn behind_sixteen(octets: &[u8], at: usize) -> &[u8]
-    requires { at + 16 ≤ length octets.now }
-    ensures { result.now ≡ drop (at + 16) octets.now }
+/// What stands before an octet.
+pub fn octets_before(octets: &[u8], at: usize) -> &[u8]
+    requires { at ≤ length octets.now }
+    ensures { result.now ≡ take at octets.now }
 {
-    octets.split_at(at + 16).1
+    octets.split_at(at).0
+}
+
+/// What stands from an octet on.
+pub fn octets_from(octets: &[u8], at: usize) -> &[u8]
+    requires { at ≤ length octets.now }
+    ensures { result.now ≡ drop at octets.now }
+{
+    octets.split_at(at).1
 }
 
 /// Where in a packet's octets the Value of its first Message-Authenticator begins, if it has one.

@@ -5,7 +5,7 @@ ghost use Rattle.roam_wire.specs.Secret.{IsSecret};
 ghost use Rattle.roam_auth.specs.Authenticators.{response_authenticator, IsSignedReply};
 
 use crate::comparing::is_same_digest;
-use crate::pieces::{before_authenticator, behind_authenticator};
+use crate::taking_in::update_with_field;
 use md5::{Digest, Md5};
 use roam_wire::View;
 
@@ -15,11 +15,8 @@ pub fn response_auth(view: &View<'_>, request_authenticator: [u8; 16], secret: &
     requires secret { IsSecret secret.now }
     ensures { result ≡ response_authenticator secret.now request_authenticator view.now }
 {
-    let octets = view.octets();
     let mut hasher = Md5::new();
-    hasher.update(before_authenticator(octets));
-    hasher.update(request_authenticator.as_slice());
-    hasher.update(behind_authenticator(octets));
+    update_with_field(&mut hasher, view.octets(), request_authenticator);
     hasher.update(secret);
     hasher.finalize()
 }
