@@ -20,7 +20,7 @@ use roam_attendant::{Attendant, Configured, Source};
 use roam_hub::{Blanks, Gate, Hub, Opened};
 use roam_shard::Paused;
 use roam_sockets::ServeFault;
-use roam_workers::Shared;
+use roam_workers::{Mailbox, Shared};
 use std::alloc::Global;
 use std::net::Net;
 use std::random::RandomSource;
@@ -41,6 +41,7 @@ fn run<
     hub: &Hub<'c, Global, N>,
     crew: Crew<N>,
     wakers: Vec<Waker>,
+    mailboxes: Vec<Mailbox<N>>,
 ) -> RunResult<N>
     requires { shown configured.now.config ≡ N.opening.config }
     ensures { MayGoOn N.opening.config result.end }
@@ -54,6 +55,7 @@ fn run<
         logger: &signals.logger,
         wakers: wakers.as_slice(),
         rest: &signals.rest,
+        mailboxes: mailboxes.as_slice(),
         losses: parts.losses,
         counters: configured.counters.as_ref(),
         told_exchanges: configured.manner.told_exchanges,
@@ -108,9 +110,14 @@ fn run_hub<
     ensures may { IfOk result (λ left. MayGoOn N.opening.config left.end) }
     ensures err { IfErr result IsAfterBinding }
 {
-    let OpenHub { hub, seat, room } = open;
+    let OpenHub {
+        hub,
+        seat,
+        room,
+        mailboxes,
+    } = open;
     let (wakers, crew) = Crew::new(seat, room, means);
-    let run = run(parts, configured, &hub.hub, crew, wakers);
+    let run = run(parts, configured, &hub.hub, crew, wakers, mailboxes);
     close_after(parts.rt, hub, run)
 }
 

@@ -10,6 +10,7 @@ use crate::room::ThreadRoom;
 use roam_conf::Config;
 use roam_hub::{Blanks, Hub, Opened, PauseRoom, Seat};
 use roam_shard::Paused;
+use roam_workers::Mailbox;
 use std::alloc::{AllocError, Global};
 
 /// The memory for all that comes back of a hub and of its threads. It is taken before the hub opens, so that nothing is
@@ -18,6 +19,16 @@ use std::alloc::{AllocError, Global};
 struct HubRoom<'c, N: Opened> {
     pause: PauseRoom<'c, Global, N>,
     threads: ThreadRoom<N>,
+    mailboxes: Vec<Mailbox<N>>,
+}
+
+/// An empty mailbox for the worker of each of so many shards.
+fn mailboxes_for<N: Opened>(alloc: Global, shards: u16) -> Result<Vec<Mailbox<N>>, AllocError> {
+    let mut mailboxes = Vec::with_capacity(alloc, usize::from(shards))?;
+    for _ in 0..shards {
+        mailboxes.push(Mailbox::new(alloc))?;
+    }
+    Ok(mailboxes)
 }
 
 impl<'c, N: Opened> HubRoom<'c, N> {
@@ -26,10 +37,16 @@ impl<'c, N: Opened> HubRoom<'c, N> {
         requires { shown config.now ≡ N.opening.config }
     {
         let threads = ThreadRoom::new(alloc, config.shards)?;
+        let mailboxes = mailboxes_for(alloc, config.shards)?;
         match PauseRoom::new(alloc, config) {
-            Ok(pause) => Ok(HubRoom { pause, threads }),
+            Ok(pause) => Ok(HubRoom {
+                pause,
+                threads,
+                mailboxes,
+            }),
             Err(_) => {
                 drop(threads);
+                drop(mailboxes);
                 Err(AllocError)
             }
         }
@@ -42,6 +59,8 @@ pub struct OpenHub<'c, N: Opened> {
     pub hub: PausableHub<'c, N>,
     pub seat: Seat<Global, N>,
     pub room: ThreadRoom<N>,
+    /// Where each worker finds what others received for its shard.
+    pub mailboxes: Vec<Mailbox<N>>,
 }
 
 impl<'c, N: Opened> OpenHub<'c, N> {
@@ -83,11 +102,16 @@ impl<'c, N: Opened> OpenHub<'c, N> {
     {
         match Hub::<'_, Global, N>::open_over(alloc, config, shards, blanks) {
             Ok((hub, seat)) => {
-                let HubRoom { pause, threads } = room;
+                let HubRoom {
+                    pause,
+                    threads,
+                    mailboxes,
+                } = room;
                 Ok(OpenHub {
                     hub: PausableHub { hub, pause },
                     seat,
                     room: threads,
+                    mailboxes,
                 })
             }
             Err(shards) => {

@@ -14,7 +14,7 @@ use roam_outgoing::{Outgoing, RoomEvents};
 use roam_port::{Outbox, socket_numbers};
 use roam_sockets::{BoundSocket, ServeFault, ports, receivers};
 use roam_telling::Notice;
-use roam_workers::{ExchangeQueues, Logger, Rests, Shared, Timer, Worker, WorkerContext};
+use roam_workers::{ExchangeQueues, Logger, Mail, Rests, Shared, Timer, Worker, WorkerContext};
 use rtrb::Consumer;
 use std::alloc::{AllocError, Global};
 
@@ -160,6 +160,7 @@ impl<'s, 'c, G, N: Opened> Builder<'s, 'c, G, N> {
         let receivers = receivers(alloc, self.sockets, number)?;
         let events = Events::with_capacity(alloc, receivers.len().saturating_add(2))?;
         let ready = Vec::with_capacity(alloc, receivers.len())?;
+        let mail = Mail::new(alloc, number, usize::from(self.shared.config.shards))?;
         let Equipped {
             context,
             arrivals,
@@ -167,6 +168,7 @@ impl<'s, 'c, G, N: Opened> Builder<'s, 'c, G, N> {
         } = self.equip(number, part)?;
         Ok(Worker {
             context,
+            mail,
             receivers,
             ready,
             poll: arrivals,

@@ -2,3 +2,4 @@ pub mod EndingLemmas
 pub mod HandlingLemmas
 pub mod TickLemmas
 pub mod WorkLemmas
+pub mod MailLemmas

@@ -1,7 +1,7 @@
 -- What a thread did, one thing after the other, and what that counts.
 use Rattle.std.proofs.Common.{◌≡◌, ◌∙◌, ℕ, List, [], ◌∷◌, ◌++◌, Option, ap, refl, sym, inl, inr}
 use Rattle.std.proofs.lemmas.List.Sums.{fold-append}
-use Rattle.roam_route.specs.Admission.{Arrival}
+use Rattle.roam_route.specs.Admission.{Arrival, PlainJob}
 use Rattle.roam_conf.specs.declared.exchange_lines.ExchangeLines.{ExchangeLines}
 use Rattle.roam_exchange.specs.HappeningsShown.{shown_happening}
 use Rattle.roam_history.specs.HubOpening.{HubOpening}
@@ -15,9 +15,9 @@ use Rattle.roam_counters.specs.declared.datagrams.Handling.TheVariants as handli
 use Rattle.roam_counters.specs.declared.increments.Increment.{Increment}
 use Rattle.roam_counting.specs.Counting.{wait_of}
 use Rattle.roam_counting.specs.Packets.{turn_of}
-use Rattle.roam_workers.specs.Handlings.{AtWork, FailedCounts, IsHandled}
+use Rattle.roam_workers.specs.Handlings.{AtWork, FailedCounts, IsHandled, IsJobHandled, IsJobTaken}
 use Rattle.roam_workers.specs.Ticks.{HasNotTicked, Ticks}
-use Rattle.roam_workers.specs.Work.{DoesOne, HasWorked, WorkIsCounted, WorkedBy, all_by, failed_by, handled_by, one_by, ticked_by}
+use Rattle.roam_workers.specs.Work.{DoesOne, HasWorked, WorkIsCounted, WorkedBy, all_by, failed_by, handled_by, job_by, one_by, taken_by, ticked_by}
 
 -- ## Of one thing after the other
 
@@ -34,11 +34,11 @@ worked_more o start before end did more = record { stands = before ∷ did.stand
 pub worked_idle : (o : HubOpening) (start before end : AtWork) → HasWorked o start before
     → end.seat.tallies ≡ before.seat.tallies → end.counts ≡ before.counts → HasWorked o start end
 worked_idle o start before end did tallies counts =
-    worked_more o start before end did (inr (inr (record { tallies = tallies; counts = counts })))
+    worked_more o start before end did (inr (inr (inl (record { tallies = tallies; counts = counts }))))
 
 pub worked_looked : (o : HubOpening) (start before end : AtWork) → HasWorked o start before → HasNotTicked before end
     → HasWorked o start end
-worked_looked o start before end did look = worked_more o start before end did (inr (inr look))
+worked_looked o start before end did look = worked_more o start before end did (inr (inr (inl look)))
 
 -- what leaves the seat
 pub worked_kept : (o : HubOpening) (start before end : AtWork) → HasWorked o start before → end.seat ≡ before.seat
@@ -80,16 +80,31 @@ failed-counts o d old new (inr call) =
     twice old (raised_all old (arrival_increments (turn_of call.0))) new (arrival_increments (turn_of call.0))
     (failed_increments (turn_of call.0) call.1) refl call.3
 
+taken-counts : (o : HubOpening) (lines : ExchangeLines) (now : ℕ) (job : PlainJob) (old new : AtWork)
+    (is : IsJobTaken o lines now job old new) → new.counts ≡ raised_all old.counts (taken_by o lines now job old new is)
+taken-counts o lines now job old new is =
+    twice old.counts (raised_all old.counts (arrival_increments (turn_of job))) new.counts
+    (arrival_increments (turn_of job))
+    (job_increments (turn_of job) (shown_happening is.answered.happening) now (wait_of o.config job.realm))
+    refl is.counts
+
+job-counts :
+    (o : HubOpening) (lines : ExchangeLines) (now : ℕ) (job : PlainJob) (old new : AtWork) (handling : Handling)
+    (did : IsJobHandled o lines now job old new handling)
+    → new.counts ≡ raised_all old.counts (job_by o lines now job old new handling did)
+job-counts o lines now job old new handling.Taken is = taken-counts o lines now job old new is
+job-counts o lines now job old new handling.Answered none = absurd none
+job-counts o lines now job old new handling.Refused none = absurd none
+job-counts o lines now job old new handling.Failed has =
+    twice old.counts (raised_all old.counts (arrival_increments (turn_of job))) new.counts
+    (arrival_increments (turn_of job)) (failed_increments (turn_of job) has.why) refl has.counts
+job-counts o lines now job old new handling.Dropped none = absurd none
+
 handled-counts :
     (o : HubOpening) (lines : ExchangeLines) (now : ℕ) (d : Arrival) (old new : AtWork) (handling : Handling)
     (did : IsHandled o lines now d old new handling)
     → new.counts ≡ raised_all old.counts (handled_by o lines now d old new handling did)
-handled-counts o lines now d old new handling.Taken taken =
-    twice old.counts (raised_all old.counts (arrival_increments (turn_of taken.job))) new.counts
-    (arrival_increments (turn_of taken.job))
-    (job_increments (turn_of taken.job) (shown_happening taken.answered.happening) now
-    (wait_of o.config taken.job.realm))
-    refl taken.counts
+handled-counts o lines now d old new handling.Taken is = taken-counts o lines now is.job old new is.taken
 handled-counts o lines now d old new handling.Answered here = here.counts
 handled-counts o lines now d old new handling.Refused is = is.counts
 handled-counts o lines now d old new handling.Failed has = failed-counts o d old.counts new.counts has.counts
@@ -106,7 +121,8 @@ one-counts : (o : HubOpening) (old new : AtWork) (did : DoesOne o old new)
     → new.counts ≡ raised_all old.counts (one_by o old new did)
 one-counts o old new (inl took) = handled-counts o took.0 took.1 took.2 old new took.3 took.4
 one-counts o old new (inr (inl ticked)) = ticked-counts o ticked.0 ticked.1 ticked.2 old new ticked.3
-one-counts o old new (inr (inr none)) = none.counts
+one-counts o old new (inr (inr (inl none))) = none.counts
+one-counts o old new (inr (inr (inr took))) = job-counts o took.2 took.3 took.0 old new took.4 took.5
 
 all-counts : (o : HubOpening) (start : AtWork) (stands : List AtWork) (end : AtWork) (did : WorkedBy o start stands end)
     → end.counts ≡ raised_all start.counts (all_by o start stands end did)

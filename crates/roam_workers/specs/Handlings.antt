@@ -57,12 +57,10 @@ pub record IsAnswered (o : HubOpening) (lines : ExchangeLines) (now : ℕ) (job 
 abbrev pub came : CountsView → PlainJob → CountsView
 came counts job = raised_all counts (arrival_increments (turn_of job))
 
--- a realm's rules took a datagram: it gives a job, which was answered, and the seat counts no other call. The counts
--- rose by the job's arrival and by what happened
-pub record IsTaken (o : HubOpening) (lines : ExchangeLines) (now : ℕ) (d : Arrival) (old new : AtWork)
+-- a realm's rules took a job: it was answered, and the seat counts no other call. The counts rose by the job's arrival
+-- and by what happened
+pub record IsJobTaken (o : HubOpening) (lines : ExchangeLines) (now : ℕ) (job : PlainJob) (old new : AtWork)
     : Type 0 where
-  pub job : PlainJob
-  pub admitted_is : admission o.config d ≡ admitted job
   pub after : SeatView
   pub answered : Answered Global
   pub answer : IsAnswered o lines now job old.seat after answered
@@ -71,6 +69,25 @@ pub record IsTaken (o : HubOpening) (lines : ExchangeLines) (now : ℕ) (d : Arr
       new.counts
       ≡ raised_all (came old.counts job)
       (job_increments (turn_of job) (shown_happening answered.happening) now (wait_of o.config job.realm))
+
+-- the call for a job wasn't recorded: the seat counts none, and the counts rose by its arrival and by that
+pub record HasJobFailed (job : PlainJob) (old new : AtWork) : Type 0 where
+  pub why : Refusal
+  pub tallies : new.seat.tallies ≡ old.seat.tallies
+  pub counts : new.counts ≡ raised_all (came old.counts job) (failed_increments (turn_of job) why)
+
+-- one of both becomes of a job that the hub is given
+abbrev pub IsJobHandled : HubOpening → ExchangeLines → ℕ → PlainJob → AtWork → AtWork → Handling → Type 0
+IsJobHandled o lines now job old new handling.Taken = IsJobTaken o lines now job old new
+IsJobHandled o lines now job old new handling.Failed = HasJobFailed job old new
+IsJobHandled o lines now job old new _ = ⊥
+
+-- a realm's rules took a datagram: the job that it gives
+pub record IsTaken (o : HubOpening) (lines : ExchangeLines) (now : ℕ) (d : Arrival) (old new : AtWork)
+    : Type 0 where
+  pub job : PlainJob
+  pub admitted_is : admission o.config d ≡ admitted job
+  pub taken : IsJobTaken o lines now job old new
 
 -- it gave an answer of the broker's own, by admission alone
 pub record IsAnsweredHere (o : HubOpening) (d : Arrival) (old new : AtWork) : Type 0 where

@@ -1,5 +1,6 @@
 pub mod Endings
 pub mod Handlings
+pub mod Mail
 pub mod Remedies
 pub mod Requests
 pub mod Ticks

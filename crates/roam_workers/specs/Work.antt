@@ -1,7 +1,7 @@
 -- What a thread did from its start to its end, and what it counted of that. Ours.
 use Rattle.std.specs.Prelude.{◌≡◌, ◌⊎◌, ℕ, ◌+◌, ◌%◌, ◌^◌, ◌<◌, List, [], ◌∷◌, ◌++◌, length, Option}
 use mathlib.Core.Logic.{inl, inr}
-use Rattle.roam_route.specs.Admission.{Arrival}
+use Rattle.roam_route.specs.Admission.{Arrival, PlainJob}
 use Rattle.roam_route.specs.RejectCauses.{code_of}
 use Rattle.roam_wire.specs.declared.refusal.Refusal.TheVariants as refusal
 use Rattle.roam_conf.specs.declared.exchange_lines.ExchangeLines.{ExchangeLines}
@@ -21,26 +21,34 @@ use Rattle.roam_counters.specs.declared.event.CountedEvent.{CountedEvent}
 use Rattle.roam_counters.specs.declared.increments.Increment.{Increment}
 use Rattle.roam_counting.specs.Counting.{wait_of}
 use Rattle.roam_counting.specs.Packets.{turn_of}
-use Rattle.roam_workers.specs.Handlings.{AtWork, FailedCounts, IsHandled}
+use Rattle.roam_workers.specs.Handlings.{AtWork, FailedCounts, IsHandled, IsJobHandled, IsJobTaken}
+use Rattle.roam_workers.specs.Mail.{IsAdmitted}
 use Rattle.roam_workers.specs.Ticks.{HasNotTicked, Ticks}
 
--- one thing that a thread does: it takes a datagram, of which this becomes; or it ticks a shard; or its seat counts no
--- call, and no count rises
+-- one thing that a thread does: it takes a datagram, of which this becomes; or a job that was handed on; or it ticks a
+-- shard; or its seat counts no call, and no count rises
 abbrev pub TakesOne : HubOpening → AtWork → AtWork → Type 0
 TakesOne o old new =
     (lines : ExchangeLines) × (now : ℕ) × (d : Arrival) × (handling : Handling)
     × IsHandled o lines now d old new handling
 
+-- or it takes a job that another one handed on
+abbrev pub TakesHanded : HubOpening → AtWork → AtWork → Type 0
+TakesHanded o old new =
+    (job : PlainJob) × IsAdmitted o.config job × (lines : ExchangeLines) × (now : ℕ) × (handling : Handling)
+    × IsJobHandled o lines now job old new handling
+
 abbrev pub TicksOne : HubOpening → AtWork → AtWork → Type 0
 TicksOne o old new = (lines : ExchangeLines) × (shard : ℕ) × (now : ℕ) × Ticks o lines shard now old new
 
 abbrev pub DoesOne : HubOpening → AtWork → AtWork → Type 0
-DoesOne o old new = TakesOne o old new ⊎ (TicksOne o old new ⊎ HasNotTicked old new)
+DoesOne o old new =
+    TakesOne o old new ⊎ (TicksOne o old new ⊎ (HasNotTicked old new ⊎ TakesHanded o old new))
 
 -- ## What a thread did
--- One thing after the other, and nothing beside: a datagram that it took, a shard that it ticked, or what its seat
--- counts no call of and no count rises by. So all that a seat counted of its calls, and all that the counts rose by, is
--- of these.
+-- One thing after the other, and nothing beside: a datagram that it took, a job of one that another handed on, a shard
+-- that it ticked, or what its seat counts no call of and no count rises by. So all that a seat counted of its calls,
+-- and all that the counts rose by, is of these.
 -- Source: ours
 -- Rules out: a thread that counts beside what it does, or that gives the hub what it doesn't count
 -- Stands in: `roam_workers` `Work.antt`: `HasWorked`, `DoesOne`; `receive_on`, `tick_on`
@@ -64,14 +72,28 @@ abbrev pub failed_by : (o : HubOpening) (d : Arrival) (old new : CountsView) →
 failed_by o d old new (inl before) = refused_increments d.at (end_at o.config d.at d.from) refusal.NoMemory
 failed_by o d old new (inr call) = arrival_increments (turn_of call.0) ++ failed_increments (turn_of call.0) call.1
 
+-- of a job that the hub was given, as what became of it
+abbrev pub taken_by : (o : HubOpening) (lines : ExchangeLines) (now : ℕ) (job : PlainJob) (old new : AtWork)
+    → IsJobTaken o lines now job old new → List (Option Increment)
+taken_by o lines now job old new taken =
+    arrival_increments (turn_of job)
+    ++ job_increments (turn_of job) (shown_happening taken.answered.happening) now (wait_of o.config job.realm)
+
+abbrev pub job_by :
+    (o : HubOpening) (lines : ExchangeLines) (now : ℕ) (job : PlainJob) (old new : AtWork) (handling : Handling)
+    → IsJobHandled o lines now job old new handling → List (Option Increment)
+job_by o lines now job old new handling.Taken taken = taken_by o lines now job old new taken
+job_by o lines now job old new handling.Answered none = []
+job_by o lines now job old new handling.Refused none = []
+job_by o lines now job old new handling.Failed has =
+    arrival_increments (turn_of job) ++ failed_increments (turn_of job) has.why
+job_by o lines now job old new handling.Dropped none = []
+
 -- of a datagram, as what became of it
 abbrev pub handled_by :
     (o : HubOpening) (lines : ExchangeLines) (now : ℕ) (d : Arrival) (old new : AtWork) (handling : Handling)
     → IsHandled o lines now d old new handling → List (Option Increment)
-handled_by o lines now d old new handling.Taken taken =
-    arrival_increments (turn_of taken.job)
-    ++ job_increments (turn_of taken.job) (shown_happening taken.answered.happening) now
-    (wait_of o.config taken.job.realm)
+handled_by o lines now d old new handling.Taken is = taken_by o lines now is.job old new is.taken
 handled_by o lines now d old new handling.Answered here =
     local_increments (end_at o.config here.out.from here.out.to) (code_of here.what)
 handled_by o lines now d old new handling.Refused is = refused_increments d.at (end_at o.config d.at d.from) is.why
@@ -89,7 +111,8 @@ ticked_by o lines shard now old new (inr (inr is)) = refused_here_increments is.
 abbrev pub one_by : (o : HubOpening) (old new : AtWork) → DoesOne o old new → List (Option Increment)
 one_by o old new (inl took) = handled_by o took.0 took.1 took.2 old new took.3 took.4
 one_by o old new (inr (inl ticked)) = ticked_by o ticked.0 ticked.1 ticked.2 old new ticked.3
-one_by o old new (inr (inr none)) = []
+one_by o old new (inr (inr (inl none))) = []
+one_by o old new (inr (inr (inr took))) = job_by o took.2 took.3 took.0 old new took.4 took.5
 
 abbrev pub all_by : (o : HubOpening) (start : AtWork) (stands : List AtWork) (end : AtWork)
     → WorkedBy o start stands end → List (Option Increment)

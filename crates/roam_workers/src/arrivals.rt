@@ -1,15 +1,17 @@
 //! What a worker does with a datagram that came.
 
-ghost use Rattle.std.specs.Prelude.{◌≡◌, IfOk, OnErr};
+ghost use Rattle.std.specs.Prelude.{◌≡◌, IfNone, IfOk, IfSome, OnErr};
 ghost use Rattle.roam_route.specs.Admission.{admission, admitted};
 ghost use Rattle.roam_route.specs.Events.{IsEvent};
 ghost use Rattle.roam_route.specs.Shown.{shown_arrival, shown_job};
 ghost use Rattle.roam_counting.specs.Counting.{counts_in};
 ghost use Rattle.roam_workers.specs.Handlings as handlings;
-ghost use Rattle.roam_workers.specs.Handlings.{Arrives, IsAnswered, IsHandled, at_work};
+ghost use Rattle.roam_workers.specs.Handlings.{IsAnswered, IsHandled, IsJobHandled, at_work};
+ghost use Rattle.roam_workers.specs.Mail.{ArrivesHere, IsHandedOn, at_mail, jobs_of};
 
 use crate::codes::is_request;
 use crate::context::WorkerContext;
+use crate::mail::Mail;
 use roam_counters::Handling;
 use roam_counting::turn_of;
 use roam_hub::{Answered, Call, Gate, Opened, Refused};
@@ -30,62 +32,127 @@ fn refused_as(refusal: Refusal) -> Handling
     }
 }
 
+/// What is told of where a job came from that is refused: more than that, where its datagram is there and has it.
+fn origin_in(
+    arrived: Origin,
+    datagram: Option<&Datagram<Global>>,
+    refusal: Option<Refusal>,
+) -> Origin {
+    match datagram {
+        Some(datagram) => origin_of(datagram, refusal),
+        None => arrived,
+    }
+}
+
 impl<G: Gate, N: Opened> WorkerContext<'_, '_, G, N> {
-    /// Takes a datagram: hands its packets to the sockets, or tells why it is refused; and counts what became of it.
-    pub fn arrive<R: Wait>(&mut self, rt: &R, alloc: Global, datagram: &Datagram<Global>)
-        ensures arrives { Arrives N.opening self.old.shared.now.told_exchanges self.old.now
-            (shown_arrival datagram.now) (at_work self.old.seat self.old.counting)
-            (at_work self.new.seat self.new.counting) self.old.datagrams.counts self.new.datagrams.counts }
-        ensures now { self.new.now ≡ self.old.now }
+    /// Takes a datagram: hands its packets to the sockets, or tells why it is refused; and counts what became of it. Or
+    /// it hands its job on to the worker of the job's shard, which counts what becomes of it.
+    pub fn arrive<R: Wait>(
+        &mut self,
+        rt: &R,
+        alloc: Global,
+        mail: &mut Mail<N>,
+        datagram: &Datagram<Global>,
+    )
+        ensures { ArrivesHere N.opening self.old.shared.now.told_exchanges self.old.now (shown_arrival datagram.now)
+            (at_mail self.old.seat self.old.counting self.old.datagrams mail.old.outgoing.items)
+            (at_mail self.new.seat self.new.counting self.new.datagrams mail.new.outgoing.items)
+            (λ q. jobs_of q.items (λ l. l.job)) }
     {
         self.counting.received(datagram.at);
-        let handling = self.handle(rt, alloc, datagram);
-        self.counting.handled(handling);
-        self.datagrams = self.datagrams.after(handling);
+        if let Some(handling) = self.handle(rt, alloc, mail, datagram) {
+            self.counting.handled(handling);
+            self.datagrams = self.datagrams.after(handling);
+        }
     }
 
-    /// Takes a datagram, and answers what became of it. A server that is asked to stop takes no request.
-    fn handle<R: Wait>(&mut self, rt: &R, alloc: Global, datagram: &Datagram<Global>) -> Handling
-        ensures handled { IsHandled N.opening self.old.shared.now.told_exchanges self.old.now
+    /// Takes a datagram, and answers what became of it, unless its job is handed on. A server that is asked to stop
+    /// takes no request.
+    fn handle<R: Wait>(
+        &mut self,
+        rt: &R,
+        alloc: Global,
+        mail: &mut Mail<N>,
+        datagram: &Datagram<Global>,
+    ) -> Option<Handling>
+        ensures handled { IfSome result (λ handling. IsHandled N.opening self.old.shared.now.told_exchanges self.old.now
             (shown_arrival datagram.now) (at_work self.old.seat self.old.counting)
-            (at_work self.new.seat self.new.counting) result }
-        ensures kept { (self.new.datagrams ≡ self.old.datagrams) × (self.new.now ≡ self.old.now) }
+            (at_work self.new.seat self.new.counting) handling × (mail.new.outgoing.items ≡ mail.old.outgoing.items)) }
+        ensures handed { IfNone result (IsHandedOn N.opening (shown_arrival datagram.now) mail.old.outgoing.items
+            mail.new.outgoing.items (λ q. jobs_of q.items (λ l. l.job))
+            × (at_work self.new.seat self.new.counting ≡ at_work self.old.seat self.old.counting)) }
+        ensures kept { self.new.datagrams ≡ self.old.datagrams }
     {
         if self.shared.stopping.is_asked() && is_request(datagram.octets.as_slice()) {
-            return Handling::Dropped;
+            return Some(Handling::Dropped);
         }
         match prepare(alloc, self.shared.config, datagram) {
-            Ok(Prepared::Job(job)) => self.take(rt, job, datagram),
+            Ok(Prepared::Job(job)) => self.take_or_hand(rt, mail, job, datagram),
             Ok(Prepared::Answered(what, out)) => {
                 let config = self.shared.config;
                 self.counting
                     .answered(config, out.from, out.to, what.code());
                 self.tell_local(datagram, what);
                 self.outgoing.put(out);
-                Handling::Answered
+                Some(Handling::Answered)
             }
             Err(refusal) => {
                 let config = self.shared.config;
                 self.counting
                     .refused(config, refusal, datagram.at, datagram.from);
                 self.refuse(refusal, Origin::Datagram(datagram.at, datagram.from));
-                refused_as(refusal)
+                Some(refused_as(refusal))
             }
         }
     }
 
-    /// Gives a job to the hub: hands its packets to the sockets, or tells why it is refused. Answers what became of it.
-    fn take<R: Wait>(&mut self, rt: &R, job: Job<Global>, datagram: &Datagram<Global>) -> Handling
+    /// Gives a job of the worker's own shard to the hub, and answers what became of it; hands another's on. Where that
+    /// isn't possible, the hub is given it here.
+    fn take_or_hand<R: Wait>(
+        &mut self,
+        rt: &R,
+        mail: &mut Mail<N>,
+        job: Job<Global>,
+        datagram: &Datagram<Global>,
+    ) -> Option<Handling>
         requires event { IsEvent N.opening.config (shown_job job) }
         requires admission { admission N.opening.config (shown_arrival datagram.now)
             ≡ admitted (shown_job job) }
-        ensures handled { IsHandled N.opening self.old.shared.now.told_exchanges self.old.now
+        ensures handled { IfSome result (λ handling. IsHandled N.opening self.old.shared.now.told_exchanges self.old.now
             (shown_arrival datagram.now) (at_work self.old.seat self.old.counting)
-            (at_work self.new.seat self.new.counting) result }
-        ensures kept { (self.new.datagrams ≡ self.old.datagrams) × (self.new.now ≡ self.old.now) }
+            (at_work self.new.seat self.new.counting) handling × (mail.new.outgoing.items ≡ mail.old.outgoing.items)) }
+        ensures handed { IfNone result (IsHandedOn N.opening (shown_arrival datagram.now) mail.old.outgoing.items
+            mail.new.outgoing.items (λ q. jobs_of q.items (λ l. l.job))
+            × (at_work self.new.seat self.new.counting ≡ at_work self.old.seat self.old.counting)) }
+        ensures kept { self.new.datagrams ≡ self.old.datagrams }
+    {
+        if !self.shared.is_anothers(mail.number, &job) {
+            return Some(self.take(rt, job, Some(datagram)));
+        }
+        let worker = usize::from(self.shared.config.shard_of(job.realm));
+        match mail.hand(worker, job) {
+            None => None,
+            Some(job) => Some(self.take(rt, job, Some(datagram))),
+        }
+    }
+
+    /// Gives a job to the hub: hands its packets to the sockets, or tells why it is refused. Answers what became of the
+    /// datagram that gave it. Of a job that was handed on that isn't there any more, nor needed: it came at `auth` or
+    /// `acct`.
+    pub(crate) fn take<R: Wait>(
+        &mut self,
+        rt: &R,
+        job: Job<Global>,
+        datagram: Option<&Datagram<Global>>,
+    ) -> Handling
+        requires event { IsEvent N.opening.config (shown_job job) }
+        ensures handled { IsJobHandled N.opening self.old.shared.now.told_exchanges self.old.now (shown_job job)
+            (at_work self.old.seat self.old.counting) (at_work self.new.seat self.new.counting) result }
+        ensures kept { self.new.datagrams ≡ self.old.datagrams }
     {
         let config = self.shared.config;
         let turn = turn_of(&job);
+        let arrived = Origin::Datagram(job.place, job.from);
         self.counting.came(turn);
         match self.answer(rt, job) {
             Ok(answered) => {
@@ -93,13 +160,13 @@ impl<G: Gate, N: Opened> WorkerContext<'_, '_, G, N> {
                 self.counting
                     .gave(config, turn, &answered.happening, self.now);
                 self.end_by(turn.realm, datagram, &answered);
-                let origin = origin_of(datagram, answered.answer.refusal);
+                let origin = origin_in(arrived, datagram, answered.answer.refusal);
                 self.finish(rt, answered, origin);
                 Handling::Taken
             }
             Err(refusal) => {
                 self.counting.failed(turn, refusal);
-                self.refuse(refusal, Origin::Datagram(datagram.at, datagram.from));
+                self.refuse(refusal, arrived);
                 Handling::Failed
             }
         }

@@ -31,7 +31,7 @@ pub struct WorkerContext<'s, 'c, G, N: Opened> {
     pub notices: Notices,
     pub exchanges: Exchanges,
     pub counting: Counting<'s>,
-    /// What became of the datagrams that it received.
+    /// What became of the datagrams that it took.
     pub datagrams: Datagrams,
     /// The last moment, in milliseconds since the server's start.
     pub now: u64,

@@ -73,7 +73,12 @@ impl<G: Gate, N: Opened> WorkerContext<'_, '_, G, N> {
     }
 
     /// Tells of what ends by an arrival for a realm that was answered so.
-    pub fn end_by(&mut self, realm: u16, datagram: &Datagram<Global>, answered: &Answered<Global>)
+    pub fn end_by(
+        &mut self,
+        realm: u16,
+        datagram: Option<&Datagram<Global>>,
+        answered: &Answered<Global>,
+    )
         ensures kept { (self.new.seat ≡ self.old.seat) × (self.new.datagrams ≡ self.old.datagrams)
             × (self.new.now ≡ self.old.now)
             × (counts_in self.new.counting ≡ counts_in self.old.counting) }
@@ -90,7 +95,7 @@ impl<G: Gate, N: Opened> WorkerContext<'_, '_, G, N> {
             } => self.tell_replaced(realm, waited),
             Happening::Nak { .. } => {
                 if self.exchanges.are_told(ExchangeEnd::Nak) {
-                    self.tell(Some(nak_of(datagram, realm)));
+                    self.tell(datagram.map(|datagram| nak_of(datagram, realm)));
                 }
             }
             _ => {}

@@ -13,12 +13,21 @@
 //! - what becomes of a datagram is one of five, each as admission says: a realm's rules took it, by one call more that
 //!   the seat counts and whose step is the arrival's; the broker answered by itself, or it was refused, and nothing was
 //!   given to a realm; it failed, and the seat counts nothing; or it is a request and the server was asked to stop. It is
-//!   counted once, as that; what a worker counted is what it gives back | `WorkerContext::arrive`: `arrives`;
+//!   counted once, as that; what a worker counted is what it gives back | `WorkerContext::arrive`;
 //!   `WorkerContext::leave`: `datagrams`
 //! - a worker's own counts of events rise by just what becomes of each datagram and of each tick: by what happens by the call's
 //!   event where the steps before it end, as the history says it, by an answer of the broker's own, or by a refusal. That
-//!   what is left for others to read is these counts is code | `WorkerContext::arrive`: `arrives`; `WorkerContext::tick`
-//! - from its start to its end a thread does nothing to its seat and to these counts but that, one datagram or tick after the
+//!   what is left for others to read is these counts is code | `WorkerContext::arrive`; `WorkerContext::tick`
+//! - or its job is handed on to the worker of the job's shard: it stands behind the others that are handed to that one,
+//!   and nothing is counted. A job that is handed on is what admission gives of some datagram | `WorkerContext::arrive`;
+//!   `Mail::hand`; `Letter`
+//! - what is handed on together stands behind what waits, in its order, or all of it comes back; what waits is taken at once,
+//!   nothing stays, and a mailbox that takes none holds none | `Waiting::put`, `Waiting::take`, `Waiting`
+//! - jobs that were handed on, and those that come back, are given to the hub one after the other, each once, in their order,
+//!   and counted as what becomes of them; at a thread's end nothing is to be handed on. That the list which is taken is the
+//!   one that waited is code: no clause sees through a lock | `WorkerContext::take_letters`, `WorkerContext::hand_all`,
+//!   `Worker::leave`
+//! - from its start to its end a thread does nothing to its seat and to these counts but that, one datagram, job or tick after the
 //!   other: so each count is what it was and the sum of the increments of all that the thread did | `receive_on`,
 //!   `tick_on`: `HasWorkedTo`; law `work_is_counted`
 //! - which remedy there is for a call that a hub doesn't record: where the history is full it is let go of,
@@ -34,11 +43,14 @@ mod ending;
 mod exchange_ends;
 mod laws;
 mod logger;
+mod mail;
+mod mailbox;
 mod ready;
 mod rest;
 mod rests;
 mod shared;
 mod silence;
+mod ticking;
 mod timer;
 mod told_losses;
 mod worker;
@@ -47,6 +59,8 @@ pub use context::{Remedy, WorkerContext, remedy_for};
 pub use ending::{Ended, Ending, WorkerEnd, has_given_up_after};
 pub use laws::work_is_counted;
 pub use logger::{ExchangeQueues, Logger, log_notices, tell_or_drop};
+pub use mail::Mail;
+pub use mailbox::{Letter, Letters, Mailbox};
 pub use rest::TimerRest;
 pub use rests::Rests;
 pub use shared::Shared;

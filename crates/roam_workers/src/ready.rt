@@ -1,8 +1,11 @@
 //! Which receivers are ready: those from which something may be received.
 
 use mio::{Events, Token};
-use roam_sockets::Receiver;
+use roam_sockets::{Receiver, WAIT_AFTER_FAULT};
 use std::alloc::Global;
+
+/// How long a worker waits for a datagram, in milliseconds, where none comes and nobody wakes it.
+pub const WAIT: u64 = 1000;
 
 /// Marks a receiver as ready.
 fn mark(receivers: &mut [Receiver<'_>], ready: &mut Vec<usize>, at: usize) {
@@ -35,4 +38,23 @@ pub(crate) fn mark_all_ready(receivers: &mut [Receiver<'_>], ready: &mut Vec<usi
 /// Keeps the places of the receivers that are still ready.
 pub(crate) fn keep_ready(receivers: &[Receiver<'_>], ready: &mut Vec<usize>) {
     ready.retain(|at| receivers.get(*at).is_some_and(|receiver| receiver.is_ready));
+}
+
+/// Whether the receiver of this place is to be received from now.
+fn is_due(receivers: &[Receiver<'_>], at: usize, now: u64) -> bool {
+    receivers
+        .get(at)
+        .is_some_and(|receiver| receiver.is_due(now))
+}
+
+/// How long to wait, in milliseconds: not at all where a socket is to be received from, and a short time where
+/// one is to be tried again.
+pub(crate) fn wait_before(receivers: &[Receiver<'_>], ready: &[usize], now: u64) -> u64 {
+    if ready.iter().any(|at| is_due(receivers, *at, now)) {
+        0
+    } else if ready.is_empty() {
+        WAIT
+    } else {
+        WAIT_AFTER_FAULT
+    }
 }

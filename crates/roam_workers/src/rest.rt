@@ -1,6 +1,7 @@
 //! The rest of the timer, where nothing is due.
 
-use crate::timer::{REST, TICK};
+use crate::ticking::TICK;
+use crate::timer::REST;
 use mio::Waker;
 use std::sync::atomic::{AtomicBool, Ordering};
 

@@ -3,6 +3,7 @@
 ghost use Rattle.std.specs.Prelude.{◌≡◌};
 ghost use Rattle.roam_conf.specs.Shown.{shown};
 
+use crate::mailbox::Mailbox;
 use crate::rest::TimerRest;
 use mio::Waker;
 use roam_conf::{Config, ExchangeLines};
@@ -28,6 +29,8 @@ pub struct Shared<'s, 'c, G, N: Opened> {
     /// What ends the wait of the timer, the first, and of each worker.
     pub wakers: &'s [Waker],
     pub rest: &'s TimerRest<'s>,
+    /// Where each worker finds what others received for its shard, by their numbers.
+    pub mailboxes: &'s [Mailbox<N>],
     pub losses: &'s SharedLosses,
     /// What is counted, where somebody reads it.
     pub counters: Option<&'s Counters>,

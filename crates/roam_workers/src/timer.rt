@@ -10,22 +10,20 @@ use crate::ending::{Ending, WorkerEnd};
 use crate::rest::wait_for;
 use crate::rests::Rests;
 use crate::silence::{does_any_wait, tell_rests};
+use crate::ticking::TICK;
 use crate::told_losses::tell_losses;
 use mio::{Events, Poll};
-use roam_hub::{Gate, LATE, Opened};
+use roam_hub::{Gate, Opened};
 use std::alloc::Global;
 use std::sync::Wait;
 use std::thread;
 use std::time::{Clock, Duration};
 
-/// From one round of ticks to the next, in milliseconds.
-pub const TICK: u64 = 10;
-
-/// The same, where nothing is due so long in any shard, and no job was given to one.
+/// From one round to the next, in milliseconds, where nothing is due so long in any shard, and no job was given to one.
 pub const REST: u64 = 1000;
 
-/// A server that is asked to stop ends when no request waited for so long, in milliseconds: a worker that had taken one
-/// before has given it to its shard by then.
+/// A server that is asked to stop ends when no request waited for so long, in milliseconds, nor a job for a worker: one
+/// that a worker had taken before is given to its shard by then.
 pub const QUIET: u64 = 200;
 
 /// The worker that ticks the shards.
@@ -95,6 +93,7 @@ fn has_done_all<R: Wait, G: Gate, N: Opened>(rt: &R, timer: &mut Timer<'_, '_, G
         × (counts_in timer.new.context.counting ≡ counts_in timer.old.context.counting) }
 {
     if !timer.context.shared.stopping.is_asked()
+        || timer.context.shared.does_mail_wait(rt)
         || does_any_wait(rt, timer.context.shared, &timer.context.seat)
     {
         timer.quiet_since = None;
@@ -106,34 +105,7 @@ fn has_done_all<R: Wait, G: Gate, N: Opened>(rt: &R, timer: &mut Timer<'_, '_, G
     now.saturating_sub(since) >= QUIET
 }
 
-/// Ticks a shard once, and sends what that gives. Answers whether it is to be ticked again.
-fn tick_once<R: Wait, G: Gate, N: Opened>(
-    rt: &R,
-    timer: &mut Timer<'_, '_, G, N>,
-    shard: u16,
-) -> bool
-    ensures { HasWorked N.opening (at_work timer.old.context.seat timer.old.context.counting)
-        (at_work timer.new.context.seat timer.new.context.counting) }
-{
-    let is_more = timer.context.tick(rt, shard);
-    timer.context.outgoing.send();
-    is_more && !timer.context.shared.is_over()
-}
-
-/// Ticks a shard until no more is due in it, and sends after each tick: between two others have its lock. Each has a
-/// later moment than the one before, and none is later than `LATE` milliseconds, so there are no more than that.
-fn tick_shard<R: Wait, G: Gate, N: Opened>(rt: &R, timer: &mut Timer<'_, '_, G, N>, shard: u16)
-    ensures { HasWorked N.opening (at_work timer.old.context.seat timer.old.context.counting)
-        (at_work timer.new.context.seat timer.new.context.counting) }
-{
-    for _ in 0..LATE {
-        if !tick_once(rt, timer, shard) {
-            return;
-        }
-    }
-}
-
-/// Ticks all shards, until all are to end.
+/// Ticks all shards but those that their workers tick, until all are to end.
 fn tick_all<R: Wait, G: Gate, N: Opened>(rt: &R, timer: &mut Timer<'_, '_, G, N>)
     ensures { HasWorked N.opening (at_work timer.old.context.seat timer.old.context.counting)
         (at_work timer.new.context.seat timer.new.context.counting) }
@@ -142,7 +114,7 @@ fn tick_all<R: Wait, G: Gate, N: Opened>(rt: &R, timer: &mut Timer<'_, '_, G, N>
         if timer.context.shared.is_over() {
             return;
         }
-        tick_shard(rt, timer, shard);
+        timer.context.tick_unless_left(rt, shard);
     }
 }
 

@@ -3,11 +3,13 @@
 ghost use Rattle.std.specs.Prelude.{◌≡◌};
 ghost use Rattle.roam_counting.specs.Counting.{counts_in};
 ghost use Rattle.roam_workers.specs.Handlings.{at_work};
+ghost use Rattle.roam_workers.specs.Mail.{HoldsNone};
 ghost use Rattle.roam_workers.specs.Work.{HasWorked, HasWorkedTo};
 
 use crate::context::WorkerContext;
 use crate::ending::{Ending, WorkerEnd};
-use crate::ready::{keep_ready, mark_all_ready, mark_ready};
+use crate::mail::Mail;
+use crate::ready::{keep_ready, mark_all_ready, mark_ready, wait_before};
 use mio::{Events, Poll};
 use roam_hub::{Gate, Opened};
 use roam_port::Heard;
@@ -17,9 +19,6 @@ use std::alloc::Global;
 use std::sync::Wait;
 use std::thread;
 use std::time::{Clock, Duration};
-
-/// How long a worker waits for a datagram, in milliseconds, where none comes and nobody wakes it.
-pub const WAIT: u64 = 1000;
 
 /// How long a worker gathers lines of exchanges before it wakes the logger, in milliseconds.
 pub const LINES_WITHIN: u64 = 10;
@@ -37,6 +36,8 @@ static FILLING: [u8; RECEIVED] = [0; RECEIVED];
 /// The worker that receives from sockets.
 pub struct Worker<'s, 'c, G, N: Opened> {
     pub context: WorkerContext<'s, 'c, G, N>,
+    /// What it hands to others, and is handed.
+    pub mail: Mail<N>,
     pub receivers: Vec<Receiver<'s>>,
     /// The places of the receivers that are ready, each once. It has room for all of them.
     pub ready: Vec<usize>,
@@ -52,6 +53,7 @@ impl<'s, 'c, G, N: Opened> Drop for Worker<'s, 'c, G, N> {
     fn drop(self) {
         let Self {
             context,
+            mail,
             receivers,
             ready,
             poll,
@@ -59,6 +61,7 @@ impl<'s, 'c, G, N: Opened> Drop for Worker<'s, 'c, G, N> {
             buffer,
         } = self;
         drop(context);
+        drop(mail);
         drop(receivers);
         drop(ready);
         drop(poll);
@@ -67,29 +70,10 @@ impl<'s, 'c, G, N: Opened> Drop for Worker<'s, 'c, G, N> {
     }
 }
 
-/// Whether the receiver of this place is to be received from now.
-fn is_due(receivers: &[Receiver<'_>], at: usize, now: u64) -> bool {
-    receivers
-        .get(at)
-        .is_some_and(|receiver| receiver.is_due(now))
-}
-
-/// How long to wait, in milliseconds: not at all where a socket is to be received from, and a short time where
-/// one is to be tried again.
-fn wait_before(receivers: &[Receiver<'_>], ready: &[usize], now: u64) -> u64 {
-    if ready.iter().any(|at| is_due(receivers, *at, now)) {
-        0
-    } else if ready.is_empty() {
-        WAIT
-    } else {
-        WAIT_AFTER_FAULT
-    }
-}
-
 /// Waits until something arrives, the worker is woken or refusals are to be told, and marks the receivers at which
 /// something did arrive.
 /// Where the wait itself fails, a short time goes by, and then all are marked.
-fn wait<R: Clock, G, N: Opened>(rt: &R, worker: &mut Worker<'_, '_, G, N>)
+fn wait<R: Wait + Clock, G, N: Opened>(rt: &R, worker: &mut Worker<'_, '_, G, N>)
     ensures kept { (worker.new.context.seat ≡ worker.old.context.seat)
         × (counts_in worker.new.context.counting ≡ counts_in worker.old.context.counting) }
 {
@@ -98,6 +82,8 @@ fn wait<R: Clock, G, N: Opened>(rt: &R, worker: &mut Worker<'_, '_, G, N>)
     let wait = wait_before(receivers, worker.ready.as_slice(), now);
     let wait = wait.min(worker.context.notices.time_left(now));
     let wait = wait.min(worker.context.exchanges.time_left(now, LINES_WITHIN));
+    let shared = worker.context.shared;
+    let wait = shared.wait_for_mail(rt, worker.mail.number, wait);
     let timeout = Some(Duration::from_millis(wait));
     if worker.poll.poll(&mut worker.events, timeout).is_ok() {
         mark_ready(
@@ -128,6 +114,7 @@ fn take_portion<R: Wait + Clock, G: Gate, N: Opened>(
     rt: &R,
     alloc: Global,
     context: &mut WorkerContext<'_, '_, G, N>,
+    mail: &mut Mail<N>,
     receiver: &mut Receiver<'_>,
     buffer: &mut Vec<u8>,
 ) -> Option<Ending>
@@ -142,7 +129,7 @@ fn take_portion<R: Wait + Clock, G: Gate, N: Opened>(
             Heard::Datagram(datagram) => {
                 let mut datagram = datagram;
                 datagram.seconds = context.seconds;
-                context.arrive(rt, alloc, &datagram);
+                context.arrive(rt, alloc, mail, &datagram);
                 give_back(buffer, datagram);
             }
             Heard::Nothing => return None,
@@ -171,13 +158,15 @@ fn receive_portion<R: Wait + Clock, G: Gate, N: Opened>(
     rt: &R,
     alloc: Global,
     context: &mut WorkerContext<'_, '_, G, N>,
+    mail: &mut Mail<N>,
     receiver: &mut Receiver<'_>,
     buffer: &mut Vec<u8>,
 ) -> Option<Ending>
     ensures { HasWorked N.opening (at_work context.old.seat context.old.counting)
         (at_work context.new.seat context.new.counting) }
 {
-    let ending = take_portion(rt, alloc, context, receiver, buffer);
+    let ending = take_portion(rt, alloc, context, mail, receiver, buffer);
+    context.hand_all(rt, mail);
     context.outgoing.send();
     look_after_faults(rt, context, receiver.faults);
     receiver.rest_after_fault(context.now);
@@ -206,7 +195,14 @@ fn receive_at<R: Wait + Clock, G: Gate, N: Opened>(
         return None;
     }
     worker.context.look_at_clock(rt);
-    receive_portion(rt, alloc, &mut worker.context, receiver, &mut worker.buffer)
+    receive_portion(
+        rt,
+        alloc,
+        &mut worker.context,
+        &mut worker.mail,
+        receiver,
+        &mut worker.buffer,
+    )
 }
 
 /// Takes what arrived at the sockets that are marked: why the worker ends with it, if it does.
@@ -241,19 +237,32 @@ fn round<R: Wait + Clock, G: Gate, N: Opened>(
         return Some(Ending::Stopped);
     }
     worker.context.look_at_clock(rt);
+    worker.context.take_mail(rt, &mut worker.mail, true);
     let ending = receive_all(rt, alloc, worker);
+    worker.context.tick_own(rt, worker.mail.number);
     keep_ready(worker.receivers.as_slice(), &mut worker.ready);
     worker.context.wake_logger(LINES_WITHIN);
     ending
 }
 
+/// Hands on and takes what is left of its mail.
+fn end_mail<R: Wait, G: Gate, N: Opened>(rt: &R, worker: &mut Worker<'_, '_, G, N>)
+    ensures worked { HasWorked N.opening (at_work worker.old.context.seat worker.old.context.counting)
+        (at_work worker.new.context.seat worker.new.context.counting) }
+    ensures none_left { HoldsNone worker.new.mail.outgoing.items (λ q. q.items) }
+{
+    worker.context.end_mail(rt, &mut worker.mail);
+}
+
 impl<G: Gate, N: Opened> Worker<'_, '_, G, N> {
     /// Gives back what its context does.
     fn leave(self, ending: Ending) -> WorkerEnd<N>
+        requires { HoldsNone self.mail.outgoing.items (λ q. q.items) }
         ensures seat { result.seat ≡ self.entry.context.seat }
     {
         let Self {
             context,
+            mail,
             receivers,
             ready,
             poll,
@@ -261,6 +270,7 @@ impl<G: Gate, N: Opened> Worker<'_, '_, G, N> {
             buffer,
         } = self;
         let end = context.leave(ending);
+        drop(mail);
         drop(receivers);
         drop(ready);
         drop(poll);
@@ -280,6 +290,7 @@ pub fn receive_on<R: Wait + Clock, G: Gate, N: Opened>(
 {
     for _ in rt.forever() {
         if let Some(ending) = round(rt, alloc, &mut worker) {
+            end_mail(rt, &mut worker);
             return worker.leave(ending);
         }
     }

@@ -8,4 +8,4 @@ loop-shard-init g c =
 
 pub loop-shard-preserved : goal.loop-shard-preserved
 loop-shard-preserved g c =
-    worked_after _ _ _ _ c.loop-shard.invariant c.tick_shard.ensures
+    worked_after _ _ _ _ c.loop-shard.invariant c.tick_unless_left.ensures

@@ -14,4 +14,6 @@ loop-preserved g c =
 pub returns-in-Some-round : goal.returns-in-Some-round
 returns-in-Some-round g c =
     let o = g.N.Opened.opening in
-    (_, kept_on o _ _ _ _ _ (worked_after _ _ _ _ c.loop.invariant c.round.ensures) c.leave.ensures.seat refl)
+    let did = worked_after _ _ _ _ c.loop.invariant c.round.ensures in
+    let ended = worked_after _ _ _ _ did c.end_mail.ensures.worked in
+    (_, kept_on o _ _ _ _ _ ended c.leave.ensures.seat refl)

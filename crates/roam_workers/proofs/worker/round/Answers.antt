@@ -11,5 +11,7 @@ returns g c =
     let o = g.N.Opened.opening in
     let waited = kept_on o _ _ _ _ _ (worked_none o _) c.wait.ensures.kept.0 c.wait.ensures.kept.1 in
     let looked = kept_on o _ _ _ _ _ waited c.look_at_clock.ensures.kept.0 c.look_at_clock.ensures.kept.1 in
-    kept_on o _ _ _ _ _ (worked_after _ _ _ _ looked c.receive_all-ending.ensures) c.wake_logger.ensures.kept.0
-    c.wake_logger.ensures.kept.1
+    let taken = worked_after _ _ _ _ looked c.take_mail.ensures.worked in
+    let heard = worked_after _ _ _ _ taken c.receive_all-ending.ensures in
+    let ticked = worked_after _ _ _ _ heard c.tick_own.ensures in
+    kept_on o _ _ _ _ _ ticked c.wake_logger.ensures.kept.0 c.wake_logger.ensures.kept.1

@@ -1,6 +1,7 @@
 -- One datagram after the other.
-use Rattle.std.proofs.Common.{inl}
-use Rattle.roam_workers.proofs.WorkLemmas.{worked_more, worked_none}
+use Rattle.roam_workers.specs.Mail.{at_mail}
+use Rattle.roam_workers.proofs.MailLemmas.{worked_here}
+use Rattle.roam_workers.proofs.WorkLemmas.{worked_none}
 use Rattle.roam_workers.proofs.worker.take_portion.Goals as goal
 
 pub loop-init : goal.loop-init
@@ -9,5 +10,7 @@ loop-init g c =
 
 pub loop-preserved : goal.loop-preserved
 loop-preserved g c =
-    worked_more _ _ _ _ c.loop.invariant
-    (inl (_, _, _, c.arrive.ensures.arrives.handling, c.arrive.ensures.arrives.is_handled))
+    let old = c.loop.context in
+    let new = c.arrive.new.self in
+    worked_here g.N.Opened.opening _ _ _ _ (at_mail old.seat old.counting old.datagrams c.loop.mail.outgoing.items)
+    (at_mail new.seat new.counting new.datagrams c.arrive.new.mail.outgoing.items) _ c.loop.invariant c.arrive.ensures

@@ -1,5 +1,5 @@
 -- What admission says of a datagram is what becomes of it.
-use Rattle.std.proofs.Common.{◌≡◌, ◌∙◌, Ok, Err, ap, subst, sym}
+use Rattle.std.proofs.Common.{◌≡◌, ◌∙◌, Ok, Err, ap, refl, subst, sym}
 use Rattle.std.specs.declared.alloc.Global.{Global}
 use Rattle.roam_counters.specs.OwnCounts.{raised_all}
 use Rattle.roam_wire.specs.declared.refusal.Refusal.TheVariants as refusal
@@ -11,12 +11,12 @@ use Rattle.roam_route.specs.Admission.{admission}
 use Rattle.roam_route.specs.Shown.{IsAdmission, shown_arrival, shown_out}
 use Rattle.roam_route.specs.declared.job.Prepared.{Prepared}
 use Rattle.roam_counting.specs.Counting.{counts_in}
-use Rattle.roam_workers.specs.Handlings.{IsHandled, at_work}
+use Rattle.roam_workers.specs.Handlings.{IsAnsweredHere, IsHandled, at_work}
 use Rattle.roam_workers.proofs.HandlingLemmas.{answer_is, job_is, refusal_is}
 use Rattle.roam_workers.proofs.context.WorkerContext.handle.Goals as goal
 
-pub take-requires-clause-admission : goal.take-requires-clause-admission
-take-requires-clause-admission g c =
+pub take_or_hand-requires-clause-admission : goal.take_or_hand-requires-clause-admission
+take_or_hand-requires-clause-admission g c =
     let d = shown_arrival c.args.datagram.now in
     let shared = c.args.self.now.shared.now in
     job_is _ _ d c.in-Ok-Job.job shared.same
@@ -26,9 +26,11 @@ take-requires-clause-admission g c =
 pub returns-in-Ok-Answered-clause-handled : goal.returns-in-Ok-Answered-clause-handled
 returns-in-Ok-Answered-clause-handled g c =
     let d = shown_arrival c.args.datagram.now in
-    let shared = c.args.self.now.shared.now in
+    let self = c.args.self.now in
+    let shared = self.shared.now in
     let out = c.in-Ok-Answered.out in
-    record {
+    let here : IsAnsweredHere g.N.Opened.opening d (at_work self.seat self.counting)
+    (at_work c.tell_local.new.self.seat c.tell_local.new.self.counting) = record {
       what = c.in-Ok-Answered.what;
       out = shown_out out;
       admission_is = answer_is _ _ d c.in-Ok-Answered.what out shared.same
@@ -36,9 +38,10 @@ returns-in-Ok-Answered-clause-handled g c =
           c.in-Ok-Answered.field-0-is c.in-Ok-Answered.ensures.answer);
       seat = c.tell_local.ensures.kept.0;
       counts = c.tell_local.ensures.kept.3 ∙ c.answered.ensures
-          ∙ (λ i. raised_all (counts_in c.args.self.now.counting)
+          ∙ (λ i. raised_all (counts_in self.counting)
           (local_increments (end_at (shared.same i) out.from out.to) (c.code.ensures i)));
-    }
+    } in
+    (here, refl)
 
 pub returns-in-Err-clause-handled : goal.returns-in-Err-clause-handled
 returns-in-Err-clause-handled g c =
@@ -46,13 +49,15 @@ returns-in-Err-clause-handled g c =
     let d = shown_arrival c.args.datagram.now in
     let self = c.args.self.now in
     let lines = self.shared.now.told_exchanges in
-    let new = at_work c.refuse.new.self.seat c.refuse.new.self.counting in
-    subst (IsHandled o lines self.now d (at_work self.seat self.counting) new) (sym c.refused_as.ensures)
-    (refusal_is o lines _ self.now d c.in-Err.refusal (at_work self.seat self.counting) new self.shared.now.same
-    c.in-Err.ensures.answer
-    (λ (none : c.in-Err.refusal ≡ refusal.NoMemory).
-    c.in-Err.ensures.memory (ap Err none))
-    c.refuse.ensures.kept.0
-    (c.refuse.ensures.kept.3 ∙ c.refused.ensures
-    ∙ (λ i. raised_all (counts_in self.counting)
-    (refused_increments d.at (end_at (self.shared.now.same i) d.at d.from) c.in-Err.refusal))))
+    let new = at_work c.refuse.new.self.seat c.refuse.new.self.counting in (
+      subst (IsHandled o lines self.now d (at_work self.seat self.counting) new) (sym c.refused_as.ensures)
+          (refusal_is o lines _ self.now d c.in-Err.refusal (at_work self.seat self.counting) new self.shared.now.same
+          c.in-Err.ensures.answer
+          (λ (none : c.in-Err.refusal ≡ refusal.NoMemory).
+          c.in-Err.ensures.memory (ap Err none))
+          c.refuse.ensures.kept.0
+          (c.refuse.ensures.kept.3 ∙ c.refused.ensures
+          ∙ (λ i. raised_all (counts_in self.counting)
+          (refused_increments d.at (end_at (self.shared.now.same i) d.at d.from) c.in-Err.refusal)))),
+      refl,
+    )

@@ -1,10 +1,10 @@
 -- A job was taken, or the call for it failed.
-use Rattle.std.proofs.Common.{◌∙◌, ap, sym, subst, inr}
+use Rattle.std.proofs.Common.{◌∙◌, ap}
 use Rattle.roam_counters.specs.OwnCounts.{raised_all}
 use Rattle.roam_exchange.specs.HappeningsShown.{shown_happening}
 use Rattle.roam_counters.specs.Arrivals.{failed_increments}
 use Rattle.roam_counters.specs.Increments.{job_increments}
-use Rattle.roam_route.specs.Shown.{WantsMemory, shown_job}
+use Rattle.roam_route.specs.Shown.{shown_job}
 use Rattle.roam_audit.specs.Seats.{SeatView}
 use Rattle.roam_counting.specs.Counting.{counts_in, wait_of}
 use Rattle.roam_workers.specs.Handlings.{came}
@@ -19,8 +19,6 @@ returns-in-Ok-clause-handled g c =
     (counts_in c.answer.new.self.counting) c.turn_of-turn.result job c.turn_of-turn.ensures c.came.ensures
     c.answer.ensures.kept.2 in
     record {
-      job = job;
-      admitted_is = c.requires.admission;
       after = c.answer.new.self.seat;
       answered = c.in-Ok.answered;
       answer = c.in-Ok.ensures.answered;
@@ -40,13 +38,8 @@ returns-in-Err-clause-handled g c =
     (counts_in c.answer.new.self.counting) c.turn_of-turn.result job c.turn_of-turn.ensures c.came.ensures
     c.answer.ensures.kept.2 in
     record {
-      wants = subst WantsMemory (sym c.requires.admission) tt;
+      why = c.in-Err.refusal;
       tallies = ap (λ (s : SeatView). s.tallies) c.refuse.ensures.kept.0 ∙ c.in-Err.ensures.failed;
-      counts = inr (
-        job,
-        c.in-Err.refusal,
-        c.requires.admission,
-        c.refuse.ensures.kept.3 ∙ c.failed.ensures
-            ∙ (λ i. raised_all (there i) (failed_increments (c.turn_of-turn.ensures i) c.in-Err.refusal)),
-      );
+      counts = c.refuse.ensures.kept.3 ∙ c.failed.ensures
+          ∙ (λ i. raised_all (there i) (failed_increments (c.turn_of-turn.ensures i) c.in-Err.refusal));
     }

@@ -1,6 +1,6 @@
 -- One tick after the other.
 use Rattle.roam_workers.proofs.WorkLemmas.{worked_after, worked_none}
-use Rattle.roam_workers.proofs.timer.tick_shard.Goals as goal
+use Rattle.roam_workers.proofs.context.WorkerContext.tick_shard.Goals as goal
 
 pub loop-init : goal.loop-init
 loop-init g c =

@@ -1,7 +1,7 @@
 -- A tick.
 use Rattle.std.proofs.Common.{inl, inr}
 use Rattle.roam_workers.proofs.WorkLemmas.{worked_more, worked_none}
-use Rattle.roam_workers.proofs.timer.tick_once.Goals as goal
+use Rattle.roam_workers.proofs.context.WorkerContext.tick_once.Goals as goal
 
 pub returns-then-is_more : goal.returns-then-is_more
 returns-then-is_more g c =

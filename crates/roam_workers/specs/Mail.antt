@@ -1,0 +1,96 @@
+-- Jobs that one worker receives and another gives to the hub. Ours.
+use Rattle.std.specs.Prelude.{◌≡◌, ◌⊎◌, ℕ, ◌%◌, List, [], ◌∷◌, ◌++◌, Some, map, slice_get, slice_set}
+use Rattle.std.specs.declared.alloc.Global.{Global}
+use Rattle.roam_conf.specs.Config.{ConfigView}
+use Rattle.roam_conf.specs.declared.exchange_lines.ExchangeLines.{ExchangeLines}
+use Rattle.roam_route.specs.Admission.{Arrival, PlainJob, admission, admitted}
+use Rattle.roam_route.specs.Shown.{shown_job}
+use Rattle.roam_route.specs.declared.job.Job.{Job}
+use Rattle.roam_history.specs.HubOpening.{HubOpening}
+use Rattle.roam_audit.specs.Seats.{SeatView}
+use Rattle.roam_counters.specs.declared.datagrams.DatagramCounts.{DatagramCounts}
+use Rattle.roam_counters.specs.Datagrams.{handled}
+use Rattle.roam_counters.specs.declared.datagrams.Datagrams.{Datagrams}
+use Rattle.roam_counters.specs.declared.datagrams.Handling.{Handling}
+use Rattle.roam_counting.specs.declared.counting.Counting.{Counting}
+use Rattle.roam_workers.specs.Handlings.{Arrives, AtWork, IsJobHandled, at_work}
+
+-- ## A job that is handed on
+-- It is what admission gives of some datagram. Who takes it gives it to the hub, and counts what becomes of it, as if
+-- its datagram had come there: a realm's rules take it, or the call isn't recorded. Who hands it on counts nothing of
+-- it but that it came. All that is handed on together stands in the order in which it came, behind what waits, or comes
+-- back whole; and all that waits is taken at once, each job once, in that order.
+-- Source: ours
+-- Rules out: a job that no datagram gives; one that both count, or nobody; one that is taken twice, or gets lost on the
+-- way
+-- Stands in: `roam_workers` `Mail.antt`: `ArrivesHere`, `IsPutLast`, `IsPutBehind`, `TakesAll`;
+-- `WorkerContext::arrive`, `Mail::hand`, `Waiting::put`, `Waiting::take`, `WorkerContext::take_letters`,
+-- `WorkerContext::hand_all`
+--
+abbrev pub IsAdmitted : ConfigView → PlainJob → Type 0
+IsAdmitted config job = ∥ ((d : Arrival) × (admission config d ≡ admitted job)) ∥₁
+
+-- the jobs of letters
+abbrev pub jobs_of : {X : Type 0} → List X → (X → Job Global) → List PlainJob
+jobs_of letters job_of = map (λ x. shown_job (job_of x)) letters
+
+-- a job stands behind the others that one worker is handed next, and nothing else changed
+pub record IsPutLast {Q : Type 0} (old new : List Q) (jobs : Q → List PlainJob) (worker : ℕ) (job : PlainJob)
+    : Type 0 where
+  pub before : Q
+  pub before_is : slice_get old worker ≡ Some before
+  pub after : Q
+  pub last : jobs after ≡ jobs before ++ job ∷ []
+  pub others_stay : new ≡ slice_set old worker after
+
+-- nothing is to be handed to anyone
+abbrev pub HoldsNone : {Q X : Type 0} → List Q → (Q → List X) → Type 0
+HoldsNone {Q} lists items = (k : ℕ) (q : Q) → slice_get lists k ≡ Some q → items q ≡ []
+
+-- all stand behind those that waited, and none is left; or all are as they were
+abbrev pub IsPutBehind : {X : Type 0} → List X → List X → List X → List X → Type 0
+IsPutBehind old new more left = ((new ≡ old ++ more) × (left ≡ [])) ⊎ ((new ≡ old) × (left ≡ more))
+
+-- a job that was handed on is given to the hub, and what becomes of it is counted as that
+pub record TakesJob (o : HubOpening) (job : PlainJob) (old new : AtWork) (before after : DatagramCounts)
+    : Type 0 where
+  pub admitted : IsAdmitted o.config job
+  pub lines : ExchangeLines
+  pub now : ℕ
+  pub handling : Handling
+  pub is_handled : IsJobHandled o lines now job old new handling
+  pub counted : after ≡ handled before handling
+
+-- one job after the other, each once
+abbrev pub TakesAll : HubOpening → List PlainJob → AtWork → AtWork → DatagramCounts → DatagramCounts → Type 0
+TakesAll o [] old new before after = (new ≡ old) × (after ≡ before)
+TakesAll o (job ∷ rest) old new before after =
+    (middle : AtWork) × (counted : DatagramCounts)
+    × TakesJob o job old middle before counted × TakesAll o rest middle new counted after
+
+-- the job of a datagram is handed on, to the worker of its shard
+pub record IsHandedOn {Q : Type 0} (o : HubOpening) (d : Arrival) (out out_after : List Q) (jobs : Q → List PlainJob)
+    : Type 0 where
+  pub job : PlainJob
+  pub admitted_is : admission o.config d ≡ admitted job
+  pub last : IsPutLast out out_after jobs (job.realm % o.config.shards) job
+
+-- what a worker has that receives: how it stands, what it counted, and what it hands on
+pub record AtMail (Q : Type 0) : Type 0 where
+  pub work : AtWork
+  pub counts : DatagramCounts
+  pub outgoing : List Q
+
+abbrev pub at_mail : {Q : Type 0} → SeatView → Counting → Datagrams → List Q → AtMail Q
+at_mail seat counting datagrams outgoing = record {
+  work = at_work seat counting;
+  counts = datagrams.counts;
+  outgoing = outgoing;
+}
+
+-- a datagram arrived at a worker: it takes it; or it hands the job on, and counts nothing
+abbrev pub ArrivesHere :
+    {Q : Type 0} → HubOpening → ExchangeLines → ℕ → Arrival → AtMail Q → AtMail Q → (Q → List PlainJob) → Type 0
+ArrivesHere o lines now d old new jobs =
+    (Arrives o lines now d old.work new.work old.counts new.counts × (new.outgoing ≡ old.outgoing))
+    ⊎ (IsHandedOn o d old.outgoing new.outgoing jobs × (new.work ≡ old.work) × (new.counts ≡ old.counts))
