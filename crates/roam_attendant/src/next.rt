@@ -14,12 +14,13 @@ use roam_conf::Config;
 use roam_counting::Counters;
 use roam_desk::{Course, Reply, plain_reply};
 use roam_hub::{Blanks, Opened};
+use roam_logger::tell_or_drop;
 use roam_sockets::{
     BoundSocket, RECEIVE_BUFFER, ServeFault, bind_following, descriptors_wanted, open_beside, widen,
 };
 use roam_telling::Notice;
 use roam_threads::{Kits, can_start};
-use roam_workers::{Rests, Shared, tell_or_drop};
+use roam_workers::{Rests, Shared};
 use std::alloc::Global;
 use std::io::Write;
 use std::net::Net;

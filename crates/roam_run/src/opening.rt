@@ -9,8 +9,8 @@ use crate::audit::PausableHub;
 use crate::room::ThreadRoom;
 use roam_conf::Config;
 use roam_hub::{Blanks, Hub, Opened, PauseRoom, Seat};
+use roam_intake::Mailbox;
 use roam_shard::Paused;
-use roam_workers::Mailbox;
 use std::alloc::{AllocError, Global};
 
 /// The memory for all that comes back of a hub and of its threads. It is taken before the hub opens, so that nothing is

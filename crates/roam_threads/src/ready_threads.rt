@@ -9,12 +9,14 @@ use mio::{Events, Poll};
 use roam_counters::Datagrams;
 use roam_counting::{Counting, EventCounts};
 use roam_hub::{Opened, Seat};
+use roam_intake::Mail;
+use roam_logger::{ExchangeQueues, Logger};
 use roam_notices::Exchange;
 use roam_outgoing::{Outgoing, RoomEvents};
 use roam_port::{Outbox, socket_numbers};
 use roam_sockets::{BoundSocket, ServeFault, ports, receivers};
 use roam_telling::Notice;
-use roam_workers::{ExchangeQueues, Logger, Mail, Rests, Shared, Timer, Worker, WorkerContext};
+use roam_workers::{IN_A_ROUND, Rests, Shared, Timer, Worker, WorkerContext};
 use rtrb::Consumer;
 use std::alloc::{AllocError, Global};
 
@@ -160,7 +162,8 @@ impl<'s, 'c, G, N: Opened> Builder<'s, 'c, G, N> {
         let receivers = receivers(alloc, self.sockets, number)?;
         let events = Events::with_capacity(alloc, receivers.len().saturating_add(2))?;
         let ready = Vec::with_capacity(alloc, receivers.len())?;
-        let mail = Mail::new(alloc, number, usize::from(self.shared.config.shards))?;
+        let shards = usize::from(self.shared.config.shards);
+        let mail = Mail::new(alloc, number, shards, IN_A_ROUND as usize)?;
         let Equipped {
             context,
             arrivals,

@@ -1,12 +1,11 @@
 -- Jobs that are handed on, and taken.
-use Rattle.std.proofs.Common.{◌≡◌, ◌≢◌, ◌<◌, ◌+◌, ℕ, List, [], ◌∷◌, ◌++◌, length, inl, inr, refl, sym, subst, ap, ◌∙◌}
-use Rattle.std.proofs.Common.{Some, arith, get_or, ◌%◌}
+use Rattle.std.proofs.Common.{◌≡◌, ◌≢◌, ◌<◌, ◌+◌, ℕ, List, [], ◌∷◌, length, inl, inr, sym, subst, ap, ◌∙◌}
+use Rattle.std.proofs.Common.{Some, arith, ◌%◌}
 use Rattle.std.proofs.Math.ListN.{set}
 use Rattle.std.proofs.lemmas.Bool.{cases_eq}
-use Rattle.std.proofs.lemmas.List.{map-append}
 use Rattle.std.specs.Prelude.{slice_get}
 use Rattle.std.specs.declared.alloc.Global.{Global}
-use Rattle.roam_port.proofs.ListedLemmas.{get-read, get-set_other, get-set_same, is_some}
+use Rattle.roam_port.proofs.ListedLemmas.{get-set_other, get-set_same, is_some}
 use Rattle.roam_route.specs.Admission.{Arrival, PlainJob, admission, admitted}
 use Rattle.roam_route.specs.Shown.{shown_job}
 use Rattle.roam_route.specs.declared.job.Job.{Job}
@@ -16,8 +15,9 @@ use Rattle.roam_counters.specs.Datagrams.{handled}
 use Rattle.roam_counters.specs.declared.datagrams.DatagramCounts.{DatagramCounts}
 use Rattle.roam_counters.specs.declared.datagrams.Handling.{Handling}
 use Rattle.roam_counters.specs.declared.datagrams.Handling.TheVariants as handling
+use Rattle.roam_intake.specs.Letters.{HoldsNone, IsPutLast, jobs_of}
 use Rattle.roam_workers.specs.Handlings.{Arrives, AtWork, HasFailed, IsHandled, IsJobHandled, IsTaken}
-use Rattle.roam_workers.specs.Mail.{ArrivesHere, AtMail, HoldsNone, IsHandedOn, IsPutLast, TakesAll, TakesJob, jobs_of}
+use Rattle.roam_workers.specs.Mail.{ArrivesHere, AtMail, IsHandedOn, TakesAll, TakesJob}
 use Rattle.roam_workers.specs.Work.{DoesOne, HasWorked}
 use Rattle.roam_workers.proofs.WorkLemmas.{worked_idle, worked_more, worked_none}
 use Rattle.roam_route.specs.Shown.{WantsMemory}
@@ -102,19 +102,6 @@ handed_on o d out after jobs job worker is same put = record {
 }
 
 -- ## What is handed next
-
--- one more stands last
-pub put_last :
-    {Q X : Type 0} (lists : List Q) (items : Q → List X) (job_of : X → Job Global) (worker : ℕ) (q q2 : Q) (x : X)
-    → worker < length lists → q ≡ get_or lists worker q → items q2 ≡ items q ++ x ∷ []
-    → IsPutLast lists (set lists worker q2) (λ q. jobs_of (items q) job_of) worker (shown_job (job_of x))
-put_last lists items job_of worker q q2 x within is put = record {
-  before = q;
-  before_is = get-read lists worker q within is;
-  after = q2;
-  last = ap (λ xs. jobs_of xs job_of) put ∙ map-append (λ x. shown_job (job_of x)) (items q) (x ∷ []);
-  others_stay = refl;
-}
 
 -- to the first so many nothing is to be handed
 abbrev pub HoldsNoneBelow : {Q X : Type 0} → ℕ → List Q → (Q → List X) → Type 0

@@ -1,11 +1,7 @@
 -- Jobs that one worker receives and another gives to the hub. Ours.
-use Rattle.std.specs.Prelude.{◌≡◌, ◌⊎◌, ℕ, ◌%◌, List, [], ◌∷◌, ◌++◌, Some, map, slice_get, slice_set}
-use Rattle.std.specs.declared.alloc.Global.{Global}
-use Rattle.roam_conf.specs.Config.{ConfigView}
+use Rattle.std.specs.Prelude.{◌≡◌, ◌⊎◌, ℕ, ◌%◌, List, [], ◌∷◌}
 use Rattle.roam_conf.specs.declared.exchange_lines.ExchangeLines.{ExchangeLines}
 use Rattle.roam_route.specs.Admission.{Arrival, PlainJob, admission, admitted}
-use Rattle.roam_route.specs.Shown.{shown_job}
-use Rattle.roam_route.specs.declared.job.Job.{Job}
 use Rattle.roam_history.specs.HubOpening.{HubOpening}
 use Rattle.roam_audit.specs.Seats.{SeatView}
 use Rattle.roam_counters.specs.declared.datagrams.DatagramCounts.{DatagramCounts}
@@ -13,44 +9,18 @@ use Rattle.roam_counters.specs.Datagrams.{handled}
 use Rattle.roam_counters.specs.declared.datagrams.Datagrams.{Datagrams}
 use Rattle.roam_counters.specs.declared.datagrams.Handling.{Handling}
 use Rattle.roam_counting.specs.declared.counting.Counting.{Counting}
+use Rattle.roam_intake.specs.Letters.{IsAdmitted, IsPutLast}
 use Rattle.roam_workers.specs.Handlings.{Arrives, AtWork, IsJobHandled, at_work}
 
 -- ## A job that is handed on
--- It is what admission gives of some datagram. Who takes it gives it to the hub, and counts what becomes of it, as if
--- its datagram had come there: a realm's rules take it, or the call isn't recorded. Who hands it on counts nothing of
--- it but that it came. All that is handed on together stands in the order in which it came, behind what waits, or comes
--- back whole; and all that waits is taken at once, each job once, in that order.
+-- Who takes it gives it to the hub, and counts what becomes of it, as if its datagram had come there: a realm's rules
+-- take it, or the call isn't recorded. Who hands it on counts nothing of it but that it came. Those that are taken
+-- together are given one after the other, each once, in their order.
 -- Source: ours
--- Rules out: a job that no datagram gives; one that both count, or nobody; one that is taken twice, or gets lost on the
--- way
--- Stands in: `roam_workers` `Mail.antt`: `ArrivesHere`, `IsPutLast`, `IsPutBehind`, `TakesAll`;
--- `WorkerContext::arrive`, `Mail::hand`, `Waiting::put`, `Waiting::take`, `WorkerContext::take_letters`,
--- `WorkerContext::hand_all`
+-- Rules out: a job that both count, or nobody; one that is given to the hub twice, or not at all
+-- Stands in: `roam_workers` `Mail.antt`: `ArrivesHere`, `IsHandedOn`, `TakesAll`; `WorkerContext::arrive`,
+-- `WorkerContext::take_letters`, `WorkerContext::hand_all`
 --
-abbrev pub IsAdmitted : ConfigView → PlainJob → Type 0
-IsAdmitted config job = ∥ ((d : Arrival) × (admission config d ≡ admitted job)) ∥₁
-
--- the jobs of letters
-abbrev pub jobs_of : {X : Type 0} → List X → (X → Job Global) → List PlainJob
-jobs_of letters job_of = map (λ x. shown_job (job_of x)) letters
-
--- a job stands behind the others that one worker is handed next, and nothing else changed
-pub record IsPutLast {Q : Type 0} (old new : List Q) (jobs : Q → List PlainJob) (worker : ℕ) (job : PlainJob)
-    : Type 0 where
-  pub before : Q
-  pub before_is : slice_get old worker ≡ Some before
-  pub after : Q
-  pub last : jobs after ≡ jobs before ++ job ∷ []
-  pub others_stay : new ≡ slice_set old worker after
-
--- nothing is to be handed to anyone
-abbrev pub HoldsNone : {Q X : Type 0} → List Q → (Q → List X) → Type 0
-HoldsNone {Q} lists items = (k : ℕ) (q : Q) → slice_get lists k ≡ Some q → items q ≡ []
-
--- all stand behind those that waited, and none is left; or all are as they were
-abbrev pub IsPutBehind : {X : Type 0} → List X → List X → List X → List X → Type 0
-IsPutBehind old new more left = ((new ≡ old ++ more) × (left ≡ [])) ⊎ ((new ≡ old) × (left ≡ more))
-
 -- a job that was handed on is given to the hub, and what becomes of it is counted as that
 pub record TakesJob (o : HubOpening) (job : PlainJob) (old new : AtWork) (before after : DatagramCounts)
     : Type 0 where

@@ -21,8 +21,8 @@ use Rattle.roam_counters.specs.declared.event.CountedEvent.{CountedEvent}
 use Rattle.roam_counters.specs.declared.increments.Increment.{Increment}
 use Rattle.roam_counting.specs.Counting.{wait_of}
 use Rattle.roam_counting.specs.Packets.{turn_of}
+use Rattle.roam_intake.specs.Letters.{IsAdmitted}
 use Rattle.roam_workers.specs.Handlings.{AtWork, FailedCounts, IsHandled, IsJobHandled, IsJobTaken}
-use Rattle.roam_workers.specs.Mail.{IsAdmitted}
 use Rattle.roam_workers.specs.Ticks.{HasNotTicked, Ticks}
 
 -- one thing that a thread does: it takes a datagram, of which this becomes; or a job that was handed on; or it ticks a

@@ -1,8 +1,8 @@
 //! The threads that serve a configuration, each as it runs, and what they share.
 //!
-//! A worker receives from the sockets that are dealt to it, gives what arrives to the hub, and sends what that answers; the
-//! timer does the same with what is due; the logger writes what they tell. None of them is tied to a realm, and none
-//! starts another.
+//! A worker receives from the sockets that are dealt to it, gives what arrives to the hub, and sends what that
+//! answers; the timer does the same with what is due. What they tell `roam_logger` writes. None of them is tied to a
+//! realm, and none starts another.
 //!
 //! What is decided here stands in small functions; the loops round them are the threads.
 //!
@@ -11,28 +11,25 @@
 //! - what its threads give to the hub is what the hub takes: jobs that are events of its configuration | what
 //!   `Hub::answer` requires
 //! - what becomes of a datagram is one of five, each as admission says: a realm's rules took it, by one call more that
-//!   the seat counts and whose step is the arrival's; the broker answered by itself, or it was refused, and nothing was
-//!   given to a realm; it failed, and the seat counts nothing; or it is a request and the server was asked to stop. It is
-//!   counted once, as that; what a worker counted is what it gives back | `WorkerContext::arrive`;
+//!   the seat counts and whose step is the arrival's; the broker answered by itself, or it was refused, and nothing
+//!   was given to a realm; it failed, and the seat counts nothing; or it is a request and the server was asked to
+//!   stop. It is counted once, as that; what a worker counted is what it gives back | `WorkerContext::arrive`;
 //!   `WorkerContext::leave`: `datagrams`
-//! - a worker's own counts of events rise by just what becomes of each datagram and of each tick: by what happens by the call's
-//!   event where the steps before it end, as the history says it, by an answer of the broker's own, or by a refusal. That
-//!   what is left for others to read is these counts is code | `WorkerContext::arrive`; `WorkerContext::tick`
-//! - or its job is handed on to the worker of the job's shard: it stands behind the others that are handed to that one,
-//!   and nothing is counted. A job that is handed on is what admission gives of some datagram | `WorkerContext::arrive`;
-//!   `Mail::hand`; `Letter`
-//! - what is handed on together stands behind what waits, in its order, or all of it comes back; what waits is taken at once,
-//!   nothing stays, and a mailbox that takes none holds none | `Waiting::put`, `Waiting::take`, `Waiting`
-//! - jobs that were handed on, and those that come back, are given to the hub one after the other, each once, in their order,
-//!   and counted as what becomes of them; at a thread's end nothing is to be handed on. That the list which is taken is the
-//!   one that waited is code: no clause sees through a lock | `WorkerContext::take_letters`, `WorkerContext::hand_all`,
-//!   `Worker::leave`
-//! - from its start to its end a thread does nothing to its seat and to these counts but that, one datagram, job or tick after the
-//!   other: so each count is what it was and the sum of the increments of all that the thread did | `receive_on`,
-//!   `tick_on`: `HasWorkedTo`; law `work_is_counted`
-//! - which remedy there is for a call that a hub doesn't record: where the history is full it is let go of,
-//!   each time; out of memory it is, once; else the call is refused. That the same event is handed in again is
-//!   the loop's code | `remedy_for`
+//! - a worker's own counts of events rise by just what becomes of each datagram and of each tick: by what happens by
+//!   the call's event where the steps before it end, as the history says it, by an answer of the broker's own, or by a
+//!   refusal. That what is left for others to read is these counts is code | `WorkerContext::arrive`;
+//!   `WorkerContext::tick`
+//! - or its job is handed on to the worker of the job's shard: it stands behind the others that are handed to that
+//!   one, and nothing is counted | `WorkerContext::arrive`
+//! - jobs that were handed on, and those that come back, are given to the hub one after the other, each once, in their
+//!   order, and counted as what becomes of them; at a thread's end nothing is to be handed on. That the list which is
+//!   taken is the one that waited is code | `WorkerContext::take_letters`, `WorkerContext::hand_all`, `Worker::leave`
+//! - from its start to its end a thread does nothing to its seat and to these counts but that, one datagram, job or
+//!   tick after the other: so each count is what it was and the sum of the increments of all that the thread did |
+//!   `receive_on`, `tick_on`: `HasWorkedTo`; law `work_is_counted`
+//! - which remedy there is for a call that a hub doesn't record: where the history is full it is let go of, each time;
+//!   out of memory it is, once; else the call is refused. That the same event is handed in again is the loop's code |
+//!   `remedy_for`
 //! - which datagrams are dropped where the server is asked to stop: requests, by their code | `is_request`
 #![tactic(auto)]
 
@@ -41,11 +38,8 @@ mod codes;
 mod context;
 mod ending;
 mod exchange_ends;
+mod handed;
 mod laws;
-mod logger;
-mod mail;
-mod mailbox;
-mod ready;
 mod rest;
 mod rests;
 mod shared;
@@ -58,11 +52,8 @@ mod worker;
 pub use context::{Remedy, WorkerContext, remedy_for};
 pub use ending::{Ended, Ending, WorkerEnd, has_given_up_after};
 pub use laws::work_is_counted;
-pub use logger::{ExchangeQueues, Logger, log_notices, tell_or_drop};
-pub use mail::Mail;
-pub use mailbox::{Letter, Letters, Mailbox};
 pub use rest::TimerRest;
 pub use rests::Rests;
 pub use shared::Shared;
 pub use timer::{Timer, tick_on};
-pub use worker::{RECEIVED, Worker, receive_on};
+pub use worker::{IN_A_ROUND, RECEIVED, Worker, receive_on};

@@ -3,13 +3,13 @@
 ghost use Rattle.std.specs.Prelude.{◌≡◌};
 ghost use Rattle.roam_conf.specs.Shown.{shown};
 
-use crate::mailbox::Mailbox;
 use crate::rest::TimerRest;
 use mio::Waker;
 use roam_conf::{Config, ExchangeLines};
 use roam_counting::Counters;
 use roam_desk::{Office, Stopping};
 use roam_hub::{Hub, Opened};
+use roam_intake::Mailbox;
 use roam_outgoing::{OldHistory, SharedLosses};
 use roam_stations::StationForm;
 use std::alloc::Global;

@@ -2,16 +2,15 @@
 
 ghost use Rattle.std.specs.Prelude.{◌≡◌};
 ghost use Rattle.roam_counting.specs.Counting.{counts_in};
+ghost use Rattle.roam_intake.specs.Letters.{HoldsNone};
 ghost use Rattle.roam_workers.specs.Handlings.{at_work};
-ghost use Rattle.roam_workers.specs.Mail.{HoldsNone};
 ghost use Rattle.roam_workers.specs.Work.{HasWorked, HasWorkedTo};
 
 use crate::context::WorkerContext;
 use crate::ending::{Ending, WorkerEnd};
-use crate::mail::Mail;
-use crate::ready::{keep_ready, mark_all_ready, mark_ready, wait_before};
 use mio::{Events, Poll};
 use roam_hub::{Gate, Opened};
+use roam_intake::{Mail, keep_ready, mark_all_ready, mark_ready, wait_before};
 use roam_port::Heard;
 use roam_route::Datagram;
 use roam_sockets::{Receiver, WAIT_AFTER_FAULT};

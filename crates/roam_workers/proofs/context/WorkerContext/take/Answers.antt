@@ -7,7 +7,6 @@ use Rattle.roam_counters.specs.Increments.{job_increments}
 use Rattle.roam_route.specs.Shown.{shown_job}
 use Rattle.roam_audit.specs.Seats.{SeatView}
 use Rattle.roam_counting.specs.Counting.{counts_in, wait_of}
-use Rattle.roam_workers.specs.Handlings.{came}
 use Rattle.roam_workers.proofs.HandlingLemmas.{came-so}
 use Rattle.roam_workers.proofs.context.WorkerContext.take.Goals as goal
 

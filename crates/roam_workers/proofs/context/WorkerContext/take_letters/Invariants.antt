@@ -1,7 +1,8 @@
 use Rattle.std.proofs.Common.{length}
 use Rattle.roam_counters.specs.declared.datagrams.DatagramCounts.{DatagramCounts}
+use Rattle.roam_intake.specs.Letters.{jobs_of}
 use Rattle.roam_workers.specs.Handlings.{AtWork, at_work}
-use Rattle.roam_workers.specs.Mail.{TakesAll, jobs_of}
+use Rattle.roam_workers.specs.Mail.{TakesAll}
 use Rattle.roam_workers.proofs.context.WorkerContext.take_letters.Given as goal
 
 -- who takes the others from here has taken all

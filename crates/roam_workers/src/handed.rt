@@ -1,85 +1,22 @@
 //! What a worker hands to others, and what others hand to it.
 
-ghost use Rattle.std.specs.Prelude.{◌≡◌, [], IfNone, IfOk, IfSome};
-ghost use Rattle.roam_route.specs.Events.{IsEvent};
+ghost use Rattle.std.specs.Prelude.{◌≡◌, []};
 ghost use Rattle.roam_route.specs.Shown.{shown_job};
+ghost use Rattle.roam_intake.specs.Letters.{HoldsNone, jobs_of};
 ghost use Rattle.roam_workers.specs.Handlings.{at_work};
-ghost use Rattle.roam_workers.specs.Mail.{HoldsNone, IsAdmitted, IsPutLast, TakesAll, TakesJob, jobs_of};
+ghost use Rattle.roam_workers.specs.Mail.{TakesAll, TakesJob};
 ghost use Rattle.roam_workers.specs.Work.{HasWorked};
 
 use crate::context::WorkerContext;
-use crate::mailbox::{Letter, Letters};
 use crate::shared::Shared;
-use crate::worker::IN_A_ROUND;
 use roam_conf::Place;
 use roam_hub::{Gate, Opened};
+use roam_intake::{Letter, Letters, Mail};
 use roam_route::Job;
-use std::alloc::{AllocError, Global};
+use std::alloc::Global;
 use std::collections::VecDeque;
-use std::marker::PhantomData;
 use std::mem;
 use std::sync::Wait;
-
-/// The number of a worker, which is that of its shard, and what it hands to others.
-pub struct Mail<N: Opened> {
-    pub number: usize,
-    /// For each worker, what it is handed next. It has memory for as many jobs as one socket gives in a round.
-    pub(crate) outgoing: Vec<Letters<N>>,
-    /// Room for what the worker takes.
-    pub(crate) room: Letters<N>,
-    ghost empty: { room.items ≡ [] },
-}
-
-// By hand, so that a proof sees one call wherever it ends, and the crates above prove nothing of it.
-impl<N: Opened> Drop for Mail<N> {
-    fn drop(self) {
-        let Self {
-            number: _,
-            outgoing,
-            room,
-        } = self;
-        drop(outgoing);
-        drop(room);
-    }
-}
-
-impl<N: Opened> Mail<N> {
-    /// That of the worker of a number, of so many: nothing is handed yet.
-    pub fn new(alloc: Global, number: usize, workers: usize) -> Result<Mail<N>, AllocError>
-        ensures { IfOk result (λ mail. mail.number ≡ number) }
-    {
-        let mut outgoing = Vec::with_capacity(alloc, workers)?;
-        for _ in 0..workers {
-            outgoing.push(VecDeque::with_capacity(alloc, IN_A_ROUND as usize)?)?;
-        }
-        Ok(Mail {
-            number,
-            outgoing,
-            room: VecDeque::new(alloc),
-        })
-    }
-
-    /// Puts a job behind those that a worker is handed next. Where there is no room, it comes back.
-    pub(crate) fn hand(&mut self, worker: usize, job: Job<Global>) -> Option<Job<Global>>
-        requires event { IsEvent N.opening.config (shown_job job) }
-        requires admitted { IsAdmitted N.opening.config (shown_job job) }
-        ensures handed { IfNone result (IsPutLast self.old.outgoing.items self.new.outgoing.items
-            (λ q. jobs_of q.items (λ l. l.job)) worker (shown_job job)) }
-        ensures back { IfSome result (λ same. (shown_job same ≡ shown_job job)
-            × (self.new.outgoing.items ≡ self.old.outgoing.items)) }
-    {
-        if let Some(letters) = self.outgoing.get_mut(worker) {
-            if letters.len() < letters.capacity() {
-                letters.push_back_reserved(Letter {
-                    job,
-                    hub: PhantomData,
-                });
-                return None;
-            }
-        }
-        Some(job)
-    }
-}
 
 /// Whether the sockets of a place are heard by other workers than those of the shards of what comes there.
 fn is_shared(place: Place) -> bool {

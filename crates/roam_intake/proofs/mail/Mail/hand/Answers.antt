@@ -1,7 +1,7 @@
 -- The job stands last.
 use Rattle.std.proofs.Common.{◌<◌, arith, length, refl}
-use Rattle.roam_workers.proofs.MailLemmas.{put_last}
-use Rattle.roam_workers.proofs.mail.Mail.hand.Goals as goal
+use Rattle.roam_intake.proofs.LetterLemmas.{put_last}
+use Rattle.roam_intake.proofs.mail.Mail.hand.Goals as goal
 
 pub returns-then-len-capacity-clause-handed : goal.returns-then-len-capacity-clause-handed
 returns-then-len-capacity-clause-handed g c =

@@ -17,11 +17,7 @@ fn mark(receivers: &mut [Receiver<'_>], ready: &mut Vec<usize>, at: usize) {
 }
 
 /// Marks the receivers at which something may have arrived.
-pub(crate) fn mark_ready(
-    receivers: &mut [Receiver<'_>],
-    ready: &mut Vec<usize>,
-    events: &Events<Global>,
-) {
+pub fn mark_ready(receivers: &mut [Receiver<'_>], ready: &mut Vec<usize>, events: &Events<Global>) {
     for event in events.iter() {
         let Token(at) = event.token();
         mark(receivers, ready, at);
@@ -29,14 +25,14 @@ pub(crate) fn mark_ready(
 }
 
 /// Marks all receivers.
-pub(crate) fn mark_all_ready(receivers: &mut [Receiver<'_>], ready: &mut Vec<usize>) {
+pub fn mark_all_ready(receivers: &mut [Receiver<'_>], ready: &mut Vec<usize>) {
     for at in 0..receivers.len() {
         mark(receivers, ready, at);
     }
 }
 
 /// Keeps the places of the receivers that are still ready.
-pub(crate) fn keep_ready(receivers: &[Receiver<'_>], ready: &mut Vec<usize>) {
+pub fn keep_ready(receivers: &[Receiver<'_>], ready: &mut Vec<usize>) {
     ready.retain(|at| receivers.get(*at).is_some_and(|receiver| receiver.is_ready));
 }
 
@@ -49,7 +45,7 @@ fn is_due(receivers: &[Receiver<'_>], at: usize, now: u64) -> bool {
 
 /// How long to wait, in milliseconds: not at all where a socket is to be received from, and a short time where
 /// one is to be tried again.
-pub(crate) fn wait_before(receivers: &[Receiver<'_>], ready: &[usize], now: u64) -> u64 {
+pub fn wait_before(receivers: &[Receiver<'_>], ready: &[usize], now: u64) -> u64 {
     if ready.iter().any(|at| is_due(receivers, *at, now)) {
         0
     } else if ready.is_empty() {

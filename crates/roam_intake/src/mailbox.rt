@@ -4,7 +4,7 @@ ghost use Rattle.std.specs.Prelude.{◌≡◌, ◌≤◌, ◌+◌, ◌↔◌, �
 ghost use Rattle.std.specs.VecDeque.{deque_len};
 ghost use Rattle.roam_route.specs.Events.{IsEvent};
 ghost use Rattle.roam_route.specs.Shown.{shown_job};
-ghost use Rattle.roam_workers.specs.Mail.{IsAdmitted, IsPutBehind};
+ghost use Rattle.roam_intake.specs.Letters.{IsAdmitted, IsPutBehind};
 
 use roam_hub::Opened;
 use roam_route::Job;
