@@ -1,6 +1,6 @@
 -- Which sockets are which place's, by their number: `auth`, `acct`, then `out` and `reverse` of each
 -- realm, where several of one kind have one number; that of a `reverse` that isn't there is nobody's (ours).
-use Rattle.std.specs.Prelude.{ℕ, ◌+◌, ◌*◌, ◌%◌, List, Bool, true, false, Option, None, option_and_then, slice_get, if◌then◌else◌}
+use Rattle.std.specs.Prelude.{ℕ, ◌+◌, ◌*◌, ◌%◌, List, Bool, Option, None, option_and_then, slice_get, if◌then◌else◌}
 use Rattle.roam_address.specs.declared.endpoint.Endpoint.{Endpoint}
 use Rattle.roam_conf.specs.declared.place.Place.{Place}
 use Rattle.roam_conf.specs.declared.place.Place.TheVariants as place
@@ -10,14 +10,14 @@ use Rattle.roam_conf.specs.Duplicates.{own_endpoints}
 -- ## Socket numbers
 -- `auth` is 0, `acct` 1, `out` of realm i is 2i + 2, its `reverse` 2i + 3; where there are several of one, they have
 -- one number, and each its place among them, from 0. Each is bound where the configuration says, and the number of a
--- `reverse` that isn't there is nobody's. `auth` is served by the first worker, `acct` by the next, a realm's `out` and
--- `reverse` by that of its number and one, several of one kind from there on, modulo the number of workers: so the
--- replies to what one socket takes are shared by all workers. With `spread` a realm's are served by the worker of its
--- shard, and each worker has its own of each `auth` and `acct`.
+-- `reverse` that isn't there is nobody's. A realm's `out` and `reverse` are served by the worker of its shard: so what
+-- comes back to one socket's requests is shared by all workers, and each takes it for its own shard. `auth` is served
+-- by the first worker and `acct` by the next, several of one kind from there on, modulo the number of workers; with
+-- `spread` each worker has its own of each.
 -- Source: ours
 -- Rules out: two places with one socket; a place that is configured without one
--- Stands in: `roam_port` `Sockets.antt`: `socket_number`, `socket_endpoint`, `socket_endpoints`, `place_turn`,
--- `worker_number`; `socket_of`, `place_of`, `endpoint_of`, `socket_numbers`, `socket_count`, `worker_of`
+-- Stands in: `roam_port` `Sockets.antt`: `socket_number`, `socket_endpoint`, `socket_endpoints`, `worker_number`;
+-- `socket_of`, `place_of`, `endpoint_of`, `socket_numbers`, `socket_count`, `worker_of`
 --
 -- the number of a place's sockets
 abbrev pub socket_number : Place → ℕ
@@ -53,18 +53,10 @@ socket_endpoint config (place.Out realm nth) = option_and_then (own_out nth) (sl
 socket_endpoint config (place.Reverse realm nth) =
     option_and_then (own_reverse nth) (slice_get config.realms realm)
 
--- a place's turn, where the sockets are dealt out to the workers
-abbrev pub place_turn : Place → ℕ
-place_turn (place.Auth nth) = nth
-place_turn (place.Acct nth) = nth + 1
-place_turn (place.Out realm nth) = realm + nth + 1
-place_turn (place.Reverse realm nth) = realm + nth + 1
-
--- the worker that hears a place's socket, of so many: by its turn; or, where `auth` and `acct` are spread over the
--- workers, that of the realm's shard, and of those two the first worker, beside which each other has its own
+-- the worker that hears a place's socket, of so many: of a realm that of its shard; of `auth` and `acct` in turn, or,
+-- where they are spread over the workers, the first, beside which each other has its own
 abbrev pub worker_number : Bool → Place → ℕ → ℕ
-worker_number false place workers = place_turn place % workers
-worker_number true (place.Auth nth) workers = 0
-worker_number true (place.Acct nth) workers = 0
-worker_number true (place.Out realm nth) workers = realm % workers
-worker_number true (place.Reverse realm nth) workers = realm % workers
+worker_number spread (place.Auth nth) workers = if spread then 0 else nth % workers
+worker_number spread (place.Acct nth) workers = if spread then 0 else (nth + 1) % workers
+worker_number spread (place.Out realm nth) workers = realm % workers
+worker_number spread (place.Reverse realm nth) workers = realm % workers

@@ -7,7 +7,7 @@ ghost use Rattle.roam_conf.specs.Duplicates.{realm_endpoints};
 ghost use Rattle.roam_conf.specs.Parts.{shown_realm};
 ghost use Rattle.roam_conf.specs.Shown.{shown};
 ghost use Rattle.roam_port.specs.Sockets.{own_out, own_reverse, socket_number, socket_endpoint, socket_endpoints};
-ghost use Rattle.roam_port.specs.Sockets.{place_nth, place_turn, worker_number};
+ghost use Rattle.roam_port.specs.Sockets.{place_nth, worker_number};
 
 use roam_conf::{Config, Endpoint, Place, Realm};
 
@@ -145,32 +145,18 @@ pub fn endpoint_of(config: &Config, place: Place) -> Option<Endpoint>
     }
 }
 
-/// The turn of a place, where the sockets are dealt out to the workers.
-fn turn_of(place: Place) -> usize
-    ensures value { result ≡ place_turn place }
-    ensures bound { result ≤ 131071 }
-{
-    match place {
-        Place::Auth(nth) => usize::from(nth),
-        Place::Acct(nth) => usize::from(nth) + 1,
-        Place::Out(realm, nth) | Place::Reverse(realm, nth) => {
-            usize::from(realm) + usize::from(nth) + 1
-        }
-    }
-}
-
-/// The worker that hears the socket of a place, of so many workers: `auth` the first, `acct` the next, a realm's that
-/// of its number and one, several of one kind from there on. So all workers share the replies. With `spread` a realm's
-/// sockets belong to the worker of its shard, and those that stand here as the first worker's, `auth` and `acct`, each
-/// worker has of its own.
+/// The worker that hears the socket of a place, of so many workers: a realm's that of its shard; `auth` the first and
+/// `acct` the next, several of one kind in turn from there on. With `spread` these stand here as the first worker's,
+/// and each worker has such ones of its own.
 pub fn worker_of(place: Place, workers: usize, is_spread: bool) -> usize
     requires { 1 ≤ workers }
     ensures value { result ≡ worker_number is_spread place workers }
     ensures below { result < workers }
 {
-    match (is_spread, place) {
-        (false, place) => turn_of(place) % workers,
-        (true, Place::Auth(_) | Place::Acct(_)) => 0,
-        (true, Place::Out(realm, _) | Place::Reverse(realm, _)) => usize::from(realm) % workers,
+    match place {
+        Place::Auth(_) | Place::Acct(_) if is_spread => 0,
+        Place::Auth(nth) => usize::from(nth) % workers,
+        Place::Acct(nth) => (usize::from(nth) + 1) % workers,
+        Place::Out(realm, _) | Place::Reverse(realm, _) => usize::from(realm) % workers,
     }
 }

@@ -40,11 +40,11 @@ pub(crate) fn sockets_stand_in_order<R: Abort + AllocGlobal>(rt: &R) -> Result<(
 const WORKERS: [(Place, usize, usize); 8] = [
     (Place::Auth(0), 0, 0),
     (Place::Acct(0), 1, 0),
-    (Place::Out(0, 0), 1, 0),
-    (Place::Reverse(0, 0), 1, 0),
-    (Place::Out(1, 0), 2, 1),
-    (Place::Reverse(5, 0), 0, 2),
-    (Place::Out(1, 1), 0, 1),
+    (Place::Out(0, 0), 0, 0),
+    (Place::Reverse(0, 0), 0, 0),
+    (Place::Out(1, 0), 1, 1),
+    (Place::Reverse(5, 0), 2, 2),
+    (Place::Out(1, 1), 1, 1),
     (Place::Auth(4), 1, 0),
 ];
 
