@@ -1,6 +1,6 @@
 //! How a hasher takes the octets of a packet in: in one piece, where they already are what is hashed.
 
-ghost use Rattle.std.specs.Prelude.{◌≡◌, ◌≤◌, ◌++◌, ℕ, List, length, take, drop};
+ghost use Rattle.std.specs.Prelude.{◌≤◌, ◌++◌, ℕ, List, length, take, drop};
 ghost use Rattle.md5.specs.Md5.{Holds};
 ghost use Rattle.roam_auth.specs.Authenticators.{zero_octets};
 

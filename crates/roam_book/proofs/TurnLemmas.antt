@@ -8,7 +8,6 @@ use Rattle.roam_exchange.specs.declared.answer.Turned.{Turned}
 use Rattle.roam_book.specs.declared.realm_broker.RealmBroker.{RealmBroker}
 use Rattle.roam_book.specs.declared.rules.replies.Settled.{Settled}
 use Rattle.roam_exchange.specs.Happenings.{PlainHappening}
-use Rattle.roam_realm.specs.RealmConfig.{RealmConfig}
 use Rattle.roam_realm.specs.RealmState.{RealmState}
 use Rattle.roam_book.specs.RealmTurn.{Keeps, state, TurnsTelling}
 use Rattle.roam_exchange.specs.Turned.{GivesTurned}
