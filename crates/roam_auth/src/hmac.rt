@@ -1,10 +1,10 @@
 //! The two blocks of a key that HMAC-MD5 (RFC 2104) takes in before it sees a message.
 
 ghost use Rattle.std.specs.Prelude.{◌≡◌, ◌≤◌, length};
-ghost use Rattle.md5.specs.Md5.{Holds};
+ghost use Rattle.roam_md5.specs.Hasher.{Holds};
 ghost use Rattle.roam_auth.specs.Hmac.{padded_key, key_with_pad};
 
-use md5::{Digest, Md5};
+use roam_md5::Hasher;
 
 /// The octet of ipad (RFC 2104, section 2).
 const INNER_PAD: u8 = 0x36;
@@ -35,21 +35,21 @@ fn key_with_pad(key: &[u8], pad: u8) -> [u8; 64]
 }
 
 /// A hasher that has taken the key, and takes the message.
-pub fn inner_hasher(key: &[u8]) -> Md5
+pub fn inner_hasher(key: &[u8]) -> Hasher
     requires { length key.now ≤ 64 }
     ensures { Holds result (key_with_pad 0x36 key.now) }
 {
-    let mut hasher = Md5::new();
+    let mut hasher = Hasher::new();
     hasher.update(key_with_pad(key, INNER_PAD).as_slice());
     hasher
 }
 
 /// A hasher that has taken the key, and takes the inner digest.
-pub fn outer_hasher(key: &[u8]) -> Md5
+pub fn outer_hasher(key: &[u8]) -> Hasher
     requires { length key.now ≤ 64 }
     ensures { Holds result (key_with_pad 0x5c key.now) }
 {
-    let mut hasher = Md5::new();
+    let mut hasher = Hasher::new();
     hasher.update(key_with_pad(key, OUTER_PAD).as_slice());
     hasher
 }

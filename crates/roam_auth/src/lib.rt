@@ -3,7 +3,7 @@
 //! (RFC 3579, section 3.2).
 //!
 //! Nothing here takes memory or copies a packet: each digest takes the pieces where they lie. MD5
-//! itself is the crate `md5`'s. Every secret has 1 to 64 octets. Authenticators are passed by value.
+//! itself is `roam_md5`'s. Every secret has 1 to 64 octets. Authenticators are passed by value.
 //! What is compared with a digest is compared in constant time.
 //!
 //! # Proved

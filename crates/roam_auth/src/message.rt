@@ -2,7 +2,7 @@
 
 ghost use Rattle.std.specs.Prelude.{◌≡◌, ◌↔◌, ℕ, List, [], ◌∷◌, ◌++◌, IsTrue};
 ghost use Rattle.std.specs.Prelude.{IsSome, IfSome};
-ghost use Rattle.md5.specs.Md5.{Holds};
+ghost use Rattle.roam_md5.specs.Hasher.{Holds};
 ghost use Rattle.roam_wire.specs.Packet.{packet_text};
 ghost use Rattle.roam_auth.specs.Authenticators.{with_authenticator, zero_octets};
 ghost use Rattle.roam_auth.specs.MessageAuthenticator.{HasOneMessageAuthenticator, IsWellSealed, with_value};
@@ -14,7 +14,7 @@ use crate::pieces::{octets_before, octets_from};
 use crate::seal_place::seal_place;
 use crate::secret::Secret;
 use crate::taking_in::{update_with_field, update_zeroed};
-use md5::{Digest, Md5};
+use roam_md5::Hasher;
 use roam_wire::View;
 use roam_wire::attribute_type::MESSAGE_AUTHENTICATOR;
 
@@ -31,7 +31,7 @@ pub fn has_one_message_authenticator(view: &View<'_>) -> bool
 /// Takes a packet in, with this Authenticator in its field and sixteen zero octets where the Value of its
 /// Message-Authenticator begins.
 pub(crate) fn update_with_packet(
-    hasher: &mut Md5,
+    hasher: &mut Hasher,
     view: &View<'_>,
     at: usize,
     authenticator: [u8; 16],

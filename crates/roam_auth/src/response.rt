@@ -6,7 +6,7 @@ ghost use Rattle.roam_auth.specs.Authenticators.{response_authenticator, IsSigne
 
 use crate::comparing::is_same_digest;
 use crate::taking_in::update_with_field;
-use md5::{Digest, Md5};
+use roam_md5::Hasher;
 use roam_wire::View;
 
 /// The Response Authenticator of a reply: MD5 of its Code, Identifier and Length, the request's
@@ -15,7 +15,7 @@ pub fn response_auth(view: &View<'_>, request_authenticator: [u8; 16], secret: &
     requires secret { IsSecret secret.now }
     ensures { result ≡ response_authenticator secret.now request_authenticator view.now }
 {
-    let mut hasher = Md5::new();
+    let mut hasher = Hasher::new();
     update_with_field(&mut hasher, view.octets(), request_authenticator);
     hasher.update(secret);
     hasher.finalize()

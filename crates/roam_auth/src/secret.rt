@@ -1,11 +1,12 @@
 //! A shared secret, and what HMAC-MD5 makes of it before it sees a message.
 
 ghost use Rattle.std.specs.Prelude.{◌≡◌, ◌≤◌, ◌++◌, length};
-ghost use Rattle.md5.specs.Md5.{Holds, md5};
+ghost use Rattle.md5.specs.Md5.{md5};
+ghost use Rattle.roam_md5.specs.Hasher.{Holds};
 ghost use Rattle.roam_auth.specs.Hmac.{hmac_md5, key_with_pad};
 
 use crate::hmac::{inner_hasher, outer_hasher, padded_key};
-use md5::{Digest, Md5};
+use roam_md5::Hasher;
 use std::marker::Model;
 
 /// A shared secret whose two blocks HMAC-MD5 has taken in (RFC 2104, section 4: that is done once for a key). Contracts
@@ -15,8 +16,8 @@ pub struct Secret {
     /// The octets, and zeros behind them.
     padded: [u8; 64],
     len: usize,
-    inner: Md5,
-    outer: Md5,
+    inner: Hasher,
+    outer: Hasher,
 }
 
 impl Model for Secret {
@@ -55,17 +56,17 @@ impl Secret {
     }
 
     /// A hasher that has taken the key, and takes the message.
-    pub(crate) fn inner_hasher(&self) -> Md5
+    pub(crate) fn inner_hasher(&self) -> Hasher
         ensures { Holds result (key_with_pad 0x36 self.now) }
     {
-        self.inner.clone().unwrap()
+        self.inner
     }
 
     /// The digest of the key and the inner digest.
     pub(crate) fn outer_digest(&self, inner: [u8; 16]) -> [u8; 16]
         ensures { result ≡ md5 (key_with_pad 0x5c self.now ++ inner) }
     {
-        let mut hasher = self.outer.clone().unwrap();
+        let mut hasher = self.outer;
         hasher.update(inner.as_slice());
         hasher.finalize()
     }

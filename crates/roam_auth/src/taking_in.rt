@@ -1,7 +1,7 @@
 //! How a hasher takes the octets of a packet in: in one piece, where they already are what is hashed.
 
 ghost use Rattle.std.specs.Prelude.{◌≤◌, ◌++◌, ℕ, List, length, take, drop};
-ghost use Rattle.md5.specs.Md5.{Holds};
+ghost use Rattle.roam_md5.specs.Hasher.{Holds};
 ghost use Rattle.roam_auth.specs.Authenticators.{zero_octets};
 
 use crate::comparing::is_same_digest;
@@ -9,10 +9,10 @@ use crate::pieces::{
     ZERO_OCTETS, authenticator_in, before_authenticator, behind_authenticator, octets_before,
     octets_from,
 };
-use md5::{Digest, Md5};
+use roam_md5::Hasher;
 
 /// Takes in a packet's octets, or the first of them, with this Authenticator in its field.
-pub(crate) fn update_with_field(hasher: &mut Md5, octets: &[u8], authenticator: [u8; 16])
+pub(crate) fn update_with_field(hasher: &mut Hasher, octets: &[u8], authenticator: [u8; 16])
     requires { 20 ≤ length octets.now }
     ensures { (m : List ℕ) → Holds hasher.old m
         → Holds hasher.new (m ++ (take 4 octets.now ++ authenticator ++ drop 20 octets.now)) }
@@ -27,7 +27,7 @@ pub(crate) fn update_with_field(hasher: &mut Md5, octets: &[u8], authenticator: 
 }
 
 /// Takes in octets, the first sixteen of which count as zeros.
-pub(crate) fn update_zeroed(hasher: &mut Md5, octets: &[u8])
+pub(crate) fn update_zeroed(hasher: &mut Hasher, octets: &[u8])
     requires { 16 ≤ length octets.now }
     ensures { (m : List ℕ) → Holds hasher.old m → Holds hasher.new (m ++ (zero_octets ++ drop 16 octets.now)) }
 {

@@ -4,14 +4,14 @@ ghost use Rattle.std.specs.Prelude.{◌≡◌, ◌+◌, ◌*◌, ◌≤◌, ◌+
 ghost use Rattle.md5.specs.Md5.{md5};
 ghost use Rattle.roam_hide.specs.Hiding.{Key, Opens, block, xor_octets, HasWholeBlocks, IsHiddenAnew};
 
-use md5::{Digest, Md5};
+use roam_md5::Hasher;
 use std::simd::prelude::*;
 
 /// MD5 of the secret and of what stands before a block.
 pub(crate) fn digest_of(secret: &[u8], before: &[u8]) -> [u8; 16]
     ensures { result ≡ md5 (secret.now ++ before.now) }
 {
-    let mut hasher = Md5::new();
+    let mut hasher = Hasher::new();
     hasher.update(secret);
     hasher.update(before);
     hasher.finalize()

@@ -8,13 +8,13 @@ ghost use Rattle.roam_hide.specs.SaltedValues.{salted_key, IsSaltedAnew};
 
 use crate::blocks::rehide_blocks;
 use crate::hiding_key::HidingKey;
-use md5::{Digest, Md5};
+use roam_md5::Hasher;
 
 /// What covers the first block of a salted string.
 fn digest_of_salted(secret: &[u8], authenticator: &[u8; 16], salt: &[u8; 2]) -> [u8; 16]
     ensures { result ≡ md5 (secret.now ++ (authenticator.now ++ salt.now)) }
 {
-    let mut hasher = Md5::new();
+    let mut hasher = Hasher::new();
     hasher.update(secret);
     hasher.update(authenticator);
     hasher.update(salt);

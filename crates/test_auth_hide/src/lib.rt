@@ -7,3 +7,5 @@ mod auth_tests;
 mod examples;
 #[cfg(test)]
 mod hide_tests;
+#[cfg(test)]
+mod md5_tests;

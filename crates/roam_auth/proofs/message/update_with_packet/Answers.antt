@@ -1,5 +1,5 @@
 use Rattle.std.proofs.Common.{◌+◌, ◌≤◌, inr, length, subst, arith, length-take, length-drop}
-use Rattle.md5.specs.Md5.{Holds}
+use Rattle.roam_md5.specs.Hasher.{Holds}
 use Rattle.roam_auth.proofs.HashedLemmas.{update_pieces}
 use Rattle.roam_auth.proofs.SealingLemmas.{place_within}
 use Rattle.roam_auth.proofs.message.update_with_packet.Goals as goal

@@ -1,5 +1,5 @@
 use Rattle.std.proofs.Common.{◌++◌, subst, sym, ap, List, ℕ}
-use Rattle.md5.specs.Md5.{Holds}
+use Rattle.roam_md5.specs.Hasher.{Holds}
 use Rattle.roam_auth.proofs.HashedLemmas.{field_same, three_pieces}
 use Rattle.roam_auth.proofs.taking_in.update_with_field.Goals as goal
 

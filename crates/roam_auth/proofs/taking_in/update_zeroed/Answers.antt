@@ -1,5 +1,5 @@
 use Rattle.std.proofs.Common.{◌++◌, append_assoc, subst, sym, ap, List, ℕ}
-use Rattle.md5.specs.Md5.{Holds}
+use Rattle.roam_md5.specs.Hasher.{Holds}
 use Rattle.roam_auth.specs.Authenticators.{zero_octets}
 use Rattle.roam_auth.proofs.HashedLemmas.{zeros_same}
 use Rattle.roam_auth.proofs.taking_in.update_zeroed.Goals as goal
