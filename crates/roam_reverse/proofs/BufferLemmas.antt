@@ -27,6 +27,20 @@ front [] h l long = absurd (omega (arith, long))
 front (a ∷ []) h l long = absurd (omega (arith, long))
 front (a ∷ b ∷ rest) h l long = refl
 
+-- four parts behind what is in front
+pub four-behind : (front first second third fourth : List ℕ) (a b c d : Option (List ℕ))
+    → first ≡ front ++ part_text a → second ≡ first ++ part_text b → third ≡ second ++ part_text c
+    → fourth ≡ third ++ part_text d
+    → fourth ≡ front ++ (part_text a ++ (part_text b ++ (part_text c ++ part_text d)))
+four-behind front first second third fourth a b c d one two three four =
+    four
+    ∙ ap (λ (x : List ℕ). x ++ part_text d)
+    (three ∙ ap (λ (x : List ℕ). x ++ part_text c) (two ∙ ap (λ (x : List ℕ). x ++ part_text b) one))
+    ∙ ap (λ (x : List ℕ). x ++ part_text d) (append_assoc (front ++ part_text a) (part_text b) (part_text c))
+    ∙ append_assoc (front ++ part_text a) (part_text b ++ part_text c) (part_text d)
+    ∙ append_assoc front (part_text a) ((part_text b ++ part_text c) ++ part_text d)
+    ∙ ap (λ (x : List ℕ). front ++ (part_text a ++ x)) (append_assoc (part_text b) (part_text c) (part_text d))
+
 -- four parts behind the octets of a number
 pub four-parts : (zero first second third fourth : List ℕ) (at to on end : ℕ) (h l : ℕ)
     (a b c d : Option (List ℕ)) → 2 ≤ length zero
@@ -36,12 +50,5 @@ pub four-parts : (zero first second third fourth : List ℕ) (at to on end : ℕ
     → take end fourth ≡ take on third ++ part_text d
     → take end fourth ≡ h ∷ l ∷ part_text a ++ (part_text b ++ (part_text c ++ part_text d))
 four-parts zero first second third fourth at to on end h l a b c d long one two three four =
-    four
-    ∙ ap (λ (x : List ℕ). x ++ part_text d)
-    (three ∙ ap (λ (x : List ℕ). x ++ part_text c)
-    (two ∙ ap (λ (x : List ℕ). x ++ part_text b)
-    (one ∙ ap (λ (x : List ℕ). x ++ part_text a) (front zero h l long))))
-    ∙ ap (λ (x : List ℕ). x ++ part_text d)
-    (append_assoc (h ∷ l ∷ part_text a) (part_text b) (part_text c))
-    ∙ append_assoc (h ∷ l ∷ part_text a) (part_text b ++ part_text c) (part_text d)
-    ∙ ap (λ (x : List ℕ). h ∷ l ∷ part_text a ++ x) (append_assoc (part_text b) (part_text c) (part_text d))
+    four-behind (h ∷ l ∷ []) (take at first) (take to second) (take on third) (take end fourth) a b c d
+    (one ∙ ap (λ (x : List ℕ). x ++ part_text a) (front zero h l long)) two three four

@@ -1,7 +1,6 @@
 -- What the code's maps stand for (ours).
 use Rattle.std.specs.Prelude.{ℕ, ◌≤◌, List, Option, option_map, nat_eq}
 use Rattle.std.specs.Cmp.Lexicographic.{pointwise}
-use Rattle.std.specs.declared.vec.Vec.{Vec}
 use Rattle.indexmap.specs.IndexMap as map
 use Rattle.indexmap.specs.IndexMap.{IndexMap, spare}
 use Rattle.roam_reverse.specs.Kept.{kept_session}
@@ -10,11 +9,12 @@ use Rattle.roam_reverse.specs.Sessions.{Session}
 use Rattle.roam_reverse.specs.declared.ends.Ends.{Ends}
 use Rattle.roam_reverse.specs.declared.neighbours.Beside.{Beside}
 use Rattle.roam_reverse.specs.declared.groups.Groups.{Groups}
+use Rattle.roam_reverse.specs.declared.kept_row.KeptRow.{KeptRow}
 use Rattle.roam_reverse.specs.declared.open_session.OpenSession.{OpenSession}
 
 -- the ends of the group of a row
-abbrev pub ends_at : {Z H : Type 0} → IndexMap (Vec ℕ Z) Ends H → List ℕ → Option Ends
-ends_at m row = map.get_by (λ v. pointwise nat_eq row v.items) m
+abbrev pub ends_at : {Z H : Type 0} → IndexMap (KeptRow Z) Ends H → List ℕ → Option Ends
+ends_at m row = map.get_by (λ k. pointwise nat_eq row k.octets.items) m
 
 -- the neighbours of a number
 abbrev pub beside_at : {H : Type 0} → IndexMap ℕ Beside H → ℕ → Option Beside

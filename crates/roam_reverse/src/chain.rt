@@ -4,7 +4,7 @@ ghost use Rattle.std.specs.Prelude.{◌≡◌, ◌≢◌, ℕ, ◌+◌, ◌-◌,
 ghost use Rattle.std.specs.Prelude.{None, Some, IsOk, IsSome, OnOk, OnErr, filter, is_some, length};
 ghost use Rattle.std.specs.Prelude.{option_map};
 ghost use Rattle.roam_reverse.specs.Private.Tickets.{IsTicketOf};
-ghost use Rattle.roam_reverse.specs.Sessions.{agrees, has_most, within, without_agreeing, without_first};
+ghost use Rattle.roam_reverse.specs.Sessions.{agrees, has_most, has_session, within, without_agreeing, without_first};
 ghost use Rattle.roam_reverse.specs.Kept.{kept_session, shown_asked, shown_session};
 ghost use Rattle.roam_reverse.specs.Parts.{shown_parts};
 ghost use Rattle.roam_reverse.specs.Stands.{IsSound, session_at, session_count, sessions_of};
@@ -109,6 +109,14 @@ impl<A: Allocator + Copy> Chain<A> {
         self.whole.oldest(Row::of(session.asked()).as_slice())
     }
 
+    /// Whether a session is there that is to be opened: by the row that it has.
+    pub(crate) fn holds(&self, new: &NewSession<A>) -> bool
+        ensures { IsSound self.now
+            → result ≡ has_session (kept_session new.now.session) (sessions_of self.now) }
+    {
+        self.whole.oldest(new.whole.as_slice()).is_some()
+    }
+
     /// How many sessions agree with what is asked, which names an id.
     pub(crate) fn count(&self, asked: AskedRef<'_>) -> usize
         ensures { IsSound self.now → is_some (shown_asked asked.entry).id ≡ true
@@ -172,7 +180,7 @@ impl<A: Allocator + Copy> Chain<A> {
     {
         let session = take(&mut self.by_ticket, ticket);
         self.whole
-            .remove(ticket, Some(Row::of(session.lend().asked())));
+            .remove(ticket, Row::of(session.lend().asked()).as_slice());
         self.of_peer.remove(ticket, session.lend());
         self.of_id.remove(ticket, session.lend());
     }

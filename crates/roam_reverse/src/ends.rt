@@ -5,6 +5,7 @@ ghost use Rattle.indexmap.specs.IndexMap.{spare};
 ghost use Rattle.roam_reverse.specs.Private.Groups.{PutsRow, ends_behind, ends_left, larger, newest_of};
 ghost use Rattle.roam_reverse.specs.Maps.{ends_at};
 
+use crate::kept_row::{KeptRow, SoughtRow};
 use crate::neighbours::Beside;
 use indexmap::IndexMap;
 use roam_hash::HashKey;
@@ -19,7 +20,7 @@ pub(crate) struct Ends {
 }
 
 /// The ends of each group, by its row. Peers pick what stands in a row, so the hash is keyed.
-pub(crate) type GroupEnds<A> = IndexMap<Vec<u8, A>, Ends, HashKey, A>;
+pub(crate) type GroupEnds<A> = IndexMap<KeptRow<A>, Ends, HashKey, A>;
 
 /// The newest number of a group, which may have none yet.
 pub(crate) fn newest_of(ends: Option<Ends>) -> Option<u64>
@@ -81,7 +82,7 @@ pub(crate) fn larger(best: Option<Ends>, ends: Ends) -> Ends
 pub(crate) fn ends_of<A: Allocator + Copy>(map: &GroupEnds<A>, row: &[u8]) -> Option<Ends>
     ensures { result ≡ ends_at map.now row.now }
 {
-    map.get(row).copied()
+    map.get(SoughtRow { octets: row }).copied()
 }
 
 /// Notes the ends of a group, where there is room. Takes no memory.
@@ -90,7 +91,7 @@ pub(crate) fn note<A: Allocator + Copy>(map: &mut GroupEnds<A>, row: Vec<u8, A>,
     ensures puts { PutsRow (ends_at map.old) (ends_at map.new) row.items (Some ends) }
     ensures room { spare map.old ≤ spare map.new + 1 }
 {
-    let _old = map.insert(row, ends).unwrap();
+    let _old = map.insert(KeptRow { octets: row }, ends).unwrap();
 }
 
 /// Writes the ends of a group that has some.
@@ -99,7 +100,7 @@ fn write<A: Allocator + Copy>(map: &mut GroupEnds<A>, row: &[u8], ends: Ends)
         → PutsRow (ends_at map.old) (ends_at map.new) row.now (Some ends) }
     ensures room { spare map.new ≡ spare map.old }
 {
-    if let Some(place) = map.get_mut(row) {
+    if let Some(place) = map.get_mut(SoughtRow { octets: row }) {
         *place = ends;
     }
 }
@@ -109,7 +110,7 @@ fn forget<A: Allocator + Copy>(map: &mut GroupEnds<A>, row: &[u8])
     ensures puts { PutsRow (ends_at map.old) (ends_at map.new) row.now None }
     ensures room { spare map.old ≤ spare map.new }
 {
-    map.swap_remove(row);
+    map.swap_remove(SoughtRow { octets: row });
 }
 
 /// The ends of a group are these from now on, or it has none any more.

@@ -1,17 +1,18 @@
 //! The sessions of a peer by the names of their access servers: by none of them, by some, by all.
 
-ghost use Rattle.std.specs.Prelude.{◌≡◌, ℕ, ◌+◌, Option, None, IfOk, OnOk, filter, is_some, length};
+ghost use Rattle.std.specs.Prelude.{◌≡◌, ℕ, ◌+◌, List, Option, None, IfOk, OnOk, filter, is_some, length};
 ghost use Rattle.roam_reverse.specs.Facets.{AreFaceted, ComesIn, FacetsHaveRoom, HasFacetRows, HasRow, facet_of};
-ghost use Rattle.roam_reverse.specs.Private.Groups.{IsLargest};
+ghost use Rattle.roam_reverse.specs.Private.Groups.{Goes, IsGrouped, IsLargest};
+ghost use Rattle.roam_reverse.specs.Private.Row.{row_under};
 ghost use Rattle.roam_reverse.specs.Private.Tickets.{IsOneOf, all_listed};
 ghost use Rattle.roam_reverse.specs.Sessions.{Session, agrees};
 ghost use Rattle.roam_reverse.specs.Kept.{shown_asked, shown_session};
-ghost use Rattle.roam_reverse.specs.Maps.{groups_of};
+ghost use Rattle.roam_reverse.specs.Maps.{HasRoom, groups_of};
 ghost use Rattle.roam_wire.specs.Numbered.{PutsAt};
 
 use crate::asked::{AskedRef, Mask, SessionRef};
 use crate::groups::Groups;
-use crate::row::Row;
+use crate::row::{Row, row_of};
 use roam_hash::HashKey;
 use roam_wire::NoMemory;
 use std::alloc::Allocator;
@@ -88,9 +89,9 @@ fn row_under<A: Allocator>(
 ) -> Result<Option<Vec<u8, A>>, NoMemory>
     ensures { IfOk result (λ row. HasRow mask (shown_session session.entry) row) }
 {
-    match Row::under(session, mask) {
+    match session.narrowed(mask) {
         None => Ok(None),
-        Some(row) => Ok(Some(row.copy(alloc)?)),
+        Some(asked) => Ok(Some(row_of(alloc, asked)?)),
     }
 }
 
@@ -120,6 +121,19 @@ pub(crate) fn facet_rows<A: Allocator + Copy>(
         by_identifier_ipv6,
         by_all,
     })
+}
+
+impl<A: Allocator + Copy> Groups<A> {
+    /// Takes a session's ticket out of its group by some of its parts, where it has them.
+    fn leave(&mut self, ticket: u64, session: SessionRef<'_>, mask: Mask)
+        ensures grouped { (f g : ℕ → Option (List ℕ)) → IsGrouped f (groups_of self.old)
+            → Goes f g ticket (row_under mask (shown_session session.entry)) → IsGrouped g (groups_of self.new) }
+        ensures room { (n : ℕ) → HasRoom n self.old → HasRoom n self.new }
+    {
+        if let Some(asked) = session.narrowed(mask) {
+            self.remove(ticket, Row::of(asked).as_slice());
+        }
+    }
 }
 
 impl<A: Allocator + Copy> Facets<A> {
@@ -187,21 +201,21 @@ impl<A: Allocator + Copy> Facets<A> {
     {
         let id = self.with_id;
         self.by_peer
-            .remove(ticket, Row::under(session, mask(false, false, false, id)));
+            .leave(ticket, session, mask(false, false, false, id));
         self.by_address
-            .remove(ticket, Row::under(session, mask(true, false, false, id)));
+            .leave(ticket, session, mask(true, false, false, id));
         self.by_identifier
-            .remove(ticket, Row::under(session, mask(false, true, false, id)));
+            .leave(ticket, session, mask(false, true, false, id));
         self.by_both
-            .remove(ticket, Row::under(session, mask(true, true, false, id)));
+            .leave(ticket, session, mask(true, true, false, id));
         self.by_ipv6
-            .remove(ticket, Row::under(session, mask(false, false, true, id)));
+            .leave(ticket, session, mask(false, false, true, id));
         self.by_address_ipv6
-            .remove(ticket, Row::under(session, mask(true, false, true, id)));
+            .leave(ticket, session, mask(true, false, true, id));
         self.by_identifier_ipv6
-            .remove(ticket, Row::under(session, mask(false, true, true, id)));
+            .leave(ticket, session, mask(false, true, true, id));
         self.by_all
-            .remove(ticket, Row::under(session, mask(true, true, true, id)));
+            .leave(ticket, session, mask(true, true, true, id));
     }
 
     /// The groups in which sessions are found by the names that are asked for.

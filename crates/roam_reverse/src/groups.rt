@@ -7,7 +7,6 @@ ghost use Rattle.roam_reverse.specs.Maps.{HasRoom, groups_of};
 
 use crate::ends::{Ends, GroupEnds, ends_behind, ends_left, ends_of, larger, newest_of, note, set};
 use crate::neighbours::{Beside, Neighbours, put, set_newer, set_older, take};
-use crate::row::Row;
 use indexmap::IndexMap;
 use roam_hash::HashKey;
 use roam_wire::NoMemory;
@@ -107,16 +106,13 @@ impl<A: Allocator + Copy> Groups<A> {
         set_newer(&mut self.beside, older, Some(number));
     }
 
-    /// Takes a number out of the group of a row, if it is in one: its neighbours are each other's from now on.
-    pub(crate) fn remove(&mut self, number: u64, row: Option<Row>)
+    /// Takes a number out of the group of its row: its neighbours are each other's from now on.
+    pub(crate) fn remove(&mut self, number: u64, row: &[u8])
         ensures grouped { (f g : ℕ → Option (List ℕ)) → IsGrouped f (groups_of self.old)
-            → Goes f g number row → IsGrouped g (groups_of self.new) }
+            → Goes f g number (Some row.now) → IsGrouped g (groups_of self.new) }
         ensures room { (n : ℕ) → HasRoom n self.old → HasRoom n self.new }
     {
-        let Some(row) = row else {
-            return;
-        };
-        let Some(ends) = ends_of(&self.ends, row.as_slice()) else {
+        let Some(ends) = ends_of(&self.ends, row) else {
             return;
         };
         let Some(beside) = take(&mut self.beside, number) else {
@@ -124,6 +120,6 @@ impl<A: Allocator + Copy> Groups<A> {
         };
         set_newer(&mut self.beside, beside.older, beside.newer);
         set_older(&mut self.beside, beside.newer, beside.older);
-        set(&mut self.ends, row.as_slice(), ends_left(ends, beside));
+        set(&mut self.ends, row, ends_left(ends, beside));
     }
 }

@@ -97,6 +97,13 @@ impl<A: Allocator + Copy> Sessions<A> {
         self.chain.find(session).is_some()
     }
 
+    /// Whether a session is open that is to be opened. Takes no memory.
+    fn holds(&self, new: &NewSession<A>) -> bool
+        ensures { result ≡ has_session (kept_session new.now.session) self.now.sessions }
+    {
+        self.chain.holds(new)
+    }
+
     /// How many sessions agree with what is asked, which names an id. Takes no memory.
     pub(crate) fn count(&self, asked: AskedRef<'_>) -> usize
         requires { is_some (shown_asked asked).id ≡ true }
@@ -221,7 +228,7 @@ impl<A: Allocator + Copy> Sessions<A> {
         ensures sessions { self.new.sessions
             ≡ with_session self.old.limit (kept_session new.session) self.old.sessions }
     {
-        if self.has(new.session.lend()) || self.limit == 0 {
+        if self.holds(&new) || self.limit == 0 {
             return;
         }
         self.chain.append(new);

@@ -27,6 +27,7 @@ mod ends;
 pub mod error_cause;
 mod facets;
 mod groups;
+mod kept_row;
 mod laws;
 mod ledger;
 mod nas_target;

@@ -8,7 +8,7 @@ ghost use Rattle.roam_reverse.specs.Short.{kept_octets, shown_short};
 
 use crate::asked::{NasRef, SessionRef};
 use crate::facets::{FacetRows, facet_rows};
-use crate::row::Row;
+use crate::row::row_of;
 use crate::short::{KeptShort, Short};
 use roam_wire::NoMemory;
 use std::alloc::Allocator;
@@ -101,7 +101,7 @@ impl<A: Allocator + Copy> NewSession<A> {
         ensures { IfOk result (λ new. kept_session new.session ≡ shown_session session.entry) }
     {
         let kept = OpenSession::copy_of(alloc, session)?;
-        let whole = Row::of(session.asked()).copy(alloc)?;
+        let whole = row_of(alloc, session.asked())?;
         let of_peer = facet_rows(alloc, session, false)?;
         let of_id = facet_rows(alloc, session, true)?;
         Ok(NewSession {

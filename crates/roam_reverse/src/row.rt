@@ -1,11 +1,11 @@
 //! What is asked as one row of octets, by which sessions are found.
 
-ghost use Rattle.std.specs.Prelude.{◌≡◌, ◌<◌, ◌≤◌, ◌+◌, ◌++◌, IfOk, length, option_map, take};
-ghost use Rattle.roam_reverse.specs.Private.Row.{part_text, row_text, row_under};
+ghost use Rattle.std.specs.Prelude.{◌≡◌, ◌<◌, ◌≤◌, ◌+◌, ◌++◌, IfOk, OnOk, length, option_map, take};
+ghost use Rattle.roam_reverse.specs.Private.Row.{part_text, row_text};
 ghost use Rattle.roam_reverse.specs.Short.{shown_short};
-ghost use Rattle.roam_reverse.specs.Kept.{shown_asked, shown_session};
+ghost use Rattle.roam_reverse.specs.Kept.{shown_asked};
 
-use crate::asked::{AskedRef, Mask, SessionRef};
+use crate::asked::AskedRef;
 use crate::short::Short;
 use roam_wire::NoMemory;
 use std::alloc::Allocator;
@@ -47,6 +47,45 @@ fn put_part(buffer: &mut [u8; 1024], at: usize, part: Option<Short<'_>>) -> usiz
     at + 1 + size
 }
 
+/// How many octets a part takes.
+fn part_len(part: Option<Short<'_>>) -> usize
+    ensures value { result ≡ length (part_text (option_map shown_short part.entry)) }
+    ensures bound { result ≤ 254 }
+{
+    match part {
+        None => 1,
+        Some(part) => 1 + part.octets.len(),
+    }
+}
+
+/// Puts a part behind others.
+fn push_part<A: Allocator>(row: &mut Vec<u8, A>, part: Option<Short<'_>>) -> Result<(), NoMemory>
+    ensures { OnOk result (row.new.items ≡ row.old.items ++ part_text (option_map shown_short part.entry)) }
+{
+    let Some(part) = part else {
+        row.push(0)?;
+        return Ok(());
+    };
+    row.push(1 + part.octets.len() as u8)?;
+    row.extend_from_slice(part.octets)?;
+    Ok(())
+}
+
+/// The row of what is asked, in memory of its own: as much as it takes.
+pub(crate) fn row_of<A: Allocator>(alloc: A, asked: AskedRef<'_>) -> Result<Vec<u8, A>, NoMemory>
+    ensures { IfOk result (λ row. row.items ≡ row_text (shown_asked asked.entry)) }
+{
+    let nas = asked.nas;
+    let names = part_len(nas.address) + part_len(nas.identifier) + part_len(nas.ipv6);
+    let mut row = Vec::with_capacity(alloc, 2 + names + part_len(asked.id))?;
+    row.extend_from_slice(&[(asked.peer / 256) as u8, (asked.peer % 256) as u8])?;
+    push_part(&mut row, nas.address)?;
+    push_part(&mut row, nas.identifier)?;
+    push_part(&mut row, nas.ipv6)?;
+    push_part(&mut row, asked.id)?;
+    Ok(row)
+}
+
 impl Row {
     /// The row of what is asked. Takes no memory.
     pub(crate) fn of(asked: AskedRef<'_>) -> Row
@@ -62,27 +101,10 @@ impl Row {
         Row { octets, len }
     }
 
-    /// The row of some of a session's parts, where it has them. Takes no memory.
-    pub(crate) fn under(session: SessionRef<'_>, mask: Mask) -> Option<Row>
-        ensures { result ≡ row_under mask (shown_session session.entry) }
-    {
-        match session.narrowed(mask) {
-            None => None,
-            Some(asked) => Some(Row::of(asked)),
-        }
-    }
-
     /// Its octets.
     pub(crate) fn as_slice(&self) -> &[u8]
         ensures { result.now ≡ self.now }
     {
         &self.octets[..self.len]
-    }
-
-    /// A copy of its octets.
-    pub(crate) fn copy<A: Allocator>(&self, alloc: A) -> Result<Vec<u8, A>, NoMemory>
-        ensures { IfOk result (λ row. row.items ≡ self.now) }
-    {
-        Vec::from_slice(alloc, self.as_slice()).map_err(|_| NoMemory)
     }
 }

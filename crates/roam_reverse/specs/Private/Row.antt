@@ -21,3 +21,7 @@ row_under mask s = option_map row_text (narrow mask s)
 
 abbrev pub whole_row : Session → List ℕ
 whole_row s = row_text (asked_for s)
+
+-- what is hashed of a row: its octets, at once
+abbrev pub row_fed : List ℕ → List (List ℕ)
+row_fed octets = octets ∷ []

@@ -24,7 +24,7 @@ returns-clause-sound g c =
     record {
       tickets = tickets-go F G c.args.self.now.next t sound.tickets goes;
       whole = c.remove.ensures.grouped (whole_rows F) (whole_rows G) sound.whole
-          (goes-whole F G t s _ (c.of.ensures ∙ ap row_text c.asked.ensures
+          (goes-whole F G t s _ (c.as_slice.ensures ∙ c.of.ensures ∙ ap row_text c.asked.ensures
           ∙ ap (λ (x : Session). whole_row x) c.lend.ensures) at goes);
       of_peer = c.remove-2.ensures.faceted F G sound.of_peer
           (at ∙ ap (λ (x : Session). Some x) (sym c.lend-2.ensures)) goes;

@@ -1,4 +1,4 @@
-use Rattle.std.proofs.Common.{true, false, ap, ◌∙◌}
+use Rattle.std.proofs.Common.{true, false, ap}
 use Rattle.roam_reverse.specs.Facets.{masked, rows_under}
 use Rattle.roam_reverse.specs.Kept.{shown_session}
 use Rattle.roam_reverse.specs.Private.Row.{row_under}
@@ -12,43 +12,43 @@ returns-clause-faceted g c = λ F G are at goes.
     let t = c.args.ticket in
     let s = shown_session c.args.session in
     record {
-      by_peer = c.remove.ensures.grouped (rows_under (masked false false false id) F)
+      by_peer = c.leave.ensures.grouped (rows_under (masked false false false id) F)
           (rows_under (masked false false false id) G) are.by_peer (goes-under (masked false false false id) F G t s _
-          (c.under.ensures ∙ ap (λ (m : Mask). row_under m s) c.mask.ensures) at goes);
-      by_address = c.remove-2.ensures.grouped (rows_under (masked true false false id) F)
+          (ap (λ (m : Mask). row_under m s) c.mask.ensures) at goes);
+      by_address = c.leave-2.ensures.grouped (rows_under (masked true false false id) F)
           (rows_under (masked true false false id) G) are.by_address (goes-under (masked true false false id) F G t s _
-          (c.under-2.ensures ∙ ap (λ (m : Mask). row_under m s) c.mask-2.ensures) at goes);
-      by_identifier = c.remove-3.ensures.grouped (rows_under (masked false true false id) F)
+          (ap (λ (m : Mask). row_under m s) c.mask-2.ensures) at goes);
+      by_identifier = c.leave-3.ensures.grouped (rows_under (masked false true false id) F)
           (rows_under (masked false true false id) G) are.by_identifier
           (goes-under (masked false true false id) F G t s _
-          (c.under-3.ensures ∙ ap (λ (m : Mask). row_under m s) c.mask-3.ensures) at goes);
-      by_both = c.remove-4.ensures.grouped (rows_under (masked true true false id) F)
+          (ap (λ (m : Mask). row_under m s) c.mask-3.ensures) at goes);
+      by_both = c.leave-4.ensures.grouped (rows_under (masked true true false id) F)
           (rows_under (masked true true false id) G) are.by_both (goes-under (masked true true false id) F G t s _
-          (c.under-4.ensures ∙ ap (λ (m : Mask). row_under m s) c.mask-4.ensures) at goes);
-      by_ipv6 = c.remove-5.ensures.grouped (rows_under (masked false false true id) F)
+          (ap (λ (m : Mask). row_under m s) c.mask-4.ensures) at goes);
+      by_ipv6 = c.leave-5.ensures.grouped (rows_under (masked false false true id) F)
           (rows_under (masked false false true id) G) are.by_ipv6 (goes-under (masked false false true id) F G t s _
-          (c.under-5.ensures ∙ ap (λ (m : Mask). row_under m s) c.mask-5.ensures) at goes);
-      by_address_ipv6 = c.remove-6.ensures.grouped (rows_under (masked true false true id) F)
+          (ap (λ (m : Mask). row_under m s) c.mask-5.ensures) at goes);
+      by_address_ipv6 = c.leave-6.ensures.grouped (rows_under (masked true false true id) F)
           (rows_under (masked true false true id) G) are.by_address_ipv6
           (goes-under (masked true false true id) F G t s _
-          (c.under-6.ensures ∙ ap (λ (m : Mask). row_under m s) c.mask-6.ensures) at goes);
-      by_identifier_ipv6 = c.remove-7.ensures.grouped (rows_under (masked false true true id) F)
+          (ap (λ (m : Mask). row_under m s) c.mask-6.ensures) at goes);
+      by_identifier_ipv6 = c.leave-7.ensures.grouped (rows_under (masked false true true id) F)
           (rows_under (masked false true true id) G) are.by_identifier_ipv6
           (goes-under (masked false true true id) F G t s _
-          (c.under-7.ensures ∙ ap (λ (m : Mask). row_under m s) c.mask-7.ensures) at goes);
-      by_all = c.remove-8.ensures.grouped (rows_under (masked true true true id) F)
+          (ap (λ (m : Mask). row_under m s) c.mask-7.ensures) at goes);
+      by_all = c.leave-8.ensures.grouped (rows_under (masked true true true id) F)
           (rows_under (masked true true true id) G) are.by_all (goes-under (masked true true true id) F G t s _
-          (c.under-8.ensures ∙ ap (λ (m : Mask). row_under m s) c.mask-8.ensures) at goes);
+          (ap (λ (m : Mask). row_under m s) c.mask-8.ensures) at goes);
     }
 
 pub returns-clause-room : goal.returns-clause-room
 returns-clause-room g c = λ n room. record {
-  by_peer = c.remove.ensures.room n room.by_peer;
-  by_address = c.remove-2.ensures.room n room.by_address;
-  by_identifier = c.remove-3.ensures.room n room.by_identifier;
-  by_both = c.remove-4.ensures.room n room.by_both;
-  by_ipv6 = c.remove-5.ensures.room n room.by_ipv6;
-  by_address_ipv6 = c.remove-6.ensures.room n room.by_address_ipv6;
-  by_identifier_ipv6 = c.remove-7.ensures.room n room.by_identifier_ipv6;
-  by_all = c.remove-8.ensures.room n room.by_all;
+  by_peer = c.leave.ensures.room n room.by_peer;
+  by_address = c.leave-2.ensures.room n room.by_address;
+  by_identifier = c.leave-3.ensures.room n room.by_identifier;
+  by_both = c.leave-4.ensures.room n room.by_both;
+  by_ipv6 = c.leave-5.ensures.room n room.by_ipv6;
+  by_address_ipv6 = c.leave-6.ensures.room n room.by_address_ipv6;
+  by_identifier_ipv6 = c.leave-7.ensures.room n room.by_identifier_ipv6;
+  by_all = c.leave-8.ensures.room n room.by_all;
 }

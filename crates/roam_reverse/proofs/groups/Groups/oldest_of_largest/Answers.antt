@@ -32,7 +32,7 @@ returns-in-None g c =
     let ends = c.args.self.now.ends in
     subst (λ (o : Option Ends). IsLargest p (option_map (λ (e : Ends). e.oldest) o)) c.in-None.is
     (best-is-largest p ends.entries
-    (λ row e at. lookup-at (λ v. pointwise nat_eq row v.items) ends.entries e at) c.loop-i.i c.loop-i.best
+    (λ row e at. lookup-at (λ k. pointwise nat_eq row k.octets.items) ends.entries e at) c.loop-i.i c.loop-i.best
     c.loop-i.invariant (omega (arith, c.loop-i-test.false, c.len-i-end.ensures.len)))
 
 pub returns-in-Some-best : goal.returns-in-Some-best
@@ -41,5 +41,5 @@ returns-in-Some-best g c =
     let ends = c.args.self.now.ends in
     subst (λ (o : Option Ends). IsLargest p (option_map (λ (e : Ends). e.oldest) o)) c.in-Some-best.is
     (best-is-largest p ends.entries
-    (λ row e at. lookup-at (λ v. pointwise nat_eq row v.items) ends.entries e at) c.loop-i.i c.loop-i.best
+    (λ row e at. lookup-at (λ k. pointwise nat_eq row k.octets.items) ends.entries e at) c.loop-i.i c.loop-i.best
     c.loop-i.invariant (omega (arith, c.loop-i-test.false, c.len-i-end.ensures.len)))
