@@ -8,12 +8,16 @@
 
 Each second it looks at the processes below CMD: what they took so far, for which crate (`--crate-name`), and what for: proof, tests,
 edits (a proof in a folder of its own), or a program that runs. What a process takes in its last second isn't seen.
+
+A processor second is worth less on a machine whose host gives its processors to others too: the same proofs took twice as many on one
+day as on another. So it times a loop meanwhile, and writes its pace beside the minutes: compare those of two runs by their paces.
 """
 import collections
 import datetime
 import os
 import pathlib
 import re
+import statistics
 import subprocess
 import sys
 import time
@@ -25,6 +29,8 @@ BEGIN, END = "<!-- minutes: made by tools/minutes.py -->\n", "<!-- minutes: end 
 KINDS = ("proof", "tests", "edits", "runs")
 LINE = re.compile(r"^minutes of (\w+): proof ([\d.]+), tests ([\d.]+), edits ([\d.]+), runs ([\d.]+)$", re.M)
 TICKS = os.sysconf("SC_CLK_TCK")
+STEPS, APART = 100_000, 20          # of the loop that is timed, and so many seconds apart
+PACE = re.compile(r"^# pace: (.*)$", re.M)
 
 
 def below(process: int) -> list[int]:
@@ -67,21 +73,38 @@ def look(process: int, seen: dict[tuple[int, str], tuple[tuple[str, str], float]
             seen[it, fields[19]] = (what, (int(fields[11]) + int(fields[12])) / TICKS)
 
 
+def seconds_of_loop() -> float:
+    """What a million steps of a loop take of a processor now, in seconds."""
+    begin, steps = time.process_time(), 0
+    for step in range(STEPS):
+        steps += step * step
+    return (time.process_time() - begin) * 1_000_000 / STEPS
+
+
+def pace_of(looks: list[float]) -> str:
+    return f"# pace: {statistics.median(looks):.2f} s of a processor for a million steps of a loop (median of {len(looks)} looks)\n"
+
+
 def run(file: str, words: list[str]) -> int:
     """Runs a command, and writes the minutes of each crate."""
     seen: dict[tuple[int, str], tuple[tuple[str, str], float]] = {}
+    looks = [seconds_of_loop()]
     started = subprocess.Popen(words)
+    timed = time.monotonic()
     while started.poll() is None:
         try:
             look(started.pid, seen)
         except (OSError, ValueError):
             pass                        # a process that ended while it was looked at: the next look has the others
+        if time.monotonic() - timed >= APART:
+            looks.append(seconds_of_loop())
+            timed = time.monotonic()
         time.sleep(1)
     minutes: dict[str, dict[str, float]] = {}
     for (crate, kind), seconds in seen.values():
         of = minutes.setdefault(crate, dict.fromkeys(KINDS, 0.0))
         of[kind] += seconds / 60
-    pathlib.Path(file).write_text(lines_of(minutes), encoding="utf-8")
+    pathlib.Path(file).write_text(pace_of(looks) + lines_of(minutes), encoding="utf-8")
     return started.returncode if started.returncode >= 0 else 128 - started.returncode
 
 
@@ -123,12 +146,13 @@ def main() -> int:
     if len(words) >= 3 and words[0] == "run":
         return run(words[1], words[2:])
     if len(words) == 2 and words[0] == "take":
-        minutes = read(pathlib.Path(words[1]).read_text(encoding="utf-8"))
+        text = pathlib.Path(words[1]).read_text(encoding="utf-8")
+        minutes, pace = read(text), PACE.search(text)
+        read_on = f"# Read on {datetime.date.today()} by tools/minutes.py" + (f", at a pace of {pace.group(1)}." if pace else ".")
         if not minutes:
             print(f"{words[1]} has no minutes of crates", file=sys.stderr)
             return 1
-        head = KEPT.read_text(encoding="utf-8").splitlines()[0] if pathlib.Path(words[1]).samefile(KEPT) else (
-            f"# Read on {datetime.date.today()} by tools/minutes.py.")
+        head = KEPT.read_text(encoding="utf-8").splitlines()[0] if pathlib.Path(words[1]).samefile(KEPT) else read_on
         KEPT.write_text(head + "\n" + lines_of(minutes), encoding="utf-8")
         PAGE.write_text(page(), encoding="utf-8")
         return 0
