@@ -7,10 +7,10 @@ use Rattle.roam_wire.specs.Numbered.{PutsAt, listed, tickets_end}
 use Rattle.roam_reverse.specs.Facets.{AreFaceted, ComesIn, facet_by, facet_of, masked, rows_under}
 use Rattle.roam_reverse.specs.Maps.{groups_of}
 use Rattle.roam_reverse.specs.Private.Groups.{AreEndsOf, Comes, Goes, IsGrouped, PlainGroups, count_of, if_row, in_group, oldest_of}
-use Rattle.roam_reverse.specs.Private.Masks.{mask_of}
+use Rattle.roam_reverse.specs.Private.Masks.{agrees_grouped, mask_of}
 use Rattle.roam_reverse.specs.Private.Row.{row_text, row_under}
 use Rattle.roam_reverse.specs.Private.Tickets.{IsOneOf, all_listed}
-use Rattle.roam_reverse.specs.Sessions.{Asked, Session, agrees}
+use Rattle.roam_reverse.specs.Sessions.{Asked, Session}
 use Rattle.roam_reverse.specs.declared.asked.Mask.{Mask}
 use Rattle.roam_reverse.specs.declared.ends.Ends.{Ends}
 use Rattle.roam_reverse.specs.declared.facets.Facets.{Facets}
@@ -75,11 +75,11 @@ facet-grouped {A} q f F are id = by q.nas.address q.nas.identifier q.nas.ipv6
         are.by_all
 
 -- as many have a row as pass a test
-passing : {X : Type 0} → (X → Bool) → Option X → Bool
+unfoldable pub passing : {X : Type 0} → (X → Bool) → Option X → Bool
 passing test None = false
 passing test (Some x) = test x
 
-listed-count : {X Y : Type 0} (test : X → Bool) (f : ℕ → Option X) (h : ℕ → Option Y) (t n : ℕ)
+pub listed-count : {X Y : Type 0} (test : X → Bool) (f : ℕ → Option X) (h : ℕ → Option Y) (t n : ℕ)
     → ((u : ℕ) → is_some (h u) ≡ passing test (f u)) → length (listed h t n) ≡ length (filter test (listed f t n))
 unfolding listed passing
 listed-count test f h t zero same = refl
@@ -107,7 +107,7 @@ count-is f p row grouped = by (p.ends row) refl (grouped.ends row)
 module _ (q : Asked) (F : ℕ → Option Session) where
   -- a session's ticket is in the group just where it agrees
   pub in-facet : (u : ℕ) (s : Session) → F u ≡ Some s
-      → in_group (rows_under (mask_of q) F) (row_text q) u ≡ (if agrees q s then Some (row_text q) else None)
+      → in_group (rows_under (mask_of q) F) (row_text q) u ≡ (if agrees_grouped q s then Some (row_text q) else None)
   in-facet u s at =
       ap (λ (o : Option Session). if_row (row_text q) (option_and_then (row_under (mask_of q)) o)) at ∙ in-its-group q s
 
@@ -115,48 +115,50 @@ module _ (q : Asked) (F : ℕ → Option Session) where
   none-facet u at =
       ap (λ (o : Option Session). if_row (row_text q) (option_and_then (row_under (mask_of q)) o)) at
 
-  pub agrees-held : (u : ℕ) (s : Session) → F u ≡ Some s → agrees q s ≡ true
+  pub agrees-held : (u : ℕ) (s : Session) → F u ≡ Some s → agrees_grouped q s ≡ true
       → in_group (rows_under (mask_of q) F) (row_text q) u ≡ Some (row_text q)
   agrees-held u s at agree = in-facet u s at ∙ rw agree refl
 
   pub held-agrees : (u : ℕ) → IsSome (in_group (rows_under (mask_of q) F) (row_text q) u)
-      → (s : Session) × (F u ≡ Some s) × (agrees q s ≡ true)
+      → (s : Session) × (F u ≡ Some s) × (agrees_grouped q s ≡ true)
   held-agrees u held = by (F u) refl
     where
-      by : (o : Option Session) → F u ≡ o → (s : Session) × (F u ≡ Some s) × (agrees q s ≡ true)
+      by : (o : Option Session) → F u ≡ o → (s : Session) × (F u ≡ Some s) × (agrees_grouped q s ≡ true)
       by None at = absurd (held-none (in_group (rows_under (mask_of q) F) (row_text q) u) held (none-facet u at))
-      by (Some s) at = elim (cases_Bool (agrees q s)) [
+      by (Some s) at = elim (cases_Bool (agrees_grouped q s)) [
         | inl agree ↦ (s, at, agree)
         | inr disagree ↦ absurd (held-none (in_group (rows_under (mask_of q) F) (row_text q) u) held
             (in-facet u s at ∙ rw disagree refl))
       ]
 
   pub agreeing-counted : length (all_listed (in_group (rows_under (mask_of q) F) (row_text q)))
-      ≡ length (filter (agrees q) (all_listed F))
+      ≡ length (filter (agrees_grouped q) (all_listed F))
   unfolding passing
-  agreeing-counted = listed-count (agrees q) F (in_group (rows_under (mask_of q) F) (row_text q)) 0 tickets_end same
+  agreeing-counted =
+      listed-count (agrees_grouped q) F (in_group (rows_under (mask_of q) F) (row_text q)) 0 tickets_end same
     where
-      same : (u : ℕ) → is_some (in_group (rows_under (mask_of q) F) (row_text q) u) ≡ passing (agrees q) (F u)
+      same : (u : ℕ) → is_some (in_group (rows_under (mask_of q) F) (row_text q) u) ≡ passing (agrees_grouped q) (F u)
       same u = by (F u) refl
         where
           by : (o : Option Session) → F u ≡ o
-              → is_some (in_group (rows_under (mask_of q) F) (row_text q) u) ≡ passing (agrees q) o
+              → is_some (in_group (rows_under (mask_of q) F) (row_text q) u) ≡ passing (agrees_grouped q) o
           by None at = ap (λ (o : Option (List ℕ)). is_some o) (none-facet u at)
-          by (Some s) at = ap (λ (o : Option (List ℕ)). is_some o) (in-facet u s at) ∙ elim (cases_Bool (agrees q s)) [
-            | inl agree ↦ rw agree refl
-            | inr disagree ↦ rw disagree refl
-          ]
+          by (Some s) at = ap (λ (o : Option (List ℕ)). is_some o) (in-facet u s at)
+              ∙ elim (cases_Bool (agrees_grouped q s)) [
+                | inl agree ↦ rw agree refl
+                | inr disagree ↦ rw disagree refl
+              ]
 
   module _ (p : PlainGroups) (grouped : IsGrouped (rows_under (mask_of q) F) p) where
-    pub count-agreeing : count_of p (row_text q) ≡ length (filter (agrees q) (all_listed F))
+    pub count-agreeing : count_of p (row_text q) ≡ length (filter (agrees_grouped q) (all_listed F))
     count-agreeing = count-is (rows_under (mask_of q) F) p (row_text q) grouped ∙ agreeing-counted
 
-    pub oldest-agreeing : IsOneOf (agrees q) F (oldest_of p (row_text q))
+    pub oldest-agreeing : IsOneOf (agrees_grouped q) F (oldest_of p (row_text q))
     oldest-agreeing = by (p.ends (row_text q)) refl (grouped.ends (row_text q))
       where
         by : (o : Option Ends) → p.ends (row_text q) ≡ o → AreEndsOf (rows_under (mask_of q) F) (row_text q) o
-            → IsOneOf (agrees q) F (oldest_of p (row_text q))
-        by None is none = rw is (λ t x at. elim (cases_Bool (agrees q x)) [
+            → IsOneOf (agrees_grouped q) F (oldest_of p (row_text q))
+        by None is none = rw is (λ t x at. elim (cases_Bool (agrees_grouped q x)) [
           | inl agree ↦ absurd (let k = agrees-held t x at agree in let l = none t in cc (k, l))
           | inr disagree ↦ disagree
         ])

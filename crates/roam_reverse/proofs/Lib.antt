@@ -23,3 +23,4 @@ pub mod GrownLemmas
 pub mod OneSessionLemmas
 pub mod MapLemmas
 pub mod ShortLemmas
+pub mod ExactLemmas

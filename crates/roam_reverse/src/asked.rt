@@ -2,7 +2,7 @@
 
 ghost use Rattle.std.specs.Prelude.{◌≡◌, option_map};
 ghost use Rattle.roam_reverse.specs.Sessions.{counted_nas, nas_in, no_nas};
-ghost use Rattle.roam_reverse.specs.Private.Masks.{asked_for, narrow};
+ghost use Rattle.roam_reverse.specs.Private.Masks.{asked_for, grouped_as, has_more, narrow};
 ghost use Rattle.roam_reverse.specs.Kept.{shown_asked, shown_nas, shown_session};
 
 use crate::nas_target::NAS_IPV6_ADDRESS;
@@ -113,5 +113,24 @@ impl<'a> SessionRef<'a> {
             },
             id: if mask.id { Some(self.id) } else { None },
         })
+    }
+
+    /// Whether it has a name that isn't asked for.
+    fn has_more(self, mask: Mask) -> bool
+        ensures { result ≡ has_more mask (shown_session self.entry) }
+    {
+        (!mask.address && self.nas.address.is_some())
+            || (!mask.identifier && self.nas.identifier.is_some())
+            || (!mask.ipv6 && self.nas.ipv6.is_some())
+    }
+
+    /// What is asked for this session in the groups by some of its parts. By its id and all of its names it is in none.
+    pub(crate) fn grouped(self, mask: Mask) -> Option<AskedRef<'a>>
+        ensures { option_map shown_asked result ≡ grouped_as mask (shown_session self.entry) }
+    {
+        if mask.id && !self.has_more(mask) {
+            return None;
+        }
+        self.narrowed(mask)
     }
 }

@@ -28,7 +28,8 @@ use std::hash::{BuildHasherDefault, FoldHasher};
 pub(crate) type ByTicket<A> = IndexMap<u64, OpenSession<A>, BuildHasherDefault<FoldHasher>, A>;
 
 /// Sessions in the order in which they were opened. Each has a ticket, and these rise. They are found by all that they
-/// are, by the names of their access servers, and by these and the id.
+/// are, by the names of their access servers, and by some of these and the id: a session without further names by all
+/// that it is alone.
 pub(crate) struct Chain<A: Allocator> {
     pub(crate) by_ticket: ByTicket<A>,
     pub(crate) whole: Groups<A>,
@@ -122,7 +123,9 @@ impl<A: Allocator + Copy> Chain<A> {
         ensures { IsSound self.now → is_some (shown_asked asked.entry).id ≡ true
             → result ≡ length (filter (agrees (shown_asked asked.entry)) (sessions_of self.now)) }
     {
-        self.of_id.count(asked)
+        self.whole
+            .count(Row::of(asked).as_slice())
+            .saturating_add(self.of_id.count(asked))
     }
 
     /// Makes room for one session more. No session changes. There is none once the tickets are used

@@ -3,9 +3,10 @@
 ghost use Rattle.std.specs.Prelude.{◌≡◌, ℕ, ◌+◌, List, Option, None, IfOk, OnOk, filter, is_some, length};
 ghost use Rattle.roam_reverse.specs.Facets.{AreFaceted, ComesIn, FacetsHaveRoom, HasFacetRows, HasRow, facet_of};
 ghost use Rattle.roam_reverse.specs.Private.Groups.{Goes, IsGrouped, IsLargest};
+ghost use Rattle.roam_reverse.specs.Private.Masks.{agrees_grouped};
 ghost use Rattle.roam_reverse.specs.Private.Row.{row_under};
 ghost use Rattle.roam_reverse.specs.Private.Tickets.{IsOneOf, all_listed};
-ghost use Rattle.roam_reverse.specs.Sessions.{Session, agrees};
+ghost use Rattle.roam_reverse.specs.Sessions.{Session};
 ghost use Rattle.roam_reverse.specs.Kept.{shown_asked, shown_session};
 ghost use Rattle.roam_reverse.specs.Maps.{HasRoom, groups_of};
 ghost use Rattle.roam_wire.specs.Numbered.{PutsAt};
@@ -18,7 +19,7 @@ use roam_wire::NoMemory;
 use std::alloc::Allocator;
 
 /// Tickets of sessions in groups: by the peer, and by the peer and some of the access server's names, where a session
-/// has them; and where `with_id` says it, by the id besides.
+/// has them; and where `with_id` says it, by the id besides, and then only those that have further names.
 pub(crate) struct Facets<A: Allocator> {
     pub(crate) with_id: bool,
     pub(crate) by_peer: Groups<A>,
@@ -89,7 +90,7 @@ fn row_under<A: Allocator>(
 ) -> Result<Option<Vec<u8, A>>, NoMemory>
     ensures { IfOk result (λ row. HasRow mask (shown_session session.entry) row) }
 {
-    match session.narrowed(mask) {
+    match session.grouped(mask) {
         None => Ok(None),
         Some(asked) => Ok(Some(row_of(alloc, asked)?)),
     }
@@ -130,7 +131,7 @@ impl<A: Allocator + Copy> Groups<A> {
             → Goes f g ticket (row_under mask (shown_session session.entry)) → IsGrouped g (groups_of self.new) }
         ensures room { (n : ℕ) → HasRoom n self.old → HasRoom n self.new }
     {
-        if let Some(asked) = session.narrowed(mask) {
+        if let Some(asked) = session.grouped(mask) {
             self.remove(ticket, Row::of(asked).as_slice());
         }
     }
@@ -234,20 +235,21 @@ impl<A: Allocator + Copy> Facets<A> {
         }
     }
 
-    /// How many sessions agree with what is asked, which names an id just where these groups do.
+    /// How many sessions of these groups agree with what is asked, which names an id just where the groups do.
     pub(crate) fn count(&self, asked: AskedRef<'_>) -> usize
         ensures { (F : ℕ → Option Session) → AreFaceted F self.now
             → is_some (shown_asked asked.entry).id ≡ self.now.with_id
-            → result ≡ length (filter (agrees (shown_asked asked.entry)) (all_listed F)) }
+            → result ≡ length (filter (agrees_grouped (shown_asked asked.entry)) (all_listed F)) }
     {
         self.groups_for(asked).count(Row::of(asked).as_slice())
     }
 
-    /// The ticket of the oldest session that agrees with what is asked, which names an id just where these groups do.
+    /// The ticket of the oldest session of these groups that agrees with what is asked, which names an id just where
+    /// the groups do.
     pub(crate) fn oldest(&self, asked: AskedRef<'_>) -> Option<u64>
         ensures { (F : ℕ → Option Session) → AreFaceted F self.now
             → is_some (shown_asked asked.entry).id ≡ self.now.with_id
-            → IsOneOf (agrees (shown_asked asked.entry)) F result }
+            → IsOneOf (agrees_grouped (shown_asked asked.entry)) F result }
     {
         self.groups_for(asked).oldest(Row::of(asked).as_slice())
     }

@@ -1,6 +1,6 @@
 -- A session by some of its parts (ours).
-use Rattle.std.specs.Prelude.{◌&&◌, ◌||◌, Bool, Option, Some, None, is_some, is_none, if◌then◌else◌}
-use Rattle.roam_reverse.specs.Sessions.{Asked, Session}
+use Rattle.std.specs.Prelude.{◌&&◌, ◌||◌, not, Bool, Option, Some, None, is_some, is_none, if◌then◌else◌}
+use Rattle.roam_reverse.specs.Sessions.{Asked, Session, agrees}
 use Rattle.roam_reverse.specs.declared.asked.Mask.{Mask}
 
 -- what is asked for a session by all that it is
@@ -29,6 +29,17 @@ asked_by mask s = record {
 abbrev pub narrow : Mask → Session → Option Asked
 narrow mask s = if lacks mask s then None else Some (asked_by mask s)
 
+-- a session has a name that isn't asked for
+abbrev pub has_more : Mask → Session → Bool
+has_more mask s =
+    (not mask.address && is_some s.nas.address) || (not mask.identifier && is_some s.nas.identifier)
+    || (not mask.ipv6 && is_some s.nas.ipv6)
+
+-- what a session is asked for in the groups by some of its parts. In those by its id it is where it has further names:
+-- by all that it is, it is found without them
+abbrev pub grouped_as : Mask → Session → Option Asked
+grouped_as mask s = if mask.id && not (has_more mask s) then None else narrow mask s
+
 -- the parts that are asked for
 abbrev pub mask_of : Asked → Mask
 mask_of q = record {
@@ -37,3 +48,7 @@ mask_of q = record {
   ipv6 = is_some q.nas.ipv6;
   id = is_some q.id;
 }
+
+-- a session agrees with what is asked, and is found by it in the groups by some of its parts
+abbrev pub agrees_grouped : Asked → Session → Bool
+agrees_grouped q s = not (is_some q.id && not (has_more (mask_of q) s)) && agrees q s
