@@ -2,19 +2,21 @@
 
 ghost use Rattle.std.specs.Prelude.{IfErr, IfOk};
 ghost use Rattle.roam_conf.specs.Shown.{shown};
-ghost use Rattle.roam_succession.specs.Served.{HasServedAll};
+ghost use Rattle.roam_serve.specs.Served.{HasServedAll};
 ghost use Rattle.roam_sockets.specs.Faults.{IsAfterBinding, IsFaultOf};
 
+use crate::serving::serve_all;
 use log::Log;
 use roam_conf::{Config, ExchangeLines};
 use roam_desk::{Build, Office, Stopping};
+use roam_hub::Gate;
 use roam_port::socket_numbers;
-use roam_sockets::{BoundSocket, ServeFault, bind_all, descriptors_wanted, listen_at, reason_of};
-use roam_succession::{
-    Behind, CAUSES, Configured, Counters, Gate, Handover, Manner, Means, Notice, OldHistory, Rests,
-    ServerParts, SharedLosses, Source, Watch, make_kits, make_outboxes, serve_all, start_behind,
-    tell_or_drop, widen_all,
+use roam_run::{
+    Behind, CAUSES, Configured, Counters, Handover, Manner, Means, Notice, OldHistory, Rests,
+    ServerParts, SharedLosses, Source, Watch, make_kits, make_outboxes, start_behind, tell_or_drop,
+    widen_all,
 };
+use roam_sockets::{BoundSocket, ServeFault, bind_all, descriptors_wanted, listen_at, reason_of};
 use std::alloc::Global;
 use std::net::{Net, TcpListener};
 use std::random::RandomSource;

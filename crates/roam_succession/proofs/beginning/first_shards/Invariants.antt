@@ -1,7 +1,0 @@
-use Rattle.roam_conf.specs.Shown.{shown}
-use Rattle.roam_succession.proofs.BeginLemmas.{HaveBegunSoFar}
-use Rattle.roam_succession.proofs.beginning.first_shards.Given as goal
-
--- so many shards began
-abbrev pub invariant-loop-shard : goal.invariant-loop-shard
-invariant-loop-shard l = HaveBegunSoFar (shown l.config) l.shards.items l.shard

@@ -1,6 +1,0 @@
--- Nothing was done.
-use Rattle.roam_conf.specs.Shown.{shown}
-use Rattle.roam_succession.proofs.serving.serve_changed.Goals as goal
-
-pub returns-in-None-clause-ok : goal.returns-in-None-clause-ok
-returns-in-None-clause-ok g c = c.not_started.ensures (shown c.args.configured.now.config) c.requires.paused
