@@ -54,7 +54,8 @@ def crate_and_kind(process: int) -> tuple[str, str] | None:
     words = pathlib.Path("/proc", str(process), "cmdline").read_bytes().decode(errors="replace").split("\0")
     if "--crate-name" in words:
         crate = words[words.index("--crate-name") + 1].removesuffix("_tests")
-        at_home = os.readlink(f"/proc/{process}/cwd") == str(ROOT / "crates" / crate)
+        # `rt ci NAME` works on a copy of the tree
+        at_home = os.readlink(f"/proc/{process}/cwd").endswith(f"/crates/{crate}")
         return crate, "tests" if "--test" in words else "proof" if at_home else "edits"
     ran = re.search(r"(\w+)$", os.readlink(f"/proc/{process}/exe").removesuffix(" (deleted)").removesuffix(".by-rattle"))
     name = ran.group(1).removesuffix("_tests") if ran else ""
