@@ -60,12 +60,12 @@ runs_same f q p runs same = record {
   waits = rw same.waits runs.waits;
   holds = rw same.holds runs.holds;
   tickets = rw same.tickets runs.tickets;
-  count = (let a = runs.count in let b = same.waits_len in let c = same.holds_len in omega arith);
+  count = (let a = runs.count in let b = ap length same.waits in let c = ap length same.holds in omega arith);
   paired =
-      (let a = runs.paired in let b = same.tickets_len in let c = same.holds_len in omega arith);
+      (let a = runs.paired in let b = ap length same.tickets in let c = ap length same.holds in omega arith);
   room =
       holds_more q p (held q) (held p) same.as_many runs.room
-      (let b = same.waits_len in let c = same.holds_len in omega arith);
+      (let b = ap length same.waits in let c = ap length same.holds in omega arith);
 }
 
 module _ {A : Type 0} (f g : ℕ → Option PlainEntry) (numf : IsNumbered f) (numg : IsNumbered g)

@@ -58,7 +58,7 @@ module _ {A I H : Type 0} (s : Slab (Slot A)) (t : IndexMap TicketKey ℕ I)
         refl r 0
         (four_fewer _ _ _ _ _ _ _ _ 0 (omega arith) (omega arith) (omega arith)
         (at_realm_fewer SameRuns rs rs2 r 0 runs runs.becomes.as_many
-        (let a = runs.becomes.waits_len in let b = runs.becomes.holds_len in omega arith))) in
+        (let a = ap length runs.becomes.waits in let b = ap length runs.becomes.holds in omega arith))) in
         omega arith
 
     -- no realm loses room

@@ -1,4 +1,8 @@
 pub mod RisingLemmas
+pub mod RunLemmas
+pub mod RunNextLemmas
+pub mod RunClearLemmas
+pub mod DueRunLemmas
 pub mod ListedLemmas
 pub mod MarkLemmas
 pub mod IndexLemmas

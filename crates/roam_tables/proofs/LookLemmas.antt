@@ -1,6 +1,6 @@
 -- What the tables say of a realm's list.
 use Rattle.std.proofs.Common.{◌≡◌, ℕ, ◌<◌, ◌≤◌, true, false, List, [], length, Option, Some, None, refl, ap, sym, ◌∙◌, subst, inl, inr, arith}
-use Rattle.std.specs.Prelude.{option_map, option_and_then}
+use Rattle.std.specs.Prelude.{IsSome, option_map, option_and_then}
 use Rattle.std.proofs.lemmas.Bool.{cases_Bool}
 use Rattle.roam_pending.specs.declared.key.Key.{Key}
 use Rattle.roam_pending.specs.PlainEntry.{PlainEntry, has_key, has_ticket, same_key}
@@ -178,3 +178,15 @@ module _ {A : Type 0} (S : ℕ → Option Stored) (T : TicketKey → Option ℕ)
 
   pub none_past : (r : ℕ) → length rs ≤ r → entries_at S T r ≡ []
   none_past r past = listed_nobody (entry_at S T r) 0 tickets_end (nobody_past r past)
+
+  -- the slot of a ticket holds an entry, and its realm is kept
+  pub slot_there : (r t i : ℕ) → T (record { realm = r; ticket = t }) ≡ Some i → IsSome (S i)
+  slot_there r t i at =
+      let p = sound.tickets.points (record { realm = r; ticket = t }) i at in
+      subst (λ (o : Option Stored). IsSome o) (sym p.1) refl
+
+  pub realm_there : (r t i : ℕ) → T (record { realm = r; ticket = t }) ≡ Some i → r < length rs
+  realm_there r t i at =
+      let p = sound.tickets.points (record { realm = r; ticket = t }) i at in
+      let is : p.0.realm ≡ r = ap (λ (k : TicketKey). k.realm) p.2 in
+      let lt = sound.within i p.0 p.1 in omega (arith, is, lt)

@@ -6,18 +6,17 @@ use Rattle.std.specs.List.Sorted.{IsBinarySearchResult, IsPartitionPoint, IsSort
 use Rattle.std.specs.Cmp.{IsTotalOrder}
 use Rattle.std.specs.FinMap.{nat_cmp-IsAntisymmetric}
 use Rattle.std.proofs.lemmas.List.Sorted.{searchable_from_sorted}
-use Rattle.std.specs.Prelude.{slice_get, nat_lt}
-use Rattle.std.proofs.lemmas.Bool.{cases_Bool, cases_lt}
+use Rattle.std.proofs.lemmas.Bool.{cases_lt}
 use Rattle.std.proofs.lemmas.Bool.Decides.{nat_tests}
 use Rattle.std.proofs.lemmas.Grind.{common_steps}
-use Rattle.std.specs.Ordering.{nat_cmp, ordering_then, ordering_reverse, is_lt}
+use Rattle.std.specs.Ordering.{nat_cmp, ordering_reverse, is_lt}
 use Rattle.std.specs.declared.cmp.Ordering.TheVariants.{Less, Equal, Greater}
 use Rattle.std.proofs.lemmas.Cmp.{nat_cmp_total, on_total, then_total, tied_itself}
 use Rattle.roam_pending.specs.declared.due.Due.{Due}
-use Rattle.roam_pending.specs.DueOrder.{is_after, is_before}
+use Rattle.roam_pending.specs.DueOrder.{is_before}
 use Rattle.roam_pending.specs.EntryList.{is_beside}
 use Rattle.roam_pending.specs.ListLaws.{IsIn}
-use Rattle.roam_tables.specs.Private.Rising.{due_cmp, Rises, IsGap, IsAt, IsPlaceOf, Adds, Drops, IsNext, NoneNext, AmongRun, IsLeastBesides, IsStart}
+use Rattle.roam_tables.specs.Private.Rising.{due_cmp, Rises, IsGap, IsAt, IsPlaceOf, Adds, Drops}
 
 pub due_total : IsTotalOrder due_cmp
 due_total =
@@ -26,18 +25,6 @@ due_total =
 
 pub nat_same : (a b : ℕ) → nat_cmp a b ≡ Equal → a ≡ b
 nat_same a b h = nat_cmp-IsAntisymmetric a b h
-
-then_equal : (a b : Ordering) → ordering_then a b ≡ Equal → (a ≡ Equal) × (b ≡ Equal)
-then_equal Less b h = absurd (cc)
-then_equal Equal b h = (refl, h)
-then_equal Greater b h = absurd (cc)
-
-pub due_same : (x y : Due) → due_cmp x y ≡ Equal → x ≡ y
-due_same x y h =
-    let b = then_equal (nat_cmp x.deadline y.deadline) _ h in
-    let d = nat_same x.deadline y.deadline b.0 in
-    let t = nat_same x.ticket y.ticket b.1 in
-    λ i. record { deadline = d i; ticket = t i }
 
 module _ {X : Type 0} where
   pub All-at : (P : X → Type 0) (xs : List X) (k : ℕ) (d : X) → AllByRecursion P xs → k < length xs
@@ -91,7 +78,7 @@ module _ {X : Type 0} where
         [ inl e ↦ inl e | inr deep ↦ inr (inr deep) ]
   ]
 
-  in-at : (xs : List X) (k : ℕ) (x : X) → k < length xs → get_or xs k x ≡ x → IsIn x xs
+  pub in-at : (xs : List X) (k : ℕ) (x : X) → k < length xs → get_or xs k x ≡ x → IsIn x xs
   in-at [] k x lt e = absurd (omega arith)
   in-at (y ∷ ys) zero x lt e = inl e
   in-at (y ∷ ys) (suc k) x lt e = inr (in-at ys k x (omega arith) e)
@@ -132,20 +119,20 @@ module _ {X : Type 0} where
         only = λ d h. in-insert_only xs i x d h;
       })
 
-  any_default : (xs : List X) (k : ℕ) (d e : X) → k < length xs → get_or xs k d ≡ get_or xs k e
+  pub any_default : (xs : List X) (k : ℕ) (d e : X) → k < length xs → get_or xs k d ≡ get_or xs k e
   any_default [] k d e lt = absurd (omega arith)
   any_default (x ∷ xs) zero d e lt = refl
   any_default (x ∷ xs) (suc k) d e lt = any_default xs k d e (omega arith)
 
 module _ {X : Type 0} (cmp : X → X → Ordering) (total : IsTotalOrder cmp) where
-  less_self : (x : X) → cmp x x ≡ Less → ⊥
+  pub less_self : (x : X) → cmp x x ≡ Less → ⊥
   less_self x h = let e = tied_itself total x in (let f : Less ≡ Equal = sym h ∙ e in absurd (cc))
 
-  greater_self : (x : X) → cmp x x ≡ Greater → ⊥
+  pub greater_self : (x : X) → cmp x x ≡ Greater → ⊥
   greater_self x h =
       let e = tied_itself total x in (let f : Greater ≡ Equal = sym h ∙ e in absurd (cc))
 
-  flip_greater : (x y : X) → cmp y x ≡ Greater → cmp x y ≡ Less
+  pub flip_greater : (x y : X) → cmp y x ≡ Greater → cmp x y ≡ Less
   flip_greater x y h = total.antisymm x y ∙ ap ordering_reverse h
 
   pub rises-insert : (xs : List X) (i : ℕ) (x : X) → Rises cmp xs → i ≤ length xs
@@ -239,7 +226,7 @@ module _ {X : Type 0} (cmp : X → X → Ordering) (total : IsTotalOrder cmp) wh
   pub in_place : (xs : List X) (x : X) (i : ℕ) → IsAt cmp xs x i → IsIn x xs
   in_place xs x i at = in-at xs i x at.within at.is
 
-  later : (xs : List X) → Rises cmp xs → (j k : ℕ) (d e : X) → j < k → k < length xs
+  pub later : (xs : List X) → Rises cmp xs → (j k : ℕ) (d e : X) → j < k → k < length xs
       → cmp (get_or xs j d) (get_or xs k e) ≡ Less
   later [] up j k d e lt within = absurd (omega arith)
   later (y ∷ ys) up zero zero d e lt within = absurd (omega arith)
@@ -270,57 +257,6 @@ module _ {X : Type 0} (cmp : X → X → Ordering) (total : IsTotalOrder cmp) wh
 pub due_less_before : (a b : Due) → due_cmp a b ≡ Less → is_before a b ≡ true
 due_less_before a b h = grind (arith, nat_tests, common_steps)
 
-due_not_before : (a b : Due) → due_cmp a b ≡ Less → is_before b a ≡ false
-due_not_before a b h = grind (arith, nat_tests, common_steps)
-
-due_not_itself : (a : Due) → is_before a a ≡ false
-due_not_itself a = grind (arith, nat_tests)
-
-pub start_at : (xs : List Due) (l : Due) (i : ℕ) → Rises due_cmp xs → IsAt due_cmp xs l i
-    → IsStart (Some l) xs (i + 1)
-start_at xs l i up at = record {
-  low = λ k d lt within. elim (cases_lt k i) as (λ _. is_before l (get_or xs k d) ≡ false) [
-    | inl less ↦ due_not_before (get_or xs k d) l
-        (subst (λ z. due_cmp (get_or xs k d) z ≡ Less) at.is
-        (later due_cmp due_total xs up k i d l less at.within))
-    | inr ge ↦ (let same : k ≡ i = omega arith in
-        let is : get_or xs k d ≡ l =
-        any_default xs k d l within ∙ ap (λ (n : ℕ). get_or xs n l) same ∙ at.is in
-        subst (λ z. is_before l z ≡ false) (sym is) (due_not_itself l))
-  ];
-  high =
-      λ k d ge within. due_less_before l (get_or xs k d)
-      (subst (λ z. due_cmp z (get_or xs k d) ≡ Less) at.is
-      (later due_cmp due_total xs up i k l d (omega arith) within));
-}
-
-pub next_none : (last : Option Due) (xs : List Due) (i : ℕ) → IsStart last xs i → length xs ≤ i
-    → NoneNext last (AmongRun xs)
-next_none last xs i start past x held =
-    let at = at-in xs x held in
-    subst (λ z. is_after last z ≡ false) (at.2 x) (start.low at.0 x (omega (arith, at.1)) at.1)
-
-pub next_some : (last : Option Due) (xs : List Due) (i : ℕ) (x : Due) → Rises due_cmp xs
-    → IsStart last xs i → i < length xs → x ≡ get_or xs i x → IsNext last (AmongRun xs) x
-next_some last xs i x up start within is = record {
-  held = in-at xs i x within (sym is);
-  after = subst (λ z. is_after last z ≡ true) (sym is) (start.high i x (omega arith) within);
-  first = λ d held after. (
-      let at = at-in xs d held in
-      elim (cases_lt at.0 i) as (λ _. (x ≡ d) ⊎ (due_cmp x d ≡ Less)) [
-        | inl lt ↦ (let low = subst (λ z. is_after last z ≡ false) (at.2 d)
-            (start.low at.0 d lt at.1) in
-            absurd (let k : true ≡ false = sym after ∙ low in cc))
-        | inr ge ↦ elim (cases_lt i at.0) as (λ _. (x ≡ d) ⊎ (due_cmp x d ≡ Less)) [
-          | inl lt ↦ inr (subst (λ z. due_cmp x z ≡ Less) (at.2 d)
-              (subst (λ z. due_cmp z (get_or xs at.0 d) ≡ Less) (sym is)
-              (later due_cmp due_total xs up i at.0 x d lt at.1)))
-          | inr le ↦ inl (let same : i ≡ at.0 = omega arith in is
-              ∙ ap (λ (n : ℕ). get_or xs n x) same ∙ at.2 x)
-        ]
-      ]);
-}
-
 module _ {X : Type 0} (cmp : X → X → Ordering) (total : IsTotalOrder cmp) where
   pub rises_added : (xs ys : List X) (i : ℕ) (x : X) → ys ≡ list.insert xs i x → Rises cmp xs
       → IsGap cmp xs x i → Rises cmp ys
@@ -344,56 +280,8 @@ further d e x lt h = elim h as (λ _. (d ≡ x) ⊎ (due_cmp d x ≡ Less)) [
 pub nat_less : (a b : ℕ) → nat_cmp a b ≡ Less → a < b
 nat_less a b h = grind (arith, nat_tests, common_steps)
 
-beside_same : (o : Option ℕ) (x y : ℕ) → is_beside o x ≡ false → is_beside o y ≡ false → x ≡ y
+pub beside_same : (o : Option ℕ) (x y : ℕ) → is_beside o x ≡ false → is_beside o y ≡ false → x ≡ y
 beside_same None x y h k = absurd (let n : true ≡ false = h in cc)
 beside_same (Some t) x y h k =
     let a : x ≡ t = grind (arith, nat_tests, h) in let b : y ≡ t = grind (arith, nat_tests, k) in
     omega arith
-
-pub first_beside : (o : Option ℕ) (xs : List ℕ) (x : ℕ) → Rises nat_cmp xs → slice_get xs 0 ≡ Some x
-    → is_beside o x ≡ true → IsLeastBesides o xs x
-first_beside o [] x up at h = absurd (let k : None ≡ Some x = at in cc)
-first_beside o (z ∷ zs) x up at h =
-    let is : z ≡ x = (let k : Some z ≡ Some x = at in cc) in
-    record {
-      held = inl is;
-      beside = h;
-      least = λ y held _. elim held as (λ _. x ≤ y) [
-        | inl e ↦ omega (arith, is, e)
-        | inr more ↦ (let lt = nat_less z y (All-in (λ w. nat_cmp z w ≡ Less) zs y up.0 more) in
-            omega (arith, is, lt))
-      ];
-    }
-
-pub second_beside : (o : Option ℕ) (xs : List ℕ) (x y : ℕ) → Rises nat_cmp xs
-    → slice_get xs 0 ≡ Some x → is_beside o x ≡ false → slice_get xs 1 ≡ Some y
-    → IsLeastBesides o xs y
-second_beside o [] x y up at h next = absurd (let k : None ≡ Some x = at in cc)
-second_beside o (z ∷ []) x y up at h next = absurd (let k : None ≡ Some y = next in cc)
-second_beside o (z ∷ w ∷ ws) x y up at h next =
-    let is : z ≡ x = (let k : Some z ≡ Some x = at in cc) in
-    let is2 : w ≡ y = (let k : Some w ≡ Some y = next in cc) in
-    let lt : z < w = nat_less z w up.0.0 in
-    let beside : is_beside o y ≡ true = elim (cases_Bool (is_beside o y)) [
-      | inl t ↦ t
-      | inr n ↦ (let same : x ≡ y = beside_same o x y h n in
-          absurd (omega (arith, is, is2, lt, same)))
-    ] in
-    record {
-      held = inr (inl is2);
-      beside = beside;
-      least = λ v held b. elim held as (λ _. y ≤ v) [
-        | inl e ↦ (let same : is_beside o z ≡ false =
-            subst (λ n. is_beside o n ≡ false) (sym is) h in
-            absurd (let k : true ≡ false = sym (subst (λ n. is_beside o n ≡ true) (sym e) b)
-            ∙ same in cc))
-        | inr more ↦ elim more as (λ _. y ≤ v) [
-          | inl e ↦ omega (arith, is2, e)
-          | inr deep ↦ (let lt2 = nat_less w v (All-in (λ u. nat_cmp w u ≡ Less) ws v up.1.0 deep)
-              in omega (arith, is2, lt2))
-        ]
-      ];
-    }
-
-pub less_ticket : (a b : ℕ) → nat_lt a b ≡ true → nat_cmp a b ≡ Less
-less_ticket a b h = grind (arith, nat_tests, common_steps)

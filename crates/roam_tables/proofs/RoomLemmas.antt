@@ -2,7 +2,6 @@
 use Rattle.std.proofs.Common.{◌≡◌, ℕ, ◌+◌, ◌-◌, ◌<◌, ◌≤◌, List, length, Option, Some, None, refl, sym, subst, arith}
 use Rattle.std.specs.Prelude.{min, slice_get}
 use Rattle.std.proofs.lemmas.Option.{slice_get_within}
-use Rattle.std.specs.VecDeque.{deque_capacity}
 use Rattle.roam_tables.specs.declared.realm_queues.RealmQueues.{RealmQueues}
 use Rattle.roam_tables.specs.Private.Marks.{held, Holds, HoldsAsMany}
 use Rattle.roam_tables.specs.Stands.{AtRealm, least_room, runs_room}
@@ -29,8 +28,8 @@ four_fewer a b c d a2 b2 c2 d2 n x y z w =
 module _ {A : Type 0} where
   pub room_holds : (q : RealmQueues A) → 0 < runs_room (Some q) → Holds q (held q + 1)
   room_holds q h = (
-      let k = least_three (deque_capacity q.waits) (deque_capacity q.holds)
-      (deque_capacity q.tickets) (held q) h in
+      let k = least_three q.waits.room q.holds.room
+      q.tickets.room (held q) h in
       record { waits = k.0; holds = k.1; tickets = k.2 })
 
   -- there is a realm where there is room for its entries

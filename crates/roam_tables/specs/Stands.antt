@@ -1,7 +1,6 @@
 -- What the tables stand for (ours).
 use Rattle.std.specs.Prelude.{◌≡◌, ◌≢◌, ℕ, zero, suc, [], ◌∷◌, slice_index_or, ◌+◌, ◌++◌, ◌-◌, ◌<◌, Bool, nat_lt, List, length, Option, Some, None, option_map, slice_get, min}
 use Rattle.std.specs.List.{AllByRecursion}
-use Rattle.std.specs.VecDeque.{deque_capacity}
 use Rattle.slab.specs.Slab as slab
 use Rattle.slab.specs.Slab.{Slab, slab_len}
 use Rattle.indexmap.specs.IndexMap as map
@@ -70,7 +69,7 @@ slab_room s = s.capacity - slab_len s
 
 abbrev pub runs_room : {A : Type 0} → Option (RealmQueues A) → ℕ
 runs_room None = 0
-runs_room (Some q) = min (deque_capacity q.waits) (min (deque_capacity q.holds) (deque_capacity q.tickets)) - held q
+runs_room (Some q) = min q.waits.room (min q.holds.room q.tickets.room) - held q
 
 abbrev pub least_room : ℕ → ℕ → ℕ → ℕ → ℕ
 least_room a b c d = min (min a b) (min c d)

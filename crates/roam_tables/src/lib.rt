@@ -17,11 +17,13 @@
 mod due_mark;
 mod entry_index;
 mod growth;
+mod places;
 mod queue;
 mod realm_queues;
 mod realms;
 mod round_runs;
 mod rounds;
+mod run;
 mod slots;
 mod tables;
 mod words;

@@ -1,18 +1,18 @@
 //! The runs of a realm: when its entries are due, and which may make way.
 
-ghost use Rattle.std.specs.Prelude.{◌≡◌, ◌+◌, OnOk, IsOk};
+ghost use Rattle.std.specs.Prelude.{◌≡◌, ◌+◌, ◌<◌, ◌^◌, OnOk, IsOk};
 ghost use Rattle.roam_pending.specs.EntryList.{is_beside};
 ghost use Rattle.roam_tables.specs.Private.Rising.{AmongBoth, IsFirstBesides, IsNextOf};
-ghost use Rattle.roam_tables.specs.Private.Marks.{AllRise, AreEmpty, CanEnter, CanLeave, Changes, Enters, Holds};
+ghost use Rattle.roam_tables.specs.Private.Marks.{AreEmpty, CanEnter, CanLeave, Changes, Enters, Holds};
 ghost use Rattle.roam_tables.specs.Private.Marks.{Leaves};
 ghost use Rattle.roam_tables.specs.Private.Marks.{SameRuns, held};
 
 use crate::due_mark::DueMark;
-use crate::queue::{add_due, add_ticket, drop_due, drop_ticket, make_room, next_due};
+use crate::queue::next_due;
+use crate::run::Run;
 use roam_pending::Due;
 use roam_wire::NoMemory;
 use std::alloc::Allocator;
-use std::collections::VecDeque;
 
 /// The runs of a realm. Waiting entries and done ones have runs of their own, so that a new deadline
 /// is mostly the last of its run, and each has room for all entries of the realm, so that no change
@@ -20,11 +20,11 @@ use std::collections::VecDeque;
 #[derive(Drop)]
 pub(crate) struct RealmQueues<A: Allocator> {
     /// When the waiting entries are due.
-    pub waits: VecDeque<Due, A>,
+    pub waits: Run<Due, A>,
     /// When the done entries are due.
-    pub holds: VecDeque<Due, A>,
+    pub holds: Run<Due, A>,
     /// The tickets of the done entries: the least makes way.
-    pub tickets: VecDeque<u64, A>,
+    pub tickets: Run<u64, A>,
 }
 
 /// Whether a ticket isn't the one that counts as gone.
@@ -40,7 +40,8 @@ fn is_beside(except: Option<u64>, ticket: u64) -> bool
 impl<A: Allocator> RealmQueues<A> {
     /// How many entries the runs have.
     pub fn len(&self) -> usize
-        ensures { result ≡ held self.now }
+        ensures is { result ≡ held self.now }
+        ensures fits { held self.now + 1 < 2 ^ 64 }
     {
         self.waits.len() + self.holds.len()
     }
@@ -52,9 +53,9 @@ impl<A: Allocator> RealmQueues<A> {
         ensures succeeds { Holds self.old (held self.old + 1) → IsOk result }
     {
         let most = self.len() + 1;
-        make_room(&mut self.waits, most)?;
-        make_room(&mut self.holds, most)?;
-        make_room(&mut self.tickets, most)
+        self.waits.make_room(most)?;
+        self.holds.make_room(most)?;
+        self.tickets.make_room(most)
     }
 
     /// An entry of this mark comes in. Takes no memory.
@@ -63,10 +64,10 @@ impl<A: Allocator> RealmQueues<A> {
         ensures { Enters mark self.old self.new }
     {
         if mark.is_done {
-            add_due(&mut self.holds, mark.due);
-            add_ticket(&mut self.tickets, mark.due.ticket);
+            self.holds.add(mark.due);
+            self.tickets.add(mark.due.ticket);
         } else {
-            add_due(&mut self.waits, mark.due);
+            self.waits.add(mark.due);
         }
     }
 
@@ -76,10 +77,10 @@ impl<A: Allocator> RealmQueues<A> {
         ensures { Leaves mark self.old self.new }
     {
         if mark.is_done {
-            drop_due(&mut self.holds, mark.due);
-            drop_ticket(&mut self.tickets, mark.due.ticket);
+            self.holds.take(mark.due);
+            self.tickets.take(mark.due.ticket);
         } else {
-            drop_due(&mut self.waits, mark.due);
+            self.waits.take(mark.due);
         }
     }
 
@@ -97,7 +98,6 @@ impl<A: Allocator> RealmQueues<A> {
 
     /// The first due after the last one, if there was one.
     pub fn next(&self, last: Option<Due>) -> Option<Due>
-        requires { AllRise self.now }
         ensures { IsNextOf last (AmongBoth self.now.waits.items self.now.holds.items) result }
     {
         match next_due(&self.waits, last) {
@@ -119,16 +119,16 @@ impl<A: Allocator> RealmQueues<A> {
 
     /// The least ticket of a done entry, besides one that counts as gone.
     pub fn first_done(&self, except: Option<u64>) -> Option<u64>
-        requires { AllRise self.now }
         ensures { IsFirstBesides except self.now.tickets.items result }
     {
-        let first = *self.tickets.front()?;
-        if is_beside(except, first) {
-            return Some(first);
-        }
-        match self.tickets.get(1) {
+        match self.tickets.after(None) {
             None => None,
-            Some(second) => Some(*second),
+            Some(first) => {
+                if is_beside(except, first) {
+                    return Some(first);
+                }
+                self.tickets.after(Some(first))
+            }
         }
     }
 }
@@ -139,9 +139,9 @@ impl<A: Allocator + Copy> RealmQueues<A> {
         ensures { AreEmpty result }
     {
         RealmQueues {
-            waits: VecDeque::new(alloc),
-            holds: VecDeque::new(alloc),
-            tickets: VecDeque::new(alloc),
+            waits: Run::new(alloc),
+            holds: Run::new(alloc),
+            tickets: Run::new(alloc),
         }
     }
 }

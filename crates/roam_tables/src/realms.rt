@@ -19,7 +19,7 @@ pub(crate) fn no_entries<A: Allocator + Copy>(
     ensures count { IfOk result (λ realms. length realms.items ≡ count) }
     ensures empty { IfOk result (λ realms. AllByRecursion AreEmpty realms.items) }
 {
-    let mut realms = Vec::with_capacity(alloc, count).map_err(|_| NoMemory)?;
+    let mut realms = Vec::with_capacity(alloc, count)?;
     for _ in 0..count {
         realms.push_reserved(RealmQueues::new(alloc));
     }

@@ -1,7 +1,6 @@
 -- What the runs of a realm have of its entries (ours).
 use Rattle.std.specs.Prelude.{◌≡◌, ◌⊎◌, ℕ, ◌+◌, ◌≤◌, List, [], Option, Some, None, option_and_then, if◌then◌else◌, length}
 use Rattle.std.specs.Ordering.{nat_cmp}
-use Rattle.std.specs.VecDeque.{deque_len, deque_capacity}
 use Rattle.std.specs.declared.cmp.Ordering.{Ordering}
 use Rattle.roam_pending.specs.declared.due.Due.{Due}
 use Rattle.roam_pending.specs.DueOrder.{due_at}
@@ -58,28 +57,25 @@ module _ {X : Type 0} where
 module _ {A : Type 0} where
   -- how many entries the runs have
   abbrev pub held : RealmQueues A → ℕ
-  held q = deque_len q.waits + deque_len q.holds
+  held q = length q.waits.items + length q.holds.items
 
   -- each run holds so many without memory
   pub record Holds (q : RealmQueues A) (most : ℕ) : Type 0 where
-    pub waits : most ≤ deque_capacity q.waits
-    pub holds : most ≤ deque_capacity q.holds
-    pub tickets : most ≤ deque_capacity q.tickets
+    pub waits : most ≤ q.waits.room
+    pub holds : most ≤ q.holds.room
+    pub tickets : most ≤ q.tickets.room
 
   -- no run holds fewer than before
   pub record HoldsAsMany (old new : RealmQueues A) : Type 0 where
-    pub waits : deque_capacity old.waits ≤ deque_capacity new.waits
-    pub holds : deque_capacity old.holds ≤ deque_capacity new.holds
-    pub tickets : deque_capacity old.tickets ≤ deque_capacity new.tickets
+    pub waits : old.waits.room ≤ new.waits.room
+    pub holds : old.holds.room ≤ new.holds.room
+    pub tickets : old.tickets.room ≤ new.tickets.room
 
   -- nothing came in or went
   pub record SameRuns (old new : RealmQueues A) : Type 0 where
     pub waits : new.waits.items ≡ old.waits.items
     pub holds : new.holds.items ≡ old.holds.items
     pub tickets : new.tickets.items ≡ old.tickets.items
-    pub waits_len : deque_len new.waits ≡ deque_len old.waits
-    pub holds_len : deque_len new.holds ≡ deque_len old.holds
-    pub tickets_len : deque_len new.tickets ≡ deque_len old.tickets
     pub as_many : HoldsAsMany old new
 
   pub record AllRise (q : RealmQueues A) : Type 0 where
@@ -89,7 +85,7 @@ module _ {A : Type 0} where
 
   -- as many tickets as done entries
   abbrev pub ArePaired : RealmQueues A → Type 0
-  ArePaired q = deque_len q.tickets ≡ deque_len q.holds
+  ArePaired q = length q.tickets.items ≡ length q.holds.items
 
   -- an entry of this mark may come in, and it came in
   pub record CanEnter (m : DueMark) (q : RealmQueues A) : Type 0 where

@@ -47,11 +47,6 @@ module _ {X : Type 0} where
     pub keeps : (d : X) → IsIn d xs → x ≢ d → IsIn d ys
     pub only : (d : X) → IsIn d ys → IsIn d xs
 
--- the dues before i don't come after the last one, and those from i on do
-pub record IsStart (last : Option Due) (xs : List Due) (i : ℕ) : Type 0 where
-  pub low : (k : ℕ) (d : Due) → k < i → k < length xs → is_after last (slice_index_or xs k d) ≡ false
-  pub high : (k : ℕ) (d : Due) → i ≤ k → k < length xs → is_after last (slice_index_or xs k d) ≡ true
-
 -- d is the first of these dues after the last one, if there was one
 pub record IsNext (last : Option Due) (Among : Due → Type 0) (d : Due) : Type 0 where
   pub held : Among d

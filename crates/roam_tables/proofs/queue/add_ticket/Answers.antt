@@ -3,7 +3,11 @@ use Rattle.std.specs.List as list
 use Rattle.std.proofs.lemmas.Cmp.{nat_cmp_total}
 use Rattle.std.specs.Ordering.{nat_cmp}
 use Rattle.roam_tables.proofs.RisingLemmas.{adds-insert, in_place, rises_added}
+use Rattle.roam_tables.proofs.DueRunLemmas.{ticket_order}
 use Rattle.roam_tables.proofs.queue.add_ticket.Goals as goal
+
+pub place_of-requires-clause-order : goal.place_of-requires-clause-order
+place_of-requires-clause-order g c = ticket_order
 
 -- it isn't there yet
 pub unreachable-requires : goal.unreachable-requires

@@ -5,6 +5,8 @@ use Rattle.roam_tables.proofs.ExchangeLemmas.{change_becomes, change_enters, cha
 use Rattle.roam_tables.specs.Private.Rounds.{kept_hash, run_at}
 use Rattle.roam_tables.proofs.RoundLemmas.{no_hash}
 use Rattle.roam_tables.proofs.RoundRunLemmas.{gone_moved}
+use Rattle.roam_tables.proofs.LookLemmas.{realm_there, slot_there}
+use Rattle.roam_tables.specs.Stands.{client_at, place, ticket_at}
 use Rattle.roam_tables.proofs.tables.TablesEntries.exchange_standing.Goals as goal
 
 pub change_at-requires-clause-leaves : goal.change_at-requires-clause-leaves
@@ -113,3 +115,21 @@ returns-in_default-clause-entries g c =
     change_nothing i.slots i.by_ticket i.by_client i.realms.items c.self.invariant.tables c.args.self.now
     c.self.view_is c.args.realm c.args.ticket (with_standing (shown_standing c.args.standing.now))
     (sym c.ticket_slot.ensures ∙ c.in_default.is)
+
+pub hashes_in-from-requires : goal.hashes_in-from-requires
+hashes_in-from-requires g c =
+    let i = c.self.inside in
+    slot_there (place i.slots) (ticket_at i.by_ticket) (client_at i.by_client) i.realms.items
+    c.self.invariant.tables c.args.realm c.args.ticket c.in-Some.at (sym c.ticket_slot.ensures ∙ c.in-Some.is)
+
+pub exchange-marks-requires : goal.exchange-marks-requires
+exchange-marks-requires g c =
+    let i = c.self.inside in
+    slot_there (place i.slots) (ticket_at i.by_ticket) (client_at i.by_client) i.realms.items
+    c.self.invariant.tables c.args.realm c.args.ticket c.in-Some.at (sym c.ticket_slot.ensures ∙ c.in-Some.is)
+
+pub change_at-requires-clause-within : goal.change_at-requires-clause-within
+change_at-requires-clause-within g c =
+    let i = c.self.inside in
+    realm_there (place i.slots) (ticket_at i.by_ticket) (client_at i.by_client) i.realms.items
+    c.self.invariant.tables c.args.realm c.args.ticket c.in-Some.at (sym c.ticket_slot.ensures ∙ c.in-Some.is)

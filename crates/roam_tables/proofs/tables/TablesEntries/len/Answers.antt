@@ -19,7 +19,7 @@ returns-in-None-clause-list g c =
 pub returns-in-Some-clause-len : goal.returns-in-Some-clause-len
 returns-in-Some-clause-len g c =
     let i = c.self.inside in
-    c.len.ensures ∙ tables_len i.slots i.by_ticket i.by_client i.realms.items c.self.invariant.tables
+    c.len.ensures.is ∙ tables_len i.slots i.by_ticket i.by_client i.realms.items c.self.invariant.tables
     c.args.self.now c.self.view_is c.args.realm c.in-Some.runs.now
     (sym c.runs_of.ensures ∙ ap option_copied c.in-Some.is)
 

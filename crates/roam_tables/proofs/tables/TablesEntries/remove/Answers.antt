@@ -4,6 +4,8 @@ use Rattle.roam_tables.proofs.TablesLemmas.{tables_ticket}
 use Rattle.roam_tables.proofs.RemoveLemmas.{remove_becomes, remove_can, remove_found, remove_nothing, remove_just, remove_keeps, remove_room, remove_rounds, remove_sound}
 use Rattle.roam_tables.specs.Private.Marks.{mark_of}
 use Rattle.roam_tables.specs.Private.Rounds.{Goes, IsJustIn, kept_hash, run_at}
+use Rattle.roam_tables.proofs.LookLemmas.{realm_there, slot_there}
+use Rattle.roam_tables.specs.Stands.{client_at, place, ticket_at}
 use Rattle.roam_tables.proofs.tables.TablesEntries.remove.Goals as goal
 
 pub take_at-requires-clause-can : goal.take_at-requires-clause-can
@@ -108,3 +110,15 @@ returns-in-Some-clause-keeps g c =
     c.forget_ticket.new.index c.forget_client.new.index c.take_at.new.realms.items
     c.take-slot.ensures.puts c.forget_ticket.ensures.puts c.forget_client.ensures.puts
     c.take_at.ensures
+
+pub take-slot-requires : goal.take-slot-requires
+take-slot-requires g c =
+    let i = c.self.inside in
+    slot_there (place i.slots) (ticket_at i.by_ticket) (client_at i.by_client) i.realms.items
+    c.self.invariant.tables c.args.realm c.args.ticket c.in-Some.at (sym c.ticket_slot.ensures ∙ c.in-Some.is)
+
+pub take_at-requires-clause-within : goal.take_at-requires-clause-within
+take_at-requires-clause-within g c =
+    let i = c.self.inside in
+    realm_there (place i.slots) (ticket_at i.by_ticket) (client_at i.by_client) i.realms.items
+    c.self.invariant.tables c.args.realm c.args.ticket c.in-Some.at (sym c.ticket_slot.ensures ∙ c.in-Some.is)

@@ -3,6 +3,8 @@ use Rattle.roam_pending.specs.Realms.{sent_again}
 use Rattle.roam_tables.proofs.ExchangeLemmas.{change_becomes, change_enters, change_keeps, change_leaves, change_nothing, change_room, change_sound, still_rounds}
 use Rattle.roam_tables.specs.Private.Rounds.{kept_hash, run_at}
 use Rattle.roam_tables.proofs.RoundLemmas.{same_hash}
+use Rattle.roam_tables.proofs.LookLemmas.{realm_there, slot_there}
+use Rattle.roam_tables.specs.Stands.{client_at, place, ticket_at}
 use Rattle.roam_tables.proofs.tables.TablesEntries.send_again.Goals as goal
 
 pub change_at-requires-clause-leaves : goal.change_at-requires-clause-leaves
@@ -81,3 +83,15 @@ returns-in_default-clause-entries g c =
     change_nothing i.slots i.by_ticket i.by_client i.realms.items c.self.invariant.tables c.args.self.now
     c.self.view_is c.args.realm c.args.ticket (sent_again c.args.deadline)
     (sym c.ticket_slot.ensures ∙ c.in_default.is)
+
+pub send_again-marks-requires : goal.send_again-marks-requires
+send_again-marks-requires g c =
+    let i = c.self.inside in
+    slot_there (place i.slots) (ticket_at i.by_ticket) (client_at i.by_client) i.realms.items
+    c.self.invariant.tables c.args.realm c.args.ticket c.in-Some.at (sym c.ticket_slot.ensures ∙ c.in-Some.is)
+
+pub change_at-requires-clause-within : goal.change_at-requires-clause-within
+change_at-requires-clause-within g c =
+    let i = c.self.inside in
+    realm_there (place i.slots) (ticket_at i.by_ticket) (client_at i.by_client) i.realms.items
+    c.self.invariant.tables c.args.realm c.args.ticket c.in-Some.at (sym c.ticket_slot.ensures ∙ c.in-Some.is)

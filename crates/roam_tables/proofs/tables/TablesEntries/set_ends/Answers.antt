@@ -3,6 +3,8 @@ use Rattle.roam_pending.specs.Realms.{with_ends}
 use Rattle.roam_tables.specs.Private.Rounds.{run_at}
 use Rattle.roam_tables.proofs.EndsLemmas.{ends_become, ends_held, ends_keep, ends_room, ends_rounds, ends_sound}
 use Rattle.roam_tables.proofs.ExchangeLemmas.{change_nothing}
+use Rattle.roam_tables.proofs.LookLemmas.{slot_there}
+use Rattle.roam_tables.specs.Stands.{client_at, place, ticket_at}
 use Rattle.roam_tables.proofs.tables.TablesEntries.set_ends.Goals as goal
 
 pub go-requires-clause-rise : goal.go-requires-clause-rise
@@ -61,3 +63,15 @@ returns-in_default-clause-entries g c =
     change_nothing i.slots i.by_ticket i.by_client i.realms.items c.self.invariant.tables c.args.self.now
     c.self.view_is c.args.realm c.args.ticket (with_ends c.args.home c.args.link)
     (sym c.ticket_slot.ensures ∙ c.in_default.is)
+
+pub lost_hash_in-from-requires : goal.lost_hash_in-from-requires
+lost_hash_in-from-requires g c =
+    let i = c.self.inside in
+    slot_there (place i.slots) (ticket_at i.by_ticket) (client_at i.by_client) i.realms.items
+    c.self.invariant.tables c.args.realm c.args.ticket c.in-Some.at (sym c.ticket_slot.ensures ∙ c.in-Some.is)
+
+pub set_ends-requires : goal.set_ends-requires
+set_ends-requires g c =
+    let i = c.self.inside in
+    slot_there (place i.slots) (ticket_at i.by_ticket) (client_at i.by_client) i.realms.items
+    c.self.invariant.tables c.args.realm c.args.ticket c.in-Some.at (sym c.ticket_slot.ensures ∙ c.in-Some.is)
