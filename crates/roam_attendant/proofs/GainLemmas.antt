@@ -7,7 +7,7 @@ use Rattle.roam_realm.specs.RealmConfig.{RealmConfig, realm_config}
 use Rattle.roam_realm.specs.Written.{GainsItems, GainsRealm}
 use Rattle.roam_history.specs.HubOpening.{HubOpening}
 use Rattle.roam_audit.specs.Seats.{SeatView}
-use Rattle.roam_hub.specs.Written.{BeginsRealm, SavesThen}
+use Rattle.roam_calls.specs.Written.{BeginsRealm, SavesThen}
 
 gains_same : (old new : List ℕ) → new ≡ old → GainsItems old new
 gains_same old new same = ([], same ∙ sym (append-nil old))

@@ -11,17 +11,17 @@ use crate::next::{Next, following_of, prepare_next};
 use crate::overview::Overview;
 use crate::source::{Following, Source};
 use log::Log;
+use roam_calls::{HubFault, Opened, Seat};
 use roam_counters::Process;
 use roam_counting::ThreadCounts;
 use roam_desk::{Course, Desk, Handed, Order, Reply, done, grace, plain_reply, script_of};
-use roam_hub::{HubFault, Opened, Seat};
 use roam_metrics::page;
 use roam_notices::ReloadEnd;
 use roam_sockets::{BoundSocket, now};
 use roam_status::{StatusForm, status};
 use roam_telling::tell_reload;
 use roam_trace::Step;
-use roam_workers::Shared;
+use roam_workers::{HubCalls, Shared};
 use std::alloc::{AllocError, Global};
 use std::net::Net;
 use std::sync::Wait;
@@ -30,9 +30,9 @@ use std::time::Clock;
 
 /// What the server's own thread has while the others serve.
 #[derive(Drop)]
-pub struct Attendant<'s, 'c, R, G, N: Opened> {
+pub struct Attendant<'s, 'c, R, H, N: Opened> {
     pub rt: &'s R,
-    pub shared: &'s Shared<'s, 'c, G, N>,
+    pub shared: &'s Shared<'s, 'c, H, N>,
     pub sockets: &'s [BoundSocket],
     /// Through which the stored steps of a shard are let go of. The audit counts that.
     pub seat: Seat<Global, N>,
@@ -43,14 +43,14 @@ pub struct Attendant<'s, 'c, R, G, N: Opened> {
     pub due: u64,
 }
 
-impl<'s, 'c, R, G, N: Opened> Attendant<'s, 'c, R, G, N> {
+impl<'s, 'c, R, H, N: Opened> Attendant<'s, 'c, R, H, N> {
     /// What it has at first.
     pub fn new(
         rt: &'s R,
-        shared: &'s Shared<'s, 'c, G, N>,
+        shared: &'s Shared<'s, 'c, H, N>,
         configured: &'s Configured,
         seat: Seat<Global, N>,
-    ) -> Attendant<'s, 'c, R, G, N> {
+    ) -> Attendant<'s, 'c, R, H, N> {
         Attendant {
             rt,
             shared,
@@ -75,7 +75,13 @@ pub fn stopping(alloc: Global) -> Reply {
     plain_reply(Course::Begun, body)
 }
 
-impl<R: Threads + Wait + Clock + Net + Log + Sync, G, N: Opened> Attendant<'_, '_, R, G, N> {
+impl<R: Threads + Wait + Clock + Net + Log + Sync, H: HubCalls<N>, N: Opened> Attendant<
+    '_,
+    '_,
+    R,
+    H,
+    N,
+> {
     /// The counts of this thread, which are the timer's too.
     fn counts(&self) -> Option<ThreadCounts<'_>> {
         let shared = self.shared;
@@ -272,8 +278,7 @@ impl<R: Threads + Wait + Clock + Net + Log + Sync, G, N: Opened> Attendant<'_, '
         self.attend_at(&office.control, source)
     }
 
-    /// Answers who asks, and keeps the ledgers of sessions, until the threads end or a configuration comes that is to
-    /// follow.
+    /// Answers who asks, and keeps the ledgers of sessions, until the threads end or another configuration follows.
     pub fn attend<S: Source>(&mut self, source: &mut S) -> Option<Next>
         ensures { IfSome result (λ next.
             MayFollow N.opening.config (shown next.configured.config)) }

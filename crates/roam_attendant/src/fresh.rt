@@ -5,9 +5,9 @@ ghost use Rattle.roam_history.specs.Books.{count_of};
 ghost use Rattle.roam_sockets.specs.Faults.{IsAfterBinding};
 
 use crate::configured::Configured;
-use roam_hub::Blanks;
+use roam_calls::Blanks;
+use roam_kits::{Kits, make_kits};
 use roam_sockets::ServeFault;
-use roam_threads::{Kits, make_kits};
 use roam_workers::Rests;
 use std::alloc::Global;
 use std::net::Net;

@@ -7,21 +7,21 @@ ghost use Rattle.roam_carry.specs.Carrying.{AreChanged};
 use crate::attending::Attendant;
 use crate::next::out_of_memory;
 use log::Log;
+use roam_calls::{Opened, Seat};
 use roam_carry::{Loss, changed_peers};
 use roam_conf::Config;
 use roam_desk::{Course, Reply, plain_reply};
-use roam_hub::{Opened, Seat};
 use roam_notices::{DropCause, DroppedText};
 use roam_telling::tell_dropped;
-use roam_workers::Shared;
+use roam_workers::{HubCalls, Shared};
 use std::alloc::{AllocError, Global};
 use std::io::Write;
 use std::sync::Wait;
 
 /// What goes of the realm of an index; nothing where that isn't known.
-fn loss_at<R: Wait, G, N: Opened>(
+fn loss_at<R: Wait, H: HubCalls<N>, N: Opened>(
     rt: &R,
-    shared: &Shared<'_, '_, G, N>,
+    shared: &Shared<'_, '_, H, N>,
     seat: &Seat<Global, N>,
     realm: u16,
     next: &Config,
@@ -40,8 +40,8 @@ fn loss_at<R: Wait, G, N: Opened>(
 }
 
 /// The peers that have other tables in a configuration that follows.
-fn changed_of<G, N: Opened>(
-    shared: &Shared<'_, '_, G, N>,
+fn changed_of<H, N: Opened>(
+    shared: &Shared<'_, '_, H, N>,
     next: &Config,
 ) -> Result<Vec<u16>, AllocError>
     ensures { IfOk result (λ changed.
@@ -55,9 +55,9 @@ fn changed_of<G, N: Opened>(
 }
 
 /// What goes of each realm where a configuration follows.
-fn all_losses<R: Wait, G, N: Opened>(
+fn all_losses<R: Wait, H: HubCalls<N>, N: Opened>(
     rt: &R,
-    shared: &Shared<'_, '_, G, N>,
+    shared: &Shared<'_, '_, H, N>,
     seat: &Seat<Global, N>,
     next: &Config,
 ) -> Result<Vec<Loss>, AllocError> {
@@ -121,9 +121,9 @@ fn tell_losses<R: Log>(rt: &R, config: &Config, losses: &[Loss]) {
 }
 
 /// Why a configuration isn't followed to which nobody agreed: something would be lost by it.
-pub fn objection<R: Wait, G, N: Opened>(
+pub fn objection<R: Wait, H: HubCalls<N>, N: Opened>(
     rt: &R,
-    shared: &Shared<'_, '_, G, N>,
+    shared: &Shared<'_, '_, H, N>,
     seat: &Seat<Global, N>,
     next: &Config,
 ) -> Option<Reply> {
@@ -137,9 +137,9 @@ pub fn objection<R: Wait, G, N: Opened>(
 }
 
 /// Tells what goes by a change that was agreed to, where there is memory for that.
-pub fn tell_what_goes<R: Wait + Log, G, N: Opened>(
+pub fn tell_what_goes<R: Wait + Log, H: HubCalls<N>, N: Opened>(
     rt: &R,
-    shared: &Shared<'_, '_, G, N>,
+    shared: &Shared<'_, '_, H, N>,
     seat: &Seat<Global, N>,
     next: &Config,
 ) {
@@ -148,7 +148,7 @@ pub fn tell_what_goes<R: Wait + Log, G, N: Opened>(
     }
 }
 
-impl<R: Wait + Log, G, N: Opened> Attendant<'_, '_, R, G, N> {
+impl<R: Wait + Log, H: HubCalls<N>, N: Opened> Attendant<'_, '_, R, H, N> {
     /// Tells what of the realm of an index is dropped for this cause.
     fn tell_dropped_of(&self, index: u16, cause: DropCause) {
         let shared = self.shared;

@@ -10,17 +10,17 @@ use crate::fresh::FreshMeans;
 use crate::manner::Manner;
 use crate::source::{Following, Source};
 use log::Log;
+use roam_calls::{Blanks, Opened};
 use roam_conf::Config;
 use roam_counting::Counters;
 use roam_desk::{Course, Reply, plain_reply};
-use roam_hub::{Blanks, Opened};
+use roam_kits::{Kits, can_start};
 use roam_logger::tell_or_drop;
 use roam_sockets::{
     BoundSocket, RECEIVE_BUFFER, ServeFault, bind_following, descriptors_wanted, open_beside, widen,
 };
 use roam_telling::Notice;
-use roam_threads::{Kits, can_start};
-use roam_workers::{Rests, Shared};
+use roam_workers::{HubCalls, Rests, Shared};
 use std::alloc::Global;
 use std::io::Write;
 use std::net::Net;
@@ -113,9 +113,9 @@ fn is_stopping(alloc: Global) -> Reply {
 
 /// A configuration that follows the one that is served, with its sockets and its counts. Sockets that both want are the
 /// same.
-fn bind_next<R: Net + Log, G, N: Opened>(
+fn bind_next<R: Net + Log, H: HubCalls<N>, N: Opened>(
     rt: &R,
-    shared: &Shared<'_, '_, G, N>,
+    shared: &Shared<'_, '_, H, N>,
     sockets: &[BoundSocket],
     config: Config,
     manner: Manner,
@@ -150,9 +150,9 @@ fn words_of<S: Source>(source: &mut S, sockets: &[BoundSocket], fault: ServeFaul
 }
 
 /// All that the server needs for a configuration that follows the one that is served.
-fn make_next<R: Threads + Wait + Net + Log + Sync, G, N: Opened>(
+fn make_next<R: Threads + Wait + Net + Log + Sync, H: HubCalls<N>, N: Opened>(
     rt: &R,
-    shared: &Shared<'_, '_, G, N>,
+    shared: &Shared<'_, '_, H, N>,
     sockets: &[BoundSocket],
     following: Following,
 ) -> Result<Next, ServeFault>
@@ -187,8 +187,8 @@ fn make_next<R: Threads + Wait + Net + Log + Sync, G, N: Opened>(
 /// # Errors
 ///
 /// What is answered where none follows.
-pub fn following_of<G, N: Opened, S: Source>(
-    shared: &Shared<'_, '_, G, N>,
+pub fn following_of<H, N: Opened, S: Source>(
+    shared: &Shared<'_, '_, H, N>,
     source: &mut S,
 ) -> Result<Following, Reply>
     ensures { IfOk result (λ following. MayFollow N.opening.config (shown following.config)) }
@@ -207,9 +207,9 @@ pub fn following_of<G, N: Opened, S: Source>(
 /// # Errors
 ///
 /// What is answered where it can't be had.
-pub fn prepare_next<R: Threads + Wait + Net + Log + Sync, G, N: Opened, S: Source>(
+pub fn prepare_next<R: Threads + Wait + Net + Log + Sync, H: HubCalls<N>, N: Opened, S: Source>(
     rt: &R,
-    shared: &Shared<'_, '_, G, N>,
+    shared: &Shared<'_, '_, H, N>,
     sockets: &[BoundSocket],
     source: &mut S,
     following: Following,

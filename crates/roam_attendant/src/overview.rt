@@ -1,11 +1,11 @@
 //! What was counted, and how the realms stand at a moment.
 
+use roam_calls::{Gauges, Opened, Seat};
 use roam_conf::Config;
 use roam_counters::{CountedEvent, Process, Subject};
 use roam_counting::Counters;
-use roam_hub::{Gauges, Opened, Seat};
 use roam_metrics::{Counts, Gauge};
-use roam_workers::Shared;
+use roam_workers::{HubCalls, Shared};
 use std::alloc::{AllocError, Global};
 use std::sync::Wait;
 
@@ -21,9 +21,9 @@ pub struct Overview<'p> {
 
 impl<'p> Overview<'p> {
     /// Looks at the realms, one after the other.
-    pub fn look<R: Wait, G, N: Opened>(
+    pub fn look<R: Wait, H: HubCalls<N>, N: Opened>(
         rt: &R,
-        shared: &'p Shared<'_, '_, G, N>,
+        shared: &'p Shared<'_, '_, H, N>,
         seat: &Seat<Global, N>,
         counters: &'p Counters,
         now: u64,

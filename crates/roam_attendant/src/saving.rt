@@ -8,20 +8,20 @@ use crate::attending::Attendant;
 use crate::hub_end::HubEnd;
 use crate::source::Source;
 use log::Log;
-use roam_hub::{Opened, SESSIONS_AT_ONCE, Seat};
+use roam_calls::{Opened, Seat};
 use roam_ledgers::Writing;
 use roam_sockets::now;
 use roam_telling::{tell_no_memory_to_keep, tell_not_kept};
-use roam_workers::Shared;
+use roam_workers::{HubCalls, SESSIONS_AT_ONCE, Shared};
 use std::alloc::{AllocError, Global};
 use std::sync::Wait;
 use std::time::{Clock, Duration};
 
 /// Writes those sessions of a realm that have these tickets and are still open: its shard's lock is let go of after so
 /// many.
-fn write_sessions<R: Wait, G, N: Opened>(
+fn write_sessions<R: Wait, H: HubCalls<N>, N: Opened>(
     rt: &R,
-    shared: &Shared<'_, '_, G, N>,
+    shared: &Shared<'_, '_, H, N>,
     seat: &Seat<Global, N>,
     realm: u16,
     tickets: &[u64],
@@ -36,9 +36,9 @@ fn write_sessions<R: Wait, G, N: Opened>(
 }
 
 /// Writes a realm, and answers the tickets of its sessions, the oldest first.
-fn begin_realm<R: Wait, G, N: Opened>(
+fn begin_realm<R: Wait, H: HubCalls<N>, N: Opened>(
     rt: &R,
-    shared: &Shared<'_, '_, G, N>,
+    shared: &Shared<'_, '_, H, N>,
     seat: &Seat<Global, N>,
     realm: u16,
     writing: &mut Writing<Global>,
@@ -59,9 +59,9 @@ fn begin_realm<R: Wait, G, N: Opened>(
 }
 
 /// Writes a realm and its sessions, the oldest first.
-fn write_realm<R: Wait, G, N: Opened>(
+fn write_realm<R: Wait, H: HubCalls<N>, N: Opened>(
     rt: &R,
-    shared: &Shared<'_, '_, G, N>,
+    shared: &Shared<'_, '_, H, N>,
     seat: &Seat<Global, N>,
     realm: u16,
     writing: &mut Writing<Global>,
@@ -75,9 +75,9 @@ fn write_realm<R: Wait, G, N: Opened>(
 
 /// Writes the realm of an index and its sessions, where it is here.
 #[tactic(auto, using(crate::proofs::GainLemmas::gains_none))]
-fn write_if_here<R: Wait, G, N: Opened>(
+fn write_if_here<R: Wait, H: HubCalls<N>, N: Opened>(
     rt: &R,
-    shared: &Shared<'_, '_, G, N>,
+    shared: &Shared<'_, '_, H, N>,
     seat: &Seat<Global, N>,
     index: usize,
     writing: &mut Writing<Global>,
@@ -93,9 +93,9 @@ fn write_if_here<R: Wait, G, N: Opened>(
 }
 
 /// The ledgers of all realms that are here, as a file keeps them.
-fn ledgers_of<R: Wait, G, N: Opened>(
+fn ledgers_of<R: Wait, H: HubCalls<N>, N: Opened>(
     rt: &R,
-    shared: &Shared<'_, '_, G, N>,
+    shared: &Shared<'_, '_, H, N>,
     seat: &Seat<Global, N>,
 ) -> Result<Vec<u8>, AllocError>
     ensures { IfOk result (λ octets. (items : List SavedItem) × (octets.items ≡ ledgers_text items)) }
@@ -108,7 +108,7 @@ fn ledgers_of<R: Wait, G, N: Opened>(
     Ok(octets)
 }
 
-impl<R: Wait + Clock + Log, G, N: Opened> Attendant<'_, '_, R, G, N> {
+impl<R: Wait + Clock + Log, H: HubCalls<N>, N: Opened> Attendant<'_, '_, R, H, N> {
     /// Keeps the ledgers of all realms as they stand, where they are to outlast the server. Where that can't be it is
     /// told, and the file stays as it was.
     fn keep_ledgers<S: Source>(&self, source: &mut S) {

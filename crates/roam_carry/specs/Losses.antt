@@ -10,7 +10,7 @@ use Rattle.roam_carry.specs.Reload.{entries_then, sessions_then}
 -- before than after.
 -- Source: ours
 -- Rules out: a change that drops what isn't counted
--- Stands in: `roam_carry` `Losses.antt`: `losses`; `losses_of`; `roam_hub` `Looks.antt`: `WouldLose`; `Hub::losses`
+-- Stands in: `roam_carry` `Losses.antt`: `losses`; `losses_of`; `roam_calls` `Looks.antt`: `WouldLose`; `Hub::losses`
 --
 pub record LossView : Type 0 where
   pub waiting : ℕ

@@ -14,8 +14,8 @@ use Rattle.roam_history.specs.Entries.{steps_in}
 use Rattle.roam_history.specs.HubOpening.{HubOpening, opening_at}
 use Rattle.roam_audit.specs.Seats.{SeatView, front_of}
 use Rattle.roam_hub.specs.Keeping.{IsKept, KeptView}
-use Rattle.roam_hub.specs.Looks.{LosesIn, StandsIn}
-use Rattle.roam_hub.specs.Written.{SavesIn}
+use Rattle.roam_calls.specs.Looks.{LosesIn, StandsIn}
+use Rattle.roam_calls.specs.Written.{SavesIn}
 use Rattle.roam_hub.proofs.KeptLemmas.{whole_end, whole_history}
 
 -- how a realm stands where the history ends

@@ -18,7 +18,7 @@ use Rattle.roam_history.proofs.EntryLemmas.{all-gone, all-steps, closed-steps, l
 use Rattle.roam_history.proofs.Prefixes.{prefix_length, prefix_trans}
 use Rattle.roam_audit.specs.Seats.{SeatView, after_call, after_letting_go, front_of, having_seen}
 use Rattle.roam_audit.proofs.PrefixLemmas.{steps_begin}
-use Rattle.roam_hub.specs.Calls.{AreGone, HasHappened, IsCall, IsDueCall, IsFull, IsLook, Sees}
+use Rattle.roam_calls.specs.Calls.{AreGone, HasHappened, IsCall, IsDueCall, IsFull, IsLook, Sees}
 use Rattle.roam_hub.specs.Keeping.{IsKept, KeptView}
 
 -- a seat that has seen all entries of a shard

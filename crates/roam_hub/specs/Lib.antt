@@ -1,14 +1,9 @@
 pub mod Histories
 pub mod InHistories
-pub mod Calls
 pub mod Keeping
-pub mod Looks
-pub mod Written
 pub mod Closing
 pub mod Pausing
 pub mod Following
 pub mod Changes
 pub mod LivesOver
-pub mod Faults
 pub mod Bounds
-pub mod Texts

@@ -8,11 +8,11 @@ ghost use Rattle.roam_audit.specs.Shown.{recorded, stored};
 ghost use Rattle.roam_hub.specs.Closing.{AreClosed, HasRoom, all_steps, stored_events, stored_in};
 ghost use Rattle.roam_hub.specs.Histories.{AreHistories, starts_at_end};
 
-use crate::fault::HubFault;
 use crate::hub::Hub;
 use crate::locked_trace::LockedTrace;
 use crate::pausing::PausedHub;
 use roam_audit::Report;
+use roam_calls::HubFault;
 use roam_conf::Config;
 use roam_history::{Front, Opened};
 use roam_realm::Start;

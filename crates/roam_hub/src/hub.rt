@@ -10,15 +10,14 @@ ghost use Rattle.roam_core.specs.Shown.{shown_event};
 ghost use Rattle.roam_history.specs.Entries.{steps_in};
 ghost use Rattle.roam_audit.specs.Seats.{front_of};
 ghost use Rattle.roam_audit.specs.Shown.{shown_step};
-ghost use Rattle.roam_hub.specs.Calls.{AreGone, Calls, IsCall, IsFull, IsLook, Sees, TicksIfDue, answered_step};
+ghost use Rattle.roam_calls.specs.Calls.{AreGone, Calls, IsCall, IsFull, IsLook, Sees, TicksIfDue, answered_step};
 
-use crate::answered::{Answered, Refused, Ticked};
 use crate::call::Call;
-use crate::fault::HubFault;
 use crate::gate::Gate;
 use crate::locked_trace::LockedTrace;
 use crate::locking::wait_for;
 use roam_audit::{Receipt, Seat};
+use roam_calls::{Answered, HubFault, Refused, Ticked};
 use roam_conf::{Config, ExchangeLines};
 use roam_core::Event;
 use roam_history::Opened;

@@ -6,25 +6,25 @@
 //!
 //! # Proved
 //!
-//! - the step of each recorded call, with its event and the answer that the caller gets, stands at its number
-//!   in the one history of its shard, as the last that the caller's seat has then seen; all that the seat had
-//!   seen before begins it | `Hub::submit`, `tick`: `call`, `seen`; `answer`: `Calls`, its `call` and `seen`;
-//!   `tick_if_due`: `TicksIfDue`, its `tick` and `seen`
+//! - the step of each recorded call, with its event and the answer that the caller gets, stands at its number in
+//!   the one history of its shard, as the last that the caller's seat has then seen; all that the seat had seen
+//!   before begins it | `Hub::submit`, `tick`: `call`, `seen`; `answer`: `Calls`, its `call` and `seen`;
+//!   `tick_if_due`: `TicksIfDue`, its `tick` and `seen` (`roam_calls`)
 //! - a receipt's own type says that its step stands there; seats, receipts and reports are of this hub and of
 //!   no other, or don't compile | `Receipt`; the parameter `Opened`
 //! - no shard (20) is answered exactly when there is none, and of a job never; with an error the seat counts
-//!   nothing, and a job comes back unchanged; full (22) is answered only where as many steps are stored as may
-//!   be | `Hub::tick`, `tick_if_due`, `let_go`: `no_shard`, and `err` (of `tick_if_due` in `TicksIfDue`);
-//!   `answer`: `Calls`, its `no_shard`, `err`, `back`, `full`
-//! - where `tick_if_due` answers none, nothing was due, and the seat counts nothing; where it ticks, something
-//!   was due, at most 64 entries are due at the tick's moment (or they can't be parted, or were due 100 ms ago),
-//!   and it says whether more is due after it | `Hub::tick_if_due`: `TicksIfDue`, its `tick`
+//!   nothing, and a job comes back unchanged; full (22) is answered only where as many steps are stored as may be |
+//!   `Hub::tick`, `tick_if_due`, `let_go`: `no_shard`, and `err` (of `tick_if_due` in `TicksIfDue`); `answer`:
+//!   `Calls`, its `no_shard`, `err`, `back`, `full` (`roam_calls`)
+//! - where `tick_if_due` answers none, nothing was due, and the seat counts nothing; where it ticks, something was
+//!   due, at most 64 entries are due at the tick's moment (or they can't be parted, or were due 100 ms ago), and it
+//!   says whether more is due after it | `Hub::tick_if_due`: `TicksIfDue`, its `tick` (`roam_calls`)
 //! - what is let go of is what was stored, and the history goes on with a mark for it, which the caller's seat
-//!   counts. No other call of that seat counts one: so a call that lets go of steps by itself is refused, or, by
-//!   a seat that it hides, found by the audit | `Hub::let_go`: `gone`, `seen`; `answer`: `Calls`, its `times`;
-//!   `submit`, `tick`, `is_due`: `times`; `tick_if_due`: `TicksIfDue`, its `times`
+//!   counts. No other call of that seat counts one: so a call that lets go of steps by itself is refused, or, by a
+//!   seat that it hides, found by the audit | `Hub::let_go`: `gone`, `seen`; `answer`: `Calls`, its `times`;
+//!   `submit`, `tick`, `is_due`: `times`; `tick_if_due`: `TicksIfDue`, its `times` (`roam_calls`)
 //! - the octets that are reported are those of the stored steps, up to 2^64 - 1 | `Hub::answer`: `Calls`, its
-//!   `octets`
+//!   `octets` (`roam_calls`)
 //! - the first seat of a hub counted no call and has seen nothing; when the hub closes or is paused, each
 //!   shard's history ends with an entry that says so, behind which nothing can stand: so it has all that any
 //!   call was told of (law `Front::begins_whole`, `Report::has_all`). Its steps, with those that were let go
@@ -52,15 +52,13 @@
 //! - a look at a realm gives numbers of its entries and sessions where a history of its own shard ends, no
 //!   earlier than the seat has seen; of Identifiers in use and rests in a look no contract says more, nor that a look
 //!   tells of each realm: that is its code, and tested (`packaging/tests/try-control.py`) | `Hub::look`
-//! - with each answer comes what happened by its event, which is what the rules say of the states where the steps before
-//!   it end | `Hub::answer`: `Calls`, its `happened`; `tick_if_due`: `IsTicked`, its `happened`
+//! - with each answer comes what happened by its event, which is what the rules say of the states where the steps
+//!   before it end | `Hub::answer`: `Calls`, its `happened`; `tick_if_due`: `IsTicked`, its `happened` (`roam_calls`)
 #![tactic(auto)]
 
-mod answered;
 mod bounds;
 mod call;
 mod closing;
-mod fault;
 mod gate;
 mod hub;
 mod laws;
@@ -73,10 +71,8 @@ mod pausing;
 mod saving;
 mod writing;
 
-pub use answered::{Answered, Refused, Ticked};
 pub use bounds::{bounded_in_histories, bounded_waits_in_histories};
 pub use call::Call;
-pub use fault::HubFault;
 pub use gate::{Gate, Open};
 pub use hub::Hub;
 pub use laws::{
@@ -86,6 +82,7 @@ pub use laws::{
 pub use pause_room::PauseRoom;
 pub use pausing::PausedHub;
 pub use roam_audit::{AuditFault, Audited, Receipt, Report, Seat, split};
+pub use roam_calls::{Answered, HubFault, Refused, Ticked};
 pub use roam_due::{LATE, MOST};
 pub use roam_exchange::{Became, DueHappening, Happening, Waited};
 pub use roam_follow::follow;
@@ -93,4 +90,3 @@ pub use roam_history::{Blanks, Front, Opened};
 pub use roam_pending::{Key, Requester};
 pub use roam_realm::{Gauges, Rest, SERVER_LINKS};
 pub use roam_shard::Paused;
-pub use saving::SESSIONS_AT_ONCE;

@@ -12,17 +12,16 @@ ghost use Rattle.roam_exchange.specs.HappeningsShown.{shown_happening};
 ghost use Rattle.roam_history.specs.Entries.{IsWhole, step_entry, steps_in, stored_of};
 ghost use Rattle.roam_history.specs.HubOpening.{opening_at};
 ghost use Rattle.roam_audit.specs.Seats.{front_of};
-ghost use Rattle.roam_hub.specs.Calls.{AreGone, Calls, HasHappened, IsCall, IsFull, Sees, answered_step};
+ghost use Rattle.roam_calls.specs.Calls.{AreGone, Calls, HasHappened, IsCall, IsFull, Sees, answered_step};
 
 mod due;
 mod saving;
 mod standing;
 
-use crate::answered::{Answered, Refused};
 use crate::call::Call;
-use crate::fault::HubFault;
 use crate::writing::{closed, recorded, without_steps};
 use roam_audit::Seat;
+use roam_calls::{Answered, HubFault, Refused};
 use roam_exchange::Turned;
 use roam_history::{Front, Head, Opened};
 use roam_route::Job;

@@ -3,7 +3,7 @@
 ghost use Rattle.std.specs.Prelude.{IfSome};
 ghost use Rattle.roam_conf.specs.Shown.{shown};
 ghost use Rattle.roam_carry.specs.Carrying.{AreChanged};
-ghost use Rattle.roam_hub.specs.Looks.{StandsThen, WouldLose};
+ghost use Rattle.roam_calls.specs.Looks.{StandsThen, WouldLose};
 
 use crate::hub::Hub;
 use crate::locking::wait_for;

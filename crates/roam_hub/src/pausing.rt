@@ -13,11 +13,11 @@ ghost use Rattle.roam_hub.specs.Pausing.{ArePaused, ArePausedShards, IsPaused, S
 ghost use Rattle.roam_shard.specs.Pausing.{states_under};
 
 use crate::closing::{Closed, starts_of, taken_apart};
-use crate::fault::HubFault;
 use crate::hub::Hub;
 use crate::locked_trace::LockedTrace;
 use crate::pause_room::PauseRoom;
 use roam_audit::{Report, Seat, no_tallies, no_times};
+use roam_calls::HubFault;
 use roam_conf::Config;
 use roam_history::{Blank, Blanks, Front, Opened};
 use roam_shard::{Paused, Shard};

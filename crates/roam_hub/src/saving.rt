@@ -1,7 +1,7 @@
 //! The ledgers of a hub's realms as octets, written while it answers.
 
 ghost use Rattle.std.specs.Prelude.{OnOk};
-ghost use Rattle.roam_hub.specs.Written.{BeginsRealm, SavesThen};
+ghost use Rattle.roam_calls.specs.Written.{BeginsRealm, SavesThen};
 
 use crate::hub::Hub;
 use crate::locking::wait_for;
@@ -11,9 +11,6 @@ use roam_ledgers::Writing;
 use roam_wire::NoMemory;
 use std::alloc::{AllocError, Allocator};
 use std::sync::Wait;
-
-/// How many sessions are written while a shard waits.
-pub const SESSIONS_AT_ONCE: usize = 256;
 
 impl<A: Allocator + Copy, N: Opened> Hub<'_, A, N> {
     /// Writes that the sessions of a realm follow, and adds the tickets by which they are written then. Waits for the

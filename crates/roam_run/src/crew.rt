@@ -8,9 +8,10 @@ use crate::room::{RunResult, ThreadRoom};
 use mio::Waker;
 use roam_attendant::{Handover, HubEnd};
 use roam_hub::{Opened, Seat};
+use roam_kits::ThreadKits;
 use roam_port::Outbox;
 use roam_sockets::BoundSocket;
-use roam_threads::{ReadyThreads, ThreadKits, prepare_threads};
+use roam_threads::{ReadyThreads, prepare_threads};
 use roam_workers::{Rests, Shared, TimerRest};
 use std::alloc::Global;
 use std::sync::atomic::AtomicBool;
@@ -63,11 +64,11 @@ impl<N: Opened> Crew<N> {
     }
     /// The threads, before they start, with what else of it they run with. Where they can't be had, what comes back is
     /// how their time ended: none was started.
-    pub fn prepare<'s, 'c, G>(
+    pub fn prepare<'s, 'c, H>(
         self,
         sockets: &'s [BoundSocket],
-        shared: &'s Shared<'s, 'c, G, N>,
-    ) -> Result<Prepared<'s, 'c, G, N>, RunResult<N>>
+        shared: &'s Shared<'s, 'c, H, N>,
+    ) -> Result<Prepared<'s, 'c, H, N>, RunResult<N>>
         ensures { IfErr result (λ run. MayGoOn N.opening.config run.end) }
     {
         let Crew {
@@ -97,8 +98,8 @@ impl<N: Opened> Crew<N> {
 
 /// The threads of one configuration, before they start, the seat of this one, room for what comes back, and what is
 /// handed on to them.
-pub struct Prepared<'s, 'c, G, N: Opened> {
-    pub threads: ReadyThreads<'s, 'c, G, N>,
+pub struct Prepared<'s, 'c, H, N: Opened> {
+    pub threads: ReadyThreads<'s, 'c, H, N>,
     pub seat: Seat<Global, N>,
     pub room: ThreadRoom<N>,
     pub handover: Handover,

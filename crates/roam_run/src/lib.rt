@@ -7,10 +7,13 @@
 //! - of a hub that was closed: its histories were audited, the shards that are handed on stand where these end, and a
 //!   configuration that follows may | `serve_over`: `ends`, `may`; `close_and_audit`: `ends`;
 //!   `Source::following`
+//! - each call by which the threads ask a hub is the hub's own, with its contract: so what is proved of them over any
+//!   hub with these calls is proved over this one | `GatedHub`
 #![tactic(auto)]
 
 mod audit;
 mod crew;
+mod gated_hub;
 mod given_back;
 mod open_hub;
 mod opening;
@@ -28,8 +31,8 @@ pub use roam_attendant::{
     Watch, out_of_memory, stopping, widen_all,
 };
 pub use roam_counting::Counters;
+pub use roam_kits::{Behind, Kits, fill_outboxes, make_kits, make_outboxes, start_behind};
 pub use roam_logger::tell_or_drop;
 pub use roam_outgoing::{CAUSES, OldHistory, SharedLosses};
 pub use roam_telling::Notice;
-pub use roam_threads::{Behind, Kits, fill_outboxes, make_kits, make_outboxes, start_behind};
 pub use roam_workers::Rests;

@@ -10,6 +10,7 @@ ghost use Rattle.roam_sockets.specs.Faults.{IsAfterBinding};
 
 use crate::audit::close_after;
 use crate::crew::{Crew, Prepared, Signals};
+use crate::gated_hub::GatedHub;
 use crate::opening::OpenHub;
 use crate::parts::{Left, Means, Served, ServerParts, Unserved};
 use crate::room::RunResult;
@@ -17,7 +18,7 @@ use crate::running::{Run, run_threads};
 use log::Log;
 use mio::Waker;
 use roam_attendant::{Attendant, Configured, Source};
-use roam_hub::{Blanks, Gate, Hub, Opened};
+use roam_hub::{Blanks, Gate, Opened};
 use roam_intake::Mailbox;
 use roam_shard::Paused;
 use roam_sockets::ServeFault;
@@ -39,7 +40,7 @@ fn run<
 >(
     parts: &mut ServerParts<'_, R, G, S>,
     configured: &'c Configured,
-    hub: &Hub<'c, Global, N>,
+    hub: &GatedHub<'_, 'c, G, N>,
     crew: Crew<N>,
     wakers: Vec<Waker>,
     mailboxes: Vec<Mailbox<N>>,
@@ -52,7 +53,6 @@ fn run<
         alloc: parts.alloc,
         config: &configured.config,
         hub,
-        gate: parts.gate,
         logger: &signals.logger,
         wakers: wakers.as_slice(),
         rest: &signals.rest,
@@ -118,7 +118,13 @@ fn run_hub<
         mailboxes,
     } = open;
     let (wakers, crew) = Crew::new(seat, room, means);
-    let run = run(parts, configured, &hub.hub, crew, wakers, mailboxes);
+    let run = {
+        let gated = GatedHub {
+            hub: &hub.hub,
+            gate: parts.gate,
+        };
+        run(parts, configured, &gated, crew, wakers, mailboxes)
+    };
     close_after(parts.rt, hub, run)
 }
 

@@ -6,8 +6,9 @@ use crate::room::{RunResult, ThreadRoom};
 use crate::start::{attend, start_all};
 use log::Log;
 use roam_attendant::{Attendant, Handover, Source};
-use roam_hub::{Gate, Opened};
+use roam_hub::Opened;
 use roam_threads::ReadyThreads;
+use roam_workers::HubCalls;
 use std::net::Net;
 use std::random::RandomSource;
 use std::sync::Wait;
@@ -18,9 +19,9 @@ use std::time::Clock;
 /// What runs until the threads of one configuration have ended: the threads, before they start, what this one has
 /// meanwhile, and room for what comes back.
 #[derive(Drop)]
-pub struct Run<'s, 'c, 'a, R, G, N: Opened, S> {
-    pub attendant: Attendant<'s, 'c, R, G, N>,
-    pub threads: ReadyThreads<'s, 'c, G, N>,
+pub struct Run<'s, 'c, 'a, R, H, N: Opened, S> {
+    pub attendant: Attendant<'s, 'c, R, H, N>,
+    pub threads: ReadyThreads<'s, 'c, H, N>,
     pub room: ThreadRoom<N>,
     pub handover: Handover,
     pub source: &'a mut S,
@@ -33,10 +34,10 @@ fn run_within<
     'c: 's,
     E,
     R: Threads + Wait + Clock + Net + RandomSource + Log + Sync,
-    G: Gate + Sync,
+    H: HubCalls<N> + Sync,
     N: Opened + Send + Sync,
     S: Source,
->(scope: &Scope<'s, E>, run: Run<'w, 'c, '_, R, G, N, S>) -> RunResult<N>
+>(scope: &Scope<'s, E>, run: Run<'w, 'c, '_, R, H, N, S>) -> RunResult<N>
     ensures { MayGoOn N.opening.config result.end }
 {
     let Run {
@@ -69,10 +70,10 @@ pub fn run_threads<
     's,
     'c,
     R: Threads + Wait + Clock + Net + RandomSource + Log + Sync,
-    G: Gate + Sync,
+    H: HubCalls<N> + Sync,
     N: Opened + Send + Sync,
     S: Source,
->(run: Run<'s, 'c, '_, R, G, N, S>) -> RunResult<N>
+>(run: Run<'s, 'c, '_, R, H, N, S>) -> RunResult<N>
     ensures { MayGoOn N.opening.config result.end }
 {
     let rt = run.attendant.rt;

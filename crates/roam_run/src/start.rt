@@ -5,13 +5,13 @@ ghost use Rattle.roam_run.specs.Closed.{MayGoOn};
 use log::Log;
 use roam_attendant::{Attendant, Handover, HubEnd, Source};
 use roam_desk::{Course, Reply};
-use roam_hub::{Gate, Opened};
+use roam_hub::Opened;
 use roam_logger::{log_notices, tell_or_drop};
 use roam_notices::ReloadEnd;
 use roam_sockets::{ServeFault, now};
 use roam_telling::{serving, tell_reload};
 use roam_threads::ReadyThreads;
-use roam_workers::{Shared, Worker, WorkerEnd, receive_on, tick_on};
+use roam_workers::{HubCalls, Shared, Worker, WorkerEnd, receive_on, tick_on};
 use std::alloc::Global;
 use std::net::Net;
 use std::sync::Wait;
@@ -41,13 +41,13 @@ fn start_workers<
     'c: 's,
     E,
     R: Wait + Clock + Sync,
-    G: Gate + Sync,
+    H: HubCalls<N> + Sync,
     N: Opened + Send + Sync,
 >(
     scope: &Scope<'s, E>,
     rt: &'s R,
     alloc: Global,
-    workers: Vec<Worker<'w, 'c, G, N>>,
+    workers: Vec<Worker<'w, 'c, H, N>>,
     handles: &mut Vec<JoinHandle<WorkerEnd<N>>>,
 ) -> bool {
     let mut have_started = true;
@@ -65,13 +65,13 @@ pub fn start_all<
     'c: 's,
     E,
     R: Wait + Clock + Log + Sync,
-    G: Gate + Sync,
+    H: HubCalls<N> + Sync,
     N: Opened + Send + Sync,
 >(
     scope: &Scope<'s, E>,
     rt: &'s R,
-    shared: &'s Shared<'w, 'c, G, N>,
-    prepared: ReadyThreads<'w, 'c, G, N>,
+    shared: &'s Shared<'w, 'c, H, N>,
+    prepared: ReadyThreads<'w, 'c, H, N>,
     handles: &mut Vec<JoinHandle<WorkerEnd<N>>>,
 ) -> bool {
     let ReadyThreads {
@@ -99,9 +99,9 @@ fn reload_end(course: Course) -> ReloadEnd {
 }
 
 /// Tells how a reload went, counts it, and answers who asked for it, where that one still waits.
-fn tell_reply<R: Wait + Clock + Log, G, N: Opened>(
+fn tell_reply<R: Wait + Clock + Log, H, N: Opened>(
     rt: &R,
-    shared: &Shared<'_, '_, G, N>,
+    shared: &Shared<'_, '_, H, N>,
     reply: Reply,
     is_awaited: bool,
 ) {
@@ -117,9 +117,9 @@ fn tell_reply<R: Wait + Clock + Log, G, N: Opened>(
 
 /// Tells that a configuration is served, and how the reload went where one was asked for, answers who did, and closes
 /// what the one of before had.
-fn tell_start<R: Wait + Clock + Log, G, N: Opened>(
+fn tell_start<R: Wait + Clock + Log, H, N: Opened>(
     rt: &R,
-    shared: &Shared<'_, '_, G, N>,
+    shared: &Shared<'_, '_, H, N>,
     handover: Handover,
 ) {
     let (reply, before, is_awaited) = handover.into_parts();
@@ -133,9 +133,9 @@ fn tell_start<R: Wait + Clock + Log, G, N: Opened>(
 
 /// Where all threads have started, tells that the configuration is served, and answers who asks for something until
 /// they end or another one is to follow.
-pub fn attend<R: Threads + Wait + Clock + Net + Log + Sync, G, N: Opened, S: Source>(
+pub fn attend<R: Threads + Wait + Clock + Net + Log + Sync, H: HubCalls<N>, N: Opened, S: Source>(
     have_started: bool,
-    attendant: &mut Attendant<'_, '_, R, G, N>,
+    attendant: &mut Attendant<'_, '_, R, H, N>,
     handover: Handover,
     source: &mut S,
 ) -> HubEnd

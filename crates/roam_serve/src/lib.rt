@@ -4,7 +4,7 @@
 //! told. One configuration is served (`roam_run`) after the other, each over the shards of the one before it. There is one hub
 //! for each: it is closed and audited at that one's end, and the hub of the next one goes on with its shards. What can't be
 //! started is tried again, and who asks meanwhile is told so. Beside them are threads that outlast each configuration
-//! (`roam_threads`): one frees stored steps, and some answer over HTTP (`roam_control`).
+//! (`roam_kits`): one frees stored steps, and some answer over HTTP (`roam_control`).
 //!
 //! What is decided here stands in small functions; the loops round them are the threads.
 //!

@@ -26,7 +26,7 @@ NoneThere numbers realm = (n : _) → slice_get numbers realm ≡ Some (Some n) 
 -- Identifiers in use and of rests nothing is said.
 -- Source: ours
 -- Rules out: numbers of a state in which the realm never was
--- Stands in: `roam_shard` `Looks.antt`: `StandsAs`, `IsOwn`; `roam_hub` `Looks.antt`: `StandsThen`;
+-- Stands in: `roam_shard` `Looks.antt`: `StandsAs`, `IsOwn`; `roam_calls` `Looks.antt`: `StandsThen`;
 -- `Hub::look`
 --
 -- the numbers of a state: how many entries it has, and how many sessions are open

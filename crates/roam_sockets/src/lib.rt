@@ -45,6 +45,6 @@ pub use one_socket::open_beside;
 pub use options::{RECEIVE_BUFFER, widen};
 pub use place_sockets::PlaceSockets;
 pub use polls::{Polls, make_polls, make_waker};
-pub use receiver::{Receiver, WAIT_AFTER_FAULT};
+pub use receiver::{RECEIVED, Receiver, WAIT_AFTER_FAULT};
 pub use seed::with_drawn_seed;
 pub use socket::Socket;

@@ -11,6 +11,10 @@ use std::alloc::Global;
 /// How long a socket at which a receive failed is left alone, in milliseconds.
 pub const WAIT_AFTER_FAULT: u64 = 10;
 
+/// How many octets of a datagram are received. A packet has as many at most, and what is behind it is padding
+/// (RFC 2865, section 3): so those left out of a longer one change nothing.
+pub const RECEIVED: usize = 4096;
+
 /// A socket that a worker receives from.
 #[derive(Drop)]
 pub struct Receiver<'s> {

@@ -3,8 +3,8 @@
 ghost use Rattle.std.specs.Prelude.{IfErr};
 ghost use Rattle.roam_sockets.specs.Faults.{IsAfterBinding};
 
-use crate::kits::{Kit, ThreadKits};
-use roam_hub::{Opened, Seat, split};
+use roam_calls::{Opened, Seat, split};
+use roam_kits::{Kit, ThreadKits};
 use roam_port::Outbox;
 use roam_sockets::ServeFault;
 use std::alloc::Global;

@@ -3,13 +3,13 @@
 ghost use Rattle.std.specs.Prelude.{IfErr};
 ghost use Rattle.roam_sockets.specs.Faults.{IsAfterBinding};
 
-use crate::kits::{Kit, ThreadKits};
 use crate::parts::{Part, Parts, parts_of};
 use mio::{Events, Poll};
+use roam_calls::{Opened, Seat};
 use roam_counters::Datagrams;
 use roam_counting::{Counting, EventCounts};
-use roam_hub::{Opened, Seat};
 use roam_intake::Mail;
+use roam_kits::{Kit, ThreadKits};
 use roam_logger::{ExchangeQueues, Logger};
 use roam_notices::Exchange;
 use roam_outgoing::{Outgoing, RoomEvents};
@@ -25,16 +25,16 @@ const LINE: usize = 4096;
 
 /// The threads of a configuration, before they start: those that take part in the hub, and the logger.
 #[derive(Drop)]
-pub struct ReadyThreads<'s, 'c, G, N: Opened> {
-    pub workers: Vec<Worker<'s, 'c, G, N>>,
-    pub timer: Timer<'s, 'c, G, N>,
+pub struct ReadyThreads<'s, 'c, H, N: Opened> {
+    pub workers: Vec<Worker<'s, 'c, H, N>>,
+    pub timer: Timer<'s, 'c, H, N>,
     pub logger: Logger<'s>,
 }
 
 /// What a worker or the timer has, with what its kit leaves it: where it waits for what comes, and room for a datagram.
 #[derive(Drop)]
-struct Equipped<'s, 'c, G, N: Opened> {
-    context: WorkerContext<'s, 'c, G, N>,
+struct Equipped<'s, 'c, H, N: Opened> {
+    context: WorkerContext<'s, 'c, H, N>,
     arrivals: Poll,
     buffer: Vec<u8>,
 }
@@ -64,8 +64,8 @@ impl Queues<'_> {
 }
 
 /// What the thread of a number counts by.
-fn counting_of<'s, 'c, G, N: Opened>(
-    shared: &'s Shared<'s, 'c, G, N>,
+fn counting_of<'s, 'c, H, N: Opened>(
+    shared: &'s Shared<'s, 'c, H, N>,
     number: usize,
 ) -> Result<Counting<'s>, AllocError> {
     let Some(counters) = shared.counters else {
@@ -82,15 +82,15 @@ fn counting_of<'s, 'c, G, N: Opened>(
 
 /// Makes the threads of a configuration.
 #[derive(Drop)]
-struct Builder<'s, 'c, G, N: Opened> {
+struct Builder<'s, 'c, H, N: Opened> {
     sockets: &'s [BoundSocket],
-    shared: &'s Shared<'s, 'c, G, N>,
+    shared: &'s Shared<'s, 'c, H, N>,
     queues: Queues<'s>,
 }
 
-impl<'s, 'c, G, N: Opened> Builder<'s, 'c, G, N> {
+impl<'s, 'c, H, N: Opened> Builder<'s, 'c, H, N> {
     /// Has made no thread yet.
-    fn new(sockets: &'s [BoundSocket], shared: &'s Shared<'s, 'c, G, N>) -> Builder<'s, 'c, G, N> {
+    fn new(sockets: &'s [BoundSocket], shared: &'s Shared<'s, 'c, H, N>) -> Builder<'s, 'c, H, N> {
         let alloc = shared.alloc;
         Builder {
             sockets,
@@ -112,7 +112,7 @@ impl<'s, 'c, G, N: Opened> Builder<'s, 'c, G, N> {
 
     /// What the thread of this number has, a worker or the timer. The packets that still wait in its outbox are sent,
     /// where there is room for them now.
-    fn equip(&mut self, number: usize, part: Part<N>) -> Result<Equipped<'s, 'c, G, N>, ServeFault>
+    fn equip(&mut self, number: usize, part: Part<N>) -> Result<Equipped<'s, 'c, H, N>, ServeFault>
         ensures { IfErr result IsAfterBinding }
     {
         let shared = self.shared;
@@ -155,7 +155,7 @@ impl<'s, 'c, G, N: Opened> Builder<'s, 'c, G, N> {
 
     /// A worker of this number. Two events more than it has sockets may come: that it is woken, and that sockets have
     /// room again.
-    fn worker(&mut self, number: usize, part: Part<N>) -> Result<Worker<'s, 'c, G, N>, ServeFault>
+    fn worker(&mut self, number: usize, part: Part<N>) -> Result<Worker<'s, 'c, H, N>, ServeFault>
         ensures { IfErr result IsAfterBinding }
     {
         let alloc = self.shared.alloc;
@@ -181,7 +181,7 @@ impl<'s, 'c, G, N: Opened> Builder<'s, 'c, G, N> {
     }
 
     /// All workers, by their numbers.
-    fn workers(&mut self, parts: Vec<Part<N>>) -> Result<Vec<Worker<'s, 'c, G, N>>, ServeFault>
+    fn workers(&mut self, parts: Vec<Part<N>>) -> Result<Vec<Worker<'s, 'c, H, N>>, ServeFault>
         ensures { IfErr result IsAfterBinding }
     {
         let mut workers = Vec::with_capacity(self.shared.alloc, parts.len())?;
@@ -193,7 +193,7 @@ impl<'s, 'c, G, N: Opened> Builder<'s, 'c, G, N> {
     }
 
     /// The timer.
-    fn timer(&mut self, part: Part<N>, rests: Rests) -> Result<Timer<'s, 'c, G, N>, ServeFault>
+    fn timer(&mut self, part: Part<N>, rests: Rests) -> Result<Timer<'s, 'c, H, N>, ServeFault>
         ensures { IfErr result IsAfterBinding }
     {
         let shared = self.shared;
@@ -219,14 +219,14 @@ impl<'s, 'c, G, N: Opened> Builder<'s, 'c, G, N> {
 /// The threads of a configuration: a worker for each shard, the timer and the logger; and the seat of the server's own
 /// thread. Each that takes part in the hub has its kit, an outbox, in which packets may wait that others left there,
 /// and a seat that is split off this one.
-pub fn prepare_threads<'s, 'c, G, N: Opened>(
+pub fn prepare_threads<'s, 'c, H, N: Opened>(
     sockets: &'s [BoundSocket],
-    shared: &'s Shared<'s, 'c, G, N>,
+    shared: &'s Shared<'s, 'c, H, N>,
     seat: Seat<Global, N>,
     kits: ThreadKits,
     outboxes: Vec<Outbox<Global>>,
     rests: Rests,
-) -> Result<(ReadyThreads<'s, 'c, G, N>, Seat<Global, N>), ServeFault>
+) -> Result<(ReadyThreads<'s, 'c, H, N>, Seat<Global, N>), ServeFault>
     ensures { IfErr result IsAfterBinding }
 {
     let line = Vec::with_capacity(shared.alloc, LINE)?;

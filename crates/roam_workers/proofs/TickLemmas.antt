@@ -6,8 +6,8 @@ use Rattle.roam_conf.specs.declared.exchange_lines.ExchangeLines.{ExchangeLines}
 use Rattle.roam_exchange.specs.HappeningsShown.{shown_happening}
 use Rattle.roam_history.specs.HubOpening.{HubOpening}
 use Rattle.roam_audit.specs.Seats.{SeatView}
-use Rattle.roam_hub.specs.Calls.{IsTick, IsTicked}
-use Rattle.roam_hub.specs.declared.answered.Ticked.{Ticked}
+use Rattle.roam_calls.specs.Calls.{IsTick, IsTicked}
+use Rattle.roam_calls.specs.declared.answered.Ticked.{Ticked}
 use Rattle.roam_counters.specs.Arrivals.{tick_increments}
 use Rattle.roam_workers.specs.Handlings.{AtWork}
 use Rattle.roam_workers.specs.Ticks.{HasTicked}

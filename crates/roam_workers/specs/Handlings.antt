@@ -11,8 +11,8 @@ use Rattle.roam_route.specs.declared.local_answer.LocalAnswer.{LocalAnswer}
 use Rattle.roam_core.specs.Events.{arrives}
 use Rattle.roam_history.specs.HubOpening.{HubOpening}
 use Rattle.roam_audit.specs.Seats.{SeatView}
-use Rattle.roam_hub.specs.Calls.{HasHappened, IsCall, answered_step}
-use Rattle.roam_hub.specs.declared.answered.Answered.{Answered}
+use Rattle.roam_calls.specs.Calls.{HasHappened, IsCall, answered_step}
+use Rattle.roam_calls.specs.declared.answered.Answered.{Answered}
 use Rattle.roam_exchange.specs.HappeningsShown.{shown_happening}
 use Rattle.roam_conf.specs.declared.exchange_lines.ExchangeLines.{ExchangeLines}
 use Rattle.roam_counters.specs.Arrivals.{arrival_increments, failed_increments, refused_increments}

@@ -10,11 +10,13 @@ ghost use Rattle.roam_workers.specs.Handlings as handlings;
 ghost use Rattle.roam_workers.specs.Handlings.{IsAnswered, IsHandled, IsJobHandled, at_work};
 ghost use Rattle.roam_workers.specs.Mail.{ArrivesHere, IsHandedOn, at_mail};
 
+use crate::asked::AskedAt;
 use crate::codes::is_request;
 use crate::context::WorkerContext;
+use crate::hub_calls::HubCalls;
+use roam_calls::{Answered, Opened, Refused};
 use roam_counters::Handling;
 use roam_counting::turn_of;
-use roam_hub::{Answered, Call, Gate, Opened, Refused};
 use roam_intake::Mail;
 use roam_notices::Origin;
 use roam_route::{Datagram, Job, Prepared, prepare};
@@ -45,7 +47,7 @@ fn origin_in(
     }
 }
 
-impl<G: Gate, N: Opened> WorkerContext<'_, '_, G, N> {
+impl<H: HubCalls<N>, N: Opened> WorkerContext<'_, '_, H, N> {
     /// Takes a datagram: hands its packets to the sockets, or tells why it is refused; and counts what became of it. Or
     /// it hands its job on to the worker of the job's shard, which counts what becomes of it.
     pub fn arrive<R: Wait>(
@@ -188,13 +190,12 @@ impl<G: Gate, N: Opened> WorkerContext<'_, '_, G, N> {
         let mut job = job;
         let mut is_second = false;
         for _ in rt.forever() {
-            let call = Call {
+            let asked = AskedAt {
                 rt,
-                gate: shared.gate,
                 moment: self.now,
                 lines: shared.told_exchanges,
             };
-            match shared.hub.answer(call, &mut self.seat, job) {
+            match shared.hub.answer(asked, &mut self.seat, job) {
                 Ok(answered) => return Ok(answered),
                 Err(Refused { fault, job: same }) => {
                     if !self.remedy(rt, shard, fault, is_second) {

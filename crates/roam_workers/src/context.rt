@@ -9,11 +9,13 @@ ghost use Rattle.roam_counting.specs.Counting.{counts_in};
 ghost use Rattle.roam_workers.specs.Handlings.{at_work};
 ghost use Rattle.roam_workers.specs.Ticks.{HasNotTicked, Ticks};
 
+use crate::asked::AskedAt;
 use crate::ending::{Ending, WorkerEnd};
+use crate::hub_calls::HubCalls;
 use crate::shared::Shared;
+use roam_calls::{Answered, HubFault, Opened, Seat, Ticked};
 use roam_counters::Datagrams;
 use roam_counting::Counting;
-use roam_hub::{Answered, Call, Gate, HubFault, Opened, Seat, Ticked};
 use roam_notices::Origin;
 use roam_outgoing::Outgoing;
 use roam_sockets::{now, wall_seconds};
@@ -24,8 +26,8 @@ use std::sync::Wait;
 use std::time::Clock;
 
 /// What a worker or the timer has: its seat at the hub, its packets on their way out, and its notices.
-pub struct WorkerContext<'s, 'c, G, N: Opened> {
-    pub shared: &'s Shared<'s, 'c, G, N>,
+pub struct WorkerContext<'s, 'c, H, N: Opened> {
+    pub shared: &'s Shared<'s, 'c, H, N>,
     pub seat: Seat<Global, N>,
     pub outgoing: Outgoing<'s>,
     pub notices: Notices,
@@ -40,7 +42,7 @@ pub struct WorkerContext<'s, 'c, G, N: Opened> {
 }
 
 // By hand, so that a proof sees one call wherever it ends, and the crates above prove nothing of it.
-impl<'s, 'c, G, N: Opened> Drop for WorkerContext<'s, 'c, G, N> {
+impl<'s, 'c, H, N: Opened> Drop for WorkerContext<'s, 'c, H, N> {
     fn drop(self) {
         let Self {
             shared: _,
@@ -84,7 +86,7 @@ pub fn remedy_for(fault: HubFault, is_second: bool) -> Remedy
     }
 }
 
-impl<G: Gate, N: Opened> WorkerContext<'_, '_, G, N> {
+impl<H: HubCalls<N>, N: Opened> WorkerContext<'_, '_, H, N> {
     /// Looks at the clock, and at the wall clock where Event-Timestamps are looked at.
     pub fn look_at_clock<R: Clock>(&mut self, rt: &R)
         ensures kept { (self.new.seat ≡ self.old.seat) × (counts_in self.new.counting ≡ counts_in self.old.counting) }
@@ -125,13 +127,12 @@ impl<G: Gate, N: Opened> WorkerContext<'_, '_, G, N> {
         let shared = self.shared;
         let mut is_second = false;
         for _ in rt.forever() {
-            let call = Call {
+            let asked = AskedAt {
                 rt,
-                gate: shared.gate,
                 moment: self.now,
                 lines: shared.told_exchanges,
             };
-            match shared.hub.tick_if_due(call, &mut self.seat, shard) {
+            match shared.hub.tick_if_due(asked, &mut self.seat, shard) {
                 Ok(Some(ticked)) => return self.ticked(rt, shard, ticked),
                 Ok(None) => return false,
                 Err(fault) => {

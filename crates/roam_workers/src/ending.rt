@@ -3,8 +3,8 @@
 ghost use Rattle.std.specs.Prelude.{◌≡◌, ◌⊎◌, ◌↔◌, IsTrue};
 
 use crate::rests::Rests;
+use roam_calls::{Opened, Seat};
 use roam_counters::Datagrams;
-use roam_hub::{Opened, Seat};
 use roam_port::Outbox;
 use std::alloc::Global;
 

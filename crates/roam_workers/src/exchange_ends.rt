@@ -4,8 +4,9 @@ ghost use Rattle.std.specs.Prelude.{◌≡◌};
 ghost use Rattle.roam_counting.specs.Counting.{counts_in};
 
 use crate::context::WorkerContext;
+use crate::hub_calls::HubCalls;
+use roam_calls::{Answered, Became, Happening, Opened, Waited};
 use roam_counters::Process;
-use roam_hub::{Answered, Became, Gate, Happening, Opened, Waited};
 use roam_notices::{Exchange, ExchangeEnd, exchange_of};
 use roam_route::{Datagram, LocalAnswer, RejectCause};
 use roam_telling::{local_reject_of, local_response_of, nak_of};
@@ -19,7 +20,7 @@ fn sent_by(answered: &Answered<Global>) -> &[u8] {
     }
 }
 
-impl<G: Gate, N: Opened> WorkerContext<'_, '_, G, N> {
+impl<H: HubCalls<N>, N: Opened> WorkerContext<'_, '_, H, N> {
     /// Has an exchange be told of which lines tell, and counts it where it can't be.
     fn tell(&mut self, exchange: Option<Exchange>)
         ensures kept { (self.new.seat ≡ self.old.seat) × (self.new.datagrams ≡ self.old.datagrams)

@@ -8,9 +8,10 @@ ghost use Rattle.roam_workers.specs.Mail.{TakesAll, TakesJob};
 ghost use Rattle.roam_workers.specs.Work.{HasWorked};
 
 use crate::context::WorkerContext;
+use crate::hub_calls::HubCalls;
 use crate::shared::Shared;
+use roam_calls::Opened;
 use roam_conf::Place;
-use roam_hub::{Gate, Opened};
 use roam_intake::{Letter, Letters, Mail};
 use roam_route::Job;
 use std::alloc::Global;
@@ -26,7 +27,7 @@ fn is_shared(place: Place) -> bool {
     }
 }
 
-impl<G, N: Opened> Shared<'_, '_, G, N> {
+impl<H, N: Opened> Shared<'_, '_, H, N> {
     /// Whether a job is another worker's to give to the hub than the one of this number.
     pub(crate) fn is_anothers(&self, number: usize, job: &Job<Global>) -> bool {
         is_shared(job.place) && usize::from(self.config.shard_of(job.realm)) != number
@@ -52,7 +53,7 @@ impl<G, N: Opened> Shared<'_, '_, G, N> {
     }
 }
 
-impl<G: Gate, N: Opened> WorkerContext<'_, '_, G, N> {
+impl<H: HubCalls<N>, N: Opened> WorkerContext<'_, '_, H, N> {
     /// Gives a job to the hub that a worker received: hands its packets to the sockets, or tells why it is refused; and
     /// counts what became of its datagram.
     fn take_letter<R: Wait>(&mut self, rt: &R, letter: Letter<N>)

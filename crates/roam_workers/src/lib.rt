@@ -9,7 +9,7 @@
 //! # Proved
 //!
 //! - what its threads give to the hub is what the hub takes: jobs that are events of its configuration | what
-//!   `Hub::answer` requires
+//!   `HubCalls::answer` requires
 //! - what becomes of a datagram is one of five, each as admission says: a realm's rules took it, by one call more that
 //!   the seat counts and whose step is the arrival's; the broker answered by itself, or it was refused, and nothing
 //!   was given to a realm; it failed, and the seat counts nothing; or it is a request and the server was asked to
@@ -34,11 +34,13 @@
 #![tactic(auto)]
 
 mod arrivals;
+mod asked;
 mod codes;
 mod context;
 mod ending;
 mod exchange_ends;
 mod handed;
+mod hub_calls;
 mod laws;
 mod rest;
 mod rests;
@@ -49,11 +51,13 @@ mod timer;
 mod told_losses;
 mod worker;
 
+pub use asked::AskedAt;
 pub use context::{Remedy, WorkerContext, remedy_for};
 pub use ending::{Ended, Ending, WorkerEnd, has_given_up_after};
+pub use hub_calls::{HubCalls, SESSIONS_AT_ONCE};
 pub use laws::work_is_counted;
 pub use rest::TimerRest;
 pub use rests::Rests;
 pub use shared::Shared;
 pub use timer::{Timer, tick_on};
-pub use worker::{IN_A_ROUND, RECEIVED, Worker, receive_on};
+pub use worker::{IN_A_ROUND, Worker, receive_on};

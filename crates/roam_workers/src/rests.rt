@@ -1,7 +1,7 @@
 //! Which home servers keep silent, as it was told.
 
+use roam_calls::SERVER_LINKS;
 use roam_conf::{Config, Realm};
-use roam_hub::SERVER_LINKS;
 use roam_reload::{is_carried, server_then};
 use std::alloc::{AllocError, Global};
 

@@ -5,10 +5,10 @@ ghost use Rattle.roam_conf.specs.Shown.{shown};
 
 use crate::rest::TimerRest;
 use mio::Waker;
+use roam_calls::Opened;
 use roam_conf::{Config, ExchangeLines};
 use roam_counting::Counters;
 use roam_desk::{Office, Stopping};
-use roam_hub::{Hub, Opened};
 use roam_intake::Mailbox;
 use roam_outgoing::{OldHistory, SharedLosses};
 use roam_stations::StationForm;
@@ -19,11 +19,11 @@ use std::time::Instant;
 
 /// What the threads share that serve one configuration.
 #[derive(Drop)]
-pub struct Shared<'s, 'c, G, N: Opened> {
+pub struct Shared<'s, 'c, H, N: Opened> {
     pub alloc: Global,
     pub config: &'c Config,
-    pub hub: &'s Hub<'c, Global, N>,
-    pub gate: &'s G,
+    /// What answers: in a server the hub, each of whose calls passes a gate.
+    pub hub: &'s H,
     /// What the logger sleeps on.
     pub logger: &'s Parker,
     /// What ends the wait of the timer, the first, and of each worker.
@@ -50,7 +50,7 @@ pub struct Shared<'s, 'c, G, N: Opened> {
     ghost same: { shown config.now ≡ N.opening.config },
 }
 
-impl<G, N: Opened> Shared<'_, '_, G, N> {
+impl<H, N: Opened> Shared<'_, '_, H, N> {
     /// Whether all are to end.
     pub fn is_over(&self) -> bool {
         self.stop.load(Ordering::SeqCst)

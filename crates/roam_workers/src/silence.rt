@@ -4,10 +4,11 @@ ghost use Rattle.std.specs.Prelude.{◌≡◌};
 ghost use Rattle.roam_counting.specs.Counting.{counts_in};
 
 use crate::context::WorkerContext;
+use crate::hub_calls::HubCalls;
 use crate::rests::Rests;
 use crate::shared::Shared;
+use roam_calls::{Opened, SERVER_LINKS, Seat};
 use roam_conf::{Link, Realm};
-use roam_hub::{Gate, Opened, SERVER_LINKS, Seat};
 use std::alloc::Global;
 use std::sync::Wait;
 
@@ -28,9 +29,9 @@ fn link_at(servers: usize, place: usize) -> Option<Link> {
 }
 
 /// Tells which home servers of a realm keep silent now, or answer again, where one rests that keeps silent.
-fn tell_realm<R: Wait, G: Gate, N: Opened>(
+fn tell_realm<R: Wait, H: HubCalls<N>, N: Opened>(
     rt: &R,
-    context: &mut WorkerContext<'_, '_, G, N>,
+    context: &mut WorkerContext<'_, '_, H, N>,
     rests: &mut Rests,
     number: u16,
     realm: &Realm,
@@ -59,9 +60,9 @@ fn tell_realm<R: Wait, G: Gate, N: Opened>(
 }
 
 /// Tells once a second which home servers keep silent, or answer again.
-pub fn tell_rests<R: Wait, G: Gate, N: Opened>(
+pub fn tell_rests<R: Wait, H: HubCalls<N>, N: Opened>(
     rt: &R,
-    context: &mut WorkerContext<'_, '_, G, N>,
+    context: &mut WorkerContext<'_, '_, H, N>,
     rests: &mut Rests,
 )
     ensures kept { (context.new.seat ≡ context.old.seat)
@@ -79,9 +80,9 @@ pub fn tell_rests<R: Wait, G: Gate, N: Opened>(
 }
 
 /// Whether a request waits in any realm, no earlier than the seat has seen it.
-pub fn does_any_wait<R: Wait, G, N: Opened>(
+pub fn does_any_wait<R: Wait, H: HubCalls<N>, N: Opened>(
     rt: &R,
-    shared: &Shared<'_, '_, G, N>,
+    shared: &Shared<'_, '_, H, N>,
     seat: &Seat<Global, N>,
 ) -> bool {
     for number in 0..shared.config.realms.len() {

@@ -4,7 +4,8 @@ ghost use Rattle.roam_workers.specs.Handlings.{at_work};
 ghost use Rattle.roam_workers.specs.Work.{HasWorked};
 
 use crate::context::WorkerContext;
-use roam_hub::{Gate, LATE, Opened};
+use crate::hub_calls::HubCalls;
+use roam_calls::{LATE, Opened};
 use std::sync::Wait;
 
 /// From one round of ticks to the next, in milliseconds.
@@ -14,7 +15,7 @@ pub const TICK: u64 = 10;
 /// back to it before, and for one that rests the timer ticks it.
 pub const LEFT_TO_WORKER: u64 = 2 * TICK;
 
-impl<G: Gate, N: Opened> WorkerContext<'_, '_, G, N> {
+impl<H: HubCalls<N>, N: Opened> WorkerContext<'_, '_, H, N> {
     /// Ticks a shard once, and sends what that gives. Answers whether it is to be ticked again.
     fn tick_once<R: Wait>(&mut self, rt: &R, shard: u16) -> bool
         ensures { HasWorked N.opening (at_work self.old.seat self.old.counting)

@@ -7,13 +7,14 @@ ghost use Rattle.roam_workers.specs.Work.{HasWorked, HasWorkedTo};
 
 use crate::context::WorkerContext;
 use crate::ending::{Ending, WorkerEnd};
+use crate::hub_calls::HubCalls;
 use crate::rest::wait_for;
 use crate::rests::Rests;
 use crate::silence::{does_any_wait, tell_rests};
 use crate::ticking::TICK;
 use crate::told_losses::tell_losses;
 use mio::{Events, Poll};
-use roam_hub::{Gate, Opened};
+use roam_calls::Opened;
 use std::alloc::Global;
 use std::sync::Wait;
 use std::thread;
@@ -27,8 +28,8 @@ pub const REST: u64 = 1000;
 pub const QUIET: u64 = 200;
 
 /// The worker that ticks the shards.
-pub struct Timer<'s, 'c, G, N: Opened> {
-    pub context: WorkerContext<'s, 'c, G, N>,
+pub struct Timer<'s, 'c, H, N: Opened> {
+    pub context: WorkerContext<'s, 'c, H, N>,
     /// It is woken through this.
     pub poll: Poll,
     pub events: Events<Global>,
@@ -43,7 +44,7 @@ pub struct Timer<'s, 'c, G, N: Opened> {
 }
 
 // By hand, so that a proof sees one call wherever it ends, and the crates above prove nothing of it.
-impl<'s, 'c, G, N: Opened> Drop for Timer<'s, 'c, G, N> {
+impl<'s, 'c, H, N: Opened> Drop for Timer<'s, 'c, H, N> {
     fn drop(self) {
         let Self {
             context,
@@ -72,13 +73,13 @@ fn is_time_over(now: u64, end: Option<u64>) -> bool
 }
 
 /// When the server's time is over, as far as that is known.
-fn end_of<G, N: Opened>(timer: &Timer<'_, '_, G, N>) -> Option<u64> {
+fn end_of<H, N: Opened>(timer: &Timer<'_, '_, H, N>) -> Option<u64> {
     let shared = timer.context.shared;
     shared.stopping.or_earlier(shared.end)
 }
 
 /// Tells once that the server is asked to stop.
-fn tell_stop<G, N: Opened>(timer: &mut Timer<'_, '_, G, N>)
+fn tell_stop<H, N: Opened>(timer: &mut Timer<'_, '_, H, N>)
     ensures kept { (timer.new.context.seat ≡ timer.old.context.seat)
         × (counts_in timer.new.context.counting ≡ counts_in timer.old.context.counting) }
 {
@@ -88,7 +89,7 @@ fn tell_stop<G, N: Opened>(timer: &mut Timer<'_, '_, G, N>)
 }
 
 /// Whether all is done where the server is asked to stop: no request waits, nor did so a while ago.
-fn has_done_all<R: Wait, G: Gate, N: Opened>(rt: &R, timer: &mut Timer<'_, '_, G, N>) -> bool
+fn has_done_all<R: Wait, H: HubCalls<N>, N: Opened>(rt: &R, timer: &mut Timer<'_, '_, H, N>) -> bool
     ensures kept { (timer.new.context.seat ≡ timer.old.context.seat)
         × (counts_in timer.new.context.counting ≡ counts_in timer.old.context.counting) }
 {
@@ -106,7 +107,7 @@ fn has_done_all<R: Wait, G: Gate, N: Opened>(rt: &R, timer: &mut Timer<'_, '_, G
 }
 
 /// Ticks all shards but those that their workers tick, until all are to end.
-fn tick_all<R: Wait, G: Gate, N: Opened>(rt: &R, timer: &mut Timer<'_, '_, G, N>)
+fn tick_all<R: Wait, H: HubCalls<N>, N: Opened>(rt: &R, timer: &mut Timer<'_, '_, H, N>)
     ensures { HasWorked N.opening (at_work timer.old.context.seat timer.old.context.counting)
         (at_work timer.new.context.seat timer.new.context.counting) }
 {
@@ -119,7 +120,7 @@ fn tick_all<R: Wait, G: Gate, N: Opened>(rt: &R, timer: &mut Timer<'_, '_, G, N>
 }
 
 /// Tells what is to be told of losses and of home servers.
-fn tell_all<R: Wait, G: Gate, N: Opened>(rt: &R, timer: &mut Timer<'_, '_, G, N>)
+fn tell_all<R: Wait, H: HubCalls<N>, N: Opened>(rt: &R, timer: &mut Timer<'_, '_, H, N>)
     ensures kept { (timer.new.context.seat ≡ timer.old.context.seat)
         × (counts_in timer.new.context.counting ≡ counts_in timer.old.context.counting) }
 {
@@ -129,9 +130,9 @@ fn tell_all<R: Wait, G: Gate, N: Opened>(rt: &R, timer: &mut Timer<'_, '_, G, N>
 }
 
 /// One round of ticks: why the timer ends with it, if it does.
-fn round<R: Wait + Clock, G: Gate, N: Opened>(
+fn round<R: Wait + Clock, H: HubCalls<N>, N: Opened>(
     rt: &R,
-    timer: &mut Timer<'_, '_, G, N>,
+    timer: &mut Timer<'_, '_, H, N>,
 ) -> Option<Ending>
     ensures { HasWorked N.opening (at_work timer.old.context.seat timer.old.context.counting)
         (at_work timer.new.context.seat timer.new.context.counting) }
@@ -167,7 +168,7 @@ fn until_end(wait: u64, now: u64, end: Option<u64>) -> u64
 }
 
 /// Waits until the next round, or until it is woken: a short time, where the timer doesn't rest.
-fn wait<R: Clock, G, N: Opened>(rt: &R, timer: &mut Timer<'_, '_, G, N>, milliseconds: u64)
+fn wait<R: Clock, H, N: Opened>(rt: &R, timer: &mut Timer<'_, '_, H, N>, milliseconds: u64)
     ensures kept { (timer.new.context.seat ≡ timer.old.context.seat)
         × (counts_in timer.new.context.counting ≡ counts_in timer.old.context.counting) }
 {
@@ -180,7 +181,7 @@ fn wait<R: Clock, G, N: Opened>(rt: &R, timer: &mut Timer<'_, '_, G, N>, millise
 
 /// Waits until the next round. Before it rests it says so, and looks at the shards once more: a job that one was
 /// given before that look is seen there, and who gives one a job after it wakes the timer.
-fn rest<R: Wait + Clock, G: Gate, N: Opened>(rt: &R, timer: &mut Timer<'_, '_, G, N>)
+fn rest<R: Wait + Clock, H: HubCalls<N>, N: Opened>(rt: &R, timer: &mut Timer<'_, '_, H, N>)
     ensures { HasWorked N.opening (at_work timer.old.context.seat timer.old.context.counting)
         (at_work timer.new.context.seat timer.new.context.counting) }
 {
@@ -197,7 +198,7 @@ fn rest<R: Wait + Clock, G: Gate, N: Opened>(rt: &R, timer: &mut Timer<'_, '_, G
     shared.rest.end();
 }
 
-impl<G: Gate, N: Opened> Timer<'_, '_, G, N> {
+impl<H: HubCalls<N>, N: Opened> Timer<'_, '_, H, N> {
     /// Gives back what its context does, and which home servers keep silent, as it was told.
     fn leave(self, ending: Ending) -> WorkerEnd<N>
         ensures seat { result.seat ≡ self.entry.context.seat }
@@ -220,9 +221,9 @@ impl<G: Gate, N: Opened> Timer<'_, '_, G, N> {
 }
 
 /// Ticks the shards about every `TICK` milliseconds where something may be due, until the server ends.
-pub fn tick_on<R: Wait + Clock, G: Gate, N: Opened>(
+pub fn tick_on<R: Wait + Clock, H: HubCalls<N>, N: Opened>(
     rt: &R,
-    mut timer: Timer<'_, '_, G, N>,
+    mut timer: Timer<'_, '_, H, N>,
 ) -> WorkerEnd<N>
     ensures { HasWorkedTo N.opening (at_work timer.entry.context.seat timer.entry.context.counting) result.seat }
 {

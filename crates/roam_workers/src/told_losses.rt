@@ -3,8 +3,9 @@
 ghost use Rattle.std.specs.Prelude.{◌≡◌, ◌↔◌, ◌≤◌, ◌+◌, IsTrue, MatchOption};
 ghost use Rattle.roam_counting.specs.Counting.{counts_in};
 
+use crate::hub_calls::HubCalls;
 use crate::timer::Timer;
-use roam_hub::{Gate, Opened};
+use roam_calls::Opened;
 use roam_outgoing::CAUSES;
 
 /// Lost packets of one cause are told once in so many milliseconds.
@@ -21,7 +22,7 @@ fn may_tell(now: u64, last: Option<u64>) -> bool
 }
 
 /// Tells what was lost by the cause at a place, where it can be told again.
-fn tell_cause<G: Gate, N: Opened>(timer: &mut Timer<'_, '_, G, N>, at: usize)
+fn tell_cause<H: HubCalls<N>, N: Opened>(timer: &mut Timer<'_, '_, H, N>, at: usize)
     ensures kept { (timer.new.context.seat ≡ timer.old.context.seat)
         × (counts_in timer.new.context.counting ≡ counts_in timer.old.context.counting) }
 {
@@ -46,7 +47,7 @@ fn tell_cause<G: Gate, N: Opened>(timer: &mut Timer<'_, '_, G, N>, at: usize)
 }
 
 /// Tells what was lost, each cause once a minute at most.
-pub(crate) fn tell_losses<G: Gate, N: Opened>(timer: &mut Timer<'_, '_, G, N>)
+pub(crate) fn tell_losses<H: HubCalls<N>, N: Opened>(timer: &mut Timer<'_, '_, H, N>)
     ensures kept { (timer.new.context.seat ≡ timer.old.context.seat)
         × (counts_in timer.new.context.counting ≡ counts_in timer.old.context.counting) }
 {

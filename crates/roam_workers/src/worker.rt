@@ -8,12 +8,13 @@ ghost use Rattle.roam_workers.specs.Work.{HasWorked, HasWorkedTo};
 
 use crate::context::WorkerContext;
 use crate::ending::{Ending, WorkerEnd};
+use crate::hub_calls::HubCalls;
 use mio::{Events, Poll};
-use roam_hub::{Gate, Opened};
+use roam_calls::Opened;
 use roam_intake::{Mail, keep_ready, mark_all_ready, mark_ready, wait_before};
 use roam_port::Heard;
 use roam_route::Datagram;
-use roam_sockets::{Receiver, WAIT_AFTER_FAULT};
+use roam_sockets::{RECEIVED, Receiver, WAIT_AFTER_FAULT};
 use std::alloc::Global;
 use std::sync::Wait;
 use std::thread;
@@ -25,16 +26,12 @@ pub const LINES_WITHIN: u64 = 10;
 /// How many datagrams a worker takes of one socket in a round.
 pub const IN_A_ROUND: u32 = 32;
 
-/// How many octets of a datagram are received. A packet has as many at most, and what is behind it is padding
-/// (RFC 2865, section 3): so those left out of a longer one change nothing.
-pub const RECEIVED: usize = 4096;
-
 /// What the buffer of a datagram is filled up with, in one go.
 static FILLING: [u8; RECEIVED] = [0; RECEIVED];
 
 /// The worker that receives from sockets.
-pub struct Worker<'s, 'c, G, N: Opened> {
-    pub context: WorkerContext<'s, 'c, G, N>,
+pub struct Worker<'s, 'c, H, N: Opened> {
+    pub context: WorkerContext<'s, 'c, H, N>,
     /// What it hands to others, and is handed.
     pub mail: Mail<N>,
     pub receivers: Vec<Receiver<'s>>,
@@ -48,7 +45,7 @@ pub struct Worker<'s, 'c, G, N: Opened> {
 }
 
 // By hand, so that a proof sees one call wherever it ends, and the crates above prove nothing of it.
-impl<'s, 'c, G, N: Opened> Drop for Worker<'s, 'c, G, N> {
+impl<'s, 'c, H, N: Opened> Drop for Worker<'s, 'c, H, N> {
     fn drop(self) {
         let Self {
             context,
@@ -72,7 +69,7 @@ impl<'s, 'c, G, N: Opened> Drop for Worker<'s, 'c, G, N> {
 /// Waits until something arrives, the worker is woken or refusals are to be told, and marks the receivers at which
 /// something did arrive.
 /// Where the wait itself fails, a short time goes by, and then all are marked.
-fn wait<R: Wait + Clock, G, N: Opened>(rt: &R, worker: &mut Worker<'_, '_, G, N>)
+fn wait<R: Wait + Clock, H, N: Opened>(rt: &R, worker: &mut Worker<'_, '_, H, N>)
     ensures kept { (worker.new.context.seat ≡ worker.old.context.seat)
         × (counts_in worker.new.context.counting ≡ counts_in worker.old.context.counting) }
 {
@@ -109,10 +106,10 @@ fn give_back(buffer: &mut Vec<u8>, datagram: Datagram<Global>) {
 
 /// Takes what arrived at one socket, up to `IN_A_ROUND` datagrams: why the worker ends with it, if it does. Once all
 /// are to end it takes no other one: what is there waits for whoever serves next.
-fn take_portion<R: Wait + Clock, G: Gate, N: Opened>(
+fn take_portion<R: Wait + Clock, H: HubCalls<N>, N: Opened>(
     rt: &R,
     alloc: Global,
-    context: &mut WorkerContext<'_, '_, G, N>,
+    context: &mut WorkerContext<'_, '_, H, N>,
     mail: &mut Mail<N>,
     receiver: &mut Receiver<'_>,
     buffer: &mut Vec<u8>,
@@ -139,9 +136,9 @@ fn take_portion<R: Wait + Clock, G: Gate, N: Opened>(
 }
 
 /// Looks at the clock where receives failed: for how long, is counted from then on.
-fn look_after_faults<R: Clock, G: Gate, N: Opened>(
+fn look_after_faults<R: Clock, H: HubCalls<N>, N: Opened>(
     rt: &R,
-    context: &mut WorkerContext<'_, '_, G, N>,
+    context: &mut WorkerContext<'_, '_, H, N>,
     faults: u32,
 )
     ensures kept { (context.new.seat ≡ context.old.seat)
@@ -153,10 +150,10 @@ fn look_after_faults<R: Clock, G: Gate, N: Opened>(
 }
 
 /// Takes what arrived at one socket, and sends what that gives: why the worker ends with it, if it does.
-fn receive_portion<R: Wait + Clock, G: Gate, N: Opened>(
+fn receive_portion<R: Wait + Clock, H: HubCalls<N>, N: Opened>(
     rt: &R,
     alloc: Global,
-    context: &mut WorkerContext<'_, '_, G, N>,
+    context: &mut WorkerContext<'_, '_, H, N>,
     mail: &mut Mail<N>,
     receiver: &mut Receiver<'_>,
     buffer: &mut Vec<u8>,
@@ -175,10 +172,10 @@ fn receive_portion<R: Wait + Clock, G: Gate, N: Opened>(
 /// Takes what arrived at the socket at a place among those that are marked, where it is to be received from now: why
 /// the worker ends with it, if it does.
 #[tactic(auto, using(crate::proofs::WorkLemmas::worked_none))]
-fn receive_at<R: Wait + Clock, G: Gate, N: Opened>(
+fn receive_at<R: Wait + Clock, H: HubCalls<N>, N: Opened>(
     rt: &R,
     alloc: Global,
-    worker: &mut Worker<'_, '_, G, N>,
+    worker: &mut Worker<'_, '_, H, N>,
     place: usize,
 ) -> Option<Ending>
     ensures { HasWorked N.opening (at_work worker.old.context.seat worker.old.context.counting)
@@ -205,10 +202,10 @@ fn receive_at<R: Wait + Clock, G: Gate, N: Opened>(
 }
 
 /// Takes what arrived at the sockets that are marked: why the worker ends with it, if it does.
-fn receive_all<R: Wait + Clock, G: Gate, N: Opened>(
+fn receive_all<R: Wait + Clock, H: HubCalls<N>, N: Opened>(
     rt: &R,
     alloc: Global,
-    worker: &mut Worker<'_, '_, G, N>,
+    worker: &mut Worker<'_, '_, H, N>,
 ) -> Option<Ending>
     ensures { HasWorked N.opening (at_work worker.old.context.seat worker.old.context.counting)
         (at_work worker.new.context.seat worker.new.context.counting) }
@@ -223,10 +220,10 @@ fn receive_all<R: Wait + Clock, G: Gate, N: Opened>(
 }
 
 /// One round over the sockets: why the worker ends with it, if it does.
-fn round<R: Wait + Clock, G: Gate, N: Opened>(
+fn round<R: Wait + Clock, H: HubCalls<N>, N: Opened>(
     rt: &R,
     alloc: Global,
-    worker: &mut Worker<'_, '_, G, N>,
+    worker: &mut Worker<'_, '_, H, N>,
 ) -> Option<Ending>
     ensures { HasWorked N.opening (at_work worker.old.context.seat worker.old.context.counting)
         (at_work worker.new.context.seat worker.new.context.counting) }
@@ -245,7 +242,7 @@ fn round<R: Wait + Clock, G: Gate, N: Opened>(
 }
 
 /// Hands on and takes what is left of its mail.
-fn end_mail<R: Wait, G: Gate, N: Opened>(rt: &R, worker: &mut Worker<'_, '_, G, N>)
+fn end_mail<R: Wait, H: HubCalls<N>, N: Opened>(rt: &R, worker: &mut Worker<'_, '_, H, N>)
     ensures worked { HasWorked N.opening (at_work worker.old.context.seat worker.old.context.counting)
         (at_work worker.new.context.seat worker.new.context.counting) }
     ensures none_left { HoldsNone worker.new.mail.outgoing.items (λ q. q.items) }
@@ -253,7 +250,7 @@ fn end_mail<R: Wait, G: Gate, N: Opened>(rt: &R, worker: &mut Worker<'_, '_, G, 
     worker.context.end_mail(rt, &mut worker.mail);
 }
 
-impl<G: Gate, N: Opened> Worker<'_, '_, G, N> {
+impl<H: HubCalls<N>, N: Opened> Worker<'_, '_, H, N> {
     /// Gives back what its context does.
     fn leave(self, ending: Ending) -> WorkerEnd<N>
         requires { HoldsNone self.mail.outgoing.items (λ q. q.items) }
@@ -280,10 +277,10 @@ impl<G: Gate, N: Opened> Worker<'_, '_, G, N> {
 }
 
 /// Receives from sockets until the server ends.
-pub fn receive_on<R: Wait + Clock, G: Gate, N: Opened>(
+pub fn receive_on<R: Wait + Clock, H: HubCalls<N>, N: Opened>(
     rt: &R,
     alloc: Global,
-    mut worker: Worker<'_, '_, G, N>,
+    mut worker: Worker<'_, '_, H, N>,
 ) -> WorkerEnd<N>
     ensures { HasWorkedTo N.opening (at_work worker.entry.context.seat worker.entry.context.counting) result.seat }
 {

@@ -1,7 +1,7 @@
 //! What lies under a shard's lock is written as ledgers.
 
 ghost use Rattle.std.specs.Prelude.{◌<◌, OnOk};
-ghost use Rattle.roam_hub.specs.Written.{BeginsRealm, SavesOrNothing};
+ghost use Rattle.roam_calls.specs.Written.{BeginsRealm, SavesOrNothing};
 
 use crate::locked_trace::LockedTrace;
 use roam_audit::Seat;

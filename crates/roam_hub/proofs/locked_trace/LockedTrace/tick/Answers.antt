@@ -13,7 +13,7 @@ use Rattle.roam_audit.specs.Seats.{SeatView, after_call, front_of, having_seen}
 use Rattle.roam_hub.specs.Keeping.{KeptView}
 use Rattle.roam_hub.proofs.KeptLemmas.{Recorded, events_kept, full, has_happened, recorded, whole_end}
 use Rattle.roam_hub.proofs.RefusedLemmas.{only_full}
-use Rattle.roam_hub.specs.declared.fault.HubFault.TheVariants as hub
+use Rattle.roam_calls.specs.declared.fault.HubFault.TheVariants as hub
 use Rattle.roam_trace.specs.declared.fault.TraceFault.TheVariants as trace
 use Rattle.roam_hub.proofs.locked_trace.LockedTrace.tick.Given.{Over}
 use Rattle.roam_hub.proofs.locked_trace.LockedTrace.tick.Goals as goal

@@ -11,7 +11,7 @@ use Rattle.roam_history.specs.HubOpening.{opening_at}
 use Rattle.roam_audit.specs.Seats.{SeatView, front_of, having_seen}
 use Rattle.roam_hub.specs.Keeping.{KeptView}
 use Rattle.roam_core.specs.Events.{ticks}
-use Rattle.roam_hub.specs.Calls.{answered_step}
+use Rattle.roam_calls.specs.Calls.{answered_step}
 use Rattle.roam_hub.proofs.KeptLemmas.{due_call, look}
 use Rattle.roam_hub.proofs.locked_trace.LockedTrace.tick_if_due.Goals as goal
 

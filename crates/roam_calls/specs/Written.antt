@@ -14,7 +14,7 @@ use Rattle.roam_audit.specs.Seats.{SeatView, front_of}
 -- earlier than a seat has seen it. Nothing else is written; that none is missing isn't said.
 -- Source: ours
 -- Rules out: a session of another realm, or one that was never open
--- Stands in: `roam_hub` `Written.antt`: `SavesThen`; `roam_realm` `Written.antt`: `GainsOpen`; `Hub::save`
+-- Stands in: `roam_calls` `Written.antt`: `SavesThen`; `roam_realm` `Written.antt`: `GainsOpen`; `Hub::save`
 --
 -- sessions are written, each of which is open in the realm's state there
 pub record SavesIn (o : HubOpening) (shard index : ℕ) (seat : SeatView) (old new : List ℕ) : Type 0 where

@@ -1,7 +1,7 @@
 -- What is printed of a call that isn't recorded. Ours.
 use Rattle.std.specs.Prelude.{ℕ, List, codes}
-use Rattle.roam_hub.specs.declared.fault.HubFault.{HubFault}
-use Rattle.roam_hub.specs.declared.fault.HubFault.TheVariants as fault
+use Rattle.roam_calls.specs.declared.fault.HubFault.{HubFault}
+use Rattle.roam_calls.specs.declared.fault.HubFault.TheVariants as fault
 
 abbrev pub text_of : HubFault → List ℕ
 text_of fault.NoShard = codes "no such shard"

@@ -1,7 +1,7 @@
 //! Why a hub's call isn't recorded.
 
 ghost use Rattle.std.specs.Prelude.{Some};
-ghost use Rattle.roam_hub.specs.Texts.{text_of};
+ghost use Rattle.roam_calls.specs.Texts.{text_of};
 
 use roam_trace::TraceFault;
 use roam_wire::{NoMemory, Refusal};
@@ -24,7 +24,7 @@ pub enum HubFault {
 
 impl HubFault {
     ghost use Rattle.std.specs.Prelude.{◌≡◌};
-    ghost use Rattle.roam_hub.specs.Faults.{refusal_of};
+    ghost use Rattle.roam_calls.specs.Faults.{refusal_of};
 
     /// The refusal that the fault is told as.
     pub fn refusal(self) -> Refusal
@@ -56,7 +56,7 @@ impl error::Error for HubFault {}
 
 impl From<NoMemory> for HubFault {
     ghost use Rattle.std.specs.Prelude.{◌≡◌};
-    ghost use Rattle.roam_hub.specs.declared.fault.HubFault.TheVariants.{NoMemory};
+    ghost use Rattle.roam_calls.specs.declared.fault.HubFault.TheVariants.{NoMemory};
 
     ghost from_gives = { λ _ given. given ≡ NoMemory };
 
@@ -67,7 +67,7 @@ impl From<NoMemory> for HubFault {
 
 impl From<TraceFault> for HubFault {
     ghost use Rattle.std.specs.Prelude.{◌≡◌};
-    ghost use Rattle.roam_hub.specs.Faults.{of_trace};
+    ghost use Rattle.roam_calls.specs.Faults.{of_trace};
 
     ghost from_gives = { λ fault given. given ≡ of_trace fault };
 

@@ -10,9 +10,8 @@ use roam_conf::{Config, ExchangeLines};
 use roam_notices::Exchange;
 use roam_outgoing::ROOM_EVENTS;
 use roam_port::Outbox;
-use roam_sockets::{BoundSocket, Polls, ServeFault, make_polls, make_waker};
+use roam_sockets::{BoundSocket, Polls, RECEIVED, ServeFault, make_polls, make_waker};
 use roam_telling::{Exchanges, Notice, Notices, queue_of_lines, queue_of_notices};
-use roam_workers::RECEIVED;
 use rtrb::Consumer;
 use std::alloc::Global;
 use std::net::Net;
@@ -65,7 +64,10 @@ impl Drop for Kits {
 
 impl ThreadKits {
     /// That of the timer, and those of the workers.
-    pub(crate) fn into_parts(self) -> (Kit, Vec<Kit>) {
+    pub fn into_parts(self) -> (Kit, Vec<Kit>)
+        ensures timer { result.0 ≡ self.timer }
+        ensures workers { result.1 ≡ self.workers }
+    {
         let Self { timer, workers } = self;
         (timer, workers)
     }

@@ -3,8 +3,8 @@ use Rattle.roam_trace.specs.declared.fault.TraceFault.{TraceFault}
 use Rattle.roam_trace.specs.declared.fault.TraceFault.TheVariants as trace
 use Rattle.roam_wire.specs.declared.refusal.Refusal.{Refusal}
 use Rattle.roam_wire.specs.declared.refusal.Refusal.TheVariants as refusal
-use Rattle.roam_hub.specs.declared.fault.HubFault.{HubFault}
-use Rattle.roam_hub.specs.declared.fault.HubFault.TheVariants as hub
+use Rattle.roam_calls.specs.declared.fault.HubFault.{HubFault}
+use Rattle.roam_calls.specs.declared.fault.HubFault.TheVariants as hub
 
 abbrev pub of_trace : TraceFault → HubFault
 of_trace trace.TraceFull = hub.TraceFull

@@ -19,11 +19,11 @@ use Rattle.roam_trace.specs.Steps.{PlainStep, events_of, octets_in, shown_answer
 use Rattle.roam_history.specs.Entries.{HistoryEntry, let_go_entry, step_entry, steps_in, stored_of}
 use Rattle.roam_history.specs.HubOpening.{HubOpening, opening_at}
 use Rattle.roam_audit.specs.Seats.{SeatView, front_of, noted, once_more}
-use Rattle.roam_hub.specs.declared.answered.Answered.{Answered}
-use Rattle.roam_hub.specs.declared.answered.Refused.{Refused}
-use Rattle.roam_hub.specs.declared.answered.Ticked.{Ticked}
-use Rattle.roam_hub.specs.declared.fault.HubFault.{HubFault}
-use Rattle.roam_hub.specs.declared.fault.HubFault.TheVariants as hub
+use Rattle.roam_calls.specs.declared.answered.Answered.{Answered}
+use Rattle.roam_calls.specs.declared.answered.Refused.{Refused}
+use Rattle.roam_calls.specs.declared.answered.Ticked.{Ticked}
+use Rattle.roam_calls.specs.declared.fault.HubFault.{HubFault}
+use Rattle.roam_calls.specs.declared.fault.HubFault.TheVariants as hub
 
 -- where the history of a shard stands at the end of what was seen of it
 abbrev pub states_seen : HubOpening → ℕ → List HistoryEntry → List RealmState
@@ -47,7 +47,7 @@ HasHistory o shard seat = IsHistory (opening_at o shard) (steps_in (front_of sea
 -- Source: ours
 -- Rules out: a receipt for an answer that no broker gives there; a number of another place; a call that is
 -- counted and not recorded; one that lets go of steps beside
--- Stands in: `roam_hub` `Calls.antt`: `IsCall`, `Sees`, `HasHistory`; all of it in one, `Calls`; `Hub::answer`,
+-- Stands in: `roam_calls` `Calls.antt`: `IsCall`, `Sees`, `HasHistory`; all of it in one, `Calls`; `Hub::answer`,
 -- `submit`, `tick`, `tick_if_due`
 --
 -- a call was recorded under a number, as this step: the seat counts it, and its step stands at that number
@@ -68,7 +68,7 @@ pub record IsCall (o : HubOpening) (shard : ℕ) (old new : SeatView) (number : 
 -- As many steps are stored, at the end of what the seat has then seen, as the limit: where a call answers so.
 -- Source: ours
 -- Rules out: a refusal as full where there is room
--- Stands in: `roam_hub` `Calls.antt`: `IsFull`, in `Calls` and `TicksIfDue`; `Hub::answer`, `submit`, `tick`,
+-- Stands in: `roam_calls` `Calls.antt`: `IsFull`, in `Calls` and `TicksIfDue`; `Hub::answer`, `submit`, `tick`,
 -- `tick_if_due`
 --
 -- as many steps of a shard are stored as its trace can hold
@@ -87,7 +87,7 @@ pub record IsDueCall (o : HubOpening) (shard now moment : ℕ) (old new : SeatVi
 -- ends.
 -- Source: ours
 -- Rules out: a timer that rests past a deadline
--- Stands in: `roam_hub` `Calls.antt`: `IsLook`; `Hub::is_due`
+-- Stands in: `roam_calls` `Calls.antt`: `IsLook`; `Hub::is_due`
 --
 -- a shard was looked at, and nothing recorded: whether anything was due where it stood, at the end of what
 -- the seat has then seen
@@ -101,7 +101,7 @@ pub record IsLook (o : HubOpening) (shard now : ℕ) (old new : SeatView) (due :
 -- counts it. No other call of a seat does.
 -- Source: ours
 -- Rules out: a step that is lost, or let go of twice; a letting go that nobody counts
--- Stands in: `roam_hub` `Calls.antt`: `AreGone`; `Hub::let_go`
+-- Stands in: `roam_calls` `Calls.antt`: `AreGone`; `Hub::let_go`
 --
 -- the stored steps of a shard were let go of, and these are their events: the seat counts it, and has seen the history
 -- up to there
@@ -118,7 +118,7 @@ pub record AreGone (o : HubOpening) (shard : ℕ) (old new : SeatView) (events :
 -- It is what happens by the call's event where the steps before its own end: as the rules say, of the history's states.
 -- Source: ours
 -- Rules out: a count or a line of what no history has
--- Stands in: `roam_hub` `Calls.antt`: `HasHappened`; `Hub::answer`, `tick_if_due`
+-- Stands in: `roam_calls` `Calls.antt`: `HasHappened`; `Hub::answer`, `tick_if_due`
 --
 -- this happened by an event, whose step is the last that a seat has seen
 pub record HasHappened (o : HubOpening) (lines : ExchangeLines) (shard : ℕ) (new : SeatView) (event : PlainEvent)
@@ -147,7 +147,7 @@ module _ {A : Type 0} where
   -- then seen of the history ends.
   -- Source: ours
   -- Rules out: a due entry that is passed over; a broker at rest that stores ticks
-  -- Stands in: `roam_hub` `Calls.antt`: `IsTick`, `IsTicked`, `IsDueCall`; with what an error leaves, `TicksIfDue`;
+  -- Stands in: `roam_calls` `Calls.antt`: `IsTick`, `IsTicked`, `IsDueCall`; with what an error leaves, `TicksIfDue`;
   -- `Hub::tick_if_due`
   --
   -- that, or nothing was due and nothing recorded

@@ -1,0 +1,144 @@
+//! What threads ask of a hub.
+
+ghost use Rattle.std.specs.Prelude.{◌≡◌, ◌≢◌, ◌≤◌, ◌%◌, ◌↔◌, IfOk, IfErr, IfSome, IsErrOf, OnErr, OnOk};
+ghost use Rattle.roam_conf.specs.Shown.{shown};
+ghost use Rattle.roam_carry.specs.Carrying.{AreChanged};
+ghost use Rattle.roam_route.specs.Events.{IsEvent};
+ghost use Rattle.roam_route.specs.Shown.{shown_job};
+ghost use Rattle.roam_calls.specs.Calls.{AreGone, Calls, IsLook, Sees, TicksIfDue};
+ghost use Rattle.roam_calls.specs.Looks.{StandsThen, WouldLose};
+ghost use Rattle.roam_calls.specs.Written.{BeginsRealm, SavesThen};
+
+use crate::asked::AskedAt;
+use roam_calls::{Answered, Gauges, HubFault, Opened, Refused, Seat, Ticked};
+use roam_carry::Loss;
+use roam_conf::Config;
+use roam_ledgers::Writing;
+use roam_route::Job;
+use roam_trace::Step;
+use roam_wire::NoMemory;
+use std::alloc::{AllocError, Global};
+use std::sync::Wait;
+
+/// How many sessions are written while a shard waits.
+pub const SESSIONS_AT_ONCE: usize = 256;
+
+/// What threads ask of a hub, which `N` says in proofs how it opened. Each call waits for the lock of one shard.
+pub trait HubCalls<N: Opened> {
+    /// Gives a job to the shard of its realm. With the answer comes what happened by the job. The seat counts the call.
+    ///
+    /// # Errors
+    ///
+    /// `Misplaced`; `TraceFull` just where as many steps of the shard are stored as its trace can hold; `NoMemory`.
+    /// Nothing is recorded then, and the job comes back as it was.
+    fn answer<R: Wait>(
+        &self,
+        asked: AskedAt<'_, R>,
+        seat: &mut Seat<Global, N>,
+        job: Job<Global>,
+    ) -> Result<Answered<Global>, Refused<Global>>
+        requires { IsEvent N.opening.config (shown_job job) }
+        ensures { Calls N.opening asked.entry.lines (job.realm % N.opening.config.shards) asked.entry.moment
+            (shown_job job) seat.old seat.new result };
+
+    /// Ticks a shard where something is due there. The seat counts a tick.
+    ///
+    /// # Errors
+    ///
+    /// `NoShard` just where there is no such shard, and as for `answer`. Nothing is recorded then.
+    fn tick_if_due<R: Wait>(
+        &self,
+        asked: AskedAt<'_, R>,
+        seat: &mut Seat<Global, N>,
+        shard: u16,
+    ) -> Result<Option<Ticked<Global>>, HubFault>
+        ensures tick { TicksIfDue N.opening asked.entry.lines shard asked.entry.moment seat.old seat.new result }
+        ensures no_shard { IsErrOf result HubFault.NoShard ↔ N.opening.config.shards ≤ shard };
+
+    /// Whether anything of a shard is due at a moment in milliseconds, as it stands. Records nothing, and takes no
+    /// memory.
+    ///
+    /// # Errors
+    ///
+    /// `NoShard` just where there is no such shard; `Misplaced`; `NoMemory` where the history has 2^64 - 1 entries. The
+    /// seat stays then.
+    fn is_due<R: Wait>(
+        &self,
+        rt: &R,
+        seat: &mut Seat<Global, N>,
+        now: u64,
+        shard: u16,
+    ) -> Result<bool, HubFault>
+        ensures look { IfOk result (IsLook N.opening shard now seat.old seat.new) }
+        ensures seen { Sees shard seat.old seat.new }
+        ensures times { seat.new.times ≡ seat.old.times }
+        ensures err { OnErr result (seat.new ≡ seat.old) }
+        ensures causes { IfErr result (λ f. f ≢ HubFault.TraceFull) }
+        ensures no_shard { IsErrOf result HubFault.NoShard ↔ N.opening.config.shards ≤ shard };
+
+    /// Lets go of the stored steps of a shard: takes them out, and gives them back. The history goes on, and the seat
+    /// counts it. Takes no memory, and a time that doesn't grow with the steps.
+    ///
+    /// # Errors
+    ///
+    /// As for `is_due`. Nothing changes then.
+    fn let_go<R: Wait>(
+        &self,
+        rt: &R,
+        seat: &mut Seat<Global, N>,
+        shard: u16,
+    ) -> Result<Vec<Step<Global>>, HubFault>
+        ensures gone { IfOk result (λ v. AreGone N.opening shard seat.old seat.new v.items) }
+        ensures seen { Sees shard seat.old seat.new }
+        ensures err { OnErr result (seat.new ≡ seat.old) }
+        ensures no_shard { IsErrOf result HubFault.NoShard ↔ N.opening.config.shards ≤ shard };
+
+    /// How a realm stands, in numbers, where its shard's history ends now: no earlier than the seat has seen it. None
+    /// where the realm isn't configured, or the lock holds another shard's trace. Records nothing, and takes no memory.
+    fn look<R: Wait>(&self, rt: &R, seat: &Seat<Global, N>, realm: u16) -> Option<Gauges>
+        ensures { IfSome result (StandsThen N.opening realm seat.now) };
+
+    /// What goes of a realm where another configuration is followed, in which these peers have other tables: as it
+    /// stands where its shard's history ends now. None as for `look`. Records nothing, and takes no memory.
+    fn losses<R: Wait>(
+        &self,
+        rt: &R,
+        seat: &Seat<Global, N>,
+        realm: u16,
+        next: &Config,
+        changed: &[u16],
+    ) -> Option<Loss>
+        requires { AreChanged N.opening.config.peers (shown next.now).peers changed.now }
+        ensures { IfSome result (WouldLose N.opening (shown next.now) realm seat.now) };
+
+    /// Writes that the sessions of a realm follow, and adds the tickets by which they are written then. Records
+    /// nothing.
+    ///
+    /// # Errors
+    ///
+    /// Where a growth was refused.
+    fn begin_saving<R: Wait>(
+        &self,
+        rt: &R,
+        seat: &Seat<Global, N>,
+        realm: u16,
+        tickets: &mut Vec<u64>,
+        writing: &mut Writing<Global>,
+    ) -> Result<(), NoMemory>
+        ensures { OnOk result (BeginsRealm N.opening realm writing.old writing.new) };
+
+    /// Writes those sessions of a realm that have these tickets and are still open. Records nothing.
+    ///
+    /// # Errors
+    ///
+    /// Where a growth was refused.
+    fn save<R: Wait>(
+        &self,
+        rt: &R,
+        seat: &Seat<Global, N>,
+        realm: u16,
+        tickets: &[u64],
+        writing: &mut Writing<Global>,
+    ) -> Result<(), AllocError>
+        ensures { OnOk result (SavesThen N.opening realm seat.now writing.old writing.new) };
+}
