@@ -6,6 +6,7 @@ ghost use Rattle.roam_outlet.specs.Heads as heads;
 
 use jiff::Timestamp;
 use log::Level;
+use memchr::memchr;
 use std::alloc::{AllocError, Global};
 use std::fmt::{Display, Formatter, Write};
 use std::os::unix::fs::MetadataExt;
@@ -82,26 +83,19 @@ pub fn head_of<R: Clock>(
     }
 }
 
-/// Adds an octet of a message: behind a line feed the next line begins.
-fn push_octet(text: &mut Vec<u8>, head: &[u8], octet: u8) -> Result<(), AllocError>
-    ensures { OnOk result (text.new.items ≡ text.old.items ++ heads.next_octet head.now octet) }
-{
-    text.push(octet)?;
-    if octet == b'\n' {
-        text.extend_from_slice(head)?;
-    }
-    Ok(())
-}
-
-/// Adds the octets of a message.
+/// Adds the octets of a message: behind a line feed the next line begins.
 fn push_octets(text: &mut Vec<u8>, head: &[u8], message: &[u8]) -> Result<(), AllocError>
     ensures { OnOk result (text.new.items
         ≡ text.old.items ++ heads.message_text head.now message.now) }
 {
-    for octet in message {
-        push_octet(text, head, *octet)?;
+    let mut rest = message;
+    while let Some(end) = memchr(b'\n', rest) {
+        let (line, behind) = rest.split_at(end + 1);
+        text.extend_from_slice(line)?;
+        text.extend_from_slice(head)?;
+        rest = behind;
     }
-    Ok(())
+    text.extend_from_slice(rest)
 }
 
 /// Adds the lines of a message, each behind the head.

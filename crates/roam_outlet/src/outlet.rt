@@ -33,7 +33,7 @@ const BETWEEN_LOOKS: u64 = 10;
 
 /// The octets of a message of one line or several, each behind the head.
 fn octets_of<D: Display>(alloc: Global, head: &str, message: &D) -> io::Result<Vec<u8>> {
-    let mut text = Vec::new(alloc);
+    let mut text = Vec::with_capacity(alloc, ONE_MORE)?;
     write!(text, "{message}")?;
     let mut octets = Vec::with_capacity(alloc, ONE_MORE)?;
     push_lines(&mut octets, head.as_bytes(), text.as_slice())?;
@@ -78,6 +78,16 @@ impl Outlet {
         self.waiting.lock(rt).has_room()
     }
 
+    /// Says how many lines were dropped, behind the head of a warning, where any were and there is room for that.
+    fn tell_dropped<R: Clock>(&self, rt: &R, waiting: &mut Waiting) {
+        if waiting.dropped == 0 {
+            return;
+        }
+        if let Ok(head) = head_of(rt, self.alloc, self.reader, Level::Warn) {
+            waiting.tell_dropped(self.alloc, head.as_str());
+        }
+    }
+
     /// Has a message be written, each line of it behind what stands before a line of this level. Never waits for that.
     pub fn tell<R: Wait + Clock, D: Display>(&self, rt: &R, level: Level, message: &D) {
         let alloc = self.alloc;
@@ -85,11 +95,8 @@ impl Outlet {
             Ok(head) => octets_of(alloc, head.as_str(), message),
             Err(error) => Err(error.into()),
         };
-        let warning = head_of(rt, alloc, self.reader, Level::Warn);
         let mut waiting = self.waiting.lock(rt);
-        if let Ok(warning) = warning {
-            waiting.tell_dropped(alloc, warning.as_str());
-        }
+        self.tell_dropped(rt, &mut waiting);
         match told {
             Ok(lines) => waiting.tell(lines.as_slice()),
             Err(_) => waiting.drop_one(),
@@ -129,11 +136,7 @@ impl Outlet {
 
     /// Has the thread that writes end once all is written.
     pub fn end<R: Wait + Clock>(&self, rt: &R) {
-        if let Ok(head) = head_of(rt, self.alloc, self.reader, Level::Warn) {
-            self.waiting
-                .lock(rt)
-                .tell_dropped(self.alloc, head.as_str());
-        }
+        self.tell_dropped(rt, &mut self.waiting.lock(rt));
         self.is_over.store(true, Ordering::SeqCst);
         self.wake.unpark();
     }

@@ -1,14 +1,16 @@
 //! Lines that wait until they are written.
 
-ghost use Rattle.std.specs.Prelude.{◌≡◌, ◌↔◌, ◌≤◌, ◌+◌, ◌-◌, ◌^◌, ◌++◌, min, vec_len, IsTrue, IsFalse};
+ghost use Rattle.std.specs.Prelude.{◌≡◌, ◌↔◌, ◌≤◌, ◌+◌, ◌-◌, ◌^◌, ◌++◌, min, length, vec_len, IsTrue, IsFalse};
+ghost use Rattle.memchr.specs.Find.{is_byte, places};
 
+use memchr::memchr_iter;
 use std::alloc::Global;
 
 /// How many octets of lines may wait.
 pub const ROOM: usize = 1 << 20;
 
 /// For how many octets there is room where there is room for one more: more than is told at once.
-pub const ONE_MORE: usize = 8192;
+pub const ONE_MORE: usize = 32768;
 
 /// Lines that wait.
 #[derive(Drop)]
@@ -22,20 +24,16 @@ pub struct Waiting {
 }
 
 /// How many lines end in a text.
-pub fn lines_in(text: &[u8]) -> u64 {
-    let mut count = 0u64;
-    for octet in text {
-        if *octet == b'\n' {
-            count = count.saturating_add(1);
-        }
-    }
-    count
+pub fn lines_in(text: &[u8]) -> u64
+    ensures { result ≡ length (places (is_byte 10) text.now) }
+{
+    memchr_iter(b'\n', text).count() as u64
 }
 
 impl Waiting {
     /// Whether there is room for one more.
     pub fn has_room(&self) -> bool
-        ensures { IsTrue result ↔ (vec_len self.now.text + 8192 ≤ 1048576) }
+        ensures { IsTrue result ↔ (vec_len self.now.text + 32768 ≤ 1048576) }
     {
         self.text.len() <= ROOM - ONE_MORE
     }
@@ -50,11 +48,8 @@ impl Waiting {
         octets.len() <= ROOM - self.text.len() && self.text.extend_from_slice(octets).is_ok()
     }
 
-    /// Says how many lines were dropped, behind this head, where there is room for that.
+    /// Says how many lines were dropped, of which there are some, behind this head, where there is room for that.
     pub fn tell_dropped(&mut self, alloc: Global, head: &str) {
-        if self.dropped == 0 {
-            return;
-        }
         let dropped = self.dropped;
         if let Ok(line) = format!(in alloc; "{head}{dropped} lines dropped\n") {
             if self.put(line.as_str().as_bytes()) {
