@@ -1,4 +1,5 @@
 pub mod LineLemmas
+pub mod PlainLemmas
 pub mod PrintableLemmas
 pub mod QuotedLemmas
 pub mod RowLemmas

@@ -44,8 +44,9 @@ pub enum RequestWord {
 /// The value of an attribute: at most 253 octets, and of a longer one the first of them.
 #[derive(Clone, Copy)]
 pub struct Value {
-    octets: [u8; MOST],
+    // It lies beside the first octets: whoever reads a short value reads one line of a cache.
     len: u8,
+    octets: [u8; MOST],
 }
 
 /// An exchange that ended.
@@ -61,15 +62,15 @@ pub struct Exchange {
     pub peer: Option<u16>,
     /// The home server to which it was sent last, or that sent a reverse request: its endpoint there.
     pub server: Option<Endpoint>,
-    /// The User-Name and the Calling-Station-Id of the request.
-    pub user: Option<Value>,
-    pub station: Option<Value>,
     /// From the request to its end.
     pub milliseconds: u64,
     /// How often it was sent to that server or peer.
     pub tries: u8,
     /// How many were like it within a second: local rejects, or replaced requests, that are alike are one line.
     pub times: u64,
+    /// The User-Name and the Calling-Station-Id of the request.
+    pub user: Option<Value>,
+    pub station: Option<Value>,
     pub details: Details,
 }
 

@@ -2,20 +2,20 @@
 
 ghost use Rattle.std.specs.Prelude.{◌≡◌, ◌++◌, ◌<◌, OnOk};
 ghost use Rattle.std.specs.Fmt.{decimal};
-ghost use Rattle.roam_address.specs.Endpoints.{endpoint_text};
+ghost use Rattle.std.specs.List.{list_all};
 ghost use Rattle.roam_conf.specs.Shown.{shown};
 ghost use Rattle.roam_notices.specs.Exchanges as spec;
 ghost use Rattle.roam_notices.specs.Values.{digit, is_plain, octets_if, quoted_octet, quoted_octets, shown_value, value_text};
 
 use crate::details::push_details;
 use crate::exchange::{Exchange, ExchangeEnd, RequestWord, Value};
+use crate::server_text::push_server;
 use crate::station_text::push_station;
 use itoa::Buffer;
-use roam_conf::{Config, Endpoint};
+use roam_conf::Config;
 use roam_route::RejectCause;
 use roam_stations::StationForm;
 use std::alloc::AllocError;
-use std::io::Write;
 
 /// Adds octets to a line.
 pub(crate) fn push(line: &mut Vec<u8>, octets: &[u8]) -> Result<(), AllocError>
@@ -55,14 +55,32 @@ fn push_octet(line: &mut Vec<u8>, octet: u8) -> Result<(), AllocError>
     }
 }
 
-/// Adds a value's octets.
-fn push_octets(line: &mut Vec<u8>, value: &[u8]) -> Result<(), AllocError>
+/// Whether each octet of a value stands as itself.
+fn are_plain(value: &[u8]) -> bool
+    ensures { result ≡ list_all is_plain value.now }
+{
+    value.iter().all(|octet| is_plain(*octet))
+}
+
+/// Adds a value's octets, one by one.
+fn push_each(line: &mut Vec<u8>, value: &[u8]) -> Result<(), AllocError>
     ensures { OnOk result (line.new.items ≡ line.old.items ++ quoted_octets value.now) }
 {
     for octet in value {
         push_octet(line, *octet)?;
     }
     Ok(())
+}
+
+/// Adds a value's octets: at once where each stands as itself.
+fn push_octets(line: &mut Vec<u8>, value: &[u8]) -> Result<(), AllocError>
+    ensures { OnOk result (line.new.items ≡ line.old.items ++ quoted_octets value.now) }
+{
+    if are_plain(value) {
+        push(line, value)
+    } else {
+        push_each(line, value)
+    }
 }
 
 /// Adds a key, and a value between quotation marks, or a hyphen where there is none.
@@ -89,27 +107,6 @@ pub(crate) fn push_number(line: &mut Vec<u8>, key: &str, number: u64) -> Result<
     push(line, key.as_bytes())?;
     let mut buffer = Buffer::new();
     push(line, buffer.format(number).as_bytes())
-}
-
-/// Adds an endpoint.
-fn push_endpoint(line: &mut Vec<u8>, endpoint: Endpoint) -> Result<(), AllocError>
-    ensures { OnOk result (line.new.items ≡ line.old.items ++ endpoint_text endpoint) }
-{
-    match write!(line, "{endpoint}") {
-        Ok(()) => Ok(()),
-        Err(_) => Err(AllocError),
-    }
-}
-
-/// Adds the endpoint of a server, or a hyphen where there is none.
-fn push_server(line: &mut Vec<u8>, server: Option<Endpoint>) -> Result<(), AllocError>
-    ensures { OnOk result (line.new.items ≡ line.old.items ++ spec.server_text server) }
-{
-    push(line, b" server=")?;
-    let Some(endpoint) = server else {
-        return push(line, b"-");
-    };
-    push_endpoint(line, endpoint)
 }
 
 /// The word of an outcome.

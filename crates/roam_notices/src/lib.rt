@@ -31,6 +31,7 @@ mod repeats;
 mod row;
 mod said;
 mod sender;
+mod server_text;
 mod station_text;
 mod tally;
 mod text;

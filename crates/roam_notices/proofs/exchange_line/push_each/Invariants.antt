@@ -1,6 +1,6 @@
 use Rattle.std.proofs.Common.{◌≡◌, ◌++◌, take}
 use Rattle.roam_notices.specs.Values.{quoted_octets}
-use Rattle.roam_notices.proofs.exchange_line.push_octets.Given as goal
+use Rattle.roam_notices.proofs.exchange_line.push_each.Given as goal
 
 -- the octets so far
 abbrev pub invariant-loop-octet : goal.invariant-loop-octet
