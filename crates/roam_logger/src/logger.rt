@@ -13,9 +13,9 @@ use std::str;
 use std::sync::Wait;
 use std::thread::Parker;
 
-/// How many octets of lines are told at once: a log has room for 8,192 where it has any, and before each line stands
+/// How many octets of lines are told at once: a log has room for 32,768 where it has any, and before each line stands
 /// its time.
-const OCTETS_AT_ONCE: usize = 4000;
+const OCTETS_AT_ONCE: usize = 24_000;
 
 /// How many lines are told at once.
 const LINES_AT_ONCE: u32 = 64;
