@@ -1,12 +1,12 @@
 -- A list of tables, read one after the other.
-use Rattle.std.proofs.Common.{◌≡◌, ℕ, ◌+◌, ◌<◌, ◌≤◌, List, [], ◌∷◌, ◌++◌, length, get_or, drop, Some, sym, ap, ◌∙◌, subst, append_assoc}
+use Rattle.std.proofs.Common.{◌≡◌, ℕ, ◌+◌, ◌<◌, ◌≤◌, List, [], ◌∷◌, ◌++◌, length, get_or, drop, Option, Some, None, sym, ap, ◌∙◌, subst, append_assoc}
 use Rattle.std.proofs.lemmas.List.{append-nil}
 use Rattle.std.proofs.Math.ListN.{drop_of_length-le}
 use Rattle.toml.specs.Data.{Data, table, Items, no_items, item, Members, as_table}
 use Rattle.toml.specs.View.{view, items_view}
 use Rattle.toml.specs.declared.value.Value.{Value}
 use Rattle.toml.proofs.Views.{items_view-drop}
-use Rattle.roam_conf_reader.specs.Document.{StatesEach}
+use Rattle.roam_conf_reader.specs.Document.{StatesEach, StatesTables}
 
 -- the values `done` are those of the items that were read, and `rest` are the items that are left of all
 pub record Pushed {V : Type 0} (States : Members → V → Type 0) (all rest : Items) (done : List V) : Type 0 where
@@ -75,3 +75,9 @@ pub pushed_end : {V : Type 0} (States : Members → V → Type 0) (values : List
 pushed_end States values i done past pushed =
     let over : items_view (drop i values) ≡ no_items = ap items_view (drop_of_length-le values past) in
     pushed_all States (items_view values) done (rw over at pushed)
+
+-- where there are no tables none are stated
+pub no_tables : {V : Type 0} (States : Members → V → Type 0) (o : Option Items) (values : List V) → None ≡ o →
+    StatesTables States o values → ⊥
+no_tables States o values none stated =
+    subst (λ (found : Option Items). StatesTables States found values) (sym none) stated

@@ -33,10 +33,13 @@ fn client_text(table: &Table) -> Option<ClientText<'_>>
     if !has_only(table, &CLIENT_KEYS, &[]) {
         return None;
     }
-    Some(ClientText {
-        ip: keys::address(table, "ip")?,
-        secret: keys::text(table, "secret", 64, Letters::Any)?,
-    })
+    match (
+        keys::address(table, "ip"),
+        keys::text(table, "secret", 64, Letters::Any),
+    ) {
+        (Some(ip), Some(secret)) => Some(ClientText { ip, secret }),
+        _ => None,
+    }
 }
 
 /// The source that a table states. Memory is asked for only where the table states one.

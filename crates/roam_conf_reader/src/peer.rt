@@ -43,18 +43,41 @@ fn peer_text(table: &Table) -> Option<PeerText<'_>>
     if !has_only(table, &PEER_KEYS, &PEER_OPTIONAL_KEYS) {
         return None;
     }
+    let (Some(name), Some(ip), Some(secret)) = (
+        keys::text(table, "name", 64, Letters::PeerName),
+        keys::prefix(table, "ip"),
+        keys::text(table, "secret", 64, Letters::Any),
+    ) else {
+        return None;
+    };
+    let (Some(coa), Some(nas_ip), Some(nas_ipv6), Some(nas_id)) = (
+        keys::optional_endpoint(table, "coa"),
+        keys::optional_ipv4(table, "nas_ip"),
+        keys::optional_ipv6(table, "nas_ipv6"),
+        keys::optional_text(table, "nas_id", 253),
+    ) else {
+        return None;
+    };
+    let (Some(require_seal), Some(limit_proxy_state), Some(operator_name), Some(ask_cui)) = (
+        keys::flag(table, "require_seal"),
+        keys::flag(table, "limit_proxy_state"),
+        keys::optional_text(table, "operator_name", 252),
+        keys::flag(table, "ask_cui"),
+    ) else {
+        return None;
+    };
     Some(PeerText {
-        name: keys::text(table, "name", 64, Letters::PeerName)?,
-        ip: keys::prefix(table, "ip")?,
-        secret: keys::text(table, "secret", 64, Letters::Any)?,
-        coa: keys::optional_endpoint(table, "coa")?,
-        nas_ip: keys::optional_ipv4(table, "nas_ip")?,
-        nas_ipv6: keys::optional_ipv6(table, "nas_ipv6")?,
-        nas_id: keys::optional_text(table, "nas_id", 253)?,
-        require_seal: keys::flag(table, "require_seal")?,
-        limit_proxy_state: keys::flag(table, "limit_proxy_state")?,
-        operator_name: keys::optional_text(table, "operator_name", 252)?,
-        ask_cui: keys::flag(table, "ask_cui")?,
+        name,
+        ip,
+        secret,
+        coa,
+        nas_ip,
+        nas_ipv6,
+        nas_id,
+        require_seal,
+        limit_proxy_state,
+        operator_name,
+        ask_cui,
     })
 }
 

@@ -63,26 +63,37 @@ fn realm_text(table: &Table) -> Option<RealmText<'_>>
     if !has_only(table, &REALM_KEYS, &REALM_OPTIONAL_KEYS) {
         return None;
     }
+    let (Some(name), Some(accounting), Some(share), Some(peer_share)) = (
+        keys::text(table, "name", 253, Letters::RealmName),
+        keys::accounting(table, "accounting"),
+        keys::optional_count(table, "share", 1, 4096),
+        keys::optional_count(table, "peer_share", 1, 4096),
+    ) else {
+        return None;
+    };
+    let (Some(loop_prevention), Some(own_names), Some(conversations), Some(own_sessions)) = (
+        keys::flag(table, "loop_prevention"),
+        keys::flag(table, "own_names"),
+        keys::flag(table, "conversations"),
+        keys::flag(table, "own_sessions"),
+    ) else {
+        return None;
+    };
+    let default_sessions = sessions_unless_said(value(table, "reverse"));
     Some(RealmText {
-        name: keys::text(table, "name", 253, Letters::RealmName)?,
-        loop_prevention: keys::flag(table, "loop_prevention")?,
-        accounting: keys::accounting(table, "accounting")?,
-        share: keys::optional_count(table, "share", 1, 4096)?,
-        peer_share: keys::optional_count(table, "peer_share", 1, 4096)?,
-        own_names: keys::flag(table, "own_names")?,
-        conversations: keys::flag(table, "conversations")?,
-        own_sessions: keys::flag(table, "own_sessions")?,
+        name,
+        loop_prevention,
+        accounting,
+        share,
+        peer_share,
+        own_names,
+        conversations,
+        own_sessions,
         tries: keys::number_or(table, "tries", 3, 1, 10)? as u8,
         wait: keys::number_or(table, "wait", 2000, 1, 60000)?,
         hold: keys::number_or(table, "hold", 10000, 0, 60000)?,
         max_pending: keys::number_or(table, "max_pending", 4096, 1, 4096)? as u16,
-        max_sessions: keys::number_or(
-            table,
-            "max_sessions",
-            sessions_unless_said(value(table, "reverse")),
-            0,
-            65536,
-        )?,
+        max_sessions: keys::number_or(table, "max_sessions", default_sessions, 0, 65536)?,
         rest: keys::number_or(table, "rest", 30000, 0, 3600000)?,
         rest_after: keys::number_or(table, "rest_after", 3, 1, 256)? as u16,
         servers: keys::array(table, "server", 8)?,

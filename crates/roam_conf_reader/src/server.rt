@@ -34,11 +34,19 @@ fn server_text(table: &Table) -> Option<ServerText<'_>>
     if !has_only(table, &SERVER_KEYS, &SERVER_OPTIONAL_KEYS) {
         return None;
     }
+    let (Some(auth), Some(acct), Some(secret), Some(require_seal)) = (
+        keys::endpoint(table, "auth"),
+        keys::optional_endpoint(table, "acct"),
+        keys::text(table, "secret", 64, Letters::Any),
+        keys::flag(table, "require_seal"),
+    ) else {
+        return None;
+    };
     Some(ServerText {
-        auth: keys::endpoint(table, "auth")?,
-        acct: keys::optional_endpoint(table, "acct")?,
-        secret: keys::text(table, "secret", 64, Letters::Any)?,
-        require_seal: keys::flag(table, "require_seal")?,
+        auth,
+        acct,
+        secret,
+        require_seal,
     })
 }
 

@@ -39,22 +39,18 @@ pub fn read_settings(alloc: Global, text: &str) -> Result<Settings, ConfFault>
     ensures err { IfErr result (λ f. (f ≡ ConfFault.Memory) ⊎ IsNoSettings text.now f) }
 {
     let table = document(alloc, text)?;
-    let Some(metrics) = keys::optional_endpoint(&table, "metrics") else {
+    let (Some(metrics), Some(control), Some(log_exchanges)) = (
+        keys::optional_endpoint(&table, "metrics"),
+        keys::optional_socket_path(&table, "control"),
+        keys::exchange_lines(&table, "log_exchanges"),
+    ) else {
         return Err(ConfFault::BadValue);
     };
-    let Some(control) = keys::optional_socket_path(&table, "control") else {
-        return Err(ConfFault::BadValue);
-    };
-    let Some(log_exchanges) = keys::exchange_lines(&table, "log_exchanges") else {
-        return Err(ConfFault::BadValue);
-    };
-    let Some(log_station) = keys::station_word(&table, "log_station") else {
-        return Err(ConfFault::BadValue);
-    };
-    let Some(state) = keys::optional_file_path(&table, "state") else {
-        return Err(ConfFault::BadValue);
-    };
-    let Some(state_every) = keys::number_or(&table, "state_every", 60, 1, 86400) else {
+    let (Some(log_station), Some(state), Some(state_every)) = (
+        keys::station_word(&table, "log_station"),
+        keys::optional_file_path(&table, "state"),
+        keys::number_or(&table, "state_every", 60, 1, 86400),
+    ) else {
         return Err(ConfFault::BadValue);
     };
     Ok(Settings {

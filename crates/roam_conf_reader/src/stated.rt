@@ -46,12 +46,28 @@ fn top_text(table: &Table) -> Option<TopText<'_>>
     if !has_only(table, &TOP_KEYS, &TOP_OPTIONAL_KEYS) {
         return None;
     }
-    let _metrics = keys::optional_endpoint(table, "metrics")?;
-    let _control = keys::optional_socket_path(table, "control")?;
-    let _log_exchanges = keys::exchange_lines(table, "log_exchanges")?;
-    let _log_station = keys::station_word(table, "log_station")?;
-    let _state = keys::optional_file_path(table, "state")?;
-    let _state_every = keys::number_or(table, "state_every", 60, 1, 86400)?;
+    let (Some(_), Some(_), Some(_)) = (
+        keys::optional_endpoint(table, "metrics"),
+        keys::optional_socket_path(table, "control"),
+        keys::exchange_lines(table, "log_exchanges"),
+    ) else {
+        return None;
+    };
+    let (Some(_), Some(_), Some(_)) = (
+        keys::station_word(table, "log_station"),
+        keys::optional_file_path(table, "state"),
+        keys::number_or(table, "state_every", 60, 1, 86400),
+    ) else {
+        return None;
+    };
+    let (Some(status_server), Some(spread), Some(well_formed), Some(answer_unnamed)) = (
+        keys::flag(table, "status_server"),
+        keys::flag(table, "spread"),
+        keys::flag(table, "well_formed"),
+        keys::flag(table, "answer_unnamed"),
+    ) else {
+        return None;
+    };
     Some(TopText {
         shards: keys::number_or(table, "shards", 1, 1, 64)? as u16,
         seed: keys::seed_or_zeros(table, "seed")?,
@@ -59,10 +75,10 @@ fn top_text(table: &Table) -> Option<TopText<'_>>
         trace_octets: keys::number_or(table, "trace_octets", 67108864, 1, 1073741824)?,
         max_hops: keys::optional_octet(table, "max_hops", 100)?,
         max_attributes: keys::optional_count(table, "max_attributes", 1, 2000)?,
-        status_server: keys::flag(table, "status_server")?,
-        spread: keys::flag(table, "spread")?,
-        well_formed: keys::flag(table, "well_formed")?,
-        answer_unnamed: keys::flag(table, "answer_unnamed")?,
+        status_server,
+        spread,
+        well_formed,
+        answer_unnamed,
         fresh: keys::optional_count(table, "fresh", 10, 3600)?,
         peers: keys::array(table, "peer", 1024)?,
         realms: keys::array(table, "realm", 1024)?,

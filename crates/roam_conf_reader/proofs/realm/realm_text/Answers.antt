@@ -1,17 +1,13 @@
--- A table whose `max_sessions` or `server` is bad states no realm.
-use Rattle.std.proofs.Common.{◌≡◌, ℕ, codes, Option, None, Some, ap, sym, subst, ◌∙◌}
+-- A table of which a value is bad states no realm.
+use Rattle.std.proofs.Common.{◌≡◌, ℕ, codes, None, Some, ap, ◌∙◌}
 use Rattle.std.proofs.lemmas.Option.{none-some}
-use Rattle.toml.specs.Data.{Items, Members, get_member}
+use Rattle.toml.specs.Data.{Members, get_member}
 use Rattle.toml.specs.View.{table_view}
 use Rattle.roam_conf.specs.Config.{RealmView}
-use Rattle.roam_conf_reader.specs.Document.{StatesRealm, StatesServer, StatesTables, sessions_unless_said}
+use Rattle.roam_conf_reader.specs.Document.{StatesRealm, StatesServer, sessions_unless_said}
 use Rattle.roam_conf_reader.specs.Values.{array_of, number_or, value_at}
+use Rattle.roam_conf_reader.proofs.EachLemmas.{no_tables}
 use Rattle.roam_conf_reader.proofs.realm.realm_text.Goals as goal
-
-no_servers : (ms : Members) (r : RealmView) → None ≡ value_at (array_of 8) (codes "server") ms →
-    StatesRealm ms r → ⊥
-no_servers ms r none stated =
-    subst (λ (o : Option Items). StatesTables StatesServer o r.servers) (sym none) stated.servers
 
 no_sessions : (ms : Members) (r : RealmView) (default : ℕ) →
     default ≡ sessions_unless_said (get_member (codes "reverse") ms) →
@@ -21,13 +17,46 @@ no_sessions ms r default is none stated =
     rw is stated.max_sessions in
     none-some r.max_sessions (none ∙ found)
 
+pub returns-in_err-number_or : goal.returns-in_err-number_or
+returns-in_err-number_or c =
+    rw c.from_residual.ensures (λ r stated.
+    none-some r.tries (c.in_err-number_or.ensures.value ∙ stated.tries))
+
+pub returns-in_err-number_or-2 : goal.returns-in_err-number_or-2
+returns-in_err-number_or-2 c =
+    rw c.from_residual-in_err-number_or-2.ensures (λ r stated.
+    none-some r.wait (c.in_err-number_or-2.ensures.value ∙ stated.wait))
+
+pub returns-in_err-number_or-3 : goal.returns-in_err-number_or-3
+returns-in_err-number_or-3 c =
+    rw c.from_residual-in_err-number_or-3.ensures (λ r stated.
+    none-some r.hold (c.in_err-number_or-3.ensures.value ∙ stated.hold))
+
+pub returns-in_err-number_or-4 : goal.returns-in_err-number_or-4
+returns-in_err-number_or-4 c =
+    rw c.from_residual-in_err-number_or-4.ensures (λ r stated.
+    none-some r.max_pending (c.in_err-number_or-4.ensures.value ∙ stated.max_pending))
+
 pub returns-in_err-number_or-5 : goal.returns-in_err-number_or-5
 returns-in_err-number_or-5 c =
     rw c.from_residual-in_err-number_or-5.ensures (λ r.
-    no_sessions (table_view c.args.table.now) r c.sessions_unless_said.result
-    (c.sessions_unless_said.ensures.value ∙ ap sessions_unless_said c.value.ensures) c.in_err-number_or-5.ensures.value)
+    no_sessions (table_view c.args.table.now) r c.sessions_unless_said-default_sessions.result
+    (c.sessions_unless_said-default_sessions.ensures.value ∙ ap sessions_unless_said c.value.ensures)
+    c.in_err-number_or-5.ensures.value)
+
+pub returns-in_err-number_or-6 : goal.returns-in_err-number_or-6
+returns-in_err-number_or-6 c =
+    rw c.from_residual-in_err-number_or-6.ensures (λ r stated.
+    none-some r.rest (c.in_err-number_or-6.ensures.value ∙ stated.rest))
+
+pub returns-in_err-number_or-7 : goal.returns-in_err-number_or-7
+returns-in_err-number_or-7 c =
+    rw c.from_residual-in_err-number_or-7.ensures (λ r stated.
+    none-some r.rest_after (c.in_err-number_or-7.ensures.value ∙ stated.rest_after))
 
 pub returns-in_err-array : goal.returns-in_err-array
 returns-in_err-array c =
-    rw c.from_residual-in_err-array.ensures (λ r.
-    no_servers (table_view c.args.table.now) r c.in_err-array.ensures)
+    rw c.from_residual-in_err-array.ensures (λ r stated.
+    no_tables StatesServer
+    (value_at (array_of 8) (codes "server") (table_view c.args.table.now)) r.servers c.in_err-array.ensures
+    stated.servers)
