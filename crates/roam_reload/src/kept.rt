@@ -1,6 +1,6 @@
 //! What stays the same between two tables, as far as what waits, what is held and what is open depends on it.
 
-ghost use Rattle.std.specs.Prelude.{◌≡◌, ◌≤◌, length, map, slice_get};
+ghost use Rattle.std.specs.Prelude.{◌≡◌, ◌≤◌, length, map, option_map, slice_get};
 ghost use Rattle.roam_conf.specs.Duplicates.{same_endpoint};
 ghost use Rattle.roam_conf.specs.Lookup.{first_place};
 ghost use Rattle.roam_conf.specs.Parts.{shown_peer, shown_realm, shown_server};
@@ -41,11 +41,18 @@ fn keeps_coa(old: &Peer, new: &Peer) -> bool
     stays(old, new) && is_same_if_any(old.coa, new.coa) && old.secret == new.secret
 }
 
+/// The peer of an index.
+fn peer_at(peers: &[Peer], peer: u16) -> Option<&Peer>
+    ensures { option_map (λ p. shown_peer p.now) result ≡ slice_get (map shown_peer peers.now) peer }
+{
+    peers.get(usize::from(peer))
+}
+
 /// Whether the requests of the peer of an index stay.
 pub fn peer_keeps_requests(old: &[Peer], new: &[Peer], peer: u16) -> bool
     ensures { result ≡ of_peer keeps_requests (map shown_peer old.now) (map shown_peer new.now) peer }
 {
-    match (old.get(usize::from(peer)), new.get(usize::from(peer))) {
+    match (peer_at(old, peer), peer_at(new, peer)) {
         (Some(old), Some(new)) => keeps_requests(old, new),
         (None, _) => true,
         (Some(_), None) => false,
@@ -56,7 +63,7 @@ pub fn peer_keeps_requests(old: &[Peer], new: &[Peer], peer: u16) -> bool
 pub fn peer_keeps_coa(old: &[Peer], new: &[Peer], peer: u16) -> bool
     ensures { result ≡ of_peer keeps_coa (map shown_peer old.now) (map shown_peer new.now) peer }
 {
-    match (old.get(usize::from(peer)), new.get(usize::from(peer))) {
+    match (peer_at(old, peer), peer_at(new, peer)) {
         (Some(old), Some(new)) => keeps_coa(old, new),
         (None, _) => true,
         (Some(_), None) => false,
@@ -67,7 +74,7 @@ pub fn peer_keeps_coa(old: &[Peer], new: &[Peer], peer: u16) -> bool
 pub fn peer_keeps_sessions(old: &[Peer], new: &[Peer], peer: u16) -> bool
     ensures { result ≡ of_peer keeps_sessions (map shown_peer old.now) (map shown_peer new.now) peer }
 {
-    match (old.get(usize::from(peer)), new.get(usize::from(peer))) {
+    match (peer_at(old, peer), peer_at(new, peer)) {
         (Some(old), Some(new)) => stays(old, new),
         (None, _) => true,
         (Some(_), None) => false,
@@ -81,12 +88,19 @@ fn is_same_server(a: &Server, b: &Server) -> bool
     is_same_endpoint(a.auth, b.auth) && is_same_if_any(a.acct, b.acct) && a.secret == b.secret
 }
 
+/// The server of a place.
+fn server_at(servers: &[Server], server: u8) -> Option<&Server>
+    ensures { option_map (λ s. shown_server s.now) result ≡ slice_get (map shown_server servers.now) server }
+{
+    servers.get(usize::from(server))
+}
+
 /// Whether the same server, or none, stands at a place in both.
 fn stands_there(old: &[Server], new: &[Server], server: u8) -> bool
     ensures { result ≡ both_or_none same_server (slice_get (map shown_server old.now) server)
         (slice_get (map shown_server new.now) server) }
 {
-    match (old.get(usize::from(server)), new.get(usize::from(server))) {
+    match (server_at(old, server), server_at(new, server)) {
         (Some(old), Some(new)) => is_same_server(old, new),
         (None, None) => true,
         _ => false,
@@ -128,8 +142,18 @@ pub fn server_then(old: &Realm, new: &Realm, server: u8) -> Option<u8>
     if stands_there(old.servers.as_slice(), new.servers.as_slice(), server) {
         return Some(server);
     }
-    match old.servers.get(usize::from(server)) {
+    match server_at(old.servers.as_slice(), server) {
         Some(server) => place_of(server, new.servers.as_slice()),
+        None => None,
+    }
+}
+
+/// The `out` of a place.
+fn out_at(realm: &Realm, out: u8) -> Option<Endpoint>
+    ensures { result ≡ slice_get (shown_realm realm.now).out out }
+{
+    match realm.out.get(usize::from(out)) {
+        Some(endpoint) => Some(*endpoint),
         None => None,
     }
 }
@@ -138,8 +162,8 @@ pub fn server_then(old: &Realm, new: &Realm, server: u8) -> Option<u8>
 pub fn is_same_out(old: &Realm, new: &Realm, out: u8) -> bool
     ensures { result ≡ same_out (shown_realm old.now) (shown_realm new.now) out }
 {
-    match (old.out.get(usize::from(out)), new.out.get(usize::from(out))) {
-        (Some(old), Some(new)) => is_same_endpoint(*old, *new),
+    match (out_at(old, out), out_at(new, out)) {
+        (Some(old), Some(new)) => is_same_endpoint(old, new),
         (None, None) => true,
         _ => false,
     }
