@@ -51,7 +51,21 @@ fn write_length(line: &mut Line, length: Option<usize>) -> fmt::Result {
     }
 }
 
-/// Says that what stands under a key isn't of its form. A secret isn't shown.
+/// Writes that what stands under a key isn't of its form. A secret isn't shown.
+fn write_bad(line: &mut Line, at: Located<'_>, key: &str, form: ValueForm) -> fmt::Result {
+    let Some(value) = at.keys.value(key) else {
+        write!(line, "{form}")?;
+        return match form {
+            ValueForm::Secret => write_length(line, at.keys.secret_length()),
+            _ => Ok(()),
+        };
+    };
+    write_value(line, misfit(form, value))?;
+    write!(line, "{form}")?;
+    write_remedy(line, form, value, header_of(key))
+}
+
+/// Says that what stands under a key isn't of its form.
 fn say_bad(
     document: &Document<'_>,
     at: Located<'_>,
@@ -61,19 +75,7 @@ fn say_bad(
 ) -> Result<(), Unsaid> {
     let mut line = document.line_at(at, key)?;
     line.write_str(": ")?;
-    match at.keys.value(key) {
-        Some(value) => {
-            write_value(&mut line, misfit(form, value))?;
-            write!(line, "{form}")?;
-            write_remedy(&mut line, form, value, header_of(key))?;
-        }
-        None => {
-            write!(line, "{form}")?;
-            if let ValueForm::Secret = form {
-                write_length(&mut line, at.keys.secret_length())?;
-            }
-        }
-    }
+    write_bad(&mut line, at, key, form)?;
     lines.push(line)
 }
 

@@ -1,9 +1,8 @@
-//! What may stand under a key, and the words for what doesn't fit.
+//! What may stand under a key.
 
 use crate::network_forms::NetworkForm;
 use roam_conf::removed_attribute;
 use roam_wire::RemovedAttribute;
-use std::fmt;
 use toml::Value;
 
 /// What stands under a key.
@@ -52,6 +51,11 @@ pub(crate) enum ValueForm {
     FewTables(usize),
 }
 
+/// Whether the text has 1 to `most` octets.
+fn has_length(text: &str, most: usize) -> bool {
+    !text.is_empty() && text.len() <= most
+}
+
 /// Whether the text has 1 to `most` octets: ASCII letters, digits, `.`, `-`, and `_` where that may stand.
 fn is_name(text: &str, most: usize, may_have_underscore: bool) -> bool {
     for octet in text.bytes() {
@@ -64,7 +68,7 @@ fn is_name(text: &str, most: usize, may_have_underscore: bool) -> bool {
             return false;
         }
     }
-    !text.is_empty() && text.len() <= most
+    has_length(text, most)
 }
 
 fn is_seed(text: &str) -> bool {
@@ -82,7 +86,7 @@ fn is_path(text: &str, most: usize) -> bool {
             return false;
         }
     }
-    !text.is_empty() && text.len() <= most
+    has_length(text, most)
 }
 
 /// Whether the text is `*`, `*.` and a realm's name, or such a name.
@@ -105,27 +109,39 @@ fn is_removal(text: &str, kept: &[u8]) -> bool {
     }
 }
 
+/// The Types of requests that are never taken out.
+const KEPT_OF_REQUESTS: [u8; 8] = [1, 2, 3, 24, 33, 60, 79, 80];
+
+/// The same of replies.
+const KEPT_OF_REPLIES: [u8; 4] = [24, 33, 79, 80];
+
+/// Whether the text is one of the form's words, where it has some.
+fn is_word(form: ValueForm, text: &str) -> bool {
+    match text {
+        "forward" | "answer" | "drop" => matches!(form, ValueForm::Accounting),
+        "all" | "final" | "none" => matches!(form, ValueForm::ExchangeLines),
+        "clear" | "hmac" => matches!(form, ValueForm::StationWord),
+        _ => false,
+    }
+}
+
 /// Whether the text is of the form, where that is one of texts.
 fn text_fits(form: ValueForm, text: &str) -> bool {
     match form {
         ValueForm::Seed => is_seed(text),
         ValueForm::Network(form) => form.fits(text),
         ValueForm::Endpoints(_) => NetworkForm::Endpoint.fits(text),
-        ValueForm::Text(most) => !text.is_empty() && text.len() <= most,
+        ValueForm::Text(most) => has_length(text, most),
         ValueForm::Path(most) => is_path(text, most),
-        ValueForm::Secret => !text.is_empty() && text.len() <= 64,
+        ValueForm::Secret | ValueForm::PeerNames => has_length(text, 64),
         ValueForm::PeerName => is_name(text, 64, true),
         ValueForm::RealmName => is_name(text, 253, false),
         ValueForm::Names => is_pattern(text),
         ValueForm::Rejects => is_pattern(text) && text != "*",
-        ValueForm::PeerNames => !text.is_empty() && text.len() <= 64,
-        ValueForm::NasIds => !text.is_empty() && text.len() <= 253,
-        ValueForm::RequestRemovals => is_removal(text, &[1, 2, 3, 24, 33, 60, 79, 80]),
-        ValueForm::ReplyRemovals => is_removal(text, &[24, 33, 79, 80]),
-        ValueForm::Accounting => text == "forward" || text == "answer" || text == "drop",
-        ValueForm::ExchangeLines => text == "all" || text == "final" || text == "none",
-        ValueForm::StationWord => text == "clear" || text == "hmac",
-        _ => false,
+        ValueForm::NasIds => has_length(text, 253),
+        ValueForm::RequestRemovals => is_removal(text, &KEPT_OF_REQUESTS),
+        ValueForm::ReplyRemovals => is_removal(text, &KEPT_OF_REPLIES),
+        _ => is_word(form, text),
     }
 }
 
@@ -220,79 +236,5 @@ pub(crate) fn misfit(form: ValueForm, value: &Value) -> &Value {
     match first_misfit(form, items.as_slice()) {
         Some(item) => item,
         None => value,
-    }
-}
-
-/// What an array of peers' names is.
-const OF_PEERS: &str = "is not in an array of 1..1024 texts of 1..64 octets, each a peer's name";
-
-/// What an array of attributes to take out is, up to those that stay.
-const OF_REMOVALS: &str =
-    "is not in an array of 0..64 texts, each a type 1..255, 26. and a vendor, or these, a dot and a type, without";
-
-/// What a value isn't that doesn't fit.
-impl fmt::Display for ValueForm {
-    fn fmt<W: fmt::Write>(&self, f: &mut fmt::Formatter<W>) -> fmt::Result {
-        match *self {
-            ValueForm::Number(least, most) => write!(f, "is not in {least}..{most}"),
-            ValueForm::Flag => f.write_str("is neither true nor false"),
-            ValueForm::ExchangeLines => {
-                f.write_str(
-                    "is none of \"all\", \"final\" and \"none\", and neither true nor false",
-                )
-            }
-            ValueForm::StationWord => f.write_str("is neither \"clear\" nor \"hmac\""),
-            ValueForm::Seed => f.write_str("is not a text of 64 hexadecimal digits"),
-            ValueForm::Network(form) => f.write_str(form.misfit()),
-            ValueForm::Endpoints(most) => {
-                let misfit = NetworkForm::Endpoint.misfit();
-                write!(f, "{misfit}, nor an array of 1..{most} such")
-            }
-            ValueForm::Text(most) => write!(f, "is not a text of 1..{most} octets"),
-            ValueForm::Path(most) => write!(f, "is not a path of 1..{most} octets"),
-            ValueForm::Secret => f.write_str("is not a text of 1..64 octets"),
-            ValueForm::PeerName => f.write_str("is not 1..64 of ASCII letters, digits, . - and _"),
-            ValueForm::RealmName => {
-                f.write_str("is not 1..253 of ASCII letters, digits, . and - (patterns go to also)")
-            }
-            ValueForm::Names => {
-                f.write_str("is not in an array of 0..256 texts, each a name, *. and a name, or *")
-            }
-            ValueForm::Rejects => {
-                f.write_str("is not in an array of 0..1024 texts, each a name, or *. and a name")
-            }
-            ValueForm::PeerNames => f.write_str(OF_PEERS),
-            ValueForm::NasIds => {
-                f.write_str("is not in an array of 0..1024 texts of 1..253 octets")
-            }
-            ValueForm::RequestRemovals => write!(f, "{OF_REMOVALS} 1, 2, 3, 24, 33, 60, 79 and 80"),
-            ValueForm::ReplyRemovals => write!(f, "{OF_REMOVALS} 24, 33, 79 and 80"),
-            ValueForm::Accounting => {
-                f.write_str("is none of \"forward\", \"answer\" and \"drop\"")
-            }
-            ValueForm::Tables(most) => write!(f, "is no array of 1..{most} tables"),
-            ValueForm::FewTables(most) => write!(f, "is no array of 0..{most} tables"),
-        }
-    }
-}
-
-/// What a value of the form is, for one that no document can have.
-pub(crate) fn write_wanted<W: fmt::Write>(form: ValueForm, f: &mut W) -> fmt::Result {
-    match form {
-        ValueForm::Number(least, most) => write!(f, "a whole number in {least}..{most}"),
-        ValueForm::Flag => f.write_str("true or false"),
-        ValueForm::Names | ValueForm::Rejects => {
-            f.write_str("an array of texts, as [\"*.example.org\"]")
-        }
-        ValueForm::PeerNames | ValueForm::NasIds => {
-            f.write_str("an array of texts, as [\"nas1\"]")
-        }
-        ValueForm::RequestRemovals | ValueForm::ReplyRemovals => {
-            f.write_str("an array of texts, as [\"31\", \"26.9.1\"]")
-        }
-        ValueForm::Tables(_) | ValueForm::FewTables(_) => f.write_str(
-            "tables, each below a header of its own",
-        ),
-        _ => f.write_str("a text in quotation marks"),
     }
 }

@@ -15,6 +15,7 @@ mod bad_values;
 mod diagnosis;
 mod document;
 mod duplicates;
+mod form_words;
 mod forms;
 mod keys;
 mod line;

@@ -1,6 +1,6 @@
 //! Why a text is no TOML document.
 
-use crate::forms::write_wanted;
+use crate::form_words::write_wanted;
 use crate::line::Line;
 use crate::lines::Lines;
 use crate::rules::form_of;

@@ -1,0 +1,102 @@
+//! The words for what doesn't fit a form.
+
+use crate::forms::ValueForm;
+use crate::network_forms::NetworkForm;
+use std::fmt;
+
+const OF_EXCHANGE_LINES: &str =
+    "is none of \"all\", \"final\" and \"none\", and neither true nor false";
+
+const OF_REALM_NAME: &str = "is not 1..253 of ASCII letters, digits, . and - (patterns go to also)";
+
+const OF_NAMES: &str = "is not in an array of 0..256 texts, each a name, *. and a name, or *";
+
+const OF_REJECTS: &str = "is not in an array of 0..1024 texts, each a name, or *. and a name";
+
+/// What an array of peers' names is.
+const OF_PEERS: &str = "is not in an array of 1..1024 texts of 1..64 octets, each a peer's name";
+
+/// What an array of attributes to take out is, up to those that stay.
+const OF_REMOVALS: &str =
+    "is not in an array of 0..64 texts, each a type 1..255, 26. and a vendor, or these, a dot and a type, without";
+
+impl ValueForm {
+    /// What a value isn't that doesn't fit, up to the number of the form and behind it; where it has none, or two, all
+    /// stands in the first.
+    fn misfit_words(self) -> (&'static str, &'static str) {
+        match self {
+            ValueForm::Number(..) => ("is not in ", ""),
+            ValueForm::Flag => ("is neither true nor false", ""),
+            ValueForm::ExchangeLines => (OF_EXCHANGE_LINES, ""),
+            ValueForm::StationWord => ("is neither \"clear\" nor \"hmac\"", ""),
+            ValueForm::Seed => ("is not a text of 64 hexadecimal digits", ""),
+            ValueForm::Network(form) => (form.misfit(), ""),
+            ValueForm::Endpoints(_) => (", nor an array of 1..", " such"),
+            ValueForm::Text(_) => ("is not a text of 1..", " octets"),
+            ValueForm::Path(_) => ("is not a path of 1..", " octets"),
+            ValueForm::Secret => ("is not a text of 1..64 octets", ""),
+            ValueForm::PeerName => ("is not 1..64 of ASCII letters, digits, . - and _", ""),
+            ValueForm::RealmName => (OF_REALM_NAME, ""),
+            ValueForm::Names => (OF_NAMES, ""),
+            ValueForm::Rejects => (OF_REJECTS, ""),
+            ValueForm::PeerNames => (OF_PEERS, ""),
+            ValueForm::NasIds => ("is not in an array of 0..1024 texts of 1..253 octets", ""),
+            ValueForm::RequestRemovals => (OF_REMOVALS, " 1, 2, 3, 24, 33, 60, 79 and 80"),
+            ValueForm::ReplyRemovals => (OF_REMOVALS, " 24, 33, 79 and 80"),
+            ValueForm::Accounting => ("is none of \"forward\", \"answer\" and \"drop\"", ""),
+            ValueForm::Tables(_) => ("is no array of 1..", " tables"),
+            ValueForm::FewTables(_) => ("is no array of 0..", " tables"),
+        }
+    }
+
+    /// The number of the form, where it has one.
+    fn most(self) -> Option<usize> {
+        match self {
+            ValueForm::Endpoints(most)
+            | ValueForm::Text(most)
+            | ValueForm::Path(most)
+            | ValueForm::Tables(most)
+            | ValueForm::FewTables(most) => Some(most),
+            _ => None,
+        }
+    }
+}
+
+/// What a value isn't that doesn't fit.
+impl fmt::Display for ValueForm {
+    fn fmt<W: fmt::Write>(&self, f: &mut fmt::Formatter<W>) -> fmt::Result {
+        let (before, behind) = self.misfit_words();
+        if let ValueForm::Endpoints(_) = *self {
+            f.write_str(NetworkForm::Endpoint.misfit())?;
+        }
+        f.write_str(before)?;
+        if let ValueForm::Number(least, most) = *self {
+            return write!(f, "{least}..{most}");
+        }
+        if let Some(most) = self.most() {
+            write!(f, "{most}")?;
+        }
+        f.write_str(behind)
+    }
+}
+
+/// What a value of the form is, for one that no document can have.
+pub(crate) fn write_wanted<W: fmt::Write>(form: ValueForm, f: &mut W) -> fmt::Result {
+    match form {
+        ValueForm::Number(least, most) => write!(f, "a whole number in {least}..{most}"),
+        ValueForm::Flag => f.write_str("true or false"),
+        ValueForm::Names | ValueForm::Rejects => {
+            f.write_str("an array of texts, as [\"*.example.org\"]")
+        }
+        ValueForm::PeerNames | ValueForm::NasIds => {
+            f.write_str("an array of texts, as [\"nas1\"]")
+        }
+        ValueForm::RequestRemovals | ValueForm::ReplyRemovals => {
+            f.write_str("an array of texts, as [\"31\", \"26.9.1\"]")
+        }
+        ValueForm::Tables(_) | ValueForm::FewTables(_) => f.write_str(
+            "tables, each below a header of its own",
+        ),
+        _ => f.write_str("a text in quotation marks"),
+    }
+}
