@@ -21,31 +21,41 @@ const OF_REMOVALS: &str =
     "is not in an array of 0..64 texts, each a type 1..255, 26. and a vendor, or these, a dot and a type, without";
 
 impl ValueForm {
-    /// What a value isn't that doesn't fit, up to the number of the form and behind it; where it has none, or two, all
-    /// stands in the first.
-    fn misfit_words(self) -> (&'static str, &'static str) {
+    /// What a value isn't that doesn't fit, up to the form's number.
+    fn words_before(self) -> &'static str {
         match self {
-            ValueForm::Number(..) => ("is not in ", ""),
-            ValueForm::Flag => ("is neither true nor false", ""),
-            ValueForm::ExchangeLines => (OF_EXCHANGE_LINES, ""),
-            ValueForm::StationWord => ("is neither \"clear\" nor \"hmac\"", ""),
-            ValueForm::Seed => ("is not a text of 64 hexadecimal digits", ""),
-            ValueForm::Network(form) => (form.misfit(), ""),
-            ValueForm::Endpoints(_) => (", nor an array of 1..", " such"),
-            ValueForm::Text(_) => ("is not a text of 1..", " octets"),
-            ValueForm::Path(_) => ("is not a path of 1..", " octets"),
-            ValueForm::Secret => ("is not a text of 1..64 octets", ""),
-            ValueForm::PeerName => ("is not 1..64 of ASCII letters, digits, . - and _", ""),
-            ValueForm::RealmName => (OF_REALM_NAME, ""),
-            ValueForm::Names => (OF_NAMES, ""),
-            ValueForm::Rejects => (OF_REJECTS, ""),
-            ValueForm::PeerNames => (OF_PEERS, ""),
-            ValueForm::NasIds => ("is not in an array of 0..1024 texts of 1..253 octets", ""),
-            ValueForm::RequestRemovals => (OF_REMOVALS, " 1, 2, 3, 24, 33, 60, 79 and 80"),
-            ValueForm::ReplyRemovals => (OF_REMOVALS, " 24, 33, 79 and 80"),
-            ValueForm::Accounting => ("is none of \"forward\", \"answer\" and \"drop\"", ""),
-            ValueForm::Tables(_) => ("is no array of 1..", " tables"),
-            ValueForm::FewTables(_) => ("is no array of 0..", " tables"),
+            ValueForm::Number(..) => "is not in ",
+            ValueForm::Flag => "is neither true nor false",
+            ValueForm::ExchangeLines => OF_EXCHANGE_LINES,
+            ValueForm::StationWord => "is neither \"clear\" nor \"hmac\"",
+            ValueForm::Seed => "is not a text of 64 hexadecimal digits",
+            ValueForm::Network(form) => form.misfit(),
+            ValueForm::Endpoints(_) => ", nor an array of 1..",
+            ValueForm::Text(_) => "is not a text of 1..",
+            ValueForm::Path(_) => "is not a path of 1..",
+            ValueForm::Secret => "is not a text of 1..64 octets",
+            ValueForm::PeerName => "is not 1..64 of ASCII letters, digits, . - and _",
+            ValueForm::RealmName => OF_REALM_NAME,
+            ValueForm::Names => OF_NAMES,
+            ValueForm::Rejects => OF_REJECTS,
+            ValueForm::PeerNames => OF_PEERS,
+            ValueForm::NasIds => "is not in an array of 0..1024 texts of 1..253 octets",
+            ValueForm::RequestRemovals | ValueForm::ReplyRemovals => OF_REMOVALS,
+            ValueForm::Accounting => "is none of \"forward\", \"answer\" and \"drop\"",
+            ValueForm::Tables(_) => "is no array of 1..",
+            ValueForm::FewTables(_) => "is no array of 0..",
+        }
+    }
+
+    /// The same, behind that number.
+    fn words_behind(self) -> &'static str {
+        match self {
+            ValueForm::Endpoints(_) => " such",
+            ValueForm::Text(_) | ValueForm::Path(_) => " octets",
+            ValueForm::RequestRemovals => " 1, 2, 3, 24, 33, 60, 79 and 80",
+            ValueForm::ReplyRemovals => " 24, 33, 79 and 80",
+            ValueForm::Tables(_) | ValueForm::FewTables(_) => " tables",
+            _ => "",
         }
     }
 
@@ -65,18 +75,17 @@ impl ValueForm {
 /// What a value isn't that doesn't fit.
 impl fmt::Display for ValueForm {
     fn fmt<W: fmt::Write>(&self, f: &mut fmt::Formatter<W>) -> fmt::Result {
-        let (before, behind) = self.misfit_words();
         if let ValueForm::Endpoints(_) = *self {
             f.write_str(NetworkForm::Endpoint.misfit())?;
         }
-        f.write_str(before)?;
+        f.write_str(self.words_before())?;
         if let ValueForm::Number(least, most) = *self {
             return write!(f, "{least}..{most}");
         }
         if let Some(most) = self.most() {
             write!(f, "{most}")?;
         }
-        f.write_str(behind)
+        f.write_str(self.words_behind())
     }
 }
 
