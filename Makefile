@@ -25,7 +25,7 @@ see:
 		-- sim a.conf a.script
 
 run:
-	cd crates/roam && rt run -- sim ../../examples/two-realms.conf ../../examples/accounting.script
+	cd crates/roam && ../../tools/rt.py run -- sim ../../examples/two-realms.conf ../../examples/accounting.script
 
 test:
 	.ci/run

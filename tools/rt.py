@@ -1,7 +1,8 @@
 #!/usr/bin/env python3
 """Runs `rt`, with each crate's sum and the list of the crates below it reckoned once a run.
 
-    tools/rt.py ci
+    tools/rt.py ci                      (at the root)
+    ../../tools/rt.py run -- WORD ..    (in a crate's folder; also check, test, lib, plant ..)
 
 The `rt` of rattle-kit-13b reckons a crate's sum anew for each way that leads down to it, before and after it builds the crate: here
 these are some eleven million sums, more hours than all proofs take. So this loads the `rt` that stands in the path, has the two calls
