@@ -4,14 +4,11 @@ use Rattle.roam_stations.specs.Hashes.{hash_of}
 use Rattle.roam_stations.specs.declared.form.StationForm.{StationForm}
 use Rattle.roam_stations.specs.declared.form.StationForm.TheVariants as form
 use Rattle.roam_stations.specs.declared.hmac.StationKey.{StationKey}
-use Rattle.roam_notices.specs.declared.exchange.Value.{Value}
 use Rattle.roam_notices.specs.Exchanges.{station_text}
-use Rattle.roam_notices.specs.Values.{digits_text, octets_if, octets_of}
+use Rattle.roam_notices.specs.Values.{digits_text}
 
-pub station-hashed : (before : List ℕ) (how : StationForm) (station : Option Value) (key : StationKey) (value : Value)
-    (octets : List ℕ) → how ≡ form.Hashed key → station ≡ Some value → octets ≡ octets_of value →
-    before ++ codes " station=hmac:" ++ digits_text (hash_of key.block octets)
-    ≡ before ++ station_text how (octets_if station)
-station-hashed before how station key value octets hashed stands kept =
-    rw (hashed, stands, kept)
-    (append_assoc before (codes " station=hmac:") (digits_text (hash_of key.block (octets_of value))))
+pub station-hashed : (before : List ℕ) (how : StationForm) (station : Option (List ℕ)) (key : StationKey)
+    (octets : List ℕ) → how ≡ form.Hashed key → station ≡ Some octets →
+    before ++ codes " station=hmac:" ++ digits_text (hash_of key.block octets) ≡ before ++ station_text how station
+station-hashed before how station key octets hashed stands =
+    rw (hashed, stands) (append_assoc before (codes " station=hmac:") (digits_text (hash_of key.block octets)))

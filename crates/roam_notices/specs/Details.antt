@@ -2,17 +2,17 @@
 use Rattle.std.specs.Prelude.{◌≡◌, ℕ, ◌==◌, List, [], ◌++◌, Option, Some, None, option_map, if◌then◌else◌, codes}
 use Rattle.std.specs.Borrow.{Bor}
 use Rattle.std.specs.Fmt.{decimal}
-use Rattle.roam_notices.specs.Values.{octets_if, value_text}
+use Rattle.roam_notices.specs.Values.{no_value, octets_if, value_text}
 use Rattle.roam_notices.specs.declared.details.Details.{Details}
 
 abbrev pub no_details : Details
 no_details = record {
-  operator = None;
-  nas_id = None;
-  called = None;
+  operator = no_value;
+  nas_id = no_value;
+  called = no_value;
   status = None;
-  session = None;
-  charged = None;
+  session = no_value;
+  charged = no_value;
 }
 
 -- both say the same of where they come from

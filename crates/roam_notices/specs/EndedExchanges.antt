@@ -10,7 +10,7 @@ use Rattle.roam_pending.specs.declared.key.Requester.{Requester}
 use Rattle.roam_pending.specs.declared.key.Requester.TheVariants as requester
 use Rattle.roam_exchange.specs.Happenings.{PlainWaited}
 use Rattle.roam_notices.specs.Said.{AreTold, charged_by}
-use Rattle.roam_notices.specs.Values.{octets_if}
+use Rattle.roam_notices.specs.Values.{no_value, octets_if}
 use Rattle.roam_notices.specs.declared.details.Details.{Details}
 use Rattle.roam_notices.specs.declared.exchange.Exchange.{Exchange}
 use Rattle.roam_notices.specs.declared.exchange.ExchangeEnd.{ExchangeEnd}
@@ -48,7 +48,7 @@ server_of realms realm w = server_for realms realm w w.requester
 
 -- details without who is charged
 abbrev pub uncharged : Details → Details
-uncharged details = record details { charged = None }
+uncharged details = record details { charged = no_value }
 
 -- ## Line of an exchange that ended
 -- Of the request that waited, and of no other: its realm, who asked, which home server it was or which peer, how often
@@ -56,7 +56,7 @@ uncharged details = record details { charged = None }
 -- octets aren't kept.
 -- Source: ours
 -- Rules out: a line with another's user, realm or server
--- Stands in: `roam_notices` `EndedExchanges.antt`: `IsLineOf`; `Said.antt`: `AreTold`; `exchange_of`
+-- Stands in: `roam_notices` `EndedExchanges.antt`: `IsLineOf`; `Said.antt`: `AreTold`; `tell_of`
 --
 pub record IsLineOf (config : ConfigView) (index : ℕ) (w : PlainWaited) (ending : ExchangeEnd) (reply : List ℕ)
     (x : Exchange) : Type 0 where

@@ -2,7 +2,7 @@
 -- Ours.
 use Rattle.std.specs.Prelude.{◌≡◌, ◌⊎◌, ℕ, ◌+◌, ◌-◌, ◌^◌, ◌<◌, ◌≤◌, ◌==◌, min, List, [], ◌∷◌, ◌++◌, length, slice_index_or, slice_set, All, None, if◌then◌else◌}
 use Rattle.roam_notices.specs.Details.{AreSame, no_details}
-use Rattle.roam_notices.specs.Values.{octets_if}
+use Rattle.roam_notices.specs.Values.{no_value, octets_if}
 use Rattle.roam_notices.specs.declared.exchange.Exchange.{Exchange}
 use Rattle.roam_notices.specs.declared.exchange.ExchangeEnd.{ExchangeEnd}
 use Rattle.roam_notices.specs.declared.exchange.ExchangeEnd.TheVariants as outcome
@@ -35,8 +35,8 @@ unsaid end = record {
   realm = None;
   peer = None;
   server = None;
-  user = None;
-  station = None;
+  user = no_value;
+  station = no_value;
   milliseconds = 0;
   tries = 0;
   times = 1;

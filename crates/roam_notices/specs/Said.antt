@@ -44,10 +44,10 @@ pub record AreDetailsIn (request : Result Packet Refusal) (details : Details) : 
   pub called : octets_if details.called ≡ told_in 30 request
   pub status : details.status ≡ status_in request
   pub session : octets_if details.session ≡ told_in ACCT_SESSION_ID request
-  pub charged : details.charged ≡ None
+  pub charged : octets_if details.charged ≡ None
 
 -- User-Name, Calling-Station-Id (RFC 2865, sections 5.1, 5.31) and the details
-pub record AreTold (request : Result Packet Refusal) (word : RequestWord) (user station : Option Value)
+pub record AreTold (request : Result Packet Refusal) (word : RequestWord) (user station : Value)
     (details : Details) : Type 0 where
   pub asked : word ≡ asked_in request
   pub user_name : octets_if user ≡ told_in USER_NAME request
@@ -60,7 +60,7 @@ pub record AreTold (request : Result Packet Refusal) (word : RequestWord) (user 
 -- Source: RFC 2865 section 5, RFC 2866 section 5, RFC 5580 section 4.1, RFC 4372 section 2.2, ours
 -- Rules out: one attribute told as another; who is charged by any other reply
 -- Stands in: `roam_notices` `Said.antt`: `AreTold`, `IsSaidBy`, `charged_by`; `nak_of`, `local_reject_of`,
--- `exchange_of`
+-- `tell_of`
 --
 -- each as it stands in a request; nothing of one that isn't read
 abbrev pub IsSaidBy : Result Packet Refusal → Exchange → Type 0

@@ -1,15 +1,16 @@
 -- How a value of a packet stands in a line: between quotation marks, and whatever octets it has printable. Ours.
-use Rattle.std.specs.Prelude.{ℕ, ◌+◌, ◌==◌, ◌&&◌, ◌/◌, ◌%◌, Bool, not, nat_le, nat_lt, min, take, List, [], ◌∷◌, ◌++◌, Option, Some, None, option_map, if◌then◌else◌, codes}
+use Rattle.std.specs.Prelude.{ℕ, ◌+◌, ◌==◌, ◌&&◌, ◌/◌, ◌%◌, Bool, false, not, nat_le, nat_lt, min, replicate, take, List, [], ◌∷◌, ◌++◌, Option, Some, None, if◌then◌else◌, codes}
 use Rattle.std.specs.List.{flat_map}
 use Rattle.roam_notices.specs.declared.exchange.Value.{Value}
 pub use Rattle.roam_route.specs.RejectCauses.{shown_value}
 
--- the octets of a value
-abbrev pub octets_of : Value → List ℕ
-octets_of value = take (min value.len 253) value.octets
+-- the octets of a value, if there is one
+abbrev pub octets_if : Value → Option (List ℕ)
+octets_if value = if value.is_there then Some (take (min value.len 253) value.octets) else None
 
-abbrev pub octets_if : Option Value → Option (List ℕ)
-octets_if value = option_map octets_of value
+-- that there is none
+abbrev pub no_value : Value
+no_value = record { is_there = false; len = 0; octets = replicate 253 0 }
 
 -- a hexadecimal digit, in lower case: 48 is `0`, and 97 is `a`
 abbrev pub digit : ℕ → ℕ

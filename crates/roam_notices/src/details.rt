@@ -12,23 +12,23 @@ use std::alloc::AllocError;
 #[derive(Clone, Copy)]
 pub struct Details {
     /// The Operator-Name (RFC 5580, section 4.1).
-    pub operator: Option<Value>,
+    pub operator: Value,
     /// The NAS-Identifier and the Called-Station-Id (RFC 2865, sections 5.32 and 5.30).
-    pub nas_id: Option<Value>,
-    pub called: Option<Value>,
+    pub nas_id: Value,
+    pub called: Value,
     /// The Acct-Status-Type and the Acct-Session-Id (RFC 2866, sections 5.1 and 5.5).
     pub status: Option<u32>,
-    pub session: Option<Value>,
+    pub session: Value,
     /// The Chargeable-User-Identity of an Access-Accept (RFC 4372, section 2.2).
-    pub charged: Option<Value>,
+    pub charged: Value,
 }
 
 /// Whether two values have the same octets, or both aren't there.
-pub(crate) fn is_same(a: &Option<Value>, b: &Option<Value>) -> bool
+pub(crate) fn is_same(a: &Value, b: &Value) -> bool
     ensures { IsTrue result ↔ (octets_if a.now ≡ octets_if b.now) }
 {
-    match (a, b) {
-        (Some(a), Some(b)) => a.octets() == b.octets(),
+    match (a.octets(), b.octets()) {
+        (Some(a), Some(b)) => a == b,
         (None, None) => true,
         _ => false,
     }
@@ -56,12 +56,12 @@ impl Details {
         ensures { result ≡ spec.no_details }
     {
         Details {
-            operator: None,
-            nas_id: None,
-            called: None,
+            operator: Value::none(),
+            nas_id: Value::none(),
+            called: Value::none(),
             status: None,
-            session: None,
-            charged: None,
+            session: Value::none(),
+            charged: Value::none(),
         }
     }
 
@@ -74,11 +74,11 @@ impl Details {
 }
 
 /// Adds a key and a value between quotation marks, where there is one.
-fn push_if(line: &mut Vec<u8>, key: &str, value: &Option<Value>) -> Result<(), AllocError>
+fn push_if(line: &mut Vec<u8>, key: &str, value: &Value) -> Result<(), AllocError>
     ensures { OnOk result (line.new.items ≡ line.old.items ++ spec.text_if key.now (octets_if value.now)) }
 {
-    match value {
-        Some(value) => push_value(line, key, Some(value.octets())),
+    match value.octets() {
+        Some(octets) => push_value(line, key, Some(octets)),
         None => Ok(()),
     }
 }

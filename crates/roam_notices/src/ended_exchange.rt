@@ -1,13 +1,13 @@
 //! The line of an exchange that ended, from the request that waited.
 
-ghost use Rattle.std.specs.Prelude.{◌≡◌, ◌-◌, IfSome};
+ghost use Rattle.std.specs.Prelude.{◌≡◌, ◌-◌, IsTrue};
 ghost use Rattle.roam_conf.specs.Shown.{shown};
 ghost use Rattle.roam_exchange.specs.HappeningsShown.{shown_waited};
 ghost use Rattle.roam_notices.specs.EndedExchanges as spec;
 ghost use Rattle.roam_notices.specs.EndedExchanges.{IsLineOf};
 
 use crate::exchange::{Exchange, ExchangeEnd};
-use crate::said::{charged_by, said_by};
+use crate::said::{keep_charged, say};
 use roam_conf::{Config, Endpoint, Link};
 use roam_exchange::Waited;
 use roam_pending::Requester;
@@ -56,30 +56,38 @@ fn server_of<A: Allocator>(config: &Config, realm: u16, waited: &Waited<A>) -> O
     }
 }
 
-/// The line of an exchange of a realm that ended so at a moment, with this reply, or with none, which has no octets: of
-/// the request that waited. None where its octets aren't kept.
-pub fn exchange_of<A: Allocator>(
+/// How an exchange ended at a moment: with this reply, or with none, which has no octets.
+#[derive(Clone, Copy)]
+pub struct EndedWith<'r> {
+    pub outcome: ExchangeEnd,
+    pub reply: &'r [u8],
+    /// In milliseconds since the server's start.
+    pub now: u64,
+}
+
+/// Has an exchange be the one of a realm that ended so: of the request that waited. No more octets of it are written
+/// than it tells. Answers whether it is that: not where the request's octets aren't kept.
+pub fn tell_of<A: Allocator>(
+    exchange: &mut Exchange,
     config: &Config,
     realm: u16,
     waited: &Waited<A>,
-    outcome: ExchangeEnd,
-    reply: &[u8],
-    now: u64,
-) -> Option<Exchange>
-    ensures line { IfSome result
-        (IsLineOf (shown config.now) realm (shown_waited waited.now) outcome reply.now) }
-    ensures time { IfSome result (λ x. x.milliseconds ≡ now - waited.now.came) }
+    ended: EndedWith<'_>,
+) -> bool
+    ensures line { IsTrue result → IsLineOf (shown config.now) realm (shown_waited waited.now) ended.entry.outcome
+        ended.entry.reply.now exchange.new }
+    ensures time { IsTrue result → exchange.new.milliseconds ≡ ended.entry.now - waited.now.came }
 {
     let octets = match &waited.octets {
         Some(octets) => octets.as_slice(),
-        None => return None,
+        None => return false,
     };
-    let mut exchange = said_by(octets, outcome);
+    say(exchange, octets, ended.outcome);
     exchange.realm = Some(realm);
     exchange.peer = peer_of(waited.requester, waited.link);
     exchange.server = server_of(config, realm, waited);
-    exchange.milliseconds = now.saturating_sub(waited.came);
+    exchange.milliseconds = ended.now.saturating_sub(waited.came);
     exchange.tries = tries_of(config, realm, waited.sends_left);
-    exchange.details.charged = charged_by(reply);
-    Some(exchange)
+    keep_charged(&mut exchange.details.charged, ended.reply);
+    true
 }

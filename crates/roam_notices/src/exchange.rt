@@ -1,9 +1,9 @@
 //! What is told of an exchange that ended.
 
-ghost use Rattle.std.specs.Prelude.{◌≡◌, take};
+ghost use Rattle.std.specs.Prelude.{◌≡◌, Some, None, option_map, take};
 ghost use Rattle.roam_notices.specs.Exchanges as spec;
-ghost use Rattle.roam_notices.specs.Folded.{once_more};
-ghost use Rattle.roam_notices.specs.Values.{octets_of};
+ghost use Rattle.roam_notices.specs.Folded.{once_more, unsaid};
+ghost use Rattle.roam_notices.specs.Values.{no_value, octets_if, shown_value};
 
 use crate::details::Details;
 use roam_conf::{Endpoint, ExchangeLines};
@@ -41,10 +41,11 @@ pub enum RequestWord {
     Other,
 }
 
-/// The value of an attribute: at most 253 octets, and of a longer one the first of them.
+/// The value of an attribute, or that there is none: at most 253 octets, and of a longer one the first of them.
 #[derive(Clone, Copy)]
 pub struct Value {
-    // It lies beside the first octets: whoever reads a short value reads one line of a cache.
+    // These lie beside the first octets: whoever reads a short value reads one line of a cache.
+    is_there: bool,
     len: u8,
     octets: [u8; MOST],
 }
@@ -69,8 +70,8 @@ pub struct Exchange {
     /// How many were like it within a second: local rejects, or replaced requests, that are alike are one line.
     pub times: u64,
     /// The User-Name and the Calling-Station-Id of the request.
-    pub user: Option<Value>,
-    pub station: Option<Value>,
+    pub user: Value,
+    pub station: Value,
     pub details: Details,
 }
 
@@ -135,6 +136,26 @@ impl RequestWord {
 }
 
 impl Exchange {
+    /// One that ended so, of which no more is said.
+    pub fn unsaid(outcome: ExchangeEnd) -> Exchange
+        ensures { result ≡ unsaid outcome }
+    {
+        Exchange {
+            outcome,
+            why: None,
+            asked: RequestWord::Other,
+            realm: None,
+            peer: None,
+            server: None,
+            user: Value::none(),
+            station: Value::none(),
+            milliseconds: 0,
+            tries: 0,
+            times: 1,
+            details: Details::none(),
+        }
+    }
+
     /// Counts one more like it.
     pub(crate) fn count_one(&mut self)
         ensures { self.new ≡ once_more self.old }
@@ -144,24 +165,54 @@ impl Exchange {
 }
 
 impl Value {
-    /// These octets; of more than 253 the first ones.
-    pub fn new(octets: &[u8]) -> Value
-        ensures { octets_of result ≡ take 253 octets.now }
+    /// There is none.
+    pub fn none() -> Value
+        ensures { result ≡ no_value }
     {
-        let len = octets.len().min(MOST);
-        let mut kept = [0; MOST];
-        kept[..len].copy_from_slice(&octets[..len]);
         Value {
-            octets: kept,
-            len: len as u8,
+            is_there: false,
+            len: 0,
+            octets: [0; MOST],
         }
     }
 
-    /// The octets.
-    pub fn octets(&self) -> &[u8]
-        ensures { result.now ≡ octets_of self.now }
+    /// These octets; of more than 253 the first ones.
+    pub fn new(octets: &[u8]) -> Value
+        ensures { octets_if result ≡ Some (take 253 octets.now) }
     {
+        let mut value = Value::none();
+        value.put(octets);
+        value
+    }
+
+    /// Is these octets from now on; of more than 253 the first ones.
+    fn put(&mut self, octets: &[u8])
+        ensures { octets_if self.new ≡ Some (take 253 octets.now) }
+    {
+        let len = octets.len().min(MOST);
+        self.octets[..len].copy_from_slice(&octets[..len]);
+        self.is_there = true;
+        self.len = len as u8;
+    }
+
+    /// Is these octets from now on, where there are any. Only as many octets are written as it has.
+    pub(crate) fn set(&mut self, octets: Option<&[u8]>)
+        ensures { octets_if self.new ≡ option_map (take 253) (shown_value octets.entry) }
+    {
+        match octets {
+            Some(octets) => self.put(octets),
+            None => self.is_there = false,
+        }
+    }
+
+    /// The octets, if there is a value.
+    pub fn octets(&self) -> Option<&[u8]>
+        ensures { shown_value result ≡ octets_if self.now }
+    {
+        if !self.is_there {
+            return None;
+        }
         let len = usize::from(self.len).min(MOST);
-        &self.octets[..len]
+        Some(&self.octets[..len])
     }
 }

@@ -5,10 +5,10 @@ ghost use Rattle.std.specs.Fmt.{decimal};
 ghost use Rattle.std.specs.List.{list_all};
 ghost use Rattle.roam_conf.specs.Shown.{shown};
 ghost use Rattle.roam_notices.specs.Exchanges as spec;
-ghost use Rattle.roam_notices.specs.Values.{digit, is_plain, octets_if, quoted_octet, quoted_octets, shown_value, value_text};
+ghost use Rattle.roam_notices.specs.Values.{digit, is_plain, quoted_octet, quoted_octets, shown_value, value_text};
 
 use crate::details::push_details;
-use crate::exchange::{Exchange, ExchangeEnd, RequestWord, Value};
+use crate::exchange::{Exchange, ExchangeEnd, RequestWord};
 use crate::server_text::push_server;
 use crate::station_text::push_station;
 use itoa::Buffer;
@@ -159,16 +159,6 @@ fn peer_name(config: &Config, peer: Option<u16>) -> Option<&[u8]>
     }
 }
 
-/// The octets of a value, if there is one.
-fn octets_of(value: &Option<Value>) -> Option<&[u8]>
-    ensures { shown_value result ≡ octets_if value.now }
-{
-    match value {
-        Some(value) => Some(value.octets()),
-        None => None,
-    }
-}
-
 /// Adds who asked for what, and how that ended.
 fn push_who(line: &mut Vec<u8>, config: &Config, exchange: &Exchange) -> Result<(), AllocError>
     ensures { OnOk result (line.new.items
@@ -235,7 +225,7 @@ fn push_rest(
     ensures { OnOk result (line.new.items
         ≡ line.old.items ++ spec.rest_text stations.now exchange.now) }
 {
-    push_value(line, " user=", octets_of(&exchange.user))?;
+    push_value(line, " user=", exchange.user.octets())?;
     push_station(line, stations, &exchange.station)?;
     push_server(line, exchange.server)?;
     push_number(line, " ms=", exchange.milliseconds)?;

@@ -2,35 +2,15 @@
 
 ghost use Rattle.std.specs.Prelude.{◌≡◌, ◌<◌, ◌↔◌, ◌∷◌, [], IsTrue, IfOk, IfSome, IfNone, All, MatchOption, length};
 ghost use Rattle.std.specs.Prelude.{slice_set};
-ghost use Rattle.roam_notices.specs.Folded.{EndAlike, IsAlike, IsCounted, line_at, once_more, unsaid};
+ghost use Rattle.roam_notices.specs.Folded.{EndAlike, IsAlike, IsCounted, line_at, once_more};
 
-use crate::details::{Details, is_same};
-use crate::exchange::{Exchange, ExchangeEnd, RequestWord};
+use crate::details::is_same;
+use crate::exchange::Exchange;
 use std::alloc::{AllocError, Global};
 use std::marker::Model;
 
 /// How many lines tell of such ends within a second. All others stand in one line more.
 const LINES: usize = 8;
-
-/// One that ended so, of which no more is said.
-fn unsaid(outcome: ExchangeEnd) -> Exchange
-    ensures { result ≡ unsaid outcome }
-{
-    Exchange {
-        outcome,
-        why: None,
-        asked: RequestWord::Other,
-        realm: None,
-        peer: None,
-        server: None,
-        user: None,
-        station: None,
-        milliseconds: 0,
-        tries: 0,
-        times: 1,
-        details: Details::none(),
-    }
-}
 
 /// Whether two requests of the same peer ended in the same way and for the same cause, in the same realm.
 fn end_alike(a: &Exchange, b: &Exchange) -> bool
@@ -107,7 +87,7 @@ impl FoldedLines {
         match self.place_of(exchange) {
             Some(at) => self.count_at(at),
             None if len < LINES => self.lines.push_reserved(*exchange),
-            None if len == LINES => self.lines.push_reserved(unsaid(exchange.outcome)),
+            None if len == LINES => self.lines.push_reserved(Exchange::unsaid(exchange.outcome)),
             None => self.count_at(LINES),
         }
     }

@@ -24,14 +24,11 @@ const CHARGEABLE_USER_IDENTITY: u8 = 89;
 /// The operator of the access network (RFC 5580, section 4.1).
 const OPERATOR_NAME: u8 = 126;
 
-/// The value of the first attribute of a type, where there is one.
-fn value_in(packet: &View<'_>, kind: u8) -> Option<Value>
-    ensures { octets_if result ≡ spec.told_value kind packet.now }
+/// Has a place keep the value of the first attribute of a type, where there is one.
+fn keep(place: &mut Value, packet: &View<'_>, kind: u8)
+    ensures { octets_if place.new ≡ spec.told_value kind packet.now }
 {
-    match packet.first(kind) {
-        Some(octets) => Some(Value::new(octets)),
-        None => None,
-    }
+    place.set(packet.first(kind));
 }
 
 /// The number that four octets are, the high one first; other octets are none.
@@ -51,54 +48,81 @@ fn status_in(request: &View<'_>) -> Option<u32>
     number_in(request.first(ACCT_STATUS_TYPE)?)
 }
 
-/// What details a request says.
-fn details_in(request: &View<'_>) -> Details
-    ensures { spec.AreDetailsIn (Ok request.now) result }
+/// Has details be what a request says.
+fn keep_details(details: &mut Details, request: &View<'_>)
+    ensures { spec.AreDetailsIn (Ok request.now) details.new }
 {
-    Details {
-        operator: value_in(request, OPERATOR_NAME),
-        nas_id: value_in(request, NAS_IDENTIFIER),
-        called: value_in(request, CALLED_STATION_ID),
-        status: status_in(request),
-        session: value_in(request, ACCT_SESSION_ID),
-        charged: None,
-    }
+    keep(&mut details.operator, request, OPERATOR_NAME);
+    keep(&mut details.nas_id, request, NAS_IDENTIFIER);
+    keep(&mut details.called, request, CALLED_STATION_ID);
+    details.status = status_in(request);
+    keep(&mut details.session, request, ACCT_SESSION_ID);
+    details.charged.set(None);
 }
 
-/// An exchange that ended so, of which no more is said.
-fn nothing_said(outcome: ExchangeEnd) -> Exchange
-    ensures says { (fault : Refusal) → spec.IsSaidBy (Err fault) result }
-    ensures outcome { result.outcome ≡ outcome }
-    ensures once { (result.why ≡ None) × (result.times ≡ 1) }
+/// Has details be none.
+fn keep_no_details(details: &mut Details)
+    ensures { (fault : Refusal) → spec.AreDetailsIn (Err fault) details.new }
 {
-    Exchange {
-        outcome,
-        why: None,
-        asked: RequestWord::Other,
-        realm: None,
-        peer: None,
-        server: None,
-        user: None,
-        station: None,
-        milliseconds: 0,
-        tries: 0,
-        times: 1,
-        details: Details::none(),
-    }
+    details.operator.set(None);
+    details.nas_id.set(None);
+    details.called.set(None);
+    details.status = None;
+    details.session.set(None);
+    details.charged.set(None);
 }
 
-/// What of an exchange a request says that is read.
-fn said_in(request: &View<'_>, outcome: ExchangeEnd) -> Exchange
-    ensures says { spec.IsSaidBy (Ok request.now) result }
-    ensures outcome { result.outcome ≡ outcome }
-    ensures once { (result.why ≡ None) × (result.times ≡ 1) }
+/// Has an exchange tell nothing but how it ended, and what else it may tell of its request.
+fn begin(exchange: &mut Exchange, outcome: ExchangeEnd)
+    ensures outcome { exchange.new.outcome ≡ outcome }
+    ensures once { (exchange.new.why ≡ None) × (exchange.new.times ≡ 1) }
 {
-    let mut exchange = nothing_said(outcome);
+    exchange.outcome = outcome;
+    exchange.why = None;
+    exchange.realm = None;
+    exchange.peer = None;
+    exchange.server = None;
+    exchange.milliseconds = 0;
+    exchange.tries = 0;
+    exchange.times = 1;
+}
+
+/// Has an exchange tell nothing of its request, which isn't read.
+fn say_nothing(exchange: &mut Exchange)
+    ensures says { (fault : Refusal) → spec.IsSaidBy (Err fault) exchange.new }
+    ensures outcome { exchange.new.outcome ≡ exchange.old.outcome }
+    ensures once { (exchange.new.why ≡ exchange.old.why) × (exchange.new.times ≡ exchange.old.times) }
+{
+    exchange.asked = RequestWord::Other;
+    exchange.user.set(None);
+    exchange.station.set(None);
+    keep_no_details(&mut exchange.details);
+}
+
+/// Has an exchange tell what its request says.
+fn say_of(exchange: &mut Exchange, request: &View<'_>)
+    ensures says { spec.IsSaidBy (Ok request.now) exchange.new }
+    ensures outcome { exchange.new.outcome ≡ exchange.old.outcome }
+    ensures once { (exchange.new.why ≡ exchange.old.why) × (exchange.new.times ≡ exchange.old.times) }
+{
     exchange.asked = RequestWord::of(request.code());
-    exchange.user = value_in(request, USER_NAME);
-    exchange.station = value_in(request, CALLING_STATION_ID);
-    exchange.details = details_in(request);
-    exchange
+    keep(&mut exchange.user, request, USER_NAME);
+    keep(&mut exchange.station, request, CALLING_STATION_ID);
+    keep_details(&mut exchange.details, request);
+}
+
+/// Has an exchange be one that ended so, with what its request says: nothing of who it is for. No more octets of it are
+/// written than it tells.
+pub(crate) fn say(exchange: &mut Exchange, octets: &[u8], outcome: ExchangeEnd)
+    ensures says { spec.IsSaidBy (reading octets.now) exchange.new }
+    ensures outcome { exchange.new.outcome ≡ outcome }
+    ensures once { (exchange.new.why ≡ None) × (exchange.new.times ≡ 1) }
+{
+    begin(exchange, outcome);
+    match View::read(octets) {
+        Ok(view) => say_of(exchange, &view),
+        Err(_) => say_nothing(exchange),
+    }
 }
 
 /// What of an exchange a request says: nothing of who it is for and how it ended.
@@ -107,18 +131,19 @@ pub fn said_by(octets: &[u8], outcome: ExchangeEnd) -> Exchange
     ensures outcome { result.outcome ≡ outcome }
     ensures once { (result.why ≡ None) × (result.times ≡ 1) }
 {
-    match View::read(octets) {
-        Ok(view) => said_in(&view, outcome),
-        Err(_) => nothing_said(outcome),
-    }
+    let mut exchange = Exchange::unsaid(outcome);
+    say(&mut exchange, octets, outcome);
+    exchange
 }
 
-/// Who is charged by a reply, where it is an Access-Accept that says so.
-pub fn charged_by(reply: &[u8]) -> Option<Value>
-    ensures { octets_if result ≡ spec.charged_by (reading reply.now) }
+/// Has a place keep who is charged by a reply, where it is an Access-Accept that says so.
+pub(crate) fn keep_charged(place: &mut Value, reply: &[u8])
+    ensures { octets_if place.new ≡ spec.charged_by (reading reply.now) }
 {
     match View::read(reply) {
-        Ok(view) if view.code() == ACCESS_ACCEPT => value_in(&view, CHARGEABLE_USER_IDENTITY),
-        _ => None,
+        Ok(view) if view.code() == ACCESS_ACCEPT => {
+            keep(place, &view, CHARGEABLE_USER_IDENTITY);
+        }
+        _ => place.set(None),
     }
 }

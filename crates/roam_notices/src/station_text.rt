@@ -42,18 +42,14 @@ fn push_hash(line: &mut Vec<u8>, key: &StationKey, station: &[u8]) -> Result<(),
 pub(crate) fn push_station(
     line: &mut Vec<u8>,
     form: &StationForm,
-    station: &Option<Value>,
+    station: &Value,
 ) -> Result<(), AllocError>
     ensures { OnOk result (line.new.items
         ≡ line.old.items ++ station_text form.now (octets_if station.now)) }
 {
-    match (form, station) {
-        (StationForm::Clear, Some(station)) => push_value(
-            line,
-            " station=",
-            Some(station.octets()),
-        ),
-        (StationForm::Hashed(key), Some(station)) => push_hash(line, key, station.octets()),
+    match (form, station.octets()) {
+        (StationForm::Clear, Some(station)) => push_value(line, " station=", Some(station)),
+        (StationForm::Hashed(key), Some(station)) => push_hash(line, key, station),
         (StationForm::Hidden, Some(_)) => push(line, b" station=hidden"),
         (_, None) => push_value(line, " station=", None),
     }

@@ -1,15 +1,20 @@
 //! A thread's end of its queue of lines of exchanges.
 
-ghost use Rattle.std.specs.Prelude.{◌≡◌, ◌+◌, ◌-◌, ◌^◌, ◌<◌, ◌≤◌, [], Some, None, IfSome, min, unwrap_or};
+ghost use Rattle.std.specs.Prelude.{◌≡◌, ◌+◌, ◌-◌, ◌^◌, ◌<◌, ◌≤◌, [], Some, None, IfSome, IsFalse, IsTrue, min, unwrap_or};
 ghost use Rattle.std.specs.Option.{ForSome};
+ghost use Rattle.roam_conf.specs.Shown.{shown};
+ghost use Rattle.roam_exchange.specs.HappeningsShown.{shown_waited};
+ghost use Rattle.roam_notices.specs.EndedExchanges.{IsLineOf};
 ghost use Rattle.roam_notices.specs.Exchanges.{is_told};
 ghost use Rattle.roam_notices.specs.Folded.{IsCounted};
 
 use crate::notices::SECOND;
-use roam_conf::ExchangeLines;
-use roam_notices::{Exchange, ExchangeEnd, FoldedLines};
+use roam_conf::{Config, ExchangeLines};
+use roam_exchange::Waited;
+use roam_notices::{EndedWith, Exchange, ExchangeEnd, FoldedLines, tell_of};
 use rtrb::{Consumer, Producer, RingBuffer};
 use std::alloc::{AllocError, Global};
+use std::slice;
 
 /// How many lines of one thread wait to be told. What finds the queue full is dropped, and counted.
 pub const LINES: usize = 2048;
@@ -27,11 +32,11 @@ struct LineQueue {
 
 impl LineQueue {
     /// Puts a line behind the others, unless too many wait. Answers whether it was dropped.
-    fn put(&mut self, exchange: Exchange) -> bool {
+    fn put(&mut self, exchange: &Exchange) -> bool {
         let Some(lines) = &mut self.lines else {
             return false;
         };
-        let is_put = lines.push(exchange).is_ok();
+        let is_put = lines.push_entire_slice(slice::from_ref(exchange)).is_ok();
         self.is_waiting = self.is_waiting || is_put;
         if !is_put {
             self.dropped = self.dropped.saturating_add(exchange.times);
@@ -45,7 +50,7 @@ impl LineQueue {
     {
         let mut dropped = 0u64;
         while let Some(exchange) = folded.take_first() {
-            if self.put(exchange) {
+            if self.put(&exchange) {
                 dropped = dropped.saturating_add(1);
             }
         }
@@ -55,6 +60,8 @@ impl LineQueue {
 
 /// A thread's end of its queue of lines.
 pub struct Exchanges {
+    /// The exchange that is told next: it is made here, and copied to where it waits.
+    next: Exchange,
     queue: LineQueue,
     /// Of which exchanges lines tell.
     told: ExchangeLines,
@@ -72,6 +79,7 @@ pub struct Exchanges {
 impl Drop for Exchanges {
     fn drop(self) {
         let Self {
+            next: _,
             queue,
             told: _,
             rejected,
@@ -98,6 +106,7 @@ pub fn queue_of_lines(
         (Some(lines), Some(consumer))
     };
     let exchanges = Exchanges {
+        next: Exchange::unsaid(ExchangeEnd::GivenUp),
         queue: LineQueue {
             lines,
             dropped: 0,
@@ -127,11 +136,30 @@ impl Exchanges {
         ensures due { self.new.folded_due ≡ self.old.folded_due }
         ensures told { self.new.told ≡ self.old.told }
     {
-        self.queue.put(exchange)
+        self.queue.put(&exchange)
+    }
+
+    /// Has an exchange of a realm be told that ended so, unless too many wait. Never waits. Answers whether it was
+    /// dropped: also where its request's octets aren't kept.
+    pub fn tell_of(
+        &mut self,
+        config: &Config,
+        realm: u16,
+        waited: &Waited<Global>,
+        ended: EndedWith<'_>,
+    ) -> bool
+        ensures rejected { self.new.rejected ≡ self.old.rejected }
+        ensures replaced { self.new.replaced ≡ self.old.replaced }
+        ensures due { self.new.folded_due ≡ self.old.folded_due }
+        ensures told { self.new.told ≡ self.old.told }
+    {
+        let is_known = tell_of(&mut self.next, config, realm, waited, ended);
+        !is_known || self.queue.put(&self.next)
     }
 
     /// Notes that something is told within a second from this moment, and the time of a round more.
     fn tell_within_a_second(&mut self, now: u64)
+        ensures next { self.new.next ≡ self.old.next }
         ensures rejected { self.new.rejected ≡ self.old.rejected }
         ensures replaced { self.new.replaced ≡ self.old.replaced }
         ensures due { self.new.folded_due
@@ -153,7 +181,8 @@ impl Exchanges {
     }
 
     /// Counts a request that another one replaced at this moment: it is told so too.
-    pub fn replace(&mut self, exchange: &Exchange, now: u64)
+    fn replace(&mut self, exchange: &Exchange, now: u64)
+        ensures next { self.new.next ≡ self.old.next }
         ensures replaced { IsCounted exchange.now self.old.replaced self.new.replaced }
         ensures rejected { self.new.rejected ≡ self.old.rejected }
         ensures due { self.new.folded_due
@@ -161,6 +190,32 @@ impl Exchanges {
     {
         self.replaced.count(exchange);
         self.tell_within_a_second(now);
+    }
+
+    /// Counts an exchange of a realm whose request another one replaced at this moment, and that ended so: it is told
+    /// with those that are like it. Answers whether it was dropped: its octets aren't kept.
+    pub fn replace_of(
+        &mut self,
+        config: &Config,
+        realm: u16,
+        waited: &Waited<Global>,
+        ended: EndedWith<'_>,
+    ) -> bool
+        ensures dropped { IsTrue result → (self.new.replaced ≡ self.old.replaced)
+            × (self.new.folded_due ≡ self.old.folded_due) }
+        ensures due { IsFalse result → self.new.folded_due
+            ≡ Some (unwrap_or self.old.folded_due (min (2 ^ 64 - 1) (ended.entry.now + 1000))) }
+        ensures replaced { IsFalse result → IsCounted self.new.next self.old.replaced self.new.replaced }
+        ensures line { IsFalse result → IsLineOf (shown config.now) realm (shown_waited waited.now)
+            ended.entry.outcome ended.entry.reply.now self.new.next }
+        ensures rejected { self.new.rejected ≡ self.old.rejected }
+    {
+        if !tell_of(&mut self.next, config, realm, waited, ended) {
+            return true;
+        }
+        let exchange = self.next;
+        self.replace(&exchange, ended.now);
+        false
     }
 
     /// Has all be told that was rejected or replaced. Answers how many lines were dropped.

@@ -7,7 +7,7 @@ use crate::context::WorkerContext;
 use crate::hub_calls::HubCalls;
 use roam_calls::{Answered, Became, Happening, Opened, Waited};
 use roam_counters::Process;
-use roam_notices::{Exchange, ExchangeEnd, exchange_of};
+use roam_notices::{EndedWith, Exchange, ExchangeEnd};
 use roam_route::{Datagram, LocalAnswer, RejectCause};
 use roam_telling::{local_reject_of, local_response_of, nak_of};
 use std::alloc::Global;
@@ -113,9 +113,16 @@ impl<H: HubCalls<N>, N: Opened> WorkerContext<'_, '_, H, N> {
         if !self.exchanges.are_told(outcome) {
             return;
         }
-        match exchange_of(self.shared.config, realm, waited, outcome, &[], self.now) {
-            Some(exchange) => self.exchanges.replace(&exchange, self.now),
-            None => self.counting.process(Process::LineDropped),
+        let ended = EndedWith {
+            outcome,
+            reply: &[],
+            now: self.now,
+        };
+        if self
+            .exchanges
+            .replace_of(self.shared.config, realm, waited, ended)
+        {
+            self.counting.process(Process::LineDropped);
         }
     }
 
@@ -134,8 +141,17 @@ impl<H: HubCalls<N>, N: Opened> WorkerContext<'_, '_, H, N> {
         if !self.exchanges.are_told(outcome) {
             return;
         }
-        let config = self.shared.config;
-        self.tell(exchange_of(config, realm, waited, outcome, reply, self.now));
+        let ended = EndedWith {
+            outcome,
+            reply,
+            now: self.now,
+        };
+        if self
+            .exchanges
+            .tell_of(self.shared.config, realm, waited, ended)
+        {
+            self.counting.process(Process::LineDropped);
+        }
     }
 
     /// Tells of the requests that a tick gave up.

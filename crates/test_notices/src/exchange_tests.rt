@@ -25,7 +25,7 @@ secret = \"h1\"
 const KEY: &[u8] = b"0123456789abcdef0123456789abcdef";
 
 /// An Access-Request that was accepted.
-fn accepted(station: Option<Value>, details: Details) -> Exchange {
+fn accepted(station: Value, details: Details) -> Exchange {
     Exchange {
         outcome: ExchangeEnd::Accept,
         why: None,
@@ -36,7 +36,7 @@ fn accepted(station: Option<Value>, details: Details) -> Exchange {
             ip: Address::from_ipv4_octets([198, 51, 100, 1]),
             port: 1812,
         }),
-        user: Some(Value::new(b"u@b.example")),
+        user: Value::new(b"u@b.example"),
         station,
         milliseconds: 12,
         tries: 1,
@@ -48,12 +48,12 @@ fn accepted(station: Option<Value>, details: Details) -> Exchange {
 /// All that may be said, with values that look like keys.
 fn all_details() -> Details {
     Details {
-        operator: Some(Value::new(b"1north.example")),
-        nas_id: Some(Value::new(b"wlc 1\" cui=\"x")),
-        called: Some(Value::new(b"00-00-5E-00-53-01:eduroam")),
+        operator: Value::new(b"1north.example"),
+        nas_id: Value::new(b"wlc 1\" cui=\"x"),
+        called: Value::new(b"00-00-5E-00-53-01:eduroam"),
         status: Some(3),
-        session: Some(Value::new(b"5F3A\\\n")),
-        charged: Some(Value::new(&[0, 255])),
+        session: Value::new(b"5F3A\\\n"),
+        charged: Value::new(&[0, 255]),
     }
 }
 
@@ -84,7 +84,7 @@ fn expect_station<R: AllocGlobal + Abort>(
     station: &[u8],
     text: &str,
 ) {
-    let exchange = accepted(Some(Value::new(station)), Details::none());
+    let exchange = accepted(Value::new(station), Details::none());
     let end = format!(in rt.alloc(); " station={text} server=198.51.100.1:1812 ms=12 tries=1");
     match end {
         Ok(end) => expect(rt, config, stations, &exchange, end.as_str()),
@@ -122,7 +122,7 @@ pub(crate) fn exchanges<R: AllocGlobal + Abort>(rt: &R) {
         rt,
         &config,
         hashed,
-        &accepted(None, all_details()),
+        &accepted(Value::none(), all_details()),
         " station=- server=198.51.100.1:1812 ms=12 tries=1 operator=\"1north.example\" \
             nas_id=\"wlc 1\\x22 cui=\\x22x\" called=\"00-00-5E-00-53-01:eduroam\" status=interim \
             session=\"5F3A\\x5c\\x0a\" cui=\"\\x00\\xff\"",

@@ -1,11 +1,11 @@
 -- The line is of the request that waited.
 use Rattle.std.proofs.Common.{Some, refl, ap, sym, ◌∙◌}
-use Rattle.roam_notices.proofs.ended_exchange.exchange_of.Goals as goal
+use Rattle.roam_notices.proofs.ended_exchange.tell_of.Goals as goal
 
 pub returns-clause-line : goal.returns-clause-line
-returns-clause-line g c =
-    let said = c.said_by-exchange.ensures.says in
-    let once = c.said_by-exchange.ensures.once in record {
+returns-clause-line g c _ =
+    let said = c.say.ensures.says in
+    let once = c.say.ensures.once in record {
       octets = c.as_slice-octets.result.now;
       kept = c.in-Some.is ∙ ap Some (sym c.as_slice-octets.ensures);
       told = record {
@@ -21,12 +21,12 @@ returns-clause-line g c =
           charged = refl;
         };
       };
-      charged = c.charged_by-exchange.ensures;
-      outcome = c.said_by-exchange.ensures.outcome;
+      charged = c.keep_charged.ensures;
+      outcome = c.say.ensures.outcome;
       why = once.0;
       realm = refl;
       peer = c.peer_of-exchange.ensures;
       server = c.server_of-exchange.ensures;
-      tries = c.tries_of.ensures;
+      tries = c.tries_of-exchange.ensures;
       times = once.1;
     }
