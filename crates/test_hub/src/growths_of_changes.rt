@@ -100,6 +100,17 @@ fn open_over_is_refused<'r, R: Abort + Wait>(
     true
 }
 
+/// Whether each growth of the room for a pause is told that is refused.
+fn rooms_are_refused<'r, N: Opened>(over: Over<'r>, hub: &Hub<'_, Over<'r>, N>) -> bool {
+    for n in over.each_growth() {
+        over.refuse_nth(n);
+        if hub.pause_room().is_err() != over.was_refused() {
+            return false;
+        }
+    }
+    true
+}
+
 /// Whether each growth of a pause is told that is refused, and the hub goes on then.
 fn pause_is_refused<'r, N: Opened + Send + Sync, R: Abort + Wait>(
     rt: &R,
@@ -115,16 +126,11 @@ fn pause_is_refused<'r, N: Opened + Send + Sync, R: Abort + Wait>(
 {
     let opened = Hub::<Over<'r>, N>::open(over, config, starts, blanks);
     let (hub, mut seat) = opened.ok().expect(rt, "a hub");
-    assert!(rt; are_answered(rt, over, config, &hub, &mut seat, &before()));
-    for n in over.each_growth() {
-        over.refuse_nth(n);
-        let is_refused = hub.pause_room().is_err();
-        if is_refused != over.was_refused() {
-            return false;
-        }
-    }
+    let begins = are_answered(rt, over, config, &hub, &mut seat, &before());
+    let are_told = rooms_are_refused(over, &hub);
     over.refuse_nth(0);
-    are_answered(rt, over, config, &hub, &mut seat, &what_goes_on())
+    let goes_on = are_answered(rt, over, config, &hub, &mut seat, &what_goes_on());
+    begins && are_told && goes_on
 }
 
 /// Whether all that holds.
