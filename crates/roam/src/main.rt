@@ -48,7 +48,8 @@ fn make_apart(alloc: Global, reader: LogReader) -> Option<Apart> {
 }
 
 /// Does what the words ask for. What a server tells goes to standard error by a thread of its own, which nobody waits
-/// for, but for a second at the end.
+/// for, but for a second at the end. What isn't a server tells nothing by the outlet, and has one so that all of it is
+/// made once, of one runtime.
 fn main(rt: HostRuntime) -> ExitCode {
     let mut err = rt.stderr();
     let words = match words(&rt) {
@@ -59,24 +60,23 @@ fn main(rt: HostRuntime) -> ExitCode {
     let Ok(mut out) = BufWriter::new(rt.alloc(), rt.stdout()) else {
         return ExitCode::from(Fault::Memory.tell(&mut err).status);
     };
-    if !ask_to_serve(words) {
-        return ExitCode::from(command(&rt, words, &mut out, &mut err));
-    }
-    let reader = log_reader(&rt);
     let Some(
         Apart {
             outlet,
             theirs,
             room,
         },
-    ) = make_apart(rt.alloc(), reader)
+    ) = make_apart(rt.alloc(), log_reader(&rt))
     else {
         return ExitCode::from(Fault::Memory.tell(&mut err).status);
     };
+    let runtime = ToOutlet { rt, outlet };
+    if !ask_to_serve(words) {
+        return ExitCode::from(command(&runtime, words, &mut out, &mut err));
+    }
     if thread::spawn(&rt, move || write_on(&rt, &theirs, err, room)).is_err() {
         return ExitCode::from(Fault::Thread.tell(&mut err).status);
     }
-    let runtime = ToOutlet { rt, outlet };
     let mut told = OutletWriter {
         rt: &runtime.rt,
         outlet: &runtime.outlet,

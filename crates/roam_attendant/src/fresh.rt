@@ -1,7 +1,7 @@
 //! What is made anew for a configuration that is to be served.
 
 ghost use Rattle.std.specs.Prelude.{◌≡◌, IfErr, IfOk};
-ghost use Rattle.roam_history.specs.Books.{count_of};
+ghost use Rattle.roam_calls.specs.Books.{count_of};
 ghost use Rattle.roam_sockets.specs.Faults.{IsAfterBinding};
 
 use crate::configured::Configured;

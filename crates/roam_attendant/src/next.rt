@@ -3,7 +3,7 @@
 ghost use Rattle.std.specs.Prelude.{◌≡◌, IfOk};
 ghost use Rattle.roam_conf.specs.Shown.{shown};
 ghost use Rattle.roam_reload.specs.Reload.{MayFollow};
-ghost use Rattle.roam_history.specs.Books.{count_of};
+ghost use Rattle.roam_calls.specs.Books.{count_of};
 
 use crate::configured::Configured;
 use crate::fresh::FreshMeans;
@@ -14,8 +14,7 @@ use roam_calls::{Blanks, Opened};
 use roam_conf::Config;
 use roam_counting::Counters;
 use roam_desk::{Course, Reply, plain_reply};
-use roam_kits::{Kits, can_start};
-use roam_logger::tell_or_drop;
+use roam_kits::{Kits, can_start, tell_or_drop};
 use roam_sockets::{
     BoundSocket, RECEIVE_BUFFER, ServeFault, bind_following, descriptors_wanted, open_beside, widen,
 };

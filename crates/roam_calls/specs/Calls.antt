@@ -13,12 +13,12 @@ use Rattle.roam_realm.specs.RealmState.{RealmState}
 use Rattle.roam_core.specs.HappeningsTo.{happening_to}
 use Rattle.roam_core.specs.Events.{PlainEvent, arrives, ticks}
 use Rattle.roam_shard.specs.Turns.{NothingDue}
-use Rattle.roam_due.specs.Moments.{IsTickMoment}
+use Rattle.roam_calls.specs.Moments.{IsTickMoment}
 use Rattle.roam_trace.specs.History.{IsHistory, end_of}
 use Rattle.roam_trace.specs.Steps.{PlainStep, events_of, octets_in, shown_answer}
-use Rattle.roam_history.specs.Entries.{HistoryEntry, let_go_entry, step_entry, steps_in, stored_of}
-use Rattle.roam_history.specs.HubOpening.{HubOpening, opening_at}
-use Rattle.roam_audit.specs.Seats.{SeatView, front_of, noted, once_more}
+use Rattle.roam_calls.specs.Entries.{HistoryEntry, let_go_entry, step_entry, steps_in, stored_of}
+use Rattle.roam_calls.specs.HubOpening.{HubOpening, opening_at}
+use Rattle.roam_calls.specs.Seats.{SeatView, front_of, noted, once_more}
 use Rattle.roam_calls.specs.declared.answered.Answered.{Answered}
 use Rattle.roam_calls.specs.declared.answered.Refused.{Refused}
 use Rattle.roam_calls.specs.declared.answered.Ticked.{Ticked}

@@ -1,3 +1,16 @@
+pub mod Moments
+pub mod Entries
+pub mod Rules
+pub mod Fronts
+pub mod Books
+pub mod HubOpening
+pub mod Seats
+pub mod Receipts
+pub mod Shown
+pub mod Audit
+pub mod Findings
+pub mod StepCounts
+pub mod AuditTexts
 pub mod Calls
 pub mod Looks
 pub mod Written

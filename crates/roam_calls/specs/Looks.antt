@@ -7,9 +7,9 @@ use Rattle.roam_carry.specs.declared.losses.Loss.{Loss}
 use Rattle.roam_core.specs.ManyRealms.{state_at}
 use Rattle.roam_shard.specs.Looks.{IsLoss, StandsAs}
 use Rattle.roam_trace.specs.History.{IsHistory, end_of}
-use Rattle.roam_history.specs.Entries.{HistoryEntry, steps_in}
-use Rattle.roam_history.specs.HubOpening.{HubOpening, opening_at}
-use Rattle.roam_audit.specs.Seats.{SeatView, front_of}
+use Rattle.roam_calls.specs.Entries.{HistoryEntry, steps_in}
+use Rattle.roam_calls.specs.HubOpening.{HubOpening, opening_at}
+use Rattle.roam_calls.specs.Seats.{SeatView, front_of}
 
 -- the numbers are those of the realm's state where the history of a shard ended when it was looked at: no earlier than
 -- a seat has seen it

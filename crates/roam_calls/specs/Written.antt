@@ -5,9 +5,9 @@ use Rattle.roam_realm.specs.RealmConfig.{realm_config}
 use Rattle.roam_realm.specs.Written.{GainsOpen, GainsRealm}
 use Rattle.roam_core.specs.ManyRealms.{state_at}
 use Rattle.roam_trace.specs.History.{IsHistory, end_of}
-use Rattle.roam_history.specs.Entries.{HistoryEntry, steps_in}
-use Rattle.roam_history.specs.HubOpening.{HubOpening, opening_at}
-use Rattle.roam_audit.specs.Seats.{SeatView, front_of}
+use Rattle.roam_calls.specs.Entries.{HistoryEntry, steps_in}
+use Rattle.roam_calls.specs.HubOpening.{HubOpening, opening_at}
+use Rattle.roam_calls.specs.Seats.{SeatView, front_of}
 
 -- ## Ledgers that are written while a hub answers
 -- Each session that is written is open in its realm where the history of its shard ended when it was written: no

@@ -16,11 +16,11 @@ use Rattle.roam_core.proofs.ProvenanceLemmas.{has_provenance}
 use Rattle.roam_shard.specs.ShardView.{AreStarts, IsStart, ShardView}
 use Rattle.roam_trace.specs.History.{AreSteps, end_of, states_next}
 use Rattle.roam_trace.specs.Steps.{PlainAnswer, PlainStep}
-use Rattle.roam_audit.specs.Audit.{steps_of}
+use Rattle.roam_calls.specs.Audit.{steps_of}
 use Rattle.roam_hub.specs.Closing.{AreClosed, IsClosed}
-use Rattle.roam_history.specs.Entries.{IsWhole}
-use Rattle.roam_history.specs.Fronts.{AreOfShards, AreWhole, FrontView}
-use Rattle.roam_history.specs.HubOpening.{HubOpening, opening_at}
+use Rattle.roam_calls.specs.Entries.{IsWhole}
+use Rattle.roam_calls.specs.Fronts.{AreOfShards, AreWhole, FrontView}
+use Rattle.roam_calls.specs.HubOpening.{HubOpening, opening_at}
 use Rattle.roam_hub.specs.Histories.{AreHistories, start_at_end, starts_at_end, starts_from, state_at_end}
 use Rattle.roam_hub.specs.InHistories.{ProvenanceInHistories, RealmsInHistories, events_in, packets_in}
 

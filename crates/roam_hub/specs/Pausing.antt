@@ -8,8 +8,8 @@ pub use Rattle.roam_follow.specs.Paused.{ArePaused, IsPaused}
 use Rattle.roam_shard.specs.declared.paused.Paused.{Paused}
 use Rattle.roam_trace.specs.History.{end_of}
 use Rattle.roam_trace.specs.Steps.{PlainStep}
-use Rattle.roam_history.specs.HubOpening.{HubOpening, opening_at}
-use Rattle.roam_audit.specs.Audit.{steps_of}
+use Rattle.roam_calls.specs.HubOpening.{HubOpening, opening_at}
+use Rattle.roam_calls.specs.Audit.{steps_of}
 
 module _ {A : Type 0} where
   -- a shard was taken from its configuration

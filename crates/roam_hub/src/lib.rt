@@ -81,12 +81,12 @@ pub use laws::{
 };
 pub use pause_room::PauseRoom;
 pub use pausing::PausedHub;
-pub use roam_audit::{AuditFault, Audited, Receipt, Report, Seat, split};
-pub use roam_calls::{Answered, HubFault, Refused, Ticked};
-pub use roam_due::{LATE, MOST};
+pub use roam_calls::{
+    Answered, AuditFault, Audited, Blanks, Front, HubFault, LATE, MOST, Opened, Receipt, Refused,
+    Report, Seat, Ticked, split,
+};
 pub use roam_exchange::{Became, DueHappening, Happening, Waited};
 pub use roam_follow::follow;
-pub use roam_history::{Blanks, Front, Opened};
 pub use roam_pending::{Key, Requester};
 pub use roam_realm::{Gauges, Rest, SERVER_LINKS};
 pub use roam_shard::Paused;

@@ -9,9 +9,9 @@ ghost use Rattle.roam_core.specs.Events.{arrives, is_in_shard, ticks};
 ghost use Rattle.roam_trace.specs.History.{IsHistory, end_of};
 ghost use Rattle.roam_trace.specs.Steps.{events_of, octets_in};
 ghost use Rattle.roam_exchange.specs.HappeningsShown.{shown_happening};
-ghost use Rattle.roam_history.specs.Entries.{IsWhole, step_entry, steps_in, stored_of};
-ghost use Rattle.roam_history.specs.HubOpening.{opening_at};
-ghost use Rattle.roam_audit.specs.Seats.{front_of};
+ghost use Rattle.roam_calls.specs.Entries.{IsWhole, step_entry, steps_in, stored_of};
+ghost use Rattle.roam_calls.specs.HubOpening.{opening_at};
+ghost use Rattle.roam_calls.specs.Seats.{front_of};
 ghost use Rattle.roam_calls.specs.Calls.{AreGone, Calls, HasHappened, IsCall, IsFull, Sees, answered_step};
 
 mod due;
@@ -20,10 +20,8 @@ mod standing;
 
 use crate::call::Call;
 use crate::writing::{closed, recorded, without_steps};
-use roam_audit::Seat;
-use roam_calls::{Answered, HubFault, Refused};
+use roam_calls::{Answered, Front, Head, HubFault, Opened, Refused, Seat};
 use roam_exchange::Turned;
-use roam_history::{Front, Head, Opened};
 use roam_route::Job;
 use roam_shard::Shard;
 use roam_trace::{Step, Traced};

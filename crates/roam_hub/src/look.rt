@@ -7,10 +7,9 @@ ghost use Rattle.roam_calls.specs.Looks.{StandsThen, WouldLose};
 
 use crate::hub::Hub;
 use crate::locking::wait_for;
-use roam_audit::Seat;
+use roam_calls::{Opened, Seat};
 use roam_carry::Loss;
 use roam_conf::Config;
-use roam_history::Opened;
 use roam_realm::Gauges;
 use std::alloc::Allocator;
 use std::sync::Wait;

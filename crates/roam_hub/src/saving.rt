@@ -5,8 +5,7 @@ ghost use Rattle.roam_calls.specs.Written.{BeginsRealm, SavesThen};
 
 use crate::hub::Hub;
 use crate::locking::wait_for;
-use roam_audit::Seat;
-use roam_history::Opened;
+use roam_calls::{Opened, Seat};
 use roam_ledgers::Writing;
 use roam_wire::NoMemory;
 use std::alloc::{AllocError, Allocator};

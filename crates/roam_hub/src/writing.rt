@@ -5,12 +5,11 @@
 
 ghost use Rattle.std.specs.Prelude.{◌≡◌, ◌<◌, ◌-◌, ◌^◌, ◌++◌, ◌∷◌, [], length};
 ghost use Rattle.roam_trace.specs.Steps.{PlainStep, shown_answer};
-ghost use Rattle.roam_history.specs.Entries.{IsOpen, closed_entry, last_of, let_go_entry, step_entry, steps_in};
-ghost use Rattle.roam_audit.specs.Seats.{after_call};
+ghost use Rattle.roam_calls.specs.Entries.{IsOpen, closed_entry, last_of, let_go_entry, step_entry, steps_in};
+ghost use Rattle.roam_calls.specs.Seats.{after_call};
 
-use roam_audit::Seat;
+use roam_calls::{Front, Head, Opened, Seat};
 use roam_exchange::Answer;
-use roam_history::{Front, Head, Opened};
 use roam_trace::Traced;
 use std::alloc::Allocator;
 use std::sync::Wait;

@@ -6,7 +6,7 @@ ghost use Rattle.roam_route.specs.Events.{IsEvent};
 ghost use Rattle.roam_route.specs.Shown.{shown_job};
 ghost use Rattle.roam_intake.specs.Letters.{IsAdmitted, IsPutBehind};
 
-use roam_history::Opened;
+use roam_calls::Opened;
 use roam_route::Job;
 use std::alloc::Global;
 use std::collections::VecDeque;

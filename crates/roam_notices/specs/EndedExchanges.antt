@@ -52,11 +52,12 @@ uncharged details = record details { charged = no_value }
 
 -- ## Line of an exchange that ended
 -- Of the request that waited, and of no other: its realm, who asked, which home server it was or which peer, how often
--- it was sent there, what its own octets say; and who is charged by its Access-Accept. Nothing is told of one whose
--- octets aren't kept.
+-- it was sent there, what its own octets say; and who is charged by its Access-Accept. There is one just where those
+-- octets are kept.
 -- Source: ours
--- Rules out: a line with another's user, realm or server
--- Stands in: `roam_notices` `EndedExchanges.antt`: `IsLineOf`; `Said.antt`: `AreTold`; `tell_of`
+-- Rules out: a line with another's user, realm or server; an exchange of which none is made though its octets are kept
+-- Stands in: `roam_notices` `EndedExchanges.antt`: `IsLineOf`; `Said.antt`: `AreTold`; `tell_of`, its
+-- `known`; `Exchanges::replace_of`
 --
 pub record IsLineOf (config : ConfigView) (index : ℕ) (w : PlainWaited) (ending : ExchangeEnd) (reply : List ℕ)
     (x : Exchange) : Type 0 where

@@ -78,8 +78,7 @@ pub record IsBeyond (e : Exchange) (old new : List Exchange) : Type 0 where
 -- Source: ours
 -- Rules out: a flood of requests of no realm that pushes other lines out of the journal; two stations told as one
 -- Stands in: `roam_notices` `Folded.antt`: `IsAlike`, `IsCounted`; `FoldedLines::count`, `take_first`;
--- `Exchanges::reject`,
--- `replace`, `tell_folded`, `tell_due`
+-- `Exchanges::reject`, `replace_of`, `tell_folded`, `tell_due`
 --
 -- one more is counted
 abbrev pub IsCounted : Exchange → List Exchange → List Exchange → Type 0

@@ -1,6 +1,6 @@
 //! The line of an exchange that ended, from the request that waited.
 
-ghost use Rattle.std.specs.Prelude.{◌≡◌, ◌-◌, IsTrue};
+ghost use Rattle.std.specs.Prelude.{◌≡◌, ◌-◌, ◌↔◌, IsSome, IsTrue};
 ghost use Rattle.roam_conf.specs.Shown.{shown};
 ghost use Rattle.roam_exchange.specs.HappeningsShown.{shown_waited};
 ghost use Rattle.roam_notices.specs.EndedExchanges as spec;
@@ -66,7 +66,7 @@ pub struct EndedWith<'r> {
 }
 
 /// Has an exchange be the one of a realm that ended so: of the request that waited. No more octets of it are written
-/// than it tells. Answers whether it is that: not where the request's octets aren't kept.
+/// than it tells. Answers whether it is that: just where the request's octets are kept.
 pub fn tell_of<A: Allocator>(
     exchange: &mut Exchange,
     config: &Config,
@@ -74,6 +74,7 @@ pub fn tell_of<A: Allocator>(
     waited: &Waited<A>,
     ended: EndedWith<'_>,
 ) -> bool
+    ensures known { IsTrue result ↔ IsSome waited.now.octets }
     ensures line { IsTrue result → IsLineOf (shown config.now) realm (shown_waited waited.now) ended.entry.outcome
         ended.entry.reply.now exchange.new }
     ensures time { IsTrue result → exchange.new.milliseconds ≡ ended.entry.now - waited.now.came }

@@ -1,7 +1,7 @@
 //! The hub is closed, and what it kept is audited.
 
 ghost use Rattle.std.specs.Prelude.{◌≡◌, IfErr, IfOk};
-ghost use Rattle.roam_audit.specs.Shown.{recorded};
+ghost use Rattle.roam_calls.specs.Shown.{recorded};
 ghost use Rattle.roam_run.specs.Closed.{EndsOf, MayGoOn};
 ghost use Rattle.roam_sockets.specs.Faults.{IsAfterBinding};
 

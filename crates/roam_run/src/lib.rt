@@ -31,8 +31,9 @@ pub use roam_attendant::{
     Watch, out_of_memory, stopping, widen_all,
 };
 pub use roam_counting::Counters;
-pub use roam_kits::{Behind, Kits, fill_outboxes, make_kits, make_outboxes, start_behind};
-pub use roam_logger::tell_or_drop;
+pub use roam_kits::{
+    Behind, Kits, fill_outboxes, make_kits, make_outboxes, start_behind, tell_or_drop,
+};
 pub use roam_outgoing::{CAUSES, OldHistory, SharedLosses};
 pub use roam_telling::Notice;
 pub use roam_workers::Rests;

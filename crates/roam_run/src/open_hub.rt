@@ -2,8 +2,8 @@
 
 ghost use Rattle.std.specs.Prelude.{◌≡◌, IfOk, IfErr};
 ghost use Rattle.roam_conf.specs.Shown.{shown};
-ghost use Rattle.roam_history.specs.Books.{books_of, count_of};
-ghost use Rattle.roam_audit.specs.Shown.{recorded};
+ghost use Rattle.roam_calls.specs.Books.{books_of, count_of};
+ghost use Rattle.roam_calls.specs.Shown.{recorded};
 ghost use Rattle.roam_hub.specs.Pausing.{ArePaused, opening_over};
 ghost use Rattle.roam_run.specs.Closed.{EndSomewhere, EndsOf, IsUnserved, MayGoOn};
 ghost use Rattle.roam_sockets.specs.Faults.{IsAfterBinding};

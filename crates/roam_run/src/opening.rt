@@ -2,7 +2,7 @@
 
 ghost use Rattle.std.specs.Prelude.{◌≡◌, IfErr};
 ghost use Rattle.roam_conf.specs.Shown.{shown};
-ghost use Rattle.roam_history.specs.Books.{books_of, count_of};
+ghost use Rattle.roam_calls.specs.Books.{books_of, count_of};
 ghost use Rattle.roam_hub.specs.Pausing.{ArePaused, opening_over};
 
 use crate::audit::PausableHub;

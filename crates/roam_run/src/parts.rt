@@ -1,7 +1,7 @@
 //! What a server has, from configuration to configuration.
 
 ghost use Rattle.std.specs.Prelude.{◌≡◌};
-ghost use Rattle.roam_audit.specs.Shown.{recorded};
+ghost use Rattle.roam_calls.specs.Shown.{recorded};
 ghost use Rattle.roam_run.specs.Closed.{EndSomewhere, EndsOf};
 
 use crate::audit::AuditedHub;

@@ -6,7 +6,7 @@ use log::Log;
 use roam_attendant::{Attendant, Handover, HubEnd, Source};
 use roam_desk::{Course, Reply};
 use roam_hub::Opened;
-use roam_logger::{log_notices, tell_or_drop};
+use roam_kits::{log_notices, tell_or_drop};
 use roam_notices::ReloadEnd;
 use roam_sockets::{ServeFault, now};
 use roam_telling::{serving, tell_reload};

@@ -7,8 +7,8 @@ use Rattle.roam_realm.specs.RealmState.{RealmState}
 use Rattle.roam_ledgers.specs.Ledgers.{SavedItem}
 use Rattle.roam_trace.specs.History.{AreSteps, Beginning, IsHistory, end_of, states_next, states_then}
 use Rattle.roam_trace.specs.Steps.{PlainStep}
-use Rattle.roam_history.specs.HubOpening.{opening_at}
-use Rattle.roam_audit.specs.Audit.{steps_of}
+use Rattle.roam_calls.specs.HubOpening.{opening_at}
+use Rattle.roam_calls.specs.Audit.{steps_of}
 use Rattle.roam_hub.specs.Changes.{AreSpans, FollowsOn, IsSpan, Span}
 use Rattle.roam_hub.specs.Following.{HaveFollowed, StandAsBefore}
 use Rattle.roam_hub.specs.Pausing.{ArePaused, opening_over, states_of_one}

@@ -6,7 +6,7 @@ use Rattle.roam_core.specs.Openings.{fresh}
 use Rattle.roam_shard.specs.Pausing.{states_under}
 use Rattle.roam_shard.specs.Restoring.{restored_states}
 use Rattle.roam_shard.specs.declared.paused.Paused.{Paused}
-use Rattle.roam_history.specs.HubOpening.{HubOpening}
+use Rattle.roam_calls.specs.HubOpening.{HubOpening}
 use Rattle.roam_hub.specs.Pausing.{ArePaused}
 
 -- ## Begin of a server

@@ -6,7 +6,7 @@ use Rattle.roam_realm.specs.RealmState.{RealmState}
 use Rattle.roam_shard.specs.Pausing.{states_under}
 use Rattle.roam_shard.specs.declared.paused.Paused.{Paused}
 use Rattle.roam_trace.specs.History.{Beginning, end_of}
-use Rattle.roam_history.specs.HubOpening.{HubOpening, opening_at}
+use Rattle.roam_calls.specs.HubOpening.{HubOpening, opening_at}
 use Rattle.roam_run.specs.Closed.{MayGoOn}
 use Rattle.roam_run.specs.declared.parts.Served.{Served}
 use Rattle.std.specs.declared.alloc.Global.{Global}

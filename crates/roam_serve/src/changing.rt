@@ -3,7 +3,7 @@
 ghost use Rattle.std.specs.Prelude.{◌≡◌, ◌⊎◌};
 ghost use Rattle.roam_conf.specs.Shown.{shown};
 ghost use Rattle.roam_reload.specs.Reload.{MayFollow};
-ghost use Rattle.roam_history.specs.Books.{count_of};
+ghost use Rattle.roam_calls.specs.Books.{count_of};
 ghost use Rattle.roam_hub.specs.Following.{HaveFollowed, StandAsBefore};
 ghost use Rattle.roam_hub.specs.Pausing.{ArePaused};
 ghost use Rattle.roam_serve.specs.Served.{GoOn};

@@ -1,6 +1,6 @@
 //! A thread's end of its queue of lines of exchanges.
 
-ghost use Rattle.std.specs.Prelude.{◌≡◌, ◌+◌, ◌-◌, ◌^◌, ◌<◌, ◌≤◌, [], Some, None, IfSome, IsFalse, IsTrue, min, unwrap_or};
+ghost use Rattle.std.specs.Prelude.{◌≡◌, ◌+◌, ◌-◌, ◌^◌, ◌<◌, ◌≤◌, ◌↔◌, [], Some, None, IfSome, IsFalse, IsNone, IsSome, IsTrue, min, unwrap_or};
 ghost use Rattle.std.specs.Option.{ForSome};
 ghost use Rattle.roam_conf.specs.Shown.{shown};
 ghost use Rattle.roam_exchange.specs.HappeningsShown.{shown_waited};
@@ -148,6 +148,7 @@ impl Exchanges {
         waited: &Waited<Global>,
         ended: EndedWith<'_>,
     ) -> bool
+        ensures unknown { IsNone waited.now.octets → IsTrue result }
         ensures rejected { self.new.rejected ≡ self.old.rejected }
         ensures replaced { self.new.replaced ≡ self.old.replaced }
         ensures due { self.new.folded_due ≡ self.old.folded_due }
@@ -193,7 +194,7 @@ impl Exchanges {
     }
 
     /// Counts an exchange of a realm whose request another one replaced at this moment, and that ended so: it is told
-    /// with those that are like it. Answers whether it was dropped: its octets aren't kept.
+    /// with those that are like it. Answers whether it was dropped: just where its octets aren't kept.
     pub fn replace_of(
         &mut self,
         config: &Config,
@@ -201,6 +202,7 @@ impl Exchanges {
         waited: &Waited<Global>,
         ended: EndedWith<'_>,
     ) -> bool
+        ensures known { IsFalse result ↔ IsSome waited.now.octets }
         ensures dropped { IsTrue result → (self.new.replaced ≡ self.old.replaced)
             × (self.new.folded_due ≡ self.old.folded_due) }
         ensures due { IsFalse result → self.new.folded_due

@@ -10,7 +10,7 @@ use Rattle.roam_route.specs.Admission.{Arrival, PlainJob, admission, admitted}
 use Rattle.roam_route.specs.Shown.{shown_job}
 use Rattle.roam_route.specs.declared.job.Job.{Job}
 use Rattle.roam_conf.specs.declared.exchange_lines.ExchangeLines.{ExchangeLines}
-use Rattle.roam_history.specs.HubOpening.{HubOpening}
+use Rattle.roam_calls.specs.HubOpening.{HubOpening}
 use Rattle.roam_counters.specs.Datagrams.{handled}
 use Rattle.roam_counters.specs.declared.datagrams.DatagramCounts.{DatagramCounts}
 use Rattle.roam_counters.specs.declared.datagrams.Handling.{Handling}

@@ -4,8 +4,8 @@ use Rattle.std.specs.declared.alloc.Global.{Global}
 use Rattle.roam_counters.specs.OwnCounts.{raised_all}
 use Rattle.roam_conf.specs.declared.exchange_lines.ExchangeLines.{ExchangeLines}
 use Rattle.roam_exchange.specs.HappeningsShown.{shown_happening}
-use Rattle.roam_history.specs.HubOpening.{HubOpening}
-use Rattle.roam_audit.specs.Seats.{SeatView}
+use Rattle.roam_calls.specs.HubOpening.{HubOpening}
+use Rattle.roam_calls.specs.Seats.{SeatView}
 use Rattle.roam_calls.specs.Calls.{IsTick, IsTicked}
 use Rattle.roam_calls.specs.declared.answered.Ticked.{Ticked}
 use Rattle.roam_counters.specs.Arrivals.{tick_increments}

@@ -4,8 +4,8 @@ use Rattle.std.proofs.lemmas.List.Sums.{fold-append}
 use Rattle.roam_route.specs.Admission.{Arrival, PlainJob}
 use Rattle.roam_conf.specs.declared.exchange_lines.ExchangeLines.{ExchangeLines}
 use Rattle.roam_exchange.specs.HappeningsShown.{shown_happening}
-use Rattle.roam_history.specs.HubOpening.{HubOpening}
-use Rattle.roam_audit.specs.Seats.{SeatView}
+use Rattle.roam_calls.specs.HubOpening.{HubOpening}
+use Rattle.roam_calls.specs.Seats.{SeatView}
 use Rattle.roam_counters.proofs.OwnCountLemmas.{are-sums}
 use Rattle.roam_counters.specs.Arrivals.{arrival_increments, failed_increments}
 use Rattle.roam_counters.specs.Increments.{job_increments}

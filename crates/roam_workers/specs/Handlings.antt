@@ -9,8 +9,8 @@ use Rattle.roam_route.specs.RejectCauses.{code_of}
 use Rattle.roam_route.specs.Shown.{WantsMemory}
 use Rattle.roam_route.specs.declared.local_answer.LocalAnswer.{LocalAnswer}
 use Rattle.roam_core.specs.Events.{arrives}
-use Rattle.roam_history.specs.HubOpening.{HubOpening}
-use Rattle.roam_audit.specs.Seats.{SeatView}
+use Rattle.roam_calls.specs.HubOpening.{HubOpening}
+use Rattle.roam_calls.specs.Seats.{SeatView}
 use Rattle.roam_calls.specs.Calls.{HasHappened, IsCall, answered_step}
 use Rattle.roam_calls.specs.declared.answered.Answered.{Answered}
 use Rattle.roam_exchange.specs.HappeningsShown.{shown_happening}

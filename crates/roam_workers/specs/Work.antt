@@ -6,8 +6,8 @@ use Rattle.roam_route.specs.RejectCauses.{code_of}
 use Rattle.roam_wire.specs.declared.refusal.Refusal.TheVariants as refusal
 use Rattle.roam_conf.specs.declared.exchange_lines.ExchangeLines.{ExchangeLines}
 use Rattle.roam_exchange.specs.HappeningsShown.{shown_happening}
-use Rattle.roam_history.specs.HubOpening.{HubOpening}
-use Rattle.roam_audit.specs.Seats.{SeatView}
+use Rattle.roam_calls.specs.HubOpening.{HubOpening}
+use Rattle.roam_calls.specs.Seats.{SeatView}
 use Rattle.roam_counters.specs.Arrivals.{arrival_increments, failed_increments, refused_here_increments, refused_increments, tick_increments}
 use Rattle.roam_counters.specs.Cells.{cell_of, holder_of}
 use Rattle.roam_counters.specs.Ends.{end_at}

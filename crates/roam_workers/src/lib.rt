@@ -1,8 +1,8 @@
 //! The threads that serve a configuration, each as it runs, and what they share.
 //!
 //! A worker receives from the sockets that are dealt to it, gives what arrives to the hub, and sends what that
-//! answers; the timer does the same with what is due. What they tell `roam_logger` writes. None of them is tied to a
-//! realm, and none starts another.
+//! answers; the timer does the same with what is due. What they tell the logger writes (`roam_kits`). None of them
+//! is tied to a realm, and none starts another.
 //!
 //! What is decided here stands in small functions; the loops round them are the threads.
 //!

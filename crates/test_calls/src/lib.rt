@@ -1,4 +1,5 @@
-//! Tests of calls that no row makes: rows (`test_rows`) show what the broker answers to events.
+//! Tests of calls that no row makes: rows (`test_rows`) show what the broker answers to events. Beside two of a realm they
+//! are what is told of refusals, of exchanges and by the program, and the seats of callers.
 #![tactic(auto)]
 
 #[cfg(test)]
@@ -6,8 +7,18 @@ mod configuration;
 #[cfg(test)]
 mod examples;
 #[cfg(test)]
+mod exchange_tests;
+#[cfg(test)]
+mod fault_tests;
+#[cfg(test)]
 mod last_ticket;
+#[cfg(test)]
+mod line_tests;
 #[cfg(test)]
 mod realm;
 #[cfg(test)]
+mod seat_tests;
+#[cfg(test)]
 mod tick_room;
+#[cfg(test)]
+mod told_tests;

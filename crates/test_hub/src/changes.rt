@@ -4,8 +4,8 @@ ghost use Rattle.std.specs.Prelude.{◌≡◌};
 ghost use Rattle.roam_conf.specs.Shown.{shown};
 ghost use Rattle.roam_reload.specs.Reload.{MayFollow};
 ghost use Rattle.roam_shard.specs.ShardView.{AreStarts};
-ghost use Rattle.roam_history.specs.HubOpening.{fresh_opening};
-ghost use Rattle.roam_history.specs.Books.{books_of, count_of};
+ghost use Rattle.roam_calls.specs.HubOpening.{fresh_opening};
+ghost use Rattle.roam_calls.specs.Books.{books_of, count_of};
 ghost use Rattle.roam_hub.specs.Pausing.{ArePaused, opening_over};
 
 use crate::caller::{OTHER_FIRST, OTHER_REQUEST_7, datagram, nas, sends};
@@ -144,6 +144,33 @@ pub(crate) fn what_goes_on() -> [Exchange; 3] {
     ]
 }
 
+/// Whether it is answered by its packet.
+fn is_answered<A: Allocator + Copy, N: Opened, R: Abort + Wait>(
+    rt: &R,
+    alloc: A,
+    config: &Config,
+    hub: &Hub<'_, A, N>,
+    seat: &mut Seat<A, N>,
+    exchange: &Exchange,
+) -> bool
+    requires { shown config.now ≡ N.opening.config }
+{
+    let datagram = datagram(rt, alloc, exchange.at, exchange.from, exchange.octets);
+    let Ok(Prepared::Job(job)) = prepare(alloc, config, &datagram) else {
+        return false;
+    };
+    let call = Call {
+        rt,
+        gate: &Open,
+        moment: 0,
+        lines: ExchangeLines::OfNone,
+    };
+    match hub.answer(call, seat, job) {
+        Ok(answered) => sends(rt, alloc, &answered.answer, exchange.sent),
+        Err(_) => false,
+    }
+}
+
 /// Whether each of these is answered by its packet.
 pub(crate) fn are_answered<A: Allocator + Copy, N: Opened, R: Abort + Wait>(
     rt: &R,
@@ -156,20 +183,7 @@ pub(crate) fn are_answered<A: Allocator + Copy, N: Opened, R: Abort + Wait>(
     requires { shown config.now ≡ N.opening.config }
 {
     for exchange in exchanges {
-        let datagram = datagram(rt, alloc, exchange.at, exchange.from, exchange.octets);
-        let Ok(Prepared::Job(job)) = prepare(alloc, config, &datagram) else {
-            return false;
-        };
-        let call = Call {
-            rt,
-            gate: &Open,
-            moment: 0,
-            lines: ExchangeLines::OfNone,
-        };
-        let Ok(answered) = hub.answer(call, seat, job) else {
-            return false;
-        };
-        if !sends(rt, alloc, &answered.answer, exchange.sent) {
+        if !is_answered(rt, alloc, config, hub, seat, exchange) {
             return false;
         }
     }

@@ -2,13 +2,13 @@
 //! stores its history too.
 
 use crate::player::Over;
+use crate::traces::Traces;
 use roam_conf::Config;
 use roam_core::{Broker, Event, Outcome, Stepper, run};
 use roam_exchange::Answer;
 use roam_hub::HubFault;
 use roam_shard::Shards;
 use roam_wire::NoMemory;
-use test_brokers::Traces;
 
 /// How the broker that plays keeps its entries.
 #[derive(Clone, Copy, PartialEq, Eq)]
@@ -20,11 +20,21 @@ pub enum Kept {
 }
 
 /// A broker that plays.
-#[derive(Drop)]
 pub enum Playing<'c, 'r> {
     Lists(Broker<'c, Over<'r>>),
     Tables(Shards<'c, Over<'r>>),
     Traces(Traces<'c, Over<'r>>),
+}
+
+// By hand, so that a proof sees one call wherever it ends.
+impl Drop for Playing<'_, '_> {
+    fn drop(self) {
+        match self {
+            Playing::Lists(broker) => drop(broker),
+            Playing::Tables(broker) => drop(broker),
+            Playing::Traces(broker) => drop(broker),
+        }
+    }
 }
 
 /// What a broker answers that stores no steps.
@@ -48,6 +58,14 @@ impl<'c, 'r> Playing<'c, 'r> {
             Kept::InLists => Ok(Playing::Lists(Broker::new(over, config)?)),
             Kept::InTables => Ok(Playing::Tables(Shards::fresh(over, config)?)),
             Kept::InTraces => Ok(Playing::Traces(Traces::fresh(over, config)?)),
+        }
+    }
+
+    /// The traces of one that has them.
+    pub(crate) fn into_traces(self) -> Option<Traces<'c, Over<'r>>> {
+        match self {
+            Playing::Traces(traces) => Some(traces),
+            Playing::Lists(_) | Playing::Tables(_) => None,
         }
     }
 

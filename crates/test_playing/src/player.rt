@@ -1,5 +1,6 @@
 //! What plays rows: it compares answers with the row, and tells what differs.
 
+use crate::answers::{first_difference, is_taken, print_answer, print_fault};
 use crate::brokers::{Kept, Playing};
 use crate::row::Step;
 use crate::tally::Tally;
@@ -8,7 +9,6 @@ use roam_exchange::Answer;
 use std::alloc::Global;
 use std::io;
 use test_allocator::Refusing;
-use test_brokers::{first_difference, is_taken, print_answer, print_fault};
 
 /// The allocator over which brokers and events grow.
 pub type Over<'r> = &'r Refusing<Global>;
@@ -93,11 +93,13 @@ impl<'p, 'r> Player<'p, 'r> {
     /// A fresh broker of a configuration, for which there is memory.
     pub fn fresh<'c>(&mut self, config: &'c Config) -> Option<Playing<'c, 'r>> {
         self.over.refuse_nth(0);
-        let broker = Playing::new(self.over, config, self.kept).ok();
-        if broker.is_none() {
-            self.tell(0, "a fresh broker", "a broker", "want of memory");
+        match Playing::new(self.over, config, self.kept) {
+            Ok(broker) => Some(broker),
+            Err(_) => {
+                self.tell(0, "a fresh broker", "a broker", "want of memory");
+                None
+            }
         }
-        broker
     }
 
     /// Looks at how long the traces of a broker became: one of them by a step where its event was taken, else none.

@@ -1,13 +1,14 @@
 //! Playing a row with memory: event by event, as a simulation, and in one run.
 
-use crate::brokers::Kept;
+use crate::answers::{is_taken, print_packets};
+use crate::brokers::{Kept, Playing};
 use crate::player::{Over, Player};
 use crate::row::{Row, Step};
 use roam_conf::Config;
 use roam_core::Event;
+use roam_exchange::Answer;
 use roam_sim::sim;
 use std::io::Write;
-use test_brokers::{is_taken, print_packets};
 
 impl<'p, 'r> Player<'p, 'r> {
     /// Tells how many growths an event asked for.
@@ -42,23 +43,36 @@ impl<'p, 'r> Player<'p, 'r> {
         }
     }
 
-    /// Gives a row's events to a broker, one after the other. Whether each is answered as the row says.
+    /// Gives a row's events to a broker, one after the other, and keeps the answers. Whether each is as the row says.
+    fn steps_all(
+        &mut self,
+        row: &Row<Over<'r>>,
+        broker: &mut Playing<'_, 'r>,
+        answers: &mut Vec<Option<Answer<Over<'r>>>>,
+    ) -> bool {
+        for step in row.steps.iter() {
+            self.over.refuse_nth(0);
+            let is_answered = self.steps(broker, step, "step");
+            self.is_within(step);
+            if !is_answered {
+                return false;
+            }
+            self.keeps_answer(answers);
+        }
+        true
+    }
+
+    /// Gives a row's events to a fresh broker. Whether each is answered as the row says.
     pub fn plays_steps(&mut self, row: &Row<Over<'r>>, config: &Config) -> bool {
         let Some(mut broker) = self.fresh(config) else {
             return false;
         };
         let mut answers = Vec::new(self.rt.alloc());
-        for step in row.steps.iter() {
-            self.over.refuse_nth(0);
-            let is_answered = self.steps(&mut broker, step, "step");
-            self.is_within(step);
-            if !is_answered {
-                return false;
-            }
-            self.keeps_answer(&mut answers);
+        let are_answered = self.steps_all(row, &mut broker, &mut answers);
+        if are_answered {
+            self.looks_at_steps(row, broker, &answers);
         }
-        self.looks_at_steps(row, broker, &answers);
-        true
+        are_answered
     }
 
     /// Simulates a row: the lines that are written are those of its packets. A simulation is over tables alone.
@@ -74,18 +88,14 @@ impl<'p, 'r> Player<'p, 'r> {
         self.is_answer(row.line, how, row.packets.as_bytes())
     }
 
-    /// Runs a row's events: none is lost, and the packets are those of the row.
-    pub fn plays_run(
+    /// Prints the packets of a run of events. What is said of it.
+    fn prints_run(
         &mut self,
-        row: &Row<Over<'r>>,
-        config: &Config,
+        broker: &mut Playing<'_, 'r>,
         events: &[Event<Over<'r>>],
-    ) -> bool {
-        let Some(mut broker) = self.fresh(config) else {
-            return false;
-        };
+    ) -> &'static str {
         self.got.clear();
-        let how = match broker.run(self.over, events) {
+        match broker.run(self.over, events) {
             Ok(outcome) => {
                 let printed = print_packets(&mut self.got, &outcome.outs);
                 self.needs(printed);
@@ -96,7 +106,20 @@ impl<'p, 'r> Player<'p, 'r> {
                 }
             }
             Err(_) => "run, which wants memory",
+        }
+    }
+
+    /// Runs a row's events: none is lost, and the packets are those of the row.
+    pub fn plays_run(
+        &mut self,
+        row: &Row<Over<'r>>,
+        config: &Config,
+        events: &[Event<Over<'r>>],
+    ) -> bool {
+        let Some(mut broker) = self.fresh(config) else {
+            return false;
         };
+        let how = self.prints_run(&mut broker, events);
         self.is_answer(row.line, how, row.packets.as_bytes())
     }
 }

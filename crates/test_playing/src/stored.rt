@@ -1,5 +1,6 @@
 //! The steps that a broker over traces stored: those of the events that were taken. Their answers are those of the calls.
 
+use crate::answers::is_taken;
 use crate::brokers::Playing;
 use crate::player::{Over, Player};
 use crate::row::{Row, Step};
@@ -10,7 +11,6 @@ use roam_route::Datagram;
 use roam_trace::Step as Stored;
 use roam_wire::Octets;
 use std::alloc::Allocator;
-use test_brokers::is_taken;
 
 /// The stored steps of each shard, and how many of them were found.
 #[derive(Drop)]
@@ -144,7 +144,7 @@ impl<'p, 'r> Player<'p, 'r> {
         broker: Playing<'_, 'r>,
         answers: &[Option<Answer<Over<'r>>>],
     ) {
-        let Playing::Traces(traces) = broker else {
+        let Some(traces) = broker.into_traces() else {
             return;
         };
         self.over.refuse_nth(0);

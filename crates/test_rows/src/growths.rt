@@ -1,9 +1,9 @@
 //! Growths of events refused in turn: the call answers want of memory, and then all is as if it had never been made.
 
 use roam_conf::Config;
+use roam_exchange::Answer;
 use std::mem::swap;
-use test_brokers::WANTING;
-use test_playing::{Over, Player, Playing, Row, Step};
+use test_playing::{Over, Player, Playing, Row, Step, WANTING};
 
 /// Plays the probes of an event.
 fn plays_probes<'r>(
@@ -55,6 +55,25 @@ fn meets_all<'r>(
     }
 }
 
+/// A broker meets each growth of each event refused before the event is answered. Whether each is answered as the row
+/// says then; the answers are kept.
+fn meets_all_of<'r>(
+    player: &mut Player<'_, 'r>,
+    row: &Row<Over<'r>>,
+    broker: &mut Playing<'_, 'r>,
+    answers: &mut Vec<Option<Answer<Over<'r>>>>,
+) -> bool {
+    for step in row.steps.iter() {
+        meets_all(player, row, broker, step);
+        let how = "after all growths refused";
+        if !player.is_answer(step.line, how, step.answer.as_bytes()) {
+            return false;
+        }
+        player.keeps_answer(answers);
+    }
+    true
+}
+
 /// One broker, which meets each growth of each event refused before the event is answered as the row says.
 pub(crate) fn plays_in_one_pass<'r>(
     player: &mut Player<'_, 'r>,
@@ -65,22 +84,34 @@ pub(crate) fn plays_in_one_pass<'r>(
         return;
     };
     let mut answers = Vec::new(player.rt.alloc());
-    for step in row.steps.iter() {
-        meets_all(player, row, &mut broker, step);
-        let how = "after all growths refused";
-        if !player.is_answer(step.line, how, step.answer.as_bytes()) {
-            return;
-        }
-        player.keeps_answer(&mut answers);
-    }
+    let are_answered = meets_all_of(player, row, &mut broker, &mut answers);
     // Probes are stored between the events.
-    if row.probes.is_empty() {
+    if are_answered && row.probes.is_empty() {
         player.looks_at_steps(row, broker, &answers);
     }
 }
 
 /// The event at a place meets its `n`-th growth refused; the same event and those after it are then answered
 /// as the row says. Whether there is such a growth.
+fn repeats_at<'r>(
+    player: &mut Player<'_, 'r>,
+    row: &Row<Over<'r>>,
+    broker: &mut Playing<'_, 'r>,
+    place: usize,
+    n: u64,
+) -> bool {
+    for step in row.steps.iter() {
+        if step.place == place && !refuses(player, row, broker, step, n) {
+            return false;
+        }
+        if !player.steps(broker, step, "after a growth refused") {
+            return true;
+        }
+    }
+    true
+}
+
+/// That, of a fresh broker.
 fn repeats<'r>(
     player: &mut Player<'_, 'r>,
     row: &Row<Over<'r>>,
@@ -88,18 +119,10 @@ fn repeats<'r>(
     place: usize,
     n: u64,
 ) -> bool {
-    let Some(mut broker) = player.fresh(config) else {
-        return false;
-    };
-    for step in row.steps.iter() {
-        if step.place == place && !refuses(player, row, &mut broker, step, n) {
-            return false;
-        }
-        if !player.steps(&mut broker, step, "after a growth refused") {
-            return true;
-        }
+    match player.fresh(config) {
+        Some(mut broker) => repeats_at(player, row, &mut broker, place, n),
+        None => false,
     }
-    true
 }
 
 /// Gives an event to two brokers. Whether they answer it alike.
@@ -118,6 +141,27 @@ fn steps_alike<'r>(
 
 /// The event at a place meets its `n`-th growth refused and is lost; the others are answered as by a broker
 /// that never met it. Whether there is such a growth.
+fn loses_at<'r>(
+    player: &mut Player<'_, 'r>,
+    row: &Row<Over<'r>>,
+    broker: &mut Playing<'_, 'r>,
+    other: &mut Playing<'_, 'r>,
+    place: usize,
+    n: u64,
+) -> bool {
+    for step in row.steps.iter() {
+        if step.place == place {
+            if !refuses(player, row, broker, step, n) {
+                return false;
+            }
+        } else if !steps_alike(player, broker, other, step) {
+            return true;
+        }
+    }
+    true
+}
+
+/// That, of two fresh brokers.
 fn loses<'r>(
     player: &mut Player<'_, 'r>,
     row: &Row<Over<'r>>,
@@ -125,19 +169,12 @@ fn loses<'r>(
     place: usize,
     n: u64,
 ) -> bool {
-    let (Some(mut broker), Some(mut other)) = (player.fresh(config), player.fresh(config)) else {
-        return false;
-    };
-    for step in row.steps.iter() {
-        if step.place == place {
-            if !refuses(player, row, &mut broker, step, n) {
-                return false;
-            }
-        } else if !steps_alike(player, &mut broker, &mut other, step) {
-            return true;
+    match (player.fresh(config), player.fresh(config)) {
+        (Some(mut broker), Some(mut other)) => {
+            loses_at(player, row, &mut broker, &mut other, place, n)
         }
+        _ => false,
     }
-    true
 }
 
 /// The event at a place meets its `n`-th growth refused, over brokers of its own. Whether there is such a growth.

@@ -4,8 +4,8 @@
 ghost use Rattle.std.specs.Prelude.{◌≡◌};
 ghost use Rattle.roam_conf.specs.Shown.{shown};
 ghost use Rattle.roam_shard.specs.ShardView.{AreStarts};
-ghost use Rattle.roam_history.specs.HubOpening.{fresh_opening};
-ghost use Rattle.roam_history.specs.Books.{books_of, count_of};
+ghost use Rattle.roam_calls.specs.HubOpening.{fresh_opening};
+ghost use Rattle.roam_calls.specs.Books.{books_of, count_of};
 
 use roam_conf::Config;
 use roam_hub::{Blanks, Hub, Opened, Receipt, Report, Seat};
@@ -13,8 +13,10 @@ use roam_realm::Start;
 use roam_shard::first_starts;
 use std::marker::Brand;
 use std::sync::Wait;
-use test_brokers::{Caller, Given, WANTING, is_taken, print_answer, print_fault};
-use test_playing::{Over, Player, Row, Step, are_stored, count_of};
+use test_playing::{
+    Caller, Given, Over, Player, Row, Step, WANTING, are_stored, count_of, is_taken, print_answer,
+    print_fault,
+};
 
 /// The most steps that a trace can hold. No row has as many events, with its probes after each growth refused.
 pub(crate) const MOST_STEPS: u32 = 1_000_000;

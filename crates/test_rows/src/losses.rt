@@ -6,8 +6,7 @@ use roam_core::{Event, Outcome};
 use roam_sim::simulate;
 use roam_wire::NoMemory;
 use std::io;
-use test_brokers::{print_outs, print_packets};
-use test_playing::{Kept, Over, Player, Playing, Row};
+use test_playing::{Kept, Over, Player, Playing, Row, print_outs, print_packets};
 
 /// What no run writes.
 const NONE: &str = "no such event";
@@ -45,6 +44,23 @@ pub(crate) fn opens_refused<'r>(player: &mut Player<'_, 'r>, row: &Row<Over<'r>>
     }
 }
 
+/// Prints the packets that a broker gives for a row's events but for the one at a place.
+fn print_without<'r>(
+    packets: &mut Vec<u8>,
+    row: &Row<Over<'r>>,
+    broker: &mut Playing<'_, 'r>,
+    place: usize,
+) -> io::Result<()> {
+    for step in row.steps.iter() {
+        if step.place != place {
+            if let Ok(answer) = broker.step(&step.event) {
+                print_outs(packets, &answer.outs)?;
+            }
+        }
+    }
+    Ok(())
+}
+
 /// The lines of the packets that a row's events give where the one at a place is lost.
 fn packets_without<'r>(
     player: &mut Player<'_, 'r>,
@@ -53,15 +69,9 @@ fn packets_without<'r>(
     place: usize,
 ) -> io::Result<Vec<u8>> {
     let mut packets = Vec::new(player.rt.alloc());
-    let Some(mut broker) = player.fresh(config) else {
-        return Ok(packets);
-    };
-    for step in row.steps.iter() {
-        if step.place != place {
-            if let Ok(answer) = broker.step(&step.event) {
-                print_outs(&mut packets, &answer.outs)?;
-            }
-        }
+    match player.fresh(config) {
+        Some(mut broker) => print_without(&mut packets, row, &mut broker, place)?,
+        None => {}
     }
     Ok(packets)
 }
@@ -102,6 +112,21 @@ fn is_wanting<'r>(
     !outcome.lost.is_empty()
 }
 
+/// The `n`-th growth of a run. Whether there is such a growth.
+fn is_run_refused<'r>(
+    player: &mut Player<'_, 'r>,
+    row: &Row<Over<'r>>,
+    broker: &mut Playing<'_, 'r>,
+    events: &[Event<Over<'r>>],
+    losses: &[Vec<u8>],
+    n: u64,
+) -> bool {
+    player.over.refuse_nth(n);
+    let outcome = broker.run(player.over, events);
+    let is_wanting = is_wanting(player, row, losses, outcome);
+    is_refused(player, row.line, "run", is_wanting)
+}
+
 /// Each growth of a run.
 fn runs_refused<'r>(
     player: &mut Player<'_, 'r>,
@@ -111,13 +136,11 @@ fn runs_refused<'r>(
     losses: &[Vec<u8>],
 ) {
     for n in 1..u64::MAX {
-        let Some(mut broker) = player.fresh(config) else {
-            return;
+        let is_refused = match player.fresh(config) {
+            Some(mut broker) => is_run_refused(player, row, &mut broker, events, losses, n),
+            None => false,
         };
-        player.over.refuse_nth(n);
-        let outcome = broker.run(player.over, events);
-        let is_wanting = is_wanting(player, row, losses, outcome);
-        if !is_refused(player, row.line, "run", is_wanting) {
+        if !is_refused {
             return;
         }
     }

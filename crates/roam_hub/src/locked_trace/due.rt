@@ -3,15 +3,12 @@
 ghost use Rattle.std.specs.Prelude.{◌≡◌, ◌≢◌, ◌<◌, ◌↔◌, false};
 ghost use Rattle.std.specs.Prelude.{IfErr, IfNone, IfOk, IfSome, OnErr};
 ghost use Rattle.roam_shard.specs.Turns.{NothingDue};
-ghost use Rattle.roam_due.specs.Moments.{IsTickMoment};
+ghost use Rattle.roam_calls.specs.Moments.{IsTickMoment};
 ghost use Rattle.roam_calls.specs.Calls.{IsLook, Sees, TicksIfDue};
 
 use crate::call::Call;
 use crate::locked_trace::LockedTrace;
-use roam_audit::Seat;
-use roam_calls::{HubFault, Ticked};
-use roam_due::moment_of_tick;
-use roam_history::Opened;
+use roam_calls::{HubFault, Opened, Seat, Ticked, moment_of_tick};
 use std::alloc::Allocator;
 use std::sync::Wait;
 

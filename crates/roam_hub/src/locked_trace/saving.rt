@@ -4,8 +4,7 @@ ghost use Rattle.std.specs.Prelude.{◌<◌, OnOk};
 ghost use Rattle.roam_calls.specs.Written.{BeginsRealm, SavesOrNothing};
 
 use crate::locked_trace::LockedTrace;
-use roam_audit::Seat;
-use roam_history::Opened;
+use roam_calls::{Opened, Seat};
 use roam_ledgers::Writing;
 use roam_wire::NoMemory;
 use std::alloc::{AllocError, Allocator};

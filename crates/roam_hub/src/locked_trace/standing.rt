@@ -6,10 +6,9 @@ ghost use Rattle.roam_carry.specs.Carrying.{AreChanged};
 ghost use Rattle.roam_calls.specs.Looks.{LosesIn, StandsIn};
 
 use crate::locked_trace::LockedTrace;
-use roam_audit::Seat;
+use roam_calls::{Opened, Seat};
 use roam_carry::Loss;
 use roam_conf::Config;
-use roam_history::Opened;
 use roam_realm::Gauges;
 use std::alloc::Allocator;
 

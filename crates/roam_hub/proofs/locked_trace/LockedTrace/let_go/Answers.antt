@@ -2,9 +2,9 @@
 use Rattle.std.proofs.Common.{◌≡◌, ℕ, ◌++◌, ◌∷◌, [], length, ap, sym, subst, ◌∙◌, arith}
 use mathlib.Core.List.{IsPrefix}
 use Rattle.roam_trace.specs.History.{Ends, TraceView, stored_steps, without_steps}
-use Rattle.roam_history.specs.Entries.{gone_of, let_go_entry}
-use Rattle.roam_history.specs.Fronts.{FrontView}
-use Rattle.roam_audit.specs.Seats.{after_letting_go, front_of}
+use Rattle.roam_calls.specs.Entries.{gone_of, let_go_entry}
+use Rattle.roam_calls.specs.Fronts.{FrontView}
+use Rattle.roam_calls.specs.Seats.{after_letting_go, front_of}
 use Rattle.roam_calls.specs.Calls.{AreGone, Sees}
 use Rattle.roam_hub.specs.Keeping.{IsKept, KeptView}
 use Rattle.roam_hub.proofs.KeptLemmas.{gone_of_shard, kept_gone}

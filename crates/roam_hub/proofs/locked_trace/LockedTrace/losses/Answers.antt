@@ -4,7 +4,7 @@ use Rattle.std.proofs.lemmas.Option.{IfSome_then}
 use mathlib.Core.List.{IsPrefix}
 use Rattle.roam_conf.specs.Config.{ConfigView}
 use Rattle.roam_conf.specs.Shown.{shown}
-use Rattle.roam_audit.specs.Seats.{front_of}
+use Rattle.roam_calls.specs.Seats.{front_of}
 use Rattle.roam_realm.specs.RealmState.{RealmState}
 use Rattle.roam_carry.specs.Carrying.{AreChanged}
 use Rattle.roam_core.specs.ManyRealms.{state_at}

@@ -5,7 +5,7 @@ use Rattle.roam_exchange.specs.HappeningsShown.{shown_happening}
 use Rattle.roam_counters.specs.Arrivals.{failed_increments}
 use Rattle.roam_counters.specs.Increments.{job_increments}
 use Rattle.roam_route.specs.Shown.{shown_job}
-use Rattle.roam_audit.specs.Seats.{SeatView}
+use Rattle.roam_calls.specs.Seats.{SeatView}
 use Rattle.roam_counting.specs.Counting.{counts_in, wait_of}
 use Rattle.roam_workers.proofs.HandlingLemmas.{came-so}
 use Rattle.roam_workers.proofs.context.WorkerContext.take.Goals as goal

@@ -1,5 +1,0 @@
-pub mod ListLemmas
-pub mod SeatLemmas
-pub mod PrefixLemmas
-pub mod ReceiptLemmas
-pub mod AuditLemmas

@@ -1,0 +1,11 @@
+use Rattle.std.proofs.Common.{[]}
+use Rattle.roam_calls.specs.Books.{books_of}
+use Rattle.roam_calls.specs.HubOpening.{no_opening}
+use Rattle.test_calls.proofs.seat_tests.splits_are_refused.Given as goal
+
+-- a hub of two shards
+abbrev pub ghosts-split_refused : goal.ghosts-split_refused
+ghosts-split_refused g a = record {
+  opening = record { config = record no_opening.config { shards = 2 }; states = λ _. [] };
+  books = books_of a.blanks;
+}

@@ -1,0 +1,178 @@
+//! What a seat counts, and the growths of its calls refused in turn.
+
+ghost use Rattle.std.specs.Prelude.{◌≡◌};
+ghost use Rattle.roam_calls.specs.Books.{books_of, count_of};
+
+use roam_calls::{Blanks, Opened, Seat, Tally, split};
+use roam_wire::NoMemory;
+use std::alloc::{Allocator, Global};
+use std::marker::Brand;
+use std::process::Abort;
+use test_allocator::Refusing;
+
+/// A shard with no call.
+const NO_CALLS: Tally = Tally {
+    calls: 0,
+    next: 0,
+    is_marked: false,
+};
+
+/// A seat of two shards that has seen nothing. The first history is that of shard 0.
+fn seat_of<A: Allocator + Copy, N: Opened>(
+    alloc: A,
+    blanks: Blanks<A>,
+) -> Result<Seat<A, N>, NoMemory>
+    requires books { N.books ≡ books_of blanks }
+    requires blanks { count_of blanks ≡ 2 }
+    requires shards { N.opening.config.shards ≡ 2 }
+{
+    let mut fronts = Vec::with_capacity(alloc, 2)?;
+    let mut shard: u16 = 0;
+    for blank in blanks.blanks {
+        let (_head, front) = blank.named::<N>(shard);
+        fronts.push(front)?;
+        shard += 1;
+    }
+    Seat::new(alloc, fronts)
+}
+
+/// What a seat counts of its first two shards, if it has them.
+fn shown<A: Allocator, N: Opened>(seat: &Seat<A, N>) -> [Option<Tally>; 2] {
+    let tallies = seat.tallies();
+    [tallies.get(0).copied(), tallies.get(1).copied()]
+}
+
+/// Notes calls of shard 1.
+fn note_all<A: Allocator, N: Opened>(seat: &mut Seat<A, N>, numbers: &[u64])
+    requires { N.opening.config.shards ≡ 2 }
+{
+    for &number in numbers {
+        if number < u64::MAX {
+            let front = seat.front(1).again();
+            seat.note(number, front);
+        }
+    }
+}
+
+/// What is counted where these numbers are noted.
+fn noted<N: Opened>(
+    rt: &impl Abort,
+    alloc: Global,
+    blanks: Blanks<Global>,
+    numbers: &[u64],
+) -> [Option<Tally>; 2]
+    requires books { N.books ≡ books_of blanks }
+    requires blanks { count_of blanks ≡ 2 }
+    requires shards { N.opening.config.shards ≡ 2 }
+{
+    let mut seat = seat_of::<Global, N>(alloc, blanks)
+        .ok()
+        .expect(rt, "a seat");
+    note_all(&mut seat, numbers);
+    shown(&seat)
+}
+
+/// Numbers that are noted, and what is counted then.
+const NOTED: &[(&str, &[u64], Tally)] = &[
+    ("none", &[], NO_CALLS),
+    (
+        "numbers that rise",
+        &[0, 3, 4],
+        Tally {
+            calls: 3,
+            next: 5,
+            is_marked: false,
+        },
+    ),
+    (
+        "a number that comes again",
+        &[3, 3],
+        Tally {
+            calls: 2,
+            next: 4,
+            is_marked: true,
+        },
+    ),
+    (
+        "a number that falls, and rises again",
+        &[3, 2, 9],
+        Tally {
+            calls: 3,
+            next: 10,
+            is_marked: true,
+        },
+    ),
+];
+
+/// Whether each row of numbers is counted so.
+fn are_noted(rt: &impl Abort, alloc: Global) -> bool {
+    for (_, numbers, tally) in NOTED {
+        let blanks = Blanks::new(alloc, 2).ok().expect(rt, "memory");
+        let counted = noted::<Brand>(rt, alloc, blanks, numbers);
+        if counted != [Some(NO_CALLS), Some(*tally)] {
+            return false;
+        }
+    }
+    true
+}
+
+pub(crate) fn calls_are_noted<R: Abort + AllocGlobal>(rt: &R) {
+    assert!(rt; are_noted(rt, rt.alloc()));
+}
+
+/// An allocator that refuses growths.
+type Over<'r> = &'r Refusing<Global>;
+
+/// A seat with one call of shard 1, which is split where one growth may be refused, and again where it was:
+/// whether it was refused, and what the two count at last.
+fn split_refused<'r, N: Opened>(
+    rt: &impl Abort,
+    over: Over<'r>,
+    blanks: Blanks<Over<'r>>,
+    n: u64,
+) -> (bool, [Option<Tally>; 2], [Option<Tally>; 2])
+    requires books { N.books ≡ books_of blanks }
+    requires blanks { count_of blanks ≡ 2 }
+    requires shards { N.opening.config.shards ≡ 2 }
+{
+    let mut seat = seat_of::<Over<'r>, N>(over, blanks)
+        .ok()
+        .expect(rt, "a seat");
+    note_all(&mut seat, &[3]);
+    over.refuse_nth(n);
+    let (refused, split_at_last) = match split(seat) {
+        Ok(seats) => (false, Ok(seats)),
+        Err((seat, NoMemory)) => (true, split(seat)),
+    };
+    match split_at_last {
+        Ok((same, new)) => (refused, shown(&same), shown(&new)),
+        Err(_) => panic!(rt; "no second seat"),
+    }
+}
+
+/// Whether each growth of a split is told that is refused, and both seats are there then.
+fn splits_are_refused(rt: &impl Abort, alloc: Global) -> bool {
+    let over = Refusing::new(alloc);
+    let one_call = Tally {
+        calls: 1,
+        next: 4,
+        is_marked: false,
+    };
+    let wanted = (
+        [Some(NO_CALLS), Some(one_call)],
+        [Some(NO_CALLS), Some(NO_CALLS)],
+    );
+    for n in over.each_growth() {
+        over.refuse_nth(0);
+        let blanks = Blanks::new(&over, 2).ok().expect(rt, "memory");
+        let (refused, same, new) = split_refused::<Brand>(rt, &over, blanks, n);
+        if refused != over.was_refused() || (same, new) != wanted {
+            return false;
+        }
+    }
+    true
+}
+
+pub(crate) fn each_growth_of_a_split<R: Abort + AllocGlobal>(rt: &R) {
+    assert!(rt; splits_are_refused(rt, rt.alloc()));
+}
