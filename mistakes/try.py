@@ -1,14 +1,14 @@
 #!/usr/bin/env python3
-"""Tries the mistakes that `rt ci` doesn't: of each crate it tries three or four, of a long one none.
+"""Tries the mistakes that the prover has to refuse.
 
     mistakes/try.py [CRATE ..]      all that are kept of these crates, or of all
     mistakes/try.py --gate [JOBS]   those that .ci/run tries, each by its function alone, those of a crate at one time
 
-Each file of `mistakes/CRATE` is an edit in the form of `crates/*/must-fail`. They are laid there, beside those of `rt ci`,
+Each file of `mistakes/CRATE` is an edit in the form that `rt must-fail` takes. They are laid into the crate's `must-fail`,
 `rt must-fail CRATE` tries them all (the crate and those below it are proved first, where that isn't done), and they are
 taken away again. The status is 0 where the prover refuses them all.
 
-`rt must-fail` proves the whole crate once more, from nothing. So an edit of a long crate may have a line `only: FUNCTION`: with
+`rt must-fail` proves the whole crate once more, from nothing. So an edit that the gate tries has a line `only: FUNCTION`: with
 --gate the prover checks this function, and those that it calls, of a copy of the crate that has the edit, over the libraries that
 were proved before. It is refused where the prover has read all of it and has no proof of this function, for more than a name that
 the edit took away. A copy has one edit of each function that a crate's edits name: most of what such a check costs is reading.

@@ -56,7 +56,6 @@ COUNTS = {
     r"([\d,]+) of (?:these|them are) sealed and signed anew": signed_anew,
     r"(\d+) mistakes(?= in a sample| \(`packaging)|(?<=Makes )(\d+) mistakes": diagnosed,
     r"(\d+) crates\b": crates,
-    r"(\d+) (?:must-fail )?edits\b": lambda: len(list(ROOT.glob("crates/*/must-fail/*.edit"))),
     r"(\d+) planted mistakes\b": lambda: len(list(ROOT.glob("mistakes/*/*.edit"))),
     r"all (\d+) refusals|table of all (\d+)\b": lambda: len(re.findall(r"^    [A-Z][A-Za-z]+,$", (
         ROOT / "crates" / "roam_wire" / "src" / "refusal.rt").read_text(encoding="utf-8").split("pub enum Refusal {")[1].split("}")[0], re.M)),

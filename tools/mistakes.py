@@ -3,8 +3,8 @@
 
     tools/mistakes.py
 
-The mistakes are the edits of crates/NAME/must-fail and of mistakes/NAME; in bold type on the page are those that the gate tries:
-the former, and of the latter those with a line `only: FUNCTION`. The status is 1 where one is missing, is there twice, isn't kept
+The mistakes are the edits of mistakes/NAME; in bold type on the page are those that the gate tries, which have a line
+`only: FUNCTION`. The status is 1 where one is missing, is there twice, isn't kept
 any more, is in the wrong type or under a heading with another count, where its function isn't there, or where the text that it changes
 isn't in its file once.
 """
@@ -20,12 +20,10 @@ PAGE = ROOT / "mistakes" / "README.md"
 def kept() -> dict[tuple[str, str, str], tuple[bool, pathlib.Path]]:
     """Each mistake by crate, function and words: whether the gate tries it, and its file."""
     found = {}
-    for in_gate, place in ((True, "crates/*/must-fail/*.edit"), (False, "mistakes/*/*.edit")):
-        for path in sorted(ROOT.glob(place)):
-            crate = path.parts[-3] if in_gate else path.parts[-2]
-            function, words = path.stem.split("-", 1)
-            is_tried = in_gate or bool(re.search(r"^only: ", path.read_text(encoding="utf-8"), re.M))
-            found[crate, function, words.replace("_", " ")] = (is_tried, path)
+    for path in sorted(ROOT.glob("mistakes/*/*.edit")):
+        function, words = path.stem.split("-", 1)
+        is_tried = bool(re.search(r"^only: ", path.read_text(encoding="utf-8"), re.M))
+        found[path.parts[-2], function, words.replace("_", " ")] = (is_tried, path)
     return found
 
 

@@ -559,29 +559,33 @@ def keeps_the_rules(conf):
     assert all(map(is_endpoint, endpoints))
 
 
-def realm_in_roam(conf, user):
-    if "@" not in user:
-        return None
-    name, best = user.rpartition("@")[2].lower(), None
-    for realm in conf["realm"] + [None]:
-        for pattern in [realm["name"]] + realm.get("also", []) if realm else conf.get("reject", []):
-            pattern = pattern.lower()
-            fits = pattern == name or pattern == "*" and name or (
-                pattern.startswith("*.") and name.endswith(pattern[1:]) and len(name) >= len(pattern))
-            rank = (0 if pattern == "*" else 1 if pattern.startswith("*.") else 2, len(pattern))
-            if fits and (best is None or rank > best[0]):
-                best = rank, realm
-    return best and best[1]
+def realms_in_roam(conf):
+    """Which realm a name means: by its whole name, else by the longest suffix, else by `*`; of those that are rejected, None."""
+    patterns = {pattern.lower(): realm for realm in conf["realm"] for pattern in [realm["name"]] + realm.get("also", [])}
+    patterns.update((pattern.lower(), None) for pattern in conf.get("reject", []))
+    suffixes = sorted((pattern for pattern in patterns if pattern.startswith("*.")), key=len, reverse=True)
+
+    def realm_of(user):
+        if "@" not in user:
+            return None
+        name = user.rpartition("@")[2].lower()
+        if name in patterns and name != "*" and not name.startswith("*."):
+            return patterns[name]
+        found = [it for it in suffixes if name.endswith(it[1:]) and len(name) >= len(it)]
+        return patterns[found[0]] if found else patterns.get("*") if name else None
+    return realm_of
 
 
-def realm_in_radsecproxy(blocks, user):
+def blocks_in_radsecproxy(blocks):
     """The first block that takes the name. radsecproxy takes a name without `@` by `*` too."""
-    for block in blocks:
-        name = block.name
-        if name == "*" or (name.startswith("/") and re.search(name[1:].removesuffix("/"), user, re.IGNORECASE)) \
-                or ("@" in user and name.lower() == user.rpartition("@")[2].lower()):
-            return block
-    return None
+    expressions = [re.compile(block.name[1:].removesuffix("/"), re.IGNORECASE) if block.name.startswith("/") else None for block in blocks]
+    read = list(zip(blocks, expressions, [block.name.lower() for block in blocks]))
+
+    def block_of(user):
+        name = user.rpartition("@")[2].lower() if "@" in user else None
+        return next((block for block, expression, whole in read
+                     if whole == "*" or (expression.search(user) if expression else whole == name)), None)
+    return block_of
 
 
 def users(blocks, conf):
@@ -599,9 +603,9 @@ def users(blocks, conf):
 
 def agree(conf, blocks):
     """Each name means the realm that was made of the block that radsecproxy takes, where that was carried over."""
-    told = 0
+    told, block_of, realm_of = 0, blocks_in_radsecproxy(blocks), realms_in_roam(conf)
     for user in users(blocks, conf):
-        there, here = realm_in_radsecproxy(blocks, user), realm_in_roam(conf, user)
+        there, here = block_of(user), realm_of(user)
         if there is None or there.name in NOT_CARRIED:
             continue
         told += 1
