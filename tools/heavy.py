@@ -3,8 +3,8 @@
 
     tools/heavy.py [--tree FOLDER] [CRATE ..]    (all crates that were checked, where none is named)
 
-It reads what the last check or `rt lib` kept in crates/NAME/out/incremental. A megabyte is about 2.5 seconds, and above 10 of one
-function more than that: 36 took 4.6 minutes. What makes it large are exits (`?`, return, the end of a match) at which much is alive.
+It reads what the last check or `rt lib` kept in crates/NAME/out/incremental. A megabyte is about a second, and above 10 of one
+function more than that. What makes it large are exits (`?`, return, the end of a match) at which much is alive.
 """
 import argparse
 import pathlib

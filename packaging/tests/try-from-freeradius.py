@@ -261,14 +261,14 @@ def realm_in_freeradius(name):
     return whole or next((it for it in names if it.startswith("~") and re.search(it[1:], name, re.I)), "DEFAULT")
 
 
-def agree(conf, choose):
+def agree(realm_of):
     """How many names mean the realm that was made of FreeRADIUS' one."""
     made = {"a.example": "a.example", "~^(.*\\.)*b\\.example$": "b.example", "x.b.example": "x.b.example", "DEFAULT": "default.invalid"}
     chance, told = random.Random(7), 0
     bases = ["a.example", "b.example", "x.b.example", "c.b.example", "y.c.b.example", "here.example", "elsewhere.org", "example"]
     for name in [one for base in bases for one in (base, "z." + base, "q" + base)]:
         there = realm_in_freeradius(name)
-        here = choose(conf, "u@" + (name.upper() if chance.randrange(2) else name))
+        here = realm_of("u@" + (name.upper() if chance.randrange(2) else name))
         if there in made:
             assert here and here["name"] == made[there], (name, there, here and here["name"])
             told += 1
@@ -321,7 +321,7 @@ def main():
     assert x["accounting"] == every["accounting"] == "answer" and every["also"] == ["*"] and every["rest_after"] == 50
     assert conf["reject"] == ["here.example"] and conf["log_exchanges"] == "none" and "status_server" not in conf
     assert b["conversations"] and "conversations" not in a and a["own_sessions"] and "own_sessions" not in x and conf["max_attributes"] == 150
-    print(f"{agree(conf, module.realm_in_roam)} names mean the same realm")
+    print(f"{agree(module.realms_in_roam(conf))} names mean the same realm")
     with tempfile.NamedTemporaryFile("w", suffix=".conf") as file:
         file.write('client one {\n  secret = "never shown\n}\n')
         file.flush()

@@ -3,9 +3,7 @@
 use crate::document::{Document, Located};
 use crate::lines::Lines;
 use crate::place::TableKind;
-use crate::unsaid::Unsaid;
 use crate::{names, servers, sessions};
-use std::fmt::Write;
 
 /// What is unwise in a table, in what stands under a key.
 #[derive(Clone, Copy)]
@@ -117,15 +115,12 @@ const OWN_SERVER: &str = "is the broker's own: what is sent there comes back to 
 
 const DEFAULT: &str = "is a name as any other: what FreeRADIUS calls DEFAULT is also = [\"*\"]";
 
-/// The advice for each kind of tables; that for sockets first.
-const OF_SOCKETS: [Advice; 4] = [
+/// The advice for each kind of tables, in the order in which it is said; that for sockets first.
+const ADVICES: [Advice; 26] = [
     Advice(TableKind::Top, "auth", Unwise::AnyAddress, ANY_ADDRESS),
     Advice(TableKind::Top, "acct", Unwise::AnyAddress, ANY_ADDRESS),
     Advice(TableKind::Realm, "out", Unwise::AnyAddress, ANY_ADDRESS),
     Advice(TableKind::Realm, "reverse", Unwise::AnyAddress, ANY_ADDRESS),
-];
-
-const OF_PEERS: [Advice; 3] = [
     Advice(
         TableKind::Peer,
         "secret",
@@ -139,9 +134,6 @@ const OF_PEERS: [Advice; 3] = [
         Unwise::Unsealed,
         "isn't true: an Access-Request without a Message-Authenticator, which can be forged, is taken",
     ),
-];
-
-const OF_REALMS: [Advice; 11] = [
     Advice(TableKind::Realm, "name", Unwise::Default, DEFAULT),
     Advice(TableKind::Realm, "also", Unwise::Default, DEFAULT),
     Advice(
@@ -198,24 +190,6 @@ const OF_REALMS: [Advice; 11] = [
         Unwise::OthersSessions,
         "isn't true beside reverse: a Disconnect or CoA may name a session of another realm",
     ),
-];
-
-const OF_CLIENTS: [Advice; 2] = [
-    Advice(
-        TableKind::Client,
-        "secret",
-        Unwise::SampleSecret,
-        SAMPLE_SECRET,
-    ),
-    Advice(
-        TableKind::Client,
-        "secret",
-        Unwise::ShortSecret,
-        SHORT_SECRET,
-    ),
-];
-
-const OF_SERVERS: [Advice; 6] = [
     Advice(TableKind::Server, "auth", Unwise::OwnServer, OWN_SERVER),
     Advice(TableKind::Server, "acct", Unwise::OwnServer, OWN_SERVER),
     Advice(
@@ -242,11 +216,23 @@ const OF_SERVERS: [Advice; 6] = [
         Unwise::Unsealed,
         "isn't true: an Access-Accept without a Message-Authenticator, which can be forged, is taken",
     ),
+    Advice(
+        TableKind::Client,
+        "secret",
+        Unwise::SampleSecret,
+        SAMPLE_SECRET,
+    ),
+    Advice(
+        TableKind::Client,
+        "secret",
+        Unwise::ShortSecret,
+        SHORT_SECRET,
+    ),
 ];
 
-/// Says an advice of the first table that it is for, and of how many more.
-fn say(document: &Document<'_>, advice: Advice, lines: &mut Lines) -> Result<(), Unsaid> {
-    let Advice(kind, key, unwise, words) = advice;
+/// The first table that an advice is for, and how many more there are.
+fn first_of<'a>(document: &Document<'a>, advice: Advice) -> (Option<Located<'a>>, u32) {
+    let Advice(kind, key, unwise, _) = advice;
     let mut first = None;
     let mut more = 0u32;
     for at in document.tables.as_slice() {
@@ -257,29 +243,25 @@ fn say(document: &Document<'_>, advice: Advice, lines: &mut Lines) -> Result<(),
             }
         }
     }
-    let Some(at) = first else {
-        return Ok(());
-    };
-    let mut line = document.line_at(at, key)?;
-    write!(line, ": {words}")?;
-    if more > 0 {
-        write!(line, " (and so in {more} more)")?;
-    }
-    lines.push(line)
+    (first, more)
 }
 
-fn say_all(document: &Document<'_>, advices: &[Advice], lines: &mut Lines) -> Result<(), Unsaid> {
-    for advice in advices {
-        say(document, *advice, lines)?;
+/// Says an advice of the first table that it is for, and of how many more.
+fn say(document: &Document<'_>, advice: Advice, lines: &mut Lines) {
+    let (first, more) = first_of(document, advice);
+    if let Some(at) = first {
+        document.begin_line(at, advice.1, lines);
+        lines.put(": ", advice.3, "");
+        if more > 0 {
+            lines.put(" (and so in ", more, " more)");
+        }
+        lines.end_line();
     }
-    Ok(())
 }
 
 /// Says what is unwise.
-pub(crate) fn say_advice(document: &Document<'_>, lines: &mut Lines) -> Result<(), Unsaid> {
-    say_all(document, &OF_SOCKETS, lines)?;
-    say_all(document, &OF_PEERS, lines)?;
-    say_all(document, &OF_REALMS, lines)?;
-    say_all(document, &OF_SERVERS, lines)?;
-    say_all(document, &OF_CLIENTS, lines)
+pub(crate) fn say_advice(document: &Document<'_>, lines: &mut Lines) {
+    for advice in &ADVICES {
+        say(document, *advice, lines);
+    }
 }

@@ -1,134 +1,129 @@
 //! Which values aren't of their form, and which keys a table doesn't have.
 
 use crate::document::{Document, Located};
+use crate::form_words::say_misfit;
 use crate::forms::{ValueForm, is_list, is_of_tables, misfit};
-use crate::line::Line;
 use crate::lines::Lines;
-use crate::place::TableKind;
-use crate::quoted::Quoted;
-use crate::rules::{Rule, has_rule, header_of, owner_of, rules_of};
-use crate::unsaid::Unsaid;
-use std::fmt;
-use std::fmt::Write;
+use crate::place::{TableKind, name_of};
+use crate::quoted::quote;
+use crate::rules::{has_rule, header_of, owner_of, rules_of};
 use toml::Value;
 
-/// Writes a value, or which type it has.
-fn write_value(line: &mut Line, value: &Value) -> fmt::Result {
+/// The keys of a realm under which tables stand.
+const WITH_HEADERS: [&str; 2] = ["server", "coa_client"];
+
+/// Says a value, or which type it has.
+fn say_value(value: &Value, lines: &mut Lines) {
     match value {
-        Value::String(text) => write!(line, "{} ", Quoted(text.as_str())),
-        Value::Integer(number) => write!(line, "{number} "),
-        Value::Boolean(flag) => write!(line, "{flag} "),
-        Value::Array(items) => write!(line, "an array of {} ", items.len()),
-        _ => write!(line, "a {} ", value.type_str()),
+        Value::String(text) => quote("", text.as_str(), " ", lines),
+        Value::Integer(number) => lines.put("", *number, " "),
+        Value::Boolean(flag) => lines.put("", *flag, " "),
+        Value::Array(items) => lines.put("an array of ", items.len(), " "),
+        _ => lines.put("a ", value.type_str(), " "),
     }
 }
 
-/// Writes how a value that isn't of its form is mended, where that can be told by its type.
-fn write_remedy(line: &mut Line, form: ValueForm, value: &Value, header: &str) -> fmt::Result {
-    match (form, value) {
-        (ValueForm::Number(..) | ValueForm::Flag, Value::String(_)) => {
-            line.write_str(": leave the quotation marks out")
-        }
-        (ValueForm::Number(..), Value::Float(_)) => line.write_str(": it is a whole number"),
-        (form, Value::String(text)) if is_list(form) => {
-            write!(line, ": write [{}]", Quoted(text.as_str()))
-        }
-        (form, Value::Table(_)) if is_of_tables(form) => write!(line, ": write [[{header}]]"),
-        (ValueForm::Number(..) | ValueForm::Flag, _) => Ok(()),
-        (form, _) if is_list(form) || is_of_tables(form) => Ok(()),
-        (_, Value::Integer(_) | Value::Float(_) | Value::Boolean(_)) => {
-            line.write_str(": put it in quotation marks")
-        }
-        _ => Ok(()),
+/// How a value is mended where a number or a flag belongs.
+fn remedy_of_plain(form: ValueForm, value: &Value) -> &'static str {
+    match value {
+        Value::String(_) => ": leave the quotation marks out",
+        Value::Float(_) => match form {
+            ValueForm::Number(..) => ": it is a whole number",
+            _ => "",
+        },
+        _ => "",
     }
 }
 
-/// Writes how long a secret is that isn't of its form, or that it is no text.
-fn write_length(line: &mut Line, length: Option<usize>) -> fmt::Result {
+/// How a value that isn't of its form is mended, where that can be told by its type; else nothing.
+fn remedy_of(form: ValueForm, value: &Value) -> &'static str {
+    match form {
+        ValueForm::Number(..) | ValueForm::Flag => remedy_of_plain(form, value),
+        _ if is_list(form) || is_of_tables(form) => "",
+        _ => match value {
+            Value::Integer(_) | Value::Float(_) | Value::Boolean(_) => {
+                ": put it in quotation marks"
+            }
+            _ => "",
+        },
+    }
+}
+
+/// Says how a value that isn't of its form is mended, where that can be told by its type.
+fn say_remedy(form: ValueForm, value: &Value, header: &str, lines: &mut Lines) {
+    match value {
+        Value::String(text) if is_list(form) => quote(": write [", text.as_str(), "]", lines),
+        Value::Table(_) if is_of_tables(form) => lines.put(": write [[", header, "]]"),
+        _ => lines.say(remedy_of(form, value)),
+    }
+}
+
+/// Says how long a secret is that isn't of its form, or that it is no text.
+fn say_length(length: Option<usize>, lines: &mut Lines) {
     match length {
-        Some(length) => write!(line, ": it has {length}"),
-        None => line.write_str(": put it in quotation marks"),
+        Some(length) => lines.put(": it has ", length, ""),
+        None => lines.say(": put it in quotation marks"),
     }
 }
 
-/// Writes that what stands under a key isn't of its form. A secret isn't shown.
-fn write_bad(line: &mut Line, at: Located<'_>, key: &str, form: ValueForm) -> fmt::Result {
-    let Some(value) = at.keys.value(key) else {
-        write!(line, "{form}")?;
-        return match form {
-            ValueForm::Secret => write_length(line, at.keys.secret_length()),
-            _ => Ok(()),
-        };
-    };
-    write_value(line, misfit(form, value))?;
-    write!(line, "{form}")?;
-    write_remedy(line, form, value, header_of(key))
-}
-
-/// Says that what stands under a key isn't of its form.
+/// Says that what stands under a key isn't of its form. A secret isn't shown.
 fn say_bad(
     document: &Document<'_>,
     at: Located<'_>,
     key: &str,
     form: ValueForm,
     lines: &mut Lines,
-) -> Result<(), Unsaid> {
-    let mut line = document.line_at(at, key)?;
-    line.write_str(": ")?;
-    write_bad(&mut line, at, key, form)?;
-    lines.push(line)
+) {
+    document.begin_line(at, key, lines);
+    lines.say(": ");
+    match at.keys.value(key) {
+        Some(value) => {
+            say_value(misfit(form, value), lines);
+            say_misfit(form, lines);
+            say_remedy(form, value, header_of(key), lines);
+        }
+        None => {
+            say_misfit(form, lines);
+            if let ValueForm::Secret = form {
+                say_length(at.keys.secret_length(), lines);
+            }
+        }
+    }
+    lines.end_line();
 }
 
-/// Writes where a key belongs that stands in a table of another kind.
-fn write_owner(line: &mut Line, here: TableKind, key: &str) -> fmt::Result {
+/// Says where a key belongs that stands in a table of another kind.
+fn say_owner(here: TableKind, key: &str, lines: &mut Lines) {
     match owner_of(here, key) {
         Some(TableKind::Top) => {
-            line.write_str(": it is one of the top table, so put it before the first table")
+            lines.say(": it is one of the top table, so put it before the first table");
         }
-        Some(TableKind::Realm) if key == "server" || key == "coa_client" => {
-            write!(line, ": write [[{}]]", header_of(key))
+        Some(TableKind::Realm) if WITH_HEADERS.contains(&key) => {
+            lines.put(": write [[", header_of(key), "]]");
         }
-        Some(owner) => write!(line, ": it is one of {owner}"),
-        None => Ok(()),
+        Some(owner) => lines.put(": it is one of ", name_of(owner), ""),
+        None => {}
     }
 }
 
 /// Says that a table of the kind doesn't have a key.
-fn say_unknown(
-    document: &Document<'_>,
-    at: Located<'_>,
-    key: &str,
-    lines: &mut Lines,
-) -> Result<(), Unsaid> {
-    let mut line = document.line_at(at, key)?;
-    write!(line, ": is no key of {}", at.place.kind)?;
-    write_owner(&mut line, at.place.kind, key)?;
-    lines.push(line)
+fn say_unknown(document: &Document<'_>, at: Located<'_>, key: &str, lines: &mut Lines) {
+    document.begin_line(at, key, lines);
+    lines.put(": is no key of ", name_of(at.place.kind), "");
+    say_owner(at.place.kind, key, lines);
+    lines.end_line();
 }
 
-fn say_values(document: &Document<'_>, at: Located<'_>, lines: &mut Lines) -> Result<(), Unsaid> {
-    for Rule(key, _, form) in rules_of(at.place.kind) {
-        if !at.keys.fits(key, *form) && !lines.is_full() {
-            say_bad(document, at, key, *form, lines)?;
+/// Says which values of a table aren't of their form, and which keys it doesn't have.
+pub(crate) fn say_bad_values(document: &Document<'_>, at: Located<'_>, lines: &mut Lines) {
+    for rule in rules_of(at.place.kind) {
+        if !at.keys.fits(rule.0, rule.2) && !lines.is_full() {
+            say_bad(document, at, rule.0, rule.2, lines);
         }
     }
-    Ok(())
-}
-
-fn say_keys(document: &Document<'_>, at: Located<'_>, lines: &mut Lines) -> Result<(), Unsaid> {
     for name in at.keys.names() {
         if !has_rule(at.place.kind, name.as_str()) && !lines.is_full() {
-            say_unknown(document, at, name.as_str(), lines)?;
+            say_unknown(document, at, name.as_str(), lines);
         }
     }
-    Ok(())
-}
-
-/// Says which values aren't of their form, and which keys a table doesn't have.
-pub(crate) fn say_bad_values(document: &Document<'_>, lines: &mut Lines) -> Result<(), Unsaid> {
-    for at in document.tables.as_slice() {
-        say_values(document, *at, lines)?;
-        say_keys(document, *at, lines)?;
-    }
-    Ok(())
 }

@@ -2,54 +2,44 @@
 
 use crate::advice::say_advice;
 use crate::bad_values::say_bad_values;
-use crate::document::Document;
+use crate::document::{Document, Located};
 use crate::duplicates::say_duplicates;
 use crate::lines::Lines;
 use crate::missing::say_missing;
+use crate::place::TableKind;
 use crate::syntax::say_syntax;
 use crate::unknown_peers::say_unknown_peers;
-use crate::unsaid::Unsaid;
 use crate::ways::say_no_way_out;
 use roam_conf_reader::ConfFault;
 use std::alloc::Global;
-use toml::Table;
 
-/// Says where the fault of a document stands.
-fn say_fault(
-    alloc: Global,
-    path: &str,
-    text: &str,
-    table: &Table,
-    fault: ConfFault,
-    lines: &mut Lines,
-) -> Result<(), Unsaid> {
-    let document = Document::new(alloc, path, text, table)?;
-    match fault {
-        ConfFault::Missing => say_missing(&document, lines),
-        ConfFault::BadValue => say_bad_values(&document, lines),
-        ConfFault::NoWayOut => say_no_way_out(&document, lines),
-        ConfFault::UnknownPeer => say_unknown_peers(&document, lines),
-        _ => say_duplicates(&document, fault, lines),
+/// Says where the fault of a document stands in a table.
+fn say_in_table(document: &Document<'_>, at: Located<'_>, fault: ConfFault, lines: &mut Lines) {
+    match (fault, at.place.kind) {
+        (ConfFault::Missing, _) => say_missing(document, at, lines),
+        (ConfFault::BadValue, _) => say_bad_values(document, at, lines),
+        (ConfFault::NoWayOut, TableKind::Server) => say_no_way_out(document, at, lines),
+        (ConfFault::UnknownPeer, TableKind::Realm) => say_unknown_peers(document, at, lines),
+        _ => {}
     }
 }
 
-/// Says what is unwise in a document.
-fn say_unwise(
-    alloc: Global,
-    path: &str,
-    text: &str,
-    table: &Table,
-    lines: &mut Lines,
-) -> Result<(), Unsaid> {
-    let document = Document::new(alloc, path, text, table)?;
-    say_advice(&document, lines)
+/// Says where the fault of a document stands.
+fn say_fault(document: &Document<'_>, fault: ConfFault, lines: &mut Lines) {
+    for at in document.tables.as_slice() {
+        say_in_table(document, *at, fault, lines);
+    }
+    say_duplicates(document, fault, lines);
 }
 
-/// The lines that came about, or none where memory was wanting.
-fn unless_unsaid(alloc: Global, said: Result<(), Unsaid>, lines: Lines) -> Lines {
-    match said {
-        Ok(()) => lines,
-        Err(Unsaid) => Lines::new(alloc),
+/// Says where the fault of a document stands, or what is unwise in one that has none.
+fn say(document: &Document<'_>, fault: Option<ConfFault>, lines: &mut Lines) {
+    if document.has_failed {
+        lines.fail();
+    }
+    match fault {
+        Some(fault) => say_fault(document, fault, lines),
+        None => say_advice(document, lines),
     }
 }
 
@@ -59,20 +49,23 @@ fn unless_unsaid(alloc: Global, said: Result<(), Unsaid>, lines: Lines) -> Lines
 /// Each begins with the path of the file and the line in it. `fault` is what `read_config` answered for the text.
 pub fn diagnose(alloc: Global, path: &str, text: &str, fault: ConfFault) -> Lines {
     let mut lines = Lines::new(alloc);
-    let said = match toml::table_from_str(alloc, text) {
-        Ok(table) => say_fault(alloc, path, text, &table, fault, &mut lines),
-        Err(error) => say_syntax(alloc, path, text, &error, &mut lines),
-    };
-    unless_unsaid(alloc, said, lines)
+    match toml::table_from_str(alloc, text) {
+        Ok(table) => {
+            let document = Document::new(alloc, path, text, &table);
+            say(&document, Some(fault), &mut lines);
+        }
+        Err(error) => say_syntax(path, text, &error, &mut lines),
+    }
+    lines.unless_failed()
 }
 
 /// What is unwise in a configuration that was accepted: a line for each advice, with the first place that it is for,
 /// ten at most. There are none where memory is wanting.
 pub fn advise(alloc: Global, path: &str, text: &str) -> Lines {
     let mut lines = Lines::new(alloc);
-    let said = match toml::table_from_str(alloc, text) {
-        Ok(table) => say_unwise(alloc, path, text, &table, &mut lines),
-        Err(_) => Ok(()),
-    };
-    unless_unsaid(alloc, said, lines)
+    if let Ok(table) = toml::table_from_str(alloc, text) {
+        let document = Document::new(alloc, path, text, &table);
+        say(&document, None, &mut lines);
+    }
+    lines.unless_failed()
 }

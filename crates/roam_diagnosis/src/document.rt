@@ -1,14 +1,11 @@
 //! The tables of a document, and how a line names one.
 
 use crate::keys::Keys;
-use crate::line::Line;
+use crate::lines::Lines;
 use crate::place::{TableKind, TablePlace};
-use crate::quoted::Quoted;
+use crate::quoted::quote;
 use crate::statements::nearest_line;
-use crate::unsaid::Unsaid;
 use std::alloc::Global;
-use std::fmt;
-use std::fmt::Write;
 use toml::{Table, Value};
 
 /// A table of the document, and where it stands.
@@ -27,10 +24,12 @@ pub(crate) struct Document<'a> {
     pub path: &'a str,
     pub text: &'a str,
     pub tables: Vec<Located<'a>>,
+    /// Whether a growth of memory was refused.
+    pub has_failed: bool,
 }
 
 /// The items of the array under a key; none where there is no array.
-fn items_of<'a>(keys: Keys<'a>, key: &str) -> &'a [Value] {
+pub(crate) fn items_of<'a>(keys: Keys<'a>, key: &str) -> &'a [Value] {
     match keys.array(key) {
         Some(items) => items.as_slice(),
         None => &[],
@@ -44,71 +43,52 @@ impl<'a> Document<'a> {
         path: &'a str,
         text: &'a str,
         table: &'a Table,
-    ) -> Result<Document<'a>, Unsaid> {
+    ) -> Document<'a> {
         let mut document = Document {
             alloc,
             path,
             text,
             tables: Vec::new(alloc),
+            has_failed: false,
         };
         let top = Keys::new(table);
-        document.add(TablePlace::TOP, top, top)?;
-        document.add_peers(top)?;
-        document.add_realms(top)?;
-        Ok(document)
+        document.add(TablePlace::TOP, top, top);
+        document.add_all(TablePlace::peer(0), top, "peer");
+        document.add_all(TablePlace::realm(0), top, "realm");
+        document
     }
 
-    fn add(&mut self, place: TablePlace, keys: Keys<'a>, named: Keys<'a>) -> Result<(), Unsaid> {
-        self.tables.push(Located { place, keys, named })?;
-        Ok(())
+    fn add(&mut self, place: TablePlace, keys: Keys<'a>, named: Keys<'a>) {
+        if self.tables.push(Located { place, keys, named }).is_err() {
+            self.has_failed = true;
+        }
     }
 
-    fn add_peers(&mut self, top: Keys<'a>) -> Result<(), Unsaid> {
-        let mut index = 0u32;
-        for item in items_of(top, "peer") {
-            index = index.saturating_add(1);
+    /// Adds the tables under a key of the document, which are of this place's kind, and those below them.
+    fn add_all(&mut self, before: TablePlace, top: Keys<'a>, key: &str) {
+        let mut place = before;
+        for item in items_of(top, key) {
+            place.index = place.index.saturating_add(1);
             if let Value::Table(table) = item {
                 let keys = Keys::new(table);
-                self.add(TablePlace::peer(index), keys, keys)?;
+                self.add(place, keys, keys);
+                if place.kind == TableKind::Realm {
+                    self.add_below(TablePlace::server(place.index, 0), keys, "server");
+                    self.add_below(TablePlace::client(place.index, 0), keys, "coa_client");
+                }
             }
         }
-        Ok(())
     }
 
-    fn add_realms(&mut self, top: Keys<'a>) -> Result<(), Unsaid> {
-        let mut index = 0u32;
-        for item in items_of(top, "realm") {
-            index = index.saturating_add(1);
+    /// Adds the tables under a key of a realm, which are of this place's kind.
+    fn add_below(&mut self, before: TablePlace, realm: Keys<'a>, key: &str) {
+        let mut place = before;
+        for item in items_of(realm, key) {
+            place.server = place.server.saturating_add(1);
             if let Value::Table(table) = item {
-                let keys = Keys::new(table);
-                self.add(TablePlace::realm(index), keys, keys)?;
-                self.add_servers(index, keys)?;
-                self.add_clients(index, keys)?;
+                self.add(place, Keys::new(table), realm);
             }
         }
-        Ok(())
-    }
-
-    fn add_servers(&mut self, index: u32, realm: Keys<'a>) -> Result<(), Unsaid> {
-        let mut server = 0u32;
-        for item in items_of(realm, "server") {
-            server = server.saturating_add(1);
-            if let Value::Table(table) = item {
-                self.add(TablePlace::server(index, server), Keys::new(table), realm)?;
-            }
-        }
-        Ok(())
-    }
-
-    fn add_clients(&mut self, index: u32, realm: Keys<'a>) -> Result<(), Unsaid> {
-        let mut client = 0u32;
-        for item in items_of(realm, "coa_client") {
-            client = client.saturating_add(1);
-            if let Value::Table(table) = item {
-                self.add(TablePlace::client(index, client), Keys::new(table), realm)?;
-            }
-        }
-        Ok(())
     }
 
     /// The top table, which has a place in each document.
@@ -119,57 +99,53 @@ impl<'a> Document<'a> {
         }
     }
 
-    /// A line that begins with the place of a key, as `PATH:LINE:`, its table and its name.
-    pub(crate) fn line_at(&self, at: Located<'_>, key: &str) -> Result<Line, Unsaid> {
-        let mut line = Line::new(self.alloc);
-        let path = self.path;
+    /// Begins a line with the place of a key, as `PATH:LINE:`, its table and its name.
+    pub(crate) fn begin_line(&self, at: Located<'_>, key: &str, lines: &mut Lines) {
+        lines.put("", self.path, ":");
+        self.say_place("", at, key, " ", lines);
+    }
+
+    /// Says the place of a key, within a line: a word and the number of its line, its table and its name. Where there
+    /// is no such line, another word stands in place of that and the number.
+    pub(crate) fn say_place(
+        &self,
+        word: &str,
+        at: Located<'_>,
+        key: &str,
+        without: &str,
+        lines: &mut Lines,
+    ) {
         match nearest_line(self.text, at.place, key) {
-            0 => write!(line, "{path}: ")?,
-            number => write!(line, "{path}:{number}: ")?,
+            0 => lines.say(without),
+            number => lines.put(word, number, ": "),
         }
-        write_table(&mut line, at)?;
-        line.write_str(key)?;
-        Ok(line)
-    }
-
-    /// Writes the place of a key, within a line.
-    pub(crate) fn write_place(&self, line: &mut Line, at: Located<'_>, key: &str) -> fmt::Result {
-        write_number(line, nearest_line(self.text, at.place, key))?;
-        write_table(line, at)?;
-        line.write_str(key)
+        say_key(at, key, lines);
     }
 }
 
-/// Writes the number of a line, unless it is 0.
-fn write_number(line: &mut Line, number: u32) -> fmt::Result {
-    match number {
-        0 => Ok(()),
-        _ => write!(line, "line {number}: "),
-    }
-}
-
-/// Writes a word for a table and its name, or its count where it has no text for a name.
-fn write_named(line: &mut Line, word: &str, at: Located<'_>) -> fmt::Result {
+/// Says a word for a table and its name, or its count where it has no text for a name.
+fn say_named(word: &str, at: Located<'_>, behind: &str, lines: &mut Lines) {
+    lines.say(word);
     match at.named.text("name") {
-        Some(name) => write!(line, "{word} {}", Quoted(name)),
-        None => write!(line, "{word} {}", at.place.index),
+        Some(name) => quote(" ", name, behind, lines),
+        None => lines.put(" ", at.place.index, behind),
     }
 }
 
-/// Writes which table it is, and a colon. The document itself isn't named.
-fn write_table(line: &mut Line, at: Located<'_>) -> fmt::Result {
+/// Says which table it is, and a key of it. The document itself isn't named.
+fn say_key(at: Located<'_>, key: &str, lines: &mut Lines) {
     match at.place.kind {
-        TableKind::Peer => write_named(line, "peer", at)?,
-        TableKind::Realm => write_named(line, "realm", at)?,
+        TableKind::Peer => say_named("peer", at, ": ", lines),
+        TableKind::Realm => say_named("realm", at, ": ", lines),
         TableKind::Server => {
-            write_named(line, "realm", at)?;
-            write!(line, ", server {}", at.place.server)?;
+            say_named("realm", at, ", server ", lines);
+            lines.put("", at.place.server, ": ");
         }
         TableKind::Client => {
-            write_named(line, "realm", at)?;
-            write!(line, ", coa_client {}", at.place.server)?;
+            say_named("realm", at, ", coa_client ", lines);
+            lines.put("", at.place.server, ": ");
         }
-        _ => return Ok(()),
+        _ => {}
     }
-    line.write_str(": ")
+    lines.say(key);
 }

@@ -3,11 +3,10 @@
 use crate::document::{Document, Located};
 use crate::lines::Lines;
 use crate::place::TableKind;
-use crate::quoted::Quoted;
-use crate::unsaid::Unsaid;
+use crate::quoted::quote;
 use roam_conf::{Endpoint, Prefix};
 use roam_conf_reader::ConfFault;
-use std::alloc::Global;
+use std::alloc::AllocError;
 use std::collections::BTreeMap;
 use std::fmt::Write;
 use toml::Value;
@@ -139,53 +138,53 @@ struct Seen<'a> {
     spots: BTreeMap<String, Spot<'a>>,
 }
 
-/// The one text of what a text states: an endpoint, an address or a prefix.
-fn one_text(alloc: Global, text: &str) -> Result<String, Unsaid> {
+/// Appends the one text of what a text states: an endpoint, an address or a prefix.
+fn write_one_text(compared: &mut String, text: &str) -> Result<(), AllocError> {
     if let Some(endpoint) = Endpoint::from_text(text) {
-        return Ok(format!(in alloc; "{endpoint}")?);
+        return write!(compared, "{endpoint}");
     }
     match Prefix::from_text(text) {
-        Some(prefix) => Ok(format!(in alloc; "{prefix}")?),
-        None => Ok(String::from_str(alloc, text)?),
+        Some(prefix) => write!(compared, "{prefix}"),
+        None => compared.push_str(text),
+    }
+}
+
+/// Appends what is compared of a text.
+fn write_compared(compared: &mut String, how: Compared, text: &str) -> Result<(), AllocError> {
+    match how {
+        Compared::AsAddress => write_one_text(compared, text),
+        Compared::AsText => compared.push_str(text),
+        Compared::WithoutCase => {
+            compared.push_str(text)?;
+            compared.make_ascii_lowercase();
+            Ok(())
+        }
     }
 }
 
 impl<'a> Seen<'a> {
-    /// What is compared of a text: of a realm's names it is without case, and of some the realm counts.
-    fn compared(
-        &self,
-        document: &Document<'_>,
-        spot: Spot<'_>,
-        text: &str,
-    ) -> Result<String, Unsaid> {
-        let mut compared = match self.group.compared {
-            Compared::AsAddress => one_text(document.alloc, text)?,
-            _ => String::from_str(document.alloc, text)?,
-        };
-        if self.group.compared == Compared::WithoutCase {
-            compared.make_ascii_lowercase();
-        }
+    /// Appends what is compared of a text: of a realm's names it is without case, and of some the realm counts.
+    fn write(&self, compared: &mut String, spot: Spot<'_>, text: &str) -> Result<(), AllocError> {
+        write_compared(compared, self.group.compared, text)?;
         if self.group.is_apart {
-            write!(compared, " {}", spot.at.place.index)?;
+            return write!(compared, " {}", spot.at.place.index);
         }
-        Ok(compared)
+        Ok(())
     }
 
     /// Takes a text down, or says that it came before.
-    fn take(
-        &mut self,
-        document: &Document<'_>,
-        spot: Spot<'a>,
-        text: &str,
-        lines: &mut Lines,
-    ) -> Result<(), Unsaid> {
-        let compared = self.compared(document, spot, text)?;
+    fn take(&mut self, document: &Document<'_>, spot: Spot<'a>, text: &str, lines: &mut Lines) {
+        let mut compared = String::new(document.alloc);
+        if self.write(&mut compared, spot, text).is_err() {
+            lines.fail();
+        }
         match self.spots.get(compared.as_str()) {
             Some(first) => say(document, *first, spot, text, lines),
-            None if self.is_only_looked_for(spot) => Ok(()),
+            None if self.is_only_looked_for(spot) => {}
             None => {
-                self.spots.insert(compared, spot)?;
-                Ok(())
+                if self.spots.insert(compared, spot).is_err() {
+                    lines.fail();
+                }
             }
         }
     }
@@ -196,46 +195,34 @@ impl<'a> Seen<'a> {
     }
 
     /// Takes down the texts under a key.
-    fn take_all(
-        &mut self,
-        document: &Document<'_>,
-        spot: Spot<'a>,
-        lines: &mut Lines,
-    ) -> Result<(), Unsaid> {
+    fn take_all(&mut self, document: &Document<'_>, spot: Spot<'a>, lines: &mut Lines) {
         match spot.at.keys.value(spot.key) {
             Some(Value::String(text)) => self.take(document, spot, text.as_str(), lines),
             Some(Value::Array(items)) => {
                 for item in items {
                     if let Value::String(text) = item {
-                        self.take(document, spot, text.as_str(), lines)?;
+                        self.take(document, spot, text.as_str(), lines);
                     }
                 }
-                Ok(())
             }
-            _ => Ok(()),
+            _ => {}
         }
     }
 }
 
 /// Says that a text stands in two places.
-fn say(
-    document: &Document<'_>,
-    first: Spot<'_>,
-    second: Spot<'_>,
-    text: &str,
-    lines: &mut Lines,
-) -> Result<(), Unsaid> {
+fn say(document: &Document<'_>, first: Spot<'_>, second: Spot<'_>, text: &str, lines: &mut Lines) {
     if lines.is_full() {
-        return Ok(());
+        return;
     }
-    let mut line = document.line_at(second.at, second.key)?;
-    write!(line, ": {} stands also in ", Quoted(text))?;
-    document.write_place(&mut line, first.at, first.key)?;
-    lines.push(line)
+    document.begin_line(second.at, second.key, lines);
+    quote(": ", text, " stands also in ", lines);
+    document.say_place("line ", first.at, first.key, "", lines);
+    lines.end_line();
 }
 
 /// Says what of a group stands twice.
-fn say_group(document: &Document<'_>, group: Group, lines: &mut Lines) -> Result<(), Unsaid> {
+fn say_group(document: &Document<'_>, group: Group, lines: &mut Lines) {
     let mut seen = Seen {
         group,
         spots: BTreeMap::new(document.alloc),
@@ -243,23 +230,17 @@ fn say_group(document: &Document<'_>, group: Group, lines: &mut Lines) -> Result
     for at in document.tables.as_slice() {
         for ComparedKey(kind, key) in group.keys {
             if at.place.kind == *kind {
-                seen.take_all(document, Spot { at: *at, key }, lines)?;
+                seen.take_all(document, Spot { at: *at, key }, lines);
             }
         }
     }
-    Ok(())
 }
 
 /// Says what stands twice, by this fault.
-pub(crate) fn say_duplicates(
-    document: &Document<'_>,
-    fault: ConfFault,
-    lines: &mut Lines,
-) -> Result<(), Unsaid> {
+pub(crate) fn say_duplicates(document: &Document<'_>, fault: ConfFault, lines: &mut Lines) {
     for group in &GROUPS {
         if group.fault == fault {
-            say_group(document, *group, lines)?;
+            say_group(document, *group, lines);
         }
     }
-    Ok(())
 }

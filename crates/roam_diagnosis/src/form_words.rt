@@ -1,8 +1,8 @@
 //! The words for what doesn't fit a form.
 
 use crate::forms::ValueForm;
+use crate::lines::Lines;
 use crate::network_forms::NetworkForm;
-use std::fmt;
 
 const OF_EXCHANGE_LINES: &str =
     "is none of \"all\", \"final\" and \"none\", and neither true nor false";
@@ -72,40 +72,43 @@ impl ValueForm {
     }
 }
 
-/// What a value isn't that doesn't fit.
-impl fmt::Display for ValueForm {
-    fn fmt<W: fmt::Write>(&self, f: &mut fmt::Formatter<W>) -> fmt::Result {
-        if let ValueForm::Endpoints(_) = *self {
-            f.write_str(NetworkForm::Endpoint.misfit())?;
+/// Says what a value isn't that doesn't fit.
+pub(crate) fn say_misfit(form: ValueForm, lines: &mut Lines) {
+    if let ValueForm::Endpoints(_) = form {
+        lines.say(NetworkForm::Endpoint.misfit());
+    }
+    lines.say(form.words_before());
+    if let ValueForm::Number(least, most) = form {
+        lines.put("", least, "..");
+        lines.put("", most, "");
+    }
+    if let Some(most) = form.most() {
+        lines.put("", most, "");
+    }
+    lines.say(form.words_behind());
+}
+
+/// What a value of the form is that isn't one of numbers.
+fn wanted(form: ValueForm) -> &'static str {
+    match form {
+        ValueForm::Flag => "true or false",
+        ValueForm::Names | ValueForm::Rejects => "an array of texts, as [\"*.example.org\"]",
+        ValueForm::PeerNames | ValueForm::NasIds => "an array of texts, as [\"nas1\"]",
+        ValueForm::RequestRemovals | ValueForm::ReplyRemovals => {
+            "an array of texts, as [\"31\", \"26.9.1\"]"
         }
-        f.write_str(self.words_before())?;
-        if let ValueForm::Number(least, most) = *self {
-            return write!(f, "{least}..{most}");
-        }
-        if let Some(most) = self.most() {
-            write!(f, "{most}")?;
-        }
-        f.write_str(self.words_behind())
+        ValueForm::Tables(_) | ValueForm::FewTables(_) => "tables, each below a header of its own",
+        _ => "a text in quotation marks",
     }
 }
 
-/// What a value of the form is, for one that no document can have.
-pub(crate) fn write_wanted<W: fmt::Write>(form: ValueForm, f: &mut W) -> fmt::Result {
+/// Says what a value of the form is, for one that no document can have.
+pub(crate) fn say_wanted(form: ValueForm, lines: &mut Lines) {
     match form {
-        ValueForm::Number(least, most) => write!(f, "a whole number in {least}..{most}"),
-        ValueForm::Flag => f.write_str("true or false"),
-        ValueForm::Names | ValueForm::Rejects => {
-            f.write_str("an array of texts, as [\"*.example.org\"]")
+        ValueForm::Number(least, most) => {
+            lines.put("a whole number in ", least, "..");
+            lines.put("", most, "");
         }
-        ValueForm::PeerNames | ValueForm::NasIds => {
-            f.write_str("an array of texts, as [\"nas1\"]")
-        }
-        ValueForm::RequestRemovals | ValueForm::ReplyRemovals => {
-            f.write_str("an array of texts, as [\"31\", \"26.9.1\"]")
-        }
-        ValueForm::Tables(_) | ValueForm::FewTables(_) => f.write_str(
-            "tables, each below a header of its own",
-        ),
-        _ => f.write_str("a text in quotation marks"),
+        _ => lines.say(wanted(form)),
     }
 }

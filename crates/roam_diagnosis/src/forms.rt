@@ -115,13 +115,13 @@ const KEPT_OF_REQUESTS: [u8; 8] = [1, 2, 3, 24, 33, 60, 79, 80];
 /// The same of replies.
 const KEPT_OF_REPLIES: [u8; 4] = [24, 33, 79, 80];
 
-/// Whether the text is one of the form's words, where it has some.
-fn is_word(form: ValueForm, text: &str) -> bool {
-    match text {
-        "forward" | "answer" | "drop" => matches!(form, ValueForm::Accounting),
-        "all" | "final" | "none" => matches!(form, ValueForm::ExchangeLines),
-        "clear" | "hmac" => matches!(form, ValueForm::StationWord),
-        _ => false,
+/// The words of a form that has some.
+fn words_of(form: ValueForm) -> &'static [&'static str] {
+    match form {
+        ValueForm::Accounting => &["forward", "answer", "drop"],
+        ValueForm::ExchangeLines => &["all", "final", "none"],
+        ValueForm::StationWord => &["clear", "hmac"],
+        _ => &[],
     }
 }
 
@@ -141,7 +141,7 @@ fn text_fits(form: ValueForm, text: &str) -> bool {
         ValueForm::NasIds => has_length(text, 253),
         ValueForm::RequestRemovals => is_removal(text, &KEPT_OF_REQUESTS),
         ValueForm::ReplyRemovals => is_removal(text, &KEPT_OF_REPLIES),
-        _ => is_word(form, text),
+        _ => words_of(form).contains(&text),
     }
 }
 

@@ -32,7 +32,6 @@ mod sessions;
 mod statements;
 mod syntax;
 mod unknown_peers;
-mod unsaid;
 mod ways;
 
 pub use diagnosis::{advise, diagnose};

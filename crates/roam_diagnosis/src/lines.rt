@@ -5,11 +5,11 @@ ghost use Rattle.std.specs.Io.KnownBytes.{Appends};
 ghost use Rattle.roam_diagnosis.specs.Lines.{IsDiagnosis, printed};
 
 use crate::line::Line;
-use crate::unsaid::Unsaid;
 use std::alloc::Global;
-use std::io;
+use std::fmt::Write as _;
 use std::io::Write;
 use std::marker::Model;
+use std::{fmt, io, mem};
 
 /// How many lines are said at most.
 const MOST_LINES: usize = 10;
@@ -17,7 +17,12 @@ const MOST_LINES: usize = 10;
 /// The lines of a diagnosis, ten at most. Contracts see the text of each.
 #[derive(Drop)]
 pub struct Lines {
+    alloc: Global,
     lines: Vec<Line>,
+    /// The line that is being said.
+    line: Line,
+    /// Whether a growth of memory was refused.
+    has_failed: bool,
 }
 
 impl Model for Lines {
@@ -34,7 +39,10 @@ impl Lines {
         ensures { result ≡ [] }
     {
         Lines {
+            alloc,
             lines: Vec::new(alloc),
+            line: Line::new(alloc),
+            has_failed: false,
         }
     }
 
@@ -67,12 +75,50 @@ impl Lines {
         self.lines.len() >= MOST_LINES
     }
 
+    /// Says a text, in the line that is being said.
+    pub(crate) fn say(&mut self, text: &str) {
+        let has_failed = self.line.write_str(text).is_err();
+        self.has_failed |= has_failed;
+    }
+
+    /// Says what is shown between two texts, in the line that is being said.
+    pub(crate) fn put<D: fmt::Display + Copy>(&mut self, before: &str, shown: D, behind: &str) {
+        let has_failed = write!(self.line, "{before}{shown}{behind}").is_err();
+        self.has_failed |= has_failed;
+    }
+
+    /// Says the number of a character, as an escape, in the line that is being said.
+    pub(crate) fn escape(&mut self, character: char) {
+        let has_failed = write!(self.line, "\\u{{{:x}}}", u32::from(character)).is_err();
+        self.has_failed |= has_failed;
+    }
+
+    /// Ends the line that is being said, and appends it, unless there are ten.
+    pub(crate) fn end_line(&mut self) {
+        let line = mem::replace(&mut self.line, Line::new(self.alloc));
+        self.push(line);
+    }
+
     /// Appends a line, unless there are ten.
-    pub(crate) fn push(&mut self, line: Line) -> Result<(), Unsaid> {
+    fn push(&mut self, line: Line) {
         if self.lines.len() < MOST_LINES {
-            self.lines.push(line)?;
+            let has_failed = self.lines.push(line).is_err();
+            self.has_failed |= has_failed;
         }
-        Ok(())
+    }
+
+    /// Takes down that a growth of memory was refused, so that nothing is said.
+    pub(crate) fn fail(&mut self) {
+        self.has_failed = true;
+    }
+
+    /// The lines that came about, or none where memory was wanting.
+    pub(crate) fn unless_failed(self) -> Lines {
+        if self.has_failed {
+            Lines::new(self.alloc)
+        } else {
+            self
+        }
     }
 }
 

@@ -2,11 +2,9 @@
 
 use crate::document::{Document, Located};
 use crate::lines::Lines;
-use crate::place::TableKind;
-use crate::quoted::Quoted;
-use crate::rules::{Rule, has_rule, rules_of};
-use crate::unsaid::Unsaid;
-use std::fmt::Write;
+use crate::place::{TableKind, name_of};
+use crate::quoted::quote;
+use crate::rules::{has_rule, rules_of};
 use toml::Value;
 
 /// The first key of a table that its kind doesn't have: what is absent may be misspelt there.
@@ -28,26 +26,17 @@ fn has_servers_apart(document: &Document<'_>) -> bool {
 }
 
 /// Says that a key is absent.
-fn say(
-    document: &Document<'_>,
-    at: Located<'_>,
-    key: &str,
-    lines: &mut Lines,
-) -> Result<(), Unsaid> {
-    let mut line = document.line_at(at, key)?;
-    line.write_str(": is missing")?;
+fn say(document: &Document<'_>, at: Located<'_>, key: &str, lines: &mut Lines) {
+    document.begin_line(at, key, lines);
+    lines.say(": is missing");
     if let Some(unknown) = first_unknown(at) {
-        write!(
-            line,
-            ", and {} is no key of {}",
-            Quoted(unknown),
-            at.place.kind
-        )?;
+        quote(", and ", unknown, " is no key of ", lines);
+        lines.say(name_of(at.place.kind));
     }
     if key == "server" && has_servers_apart(document) {
-        line.write_str(": write [[realm.server]] in place of [[server]]")?;
+        lines.say(": write [[realm.server]] in place of [[server]]");
     }
-    lines.push(line)
+    lines.end_line();
 }
 
 /// Whether a table needs a key that its kind requires: a server needs no `acct` where the realm's accounting isn't
@@ -63,20 +52,11 @@ fn needs(at: Located<'_>, key: &str) -> bool {
     }
 }
 
-/// Says which keys of a table are absent.
-fn say_in_table(document: &Document<'_>, at: Located<'_>, lines: &mut Lines) -> Result<(), Unsaid> {
-    for Rule(key, is_required, _) in rules_of(at.place.kind) {
-        if *is_required && !at.keys.has(key) && needs(at, key) && !lines.is_full() {
-            say(document, at, key, lines)?;
+/// Says which required keys of a table are absent.
+pub(crate) fn say_missing(document: &Document<'_>, at: Located<'_>, lines: &mut Lines) {
+    for rule in rules_of(at.place.kind) {
+        if rule.1 && !at.keys.has(rule.0) && needs(at, rule.0) && !lines.is_full() {
+            say(document, at, rule.0, lines);
         }
     }
-    Ok(())
-}
-
-/// Says which required keys are absent.
-pub(crate) fn say_missing(document: &Document<'_>, lines: &mut Lines) -> Result<(), Unsaid> {
-    for at in document.tables.as_slice() {
-        say_in_table(document, *at, lines)?;
-    }
-    Ok(())
 }

@@ -1,7 +1,5 @@
 //! Where a table stands in a configuration.
 
-use std::fmt;
-
 /// Which kind of table it is.
 #[derive(Clone, Copy, PartialEq, Eq)]
 pub(crate) enum TableKind {
@@ -78,18 +76,12 @@ impl TablePlace {
 }
 
 /// The name of a kind, with its article.
-fn name_of(kind: TableKind) -> &'static str {
+pub(crate) fn name_of(kind: TableKind) -> &'static str {
     match kind {
         TableKind::Peer => "a peer",
         TableKind::Realm => "a realm",
         TableKind::Server => "a server",
         TableKind::Client => "a coa_client",
         _ => "the top table",
-    }
-}
-
-impl fmt::Display for TableKind {
-    fn fmt<W: fmt::Write>(&self, f: &mut fmt::Formatter<W>) -> fmt::Result {
-        f.write_str(name_of(*self))
     }
 }

@@ -1,34 +1,36 @@
 //! Texts of the configuration, as a line shows them.
 
-use std::fmt;
+use crate::lines::Lines;
 
 /// How many characters of a text are shown.
 const MOST_CHARACTERS: usize = 80;
 
-/// A text in quotation marks. What isn't printable in ASCII is escaped, and what is long is cut.
-#[derive(Clone, Copy)]
-pub(crate) struct Quoted<'a>(pub &'a str);
-
-fn write_character<W: fmt::Write>(f: &mut fmt::Formatter<W>, character: char) -> fmt::Result {
+fn say_character(character: char, lines: &mut Lines) {
     match character {
-        '"' => f.write_str("\\\""),
-        '\\' => f.write_str("\\\\"),
-        ' '..='~' => f.write_char(character),
-        _ => write!(f, "\\u{{{:x}}}", u32::from(character)),
+        '"' => lines.say("\\\""),
+        '\\' => lines.say("\\\\"),
+        ' '..='~' => lines.put("", character, ""),
+        _ => lines.escape(character),
     }
 }
 
-impl fmt::Display for Quoted<'_> {
-    fn fmt<W: fmt::Write>(&self, f: &mut fmt::Formatter<W>) -> fmt::Result {
-        f.write_str("\"")?;
-        let mut left = MOST_CHARACTERS;
-        for character in self.0.chars() {
-            if left == 0 {
-                return f.write_str("\"..");
-            }
-            left -= 1;
-            write_character(f, character)?;
+/// Says the characters of a text, and answers what ends it: a quotation mark, and two dots where it is cut.
+fn say_characters(text: &str, lines: &mut Lines) -> &'static str {
+    let mut left = MOST_CHARACTERS;
+    for character in text.chars() {
+        if left == 0 {
+            return "\"..";
         }
-        f.write_str("\"")
+        left -= 1;
+        say_character(character, lines);
     }
+    "\""
+}
+
+/// Says a text in quotation marks, between two others. What isn't printable in ASCII is escaped, and what is long is
+/// cut.
+pub(crate) fn quote(before: &str, text: &str, behind: &str, lines: &mut Lines) {
+    lines.put(before, '"', "");
+    let end = say_characters(text, lines);
+    lines.put(end, behind, "");
 }

@@ -1,14 +1,9 @@
 //! Why a text is no TOML document.
 
-use crate::form_words::write_wanted;
-use crate::line::Line;
+use crate::form_words::say_wanted;
 use crate::lines::Lines;
 use crate::rules::form_of;
 use crate::statements::key_of;
-use crate::unsaid::Unsaid;
-use std::alloc::Global;
-use std::fmt;
-use std::fmt::Write;
 use toml::de::Error;
 
 /// The line and the column, both from 1, of what comes after so many octets. A column counts characters.
@@ -46,42 +41,36 @@ fn is_single_header(header: &str) -> bool {
     }
 }
 
-/// Writes what belongs in the line, where that is known.
-fn write_remedy(line: &mut Line, statement: &str, message: &str) -> fmt::Result {
+/// Says what belongs in the line, where that is known.
+fn say_remedy(statement: &str, message: &str, lines: &mut Lines) {
     let header = statement.trim();
     if is_single_header(header) {
-        return write!(line, ": write [{header}]");
+        lines.put(": write [", header, "]");
+        return;
     }
     if message.starts_with("invalid escape sequence") {
-        return line.write_str(": a backslash is itself between ' and '");
+        lines.say(": a backslash is itself between ' and '");
+        return;
     }
-    let Some(key) = key_of(statement) else {
-        return Ok(());
-    };
-    match form_of(key) {
-        Some(form) => {
-            write!(line, ": {key} is ")?;
-            write_wanted(form, line)
+    if let Some(key) = key_of(statement) {
+        if let Some(form) = form_of(key) {
+            lines.put(": ", key, " is ");
+            say_wanted(form, lines);
         }
-        None => Ok(()),
     }
 }
 
 /// Says what the reader of documents says of a text that isn't one.
-pub(crate) fn say_syntax(
-    alloc: Global,
-    path: &str,
-    text: &str,
-    error: &Error,
-    lines: &mut Lines,
-) -> Result<(), Unsaid> {
+pub(crate) fn say_syntax(path: &str, text: &str, error: &Error, lines: &mut Lines) {
     let Some(span) = error.span() else {
-        return Ok(());
+        return;
     };
     let (number, column) = position(text, span.start);
     let message = error.message();
-    let mut line = Line::new(alloc);
-    write!(line, "{path}:{number}:{column}: {message}")?;
-    write_remedy(&mut line, line_of(text, number), message)?;
-    lines.push(line)
+    lines.put("", path, ":");
+    lines.put("", number, ":");
+    lines.put("", column, ": ");
+    lines.say(message);
+    say_remedy(line_of(text, number), message, lines);
+    lines.end_line();
 }

@@ -2,11 +2,8 @@
 
 use crate::document::{Document, Located};
 use crate::lines::Lines;
-use crate::place::TableKind;
 use crate::servers::{count_under, endpoint_under, nth_under};
-use crate::unsaid::Unsaid;
 use roam_conf::Endpoint;
-use std::fmt::Write;
 
 /// The word for the kind of an endpoint's address.
 fn kind_of(endpoint: Endpoint) -> &'static str {
@@ -30,30 +27,21 @@ fn is_reached(at: Located<'_>, endpoint: Endpoint) -> bool {
 }
 
 /// Says that a server's endpoint is of a kind that none of the realm's `out` has, where it is.
-fn say_in_server(
-    document: &Document<'_>,
-    at: Located<'_>,
-    key: &str,
-    lines: &mut Lines,
-) -> Result<(), Unsaid> {
+fn say_in_server(document: &Document<'_>, at: Located<'_>, key: &str, lines: &mut Lines) {
     match (endpoint_under(at.keys, key), nth_under(at.named, "out", 0)) {
         (Some(endpoint), Some(out)) if !is_reached(at, endpoint) && !lines.is_full() => {
-            let mut line = document.line_at(at, key)?;
-            let (kind, other) = (kind_of(endpoint), kind_of(out));
-            write!(line, ": \"{endpoint}\" is {kind}, but out is {other}")?;
-            lines.push(line)
+            document.begin_line(at, key, lines);
+            lines.put(": \"", endpoint, "\" is ");
+            lines.put("", kind_of(endpoint), ", but out is ");
+            lines.say(kind_of(out));
+            lines.end_line();
         }
-        _ => Ok(()),
+        _ => {}
     }
 }
 
-/// Says which servers are where their realm's `out` sends nothing.
-pub(crate) fn say_no_way_out(document: &Document<'_>, lines: &mut Lines) -> Result<(), Unsaid> {
-    for at in document.tables.as_slice() {
-        if at.place.kind == TableKind::Server {
-            say_in_server(document, *at, "auth", lines)?;
-            say_in_server(document, *at, "acct", lines)?;
-        }
-    }
-    Ok(())
+/// Says whether a server is where its realm's `out` sends nothing.
+pub(crate) fn say_no_way_out(document: &Document<'_>, at: Located<'_>, lines: &mut Lines) {
+    say_in_server(document, at, "auth", lines);
+    say_in_server(document, at, "acct", lines);
 }

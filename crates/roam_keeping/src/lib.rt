@@ -7,6 +7,3 @@
 mod kept_file;
 
 pub use kept_file::{keep, kept, put_aside};
-
-#[cfg(test)]
-mod tests;

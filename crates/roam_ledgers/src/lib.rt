@@ -20,6 +20,3 @@ pub use item::{Item, SessionItem, Text};
 pub use laws::{cut_is_refused, read_was_written, written_is_read};
 pub use reading::read;
 pub use writing::{Writing, write};
-
-#[cfg(test)]
-mod tests;

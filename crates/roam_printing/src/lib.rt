@@ -6,6 +6,7 @@ mod basic_string;
 mod changes;
 mod lost_places;
 mod realm_changes;
+mod stated_text;
 mod stating;
 
 pub use changes::{print_changes, print_hindrance, print_no_number};

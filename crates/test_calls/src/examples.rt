@@ -1,18 +1,55 @@
 //! All examples, in one test: a test costs the proof more than an example.
+//!
+//! An example answers whether it is right, or the first of its cases that is wrong.
 
-use crate::{fault_tests, last_ticket, line_tests, seat_tests, tick_room, told_tests};
-use std::test::Fail;
+use crate::{
+    exchange_tests, fault_tests, last_ticket, line_tests, seat_tests, tick_room, told_tests,
+};
+use std::alloc::Global;
+use std::sync::Wait;
+use std::time::Clock;
+
+/// What an example without cases answers: its name, unless it is right.
+fn unless(is_right: bool, name: &'static str) -> Option<&'static str> {
+    if is_right { None } else { Some(name) }
+}
+
+/// Of each example the first case that is wrong.
+fn wrong_cases<R: Wait + Clock>(rt: &R, alloc: Global) -> [Option<&'static str>; 10] {
+    [
+        unless(
+            last_ticket::last_ticket_is_given_once(alloc),
+            "the last ticket is given once",
+        ),
+        unless(
+            tick_room::tick_in_its_room_wants_no_memory(alloc),
+            "a tick in its room wants no memory",
+        ),
+        exchange_tests::first_other_end(alloc),
+        line_tests::first_untold(alloc),
+        unless(
+            told_tests::log_writes_each_line_once(rt, alloc),
+            "a log writes each line once where writes fail",
+        ),
+        unless(
+            told_tests::control_socket_is_told(alloc),
+            "a control socket that cannot be had is told",
+        ),
+        told_tests::first_untold(alloc),
+        fault_tests::first_untold(alloc),
+        seat_tests::first_uncounted(alloc),
+        unless(
+            seat_tests::splits_are_refused(alloc),
+            "each growth of a split is refused",
+        ),
+    ]
+}
 
 #[test]
-fn all_examples(rt: HostRuntime) -> Result<(), Fail> {
-    last_ticket::last_ticket_is_given_once(&rt);
-    tick_room::tick_in_its_room_wants_no_memory(&rt);
-    line_tests::lines(&rt);
-    told_tests::a_log_writes_each_line_once_where_writes_fail(&rt);
-    told_tests::a_control_socket_that_cannot_be_had_is_told(&rt);
-    told_tests::what_ends_a_server_is_told(&rt);
-    fault_tests::faults_are_told(&rt)?;
-    seat_tests::calls_are_noted(&rt);
-    seat_tests::each_growth_of_a_split(&rt);
-    Ok(())
+fn all_examples(rt: HostRuntime) {
+    for wrong in &wrong_cases(&rt, rt.alloc()) {
+        if let Some(case) = *wrong {
+            panic!(&rt; "{case}");
+        }
+    }
 }

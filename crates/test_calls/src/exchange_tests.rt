@@ -4,7 +4,7 @@ use roam_conf::{Address, Config, Endpoint};
 use roam_conf_reader::read_config;
 use roam_notices::{Details, Exchange, ExchangeEnd, RequestWord, Value, push_exchange};
 use roam_stations::{StationForm, StationKey};
-use std::process::Abort;
+use std::alloc::Global;
 
 const CONFIGURATION: &str = "auth = \"127.0.0.1:1812\"
 acct = \"127.0.0.1:1813\"
@@ -57,74 +57,110 @@ fn all_details() -> Details {
     }
 }
 
-/// This exchange's line ends so, behind the user.
-fn expect<R: AllocGlobal + Abort>(
-    rt: &R,
+/// What stands before the station in the lines.
+const WHO: &[u8] =
+    b"exchange result=accept request=access realm=\"b.example\" peer=\"north\" user=\"u@b.example\" station=";
+
+/// Whether this exchange's line ends so, behind the user.
+fn is_line(
+    alloc: Global,
     config: &Config,
     stations: StationForm,
     exchange: &Exchange,
     end: &str,
-) {
-    let mut line = Vec::new(rt.alloc());
-    let is_pushed = push_exchange(&mut line, config, &stations, exchange).is_ok();
-    let begins = line.as_slice().starts_with(
-        b"exchange result=accept request=access realm=\"b.example\" peer=\"north\" user=\"u@b.example\" station=",
-    );
-    assert!(rt;
-        is_pushed && begins && line.as_slice().ends_with(end.as_bytes()),
-        "{end}"
-    );
+) -> bool {
+    let mut line = Vec::new(alloc);
+    push_exchange(&mut line, config, &stations, exchange).is_ok()
+        && line.as_slice().starts_with(WHO)
+        && line.as_slice().ends_with(end.as_bytes())
 }
 
-/// The line of an exchange that tells nothing else of this station, which stands there so.
-fn expect_station<R: AllocGlobal + Abort>(
-    rt: &R,
+/// Stations in clear, and how the line of an exchange ends that tells nothing else of them.
+const CLEAR: &[(&[u8], &str)] = &[
+    (
+        b"02-00-00-00-00-01",
+        " station=\"02-00-00-00-00-01\" server=198.51.100.1:1812 ms=12 tries=1",
+    ),
+    (
+        b"hmac:278b525108e9af39",
+        " station=\"hmac:278b525108e9af39\" server=198.51.100.1:1812 ms=12 tries=1",
+    ),
+];
+
+/// The same of one that is hidden.
+const HIDDEN: &[(&[u8], &str)] = &[(
+    b"02-00-00-00-00-01",
+    " station=hidden server=198.51.100.1:1812 ms=12 tries=1",
+)];
+
+/// The same of ones that are hashed. The hashes are radsecproxy 1.9.2's (`FullyKeyHashed`), and that of the number
+/// openssl's.
+const HASHED: &[(&[u8], &str)] = &[
+    (
+        b"02-00-00-00-00-01",
+        " station=hmac:278b525108e9af39 server=198.51.100.1:1812 ms=12 tries=1",
+    ),
+    (
+        b"0200.0000.0001",
+        " station=hmac:278b525108e9af39 server=198.51.100.1:1812 ms=12 tries=1",
+    ),
+    (
+        b"00:23:14:0a:F7:24",
+        " station=hmac:b6053d7c607796b1 server=198.51.100.1:1812 ms=12 tries=1",
+    ),
+    (
+        b"+46701234567",
+        " station=hmac:d40f75fa001499f0 server=198.51.100.1:1812 ms=12 tries=1",
+    ),
+];
+
+/// The first end that the line of its station hasn't.
+fn first_other_station(
+    alloc: Global,
     config: &Config,
     stations: StationForm,
-    station: &[u8],
-    text: &str,
-) {
-    let exchange = accepted(Value::new(station), Details::none());
-    let end = format!(in rt.alloc(); " station={text} server=198.51.100.1:1812 ms=12 tries=1");
-    match end {
-        Ok(end) => expect(rt, config, stations, &exchange, end.as_str()),
-        Err(_) => assert!(rt; false, "memory"),
+    ends: &[(&[u8], &'static str)],
+) -> Option<&'static str> {
+    for &(station, end) in ends {
+        let exchange = accepted(Value::new(station), Details::none());
+        if !is_line(alloc, config, stations, &exchange, end) {
+            return Some(end);
+        }
+    }
+    None
+}
+
+/// The end of a line that has all details.
+const ALL: &str = " station=- server=198.51.100.1:1812 ms=12 tries=1 operator=\"1north.example\" \
+        nas_id=\"wlc 1\\x22 cui=\\x22x\" called=\"00-00-5E-00-53-01:eduroam\" status=interim \
+        session=\"5F3A\\x5c\\x0a\" cui=\"\\x00\\xff\"";
+
+/// That end, if the line of an exchange with all details hasn't it.
+fn other_details(alloc: Global, config: &Config, stations: StationForm) -> Option<&'static str> {
+    let exchange = accepted(Value::none(), all_details());
+    if is_line(alloc, config, stations, &exchange, ALL) {
+        None
+    } else {
+        Some(ALL)
     }
 }
 
-/// The lines of exchanges. The hashes are radsecproxy 1.9.2's (`FullyKeyHashed`), and that of the number openssl's.
-pub(crate) fn exchanges<R: AllocGlobal + Abort>(rt: &R) {
-    let (Ok(config), Some(key)) = (read_config(rt.alloc(), CONFIGURATION), StationKey::new(KEY))
-    else {
-        return assert!(rt; false, "the configuration and the key");
-    };
+/// The first end that a line hasn't where stations are hashed with this key, or aren't hashed.
+fn first_other(alloc: Global, config: &Config, key: StationKey) -> Option<&'static str> {
     let hashed = StationForm::Hashed(key);
-    for (stations, station, text) in [
-        (
-            StationForm::Clear,
-            b"02-00-00-00-00-01".as_slice(),
-            "\"02-00-00-00-00-01\"",
-        ),
-        (
-            StationForm::Clear,
-            b"hmac:278b525108e9af39",
-            "\"hmac:278b525108e9af39\"",
-        ),
-        (StationForm::Hidden, b"02-00-00-00-00-01", "hidden"),
-        (hashed, b"02-00-00-00-00-01", "hmac:278b525108e9af39"),
-        (hashed, b"0200.0000.0001", "hmac:278b525108e9af39"),
-        (hashed, b"00:23:14:0a:F7:24", "hmac:b6053d7c607796b1"),
-        (hashed, b"+46701234567", "hmac:d40f75fa001499f0"),
-    ] {
-        expect_station(rt, &config, stations, station, text);
+    first_other_station(alloc, config, StationForm::Clear, CLEAR)
+        .or(first_other_station(alloc, config, StationForm::Hidden, HIDDEN))
+        .or(first_other_station(alloc, config, hashed, HASHED))
+        .or(other_details(alloc, config, hashed))
+}
+
+/// The first end that a line hasn't; or what can't be had.
+pub(crate) fn first_other_end(alloc: Global) -> Option<&'static str> {
+    let Some(key) = StationKey::new(KEY) else {
+        return Some("the key");
+    };
+    match read_config(alloc, CONFIGURATION) {
+        Ok(config) => first_other(alloc, &config, key),
+        Err(_) => Some("the configuration"),
     }
-    expect(
-        rt,
-        &config,
-        hashed,
-        &accepted(Value::none(), all_details()),
-        " station=- server=198.51.100.1:1812 ms=12 tries=1 operator=\"1north.example\" \
-            nas_id=\"wlc 1\\x22 cui=\\x22x\" called=\"00-00-5E-00-53-01:eduroam\" status=interim \
-            session=\"5F3A\\x5c\\x0a\" cui=\"\\x00\\xff\"",
-    );
 }

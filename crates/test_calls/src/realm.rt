@@ -67,14 +67,14 @@ impl<'c, A: Allocator + Copy> Realm<'c, A> {
         }
     }
 
-    /// What an event gives.
-    pub(crate) fn meets(&mut self, alloc: A, event: &Event<A>) -> Result<Answer<A>, Refusal> {
+    /// What an event gives, if there is memory for it, and an arrival is this realm's.
+    pub(crate) fn meets(&mut self, alloc: A, event: &Event<A>) -> Option<Answer<A>> {
         match event {
-            Event::Arrive { now, datagram } => {
-                let job = self.job_of(alloc, datagram)?;
-                Ok(self.takes(*now, &job)?)
-            }
-            Event::Tick { now, .. } => Ok(self.book.tick(*now)?),
+            Event::Arrive { now, datagram } => match self.job_of(alloc, datagram) {
+                Ok(job) => self.takes(*now, &job).ok(),
+                Err(_) => None,
+            },
+            Event::Tick { now, .. } => self.book.tick(*now).ok(),
         }
     }
 }

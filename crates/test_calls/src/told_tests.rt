@@ -6,9 +6,9 @@ use roam_conf::{Address, Endpoint};
 use roam_outlet::{LogReader, Outlet, write_on};
 use roam_sockets::{Reason, ServeFault, SocketPath};
 use roam_words::Fault;
+use std::alloc::Global;
 use std::io;
 use std::io::{ErrorKind, Write};
-use std::process::Abort;
 use std::sync::Wait;
 use std::time::Clock;
 
@@ -35,34 +35,34 @@ impl Write for Reluctant {
     }
 }
 
-pub(crate) fn a_log_writes_each_line_once_where_writes_fail<R: Abort + AllocGlobal + Wait + Clock>(
-    rt: &R,
-) {
-    let outlet = Outlet::new(rt.alloc(), LogReader::Journal)
-        .ok()
-        .expect(rt, "memory");
-    let mut writer = Reluctant {
-        taken: Vec::new(rt.alloc()),
-        refuses: false,
-    };
+/// Has three lines be told, and no more.
+fn tell_three<R: Wait + Clock>(rt: &R, outlet: &Outlet) {
     outlet.tell(rt, Level::Info, &"first");
     outlet.tell(rt, Level::Warn, &"second\nthird");
     outlet.end(rt);
-    let room = Outlet::room(rt.alloc()).ok().expect(rt, "memory");
-    write_on(rt, &outlet, &mut writer, room);
-    assert!(rt;
-        writer.taken.as_slice() == b"<6>INFO first\n<4>WARN second\n<4>WARN third\n".as_slice()
-    );
-    assert!(rt; outlet.left(rt) == 0);
 }
 
-pub(crate) fn a_control_socket_that_cannot_be_had_is_told<R: Abort + AllocGlobal>(rt: &R) {
-    let mut err = Vec::new(rt.alloc());
-    let fault = ServeFault::Control(SocketPath::new("/run/roam/control"), Reason(98));
-    let ended = Fault::of_server(fault).tell(&mut err);
-    let told = "roam: cannot listen at /run/roam/control: Address already in use\n";
-    assert!(rt; err.as_slice() == told.as_bytes(), "{err:?}");
-    assert!(rt; ended.status == 1);
+/// Whether what was told is written so, and nothing is left.
+fn is_written<R: Wait + Clock>(rt: &R, alloc: Global, outlet: &Outlet) -> bool {
+    let Ok(room) = Outlet::room(alloc) else {
+        return false;
+    };
+    let mut writer = Reluctant {
+        taken: Vec::new(alloc),
+        refuses: false,
+    };
+    write_on(rt, outlet, &mut writer, room);
+    outlet.left(rt) == 0
+        && writer.taken.as_slice() == b"<6>INFO first\n<4>WARN second\n<4>WARN third\n".as_slice()
+}
+
+/// Whether a log writes each line once where writes fail.
+pub(crate) fn log_writes_each_line_once<R: Wait + Clock>(rt: &R, alloc: Global) -> bool {
+    let Ok(outlet) = Outlet::new(alloc, LogReader::Journal) else {
+        return false;
+    };
+    tell_three(rt, &outlet);
+    is_written(rt, alloc, &outlet)
 }
 
 const AUTH: Endpoint = Endpoint {
@@ -105,14 +105,29 @@ const SERVER_FAULTS: &[(ServeFault, u8, &str)] = &[
     (ServeFault::Memory, 3, "roam: out of memory\n"),
 ];
 
-pub(crate) fn what_ends_a_server_is_told<R: Abort + AllocGlobal>(rt: &R) {
-    for (fault, status, told) in SERVER_FAULTS {
-        let mut err = Vec::new(rt.alloc());
-        let ended = Fault::of_server(*fault).tell(&mut err).status;
-        assert!(rt;
-            err.as_slice() == told.as_bytes(),
-            "{fault:?} tells {err:?}"
-        );
-        assert!(rt; ended == *status, "{fault:?} ends with {ended}");
+/// Whether a server that ends by this fault has this status, and tells this.
+fn is_told(alloc: Global, fault: ServeFault, status: u8, told: &str) -> bool {
+    let mut err = Vec::new(alloc);
+    let ended = Fault::of_server(fault).tell(&mut err);
+    ended.status == status && err.as_slice() == told.as_bytes()
+}
+
+/// The first text that isn't told of its fault, or whose status is another.
+pub(crate) fn first_untold(alloc: Global) -> Option<&'static str> {
+    for &(fault, status, told) in SERVER_FAULTS {
+        if !is_told(alloc, fault, status, told) {
+            return Some(told);
+        }
     }
+    None
+}
+
+/// Whether a control socket that can't be had is told.
+pub(crate) fn control_socket_is_told(alloc: Global) -> bool {
+    is_told(
+        alloc,
+        ServeFault::Control(SocketPath::new("/run/roam/control"), Reason(98)),
+        1,
+        "roam: cannot listen at /run/roam/control: Address already in use\n",
+    )
 }

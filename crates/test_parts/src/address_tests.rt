@@ -1,9 +1,9 @@
 //! Texts of addresses.
 
 use roam_address::Address;
+use std::alloc::Global;
+use std::fmt::Display;
 use std::net::IpAddr;
-use std::process::Abort;
-use std::test::Fail;
 
 /// Texts, and what is printed of their addresses.
 const PRINTED: [(&str, &str); 37] = [
@@ -66,13 +66,26 @@ const PRINTED: [(&str, &str); 37] = [
     ("255.255.255.255", "255.255.255.255"),
 ];
 
-pub(crate) fn texts_are_read_and_printed<R: Abort + AllocGlobal>(rt: &R) -> Result<(), Fail> {
-    for &(text, printed) in &PRINTED {
-        let address = Address::from_text(text).ok_or("a text states no address")?;
-        let shown = format!(in rt.alloc(); "{address}")?;
-        assert!(rt; shown.as_str() == printed, "{text}");
+/// Whether this is printed of something.
+pub(crate) fn is_printed_of<T: Display>(alloc: Global, it: &T, printed: &str) -> bool {
+    match format!(in alloc; "{it}") {
+        Ok(shown) => shown.as_str() == printed,
+        Err(_) => false,
     }
-    Ok(())
+}
+
+/// The first text that states no address, or of which another is printed.
+pub(crate) fn first_misprinted(alloc: Global) -> Option<&'static str> {
+    for &(text, printed) in &PRINTED {
+        let is_printed = match Address::from_text(text) {
+            Some(address) => is_printed_of(alloc, &address, printed),
+            None => false,
+        };
+        if !is_printed {
+            return Some(text);
+        }
+    }
+    None
 }
 
 /// Texts that state no address.
@@ -120,20 +133,22 @@ const NONE: [&str; 37] = [
     "1.2.3.",
 ];
 
-pub(crate) fn other_texts_are_none<R: Abort + AllocGlobal>(rt: &R) {
+/// The first of the other texts that states an address all the same.
+pub(crate) fn first_taken() -> Option<&'static str> {
     for &text in &NONE {
-        assert!(rt; Address::from_text(text).is_none(), "{text}");
+        if Address::from_text(text).is_some() {
+            return Some(text);
+        }
     }
+    None
 }
 
-pub(crate) fn equality_is_of_the_address<R: Abort + AllocGlobal>(rt: &R) {
-    let same = Address::from_text("2001:DB8:0:0::10") == Address::from_text("2001:db8::10");
-    assert!(rt; same);
-    let other = Address::from_text("::1.2.3.4") == Address::from_text("1.2.3.4");
-    assert!(rt; !other);
+/// Whether addresses are equal just where they are the same. What stands for IPv4 is no address, however it comes.
+pub(crate) fn equality_is_of_the_address() -> bool {
     let octets = Address::from_ipv4_octets([192, 0, 2, 1]);
-    assert!(rt; Address::from_text("192.0.2.1") == Some(octets));
-    // What stands for IPv4 is no address, however it comes.
     let mapped = [0, 0, 0, 0, 0, 0xffff, 0xc000, 0x0201];
-    assert!(rt; Address::new(IpAddr::from(mapped)).is_none());
+    Address::from_text("2001:DB8:0:0::10") == Address::from_text("2001:db8::10")
+        && Address::from_text("::1.2.3.4") != Address::from_text("1.2.3.4")
+        && Address::from_text("192.0.2.1") == Some(octets)
+        && Address::new(IpAddr::from(mapped)).is_none()
 }

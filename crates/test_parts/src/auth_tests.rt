@@ -6,7 +6,6 @@
 
 use roam_auth::{Secret, hmac_md5, message_auth, message_ok, response_ok};
 use roam_wire::View;
-use std::process::Abort;
 use test_fixtures::{octets, octets_mut};
 
 const SECRET: [u8; 9] = *b"xyzzy5461";
@@ -34,22 +33,7 @@ const SEALED_START: &str =
 const SEALED_RESPONSE: &str =
     "05050029a7ead6bedfdff90f6027813b06932eae501277a6186869e02827c256372075d643582103aa";
 
-/// What the functions of this crate compute for the vectors of RFC 2104 (appendix, the first two), and for
-/// the longest key and the shortest.
-fn digests() -> [[u8; 16]; 4] {
-    let mut key = [0; 64];
-    for i in 0..64usize {
-        key[i] = i as u8;
-    }
-    [
-        hmac_md5(&[0x0b; 16], b"Hi There"),
-        hmac_md5(b"Jefe", b"what do ya want for nothing?"),
-        hmac_md5(&key, &[b'x'; 200]),
-        hmac_md5(b"s", b""),
-    ]
-}
-
-/// The first two as the RFC tells them; the others by Python: the octets 0, 1, .. 63 as key, 200
+/// Digests, the first two as the RFC tells them; the others by Python: the octets 0, 1, .. 63 as key, 200
 /// letters `x`; the key `s`, no octets.
 const DIGESTS: [[u8; 16]; 4] = [
     *b"\x92\x94\x72\x7a\x36\x38\xbb\x1c\x13\xf4\x8e\xf8\x15\x8b\xfc\x9d",
@@ -58,8 +42,20 @@ const DIGESTS: [[u8; 16]; 4] = [
     *b"\x1b\x09\x09\x46\xd2\x9e\xc5\x04\xdb\x18\xa4\x11\x48\x31\xe2\xe1",
 ];
 
-pub(crate) fn digests_are_those_of_the_rfcs<R: Abort + AllocGlobal>(rt: &R) {
-    assert!(rt; digests() == DIGESTS);
+/// Whether the functions of this crate compute them for the vectors of RFC 2104 (appendix, the first two), and for the
+/// longest key and the shortest.
+pub(crate) fn digests_are_those_of_the_rfcs() -> bool {
+    let mut key = [0; 64];
+    for i in 0..64usize {
+        key[i] = i as u8;
+    }
+    let digests = [
+        hmac_md5(&[0x0b; 16], b"Hi There"),
+        hmac_md5(b"Jefe", b"what do ya want for nothing?"),
+        hmac_md5(&key, &[b'x'; 200]),
+        hmac_md5(b"s", b""),
+    ];
+    digests == DIGESTS
 }
 
 /// Whether a reply is signed, with this bit of this octet changed: over the request's Authenticator,
@@ -86,14 +82,14 @@ fn reply_is_signed(place: usize, bit: u8) -> [bool; 4] {
 /// whole, the last octet of the Authenticator, and the last attribute's (RFC 2865, section 7.1).
 const CHANGED: [(usize, u8, bool); 3] = [(0, 0, true), (19, 1, false), (37, 1, false)];
 
-pub(crate) fn the_access_accept_of_the_rfc_is_signed<R: Abort + AllocGlobal>(rt: &R) {
-    for (place, bit, signed) in CHANGED {
-        let signatures = reply_is_signed(place, bit);
-        assert!(rt;
-            signatures == [signed, false, false, false],
-            "octet {place}"
-        );
+/// The first of these octets with which the Access-Accept is signed, or not, otherwise than it should.
+pub(crate) fn first_other_signature() -> Option<u64> {
+    for &(place, bit, signed) in &CHANGED {
+        if reply_is_signed(place, bit) != [signed, false, false, false] {
+            return Some(place as u64);
+        }
     }
+    None
 }
 
 /// Replies that are published, and the Request Authenticator of the request for each: the examples of
@@ -134,10 +130,14 @@ fn is_signed_over(text: &str, over: [u8; 16]) -> [bool; 2] {
     }
 }
 
-pub(crate) fn published_replies_are_signed<R: Abort + AllocGlobal>(rt: &R) {
+/// The first of these replies that isn't signed so.
+pub(crate) fn first_unsigned() -> Option<&'static str> {
     for &(text, over) in &PUBLISHED_REPLIES {
-        assert!(rt; is_signed_over(text, over) == [true; 2], "{text}");
+        if is_signed_over(text, over) != [true; 2] {
+            return Some(text);
+        }
     }
+    None
 }
 
 /// A packet, the Authenticator that its Message-Authenticator is over, that attribute's Value, and the
@@ -205,14 +205,18 @@ fn seal_facts(text: &str, over: [u8; 16], seal: [u8; 16], place: usize, bit: u8)
     ]
 }
 
-// As it stands, and with one bit changed of the first octet of its seal, and of the last.
-pub(crate) fn packets_are_well_sealed<R: Abort + AllocGlobal>(rt: &R) {
+/// The first of these packets of which something of that isn't right as it stands, or with one bit changed of the first
+/// octet of its seal, or of the last.
+pub(crate) fn first_unsealed() -> Option<&'static str> {
     for &(text, over, seal, at) in &SEALED {
         let facts = [
             seal_facts(text, over, seal, at, 0),
             seal_facts(text, over, seal, at, 1),
             seal_facts(text, over, seal, at + 15, 1),
         ];
-        assert!(rt; facts == [[true; 4]; 3], "{text}");
+        if facts != [[true; 4]; 3] {
+            return Some(text);
+        }
     }
+    None
 }

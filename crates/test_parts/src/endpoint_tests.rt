@@ -1,9 +1,9 @@
 //! Texts of endpoints.
 
+use crate::address_tests::is_printed_of;
 use roam_address::Endpoint;
+use std::alloc::Global;
 use std::net::{Ipv6Addr, SocketAddr, SocketAddrV6};
-use std::process::Abort;
-use std::test::Fail;
 
 /// Texts, and what is printed of their endpoints. The form with brackets is that of RFC 5952, section 6.
 const PRINTED: [(&str, &str); 7] = [
@@ -48,34 +48,49 @@ const NONE: [&str; 28] = [
     "",
 ];
 
-pub(crate) fn texts_are_read_and_printed<R: Abort + AllocGlobal>(rt: &R) -> Result<(), Fail> {
+/// The first text that states no endpoint, or of which another is printed.
+pub(crate) fn first_misprinted(alloc: Global) -> Option<&'static str> {
     for &(text, printed) in &PRINTED {
-        let endpoint = Endpoint::from_text(text).ok_or("a text states no endpoint")?;
-        let shown = format!(in rt.alloc(); "{endpoint}")?;
-        assert!(rt; shown.as_str() == printed, "{text}");
+        let is_printed = match Endpoint::from_text(text) {
+            Some(endpoint) => is_printed_of(alloc, &endpoint, printed),
+            None => false,
+        };
+        if !is_printed {
+            return Some(text);
+        }
     }
-    Ok(())
+    None
 }
 
-pub(crate) fn other_texts_are_none<R: Abort + AllocGlobal>(rt: &R) {
+/// The first of the other texts that states an endpoint all the same.
+pub(crate) fn first_taken() -> Option<&'static str> {
     for &text in &NONE {
-        assert!(rt; Endpoint::from_text(text).is_none(), "{text}");
+        if Endpoint::from_text(text).is_some() {
+            return Some(text);
+        }
     }
+    None
 }
 
-pub(crate) fn the_system_names_them_alike<R: Abort + AllocGlobal>(rt: &R) {
+/// The first text whose endpoint doesn't come back from the system as it is.
+pub(crate) fn first_misnamed() -> Option<&'static str> {
     for &(text, _) in &PRINTED {
         let endpoint = Endpoint::from_text(text);
         let back = match endpoint {
             Some(endpoint) => Endpoint::from_socket_address(endpoint.socket_address()),
             None => None,
         };
-        assert!(rt; back == endpoint, "{text}");
+        if back != endpoint {
+            return Some(text);
+        }
     }
-    // A flow label and a zone are left out.
+    None
+}
+
+/// Whether a flow label and a zone are left out, and what stands for IPv4 is none.
+pub(crate) fn other_names_are_right() -> bool {
     let named = SocketAddrV6::new(Ipv6Addr::LOCALHOST, 1, 7, 3);
-    let endpoint = Endpoint::from_socket_address(SocketAddr::V6(named));
-    assert!(rt; endpoint == Endpoint::from_text("[::1]:1"));
     let mapped = SocketAddrV6::new(Ipv6Addr::new(0, 0, 0, 0, 0, 0xffff, 1, 2), 1, 0, 0);
-    assert!(rt; Endpoint::from_socket_address(SocketAddr::V6(mapped)).is_none());
+    Endpoint::from_socket_address(SocketAddr::V6(named)) == Endpoint::from_text("[::1]:1")
+        && Endpoint::from_socket_address(SocketAddr::V6(mapped)).is_none()
 }

@@ -2,20 +2,11 @@
 //! zero key; what it hides was computed apart, with Python's hashlib.
 
 use roam_hide::{HidingKey, password_fits, rehide_password};
-use std::process::Abort;
 use test_fixtures::{octets, octets_mut};
 
 const H_AUTHENTICATOR: [u8; 16] = [
     0x76, 0xb8, 0xe0, 0xad, 0xa0, 0xf1, 0x3d, 0x90, 0x40, 0x5d, 0x6a, 0xe5, 0x53, 0x86, 0xbd, 0x28,
 ];
-
-/// The key of the home server.
-fn h<'a>() -> HidingKey<'a> {
-    HidingKey {
-        secret: b"h1",
-        authenticator: &H_AUTHENTICATOR,
-    }
-}
 
 /// Whether a password that is hidden by one key is this, hidden by the other.
 fn is_password_anew(
@@ -53,12 +44,20 @@ const PUBLISHED_PASSWORDS: [([u8; 16], &str, &str); 3] = [
     ),
 ];
 
-pub(crate) fn published_passwords_are_hidden_anew<R: Abort + AllocGlobal>(rt: &R) {
+/// The first of these passwords that is hidden otherwise.
+pub(crate) fn first_other_password() -> Option<&'static str> {
     for (authenticator, by_rfc, by_h) in &PUBLISHED_PASSWORDS {
         let rfc = HidingKey {
             secret: b"xyzzy5461",
             authenticator,
         };
-        assert!(rt; is_password_anew(by_rfc, rfc, by_h, h()), "{by_rfc}");
+        let h = HidingKey {
+            secret: b"h1",
+            authenticator: &H_AUTHENTICATOR,
+        };
+        if !is_password_anew(by_rfc, rfc, by_h, h) {
+            return Some(*by_rfc);
+        }
     }
+    None
 }

@@ -2,7 +2,6 @@
 //! the first at or after the cursor, cyclic in 0..255, that isn't in use.
 
 use roam_ids::Lane;
-use std::process::Abort;
 
 /// Takes the next free Identifier and parks it with this ticket.
 fn admit(lane: &mut Lane, ticket: u64) -> Option<u8> {
@@ -53,13 +52,14 @@ const FREE: [(u8, u8, u8, u8); 10] = [
     (255, 191, 64, 64),
 ];
 
-pub(crate) fn the_first_at_or_after_the_cursor_is_taken<R: Abort + AllocGlobal>(rt: &R) {
-    for (cursor, one, other, first) in FREE {
-        assert!(rt;
-            first_of(cursor, one, other) == Some(first),
-            "from {cursor}: {one}, {other}"
-        );
+/// The first of these cases, counted from 0, in which another one is taken.
+pub(crate) fn first_other_taken() -> Option<u64> {
+    for (case, &(cursor, one, other, first)) in FREE.iter().enumerate() {
+        if first_of(cursor, one, other) != Some(first) {
+            return Some(case as u64);
+        }
     }
+    None
 }
 
 /// The words of a full lane of which one Identifier was freed.
@@ -79,8 +79,12 @@ const WORDS: [(u8, [u64; 4]); 6] = [
     (255, [u64::MAX, u64::MAX, u64::MAX, 0x7fff_ffff_ffff_ffff]),
 ];
 
-pub(crate) fn words_have_a_bit_for_each_identifier_in_use<R: Abort + AllocGlobal>(rt: &R) {
-    for (id, words) in WORDS {
-        assert!(rt; words_without(id) == words, "without {id}");
+/// The first of these Identifiers without which the words are others.
+pub(crate) fn first_other_words() -> Option<u64> {
+    for &(id, words) in &WORDS {
+        if words_without(id) != words {
+            return Some(u64::from(id));
+        }
     }
+    None
 }

@@ -2,8 +2,6 @@
 
 use roam_address::{Address, Prefix, PrefixIndex};
 use std::alloc::{Allocator, Global};
-use std::process::Abort;
-use std::test::Fail;
 use test_allocator::Refusing;
 
 /// Prefixes in no order.
@@ -44,13 +42,23 @@ const LONGEST: [(&str, Option<usize>); 19] = [
     ("::c000:301", None),
 ];
 
-/// The prefixes of these texts.
-fn prefixes(alloc: Global, texts: &[&str]) -> Result<Vec<Prefix>, Fail> {
+/// Pushes the prefix that a text states: whether there is one, and memory for it.
+fn push_text(prefixes: &mut Vec<Prefix>, text: &str) -> bool {
+    match Prefix::from_text(text) {
+        Some(prefix) => prefixes.push(prefix).is_ok(),
+        None => false,
+    }
+}
+
+/// The prefixes of these texts; none where a text states none, or there is no memory for them.
+fn prefixes(alloc: Global, texts: &[&str]) -> Option<Vec<Prefix>> {
     let mut prefixes = Vec::new(alloc);
     for &text in texts {
-        prefixes.push(Prefix::from_text(text).ok_or("a text states no prefix")?)?;
+        if !push_text(&mut prefixes, text) {
+            return None;
+        }
     }
-    Ok(prefixes)
+    Some(prefixes)
 }
 
 /// What an index finds for each address.
@@ -68,13 +76,6 @@ fn finds<A: Allocator + Copy>(index: &PrefixIndex<A>) -> bool {
     true
 }
 
-pub(crate) fn the_longest_prefix_is_found<R: Abort + AllocGlobal>(rt: &R) -> Result<(), Fail> {
-    let prefixes = prefixes(rt.alloc(), &PREFIXES)?;
-    let index = PrefixIndex::new(rt.alloc(), prefixes.as_slice())?.ok_or("two are the same")?;
-    assert!(rt; finds(&index));
-    Ok(())
-}
-
 /// Lists in which a prefix stands twice.
 const TWICE: [[&str; 3]; 4] = [
     ["192.0.2.1", "10.0.0.0/8", "192.0.2.1/32"],
@@ -83,54 +84,119 @@ const TWICE: [[&str; 3]; 4] = [
     ["::1", "::1", "::2"],
 ];
 
-pub(crate) fn a_prefix_stands_once<R: Abort + AllocGlobal>(rt: &R) -> Result<(), Fail> {
-    for texts in &TWICE {
-        let prefixes = prefixes(rt.alloc(), texts)?;
-        let index = PrefixIndex::new(rt.alloc(), prefixes.as_slice())?;
-        assert!(rt; index.is_none(), "{}", texts[0]);
+/// Whether the prefixes of these texts are no list for an index: one of them stands twice.
+fn is_refused(alloc: Global, texts: &[&str]) -> Option<bool> {
+    match prefixes(alloc, texts) {
+        Some(prefixes) => match PrefixIndex::new(alloc, prefixes.as_slice()) {
+            Ok(index) => Some(index.is_none()),
+            Err(_) => None,
+        },
+        None => None,
     }
-    // Of both kinds, or of two lengths, they are two.
-    let other = prefixes(rt.alloc(), &["::/0", "0.0.0.0/0", "0.0.0.0/1", "::/1"])?;
-    let index = PrefixIndex::new(rt.alloc(), other.as_slice())?;
-    assert!(rt; index.is_some());
-    Ok(())
 }
 
-/// An error comes just where a growth is refused.
-pub(crate) fn each_growth<R: Abort + AllocGlobal>(rt: &R) -> Result<(), Fail> {
-    let prefixes = prefixes(rt.alloc(), &PREFIXES)?;
-    let refusing = Refusing::new(rt.alloc());
+/// The first prefix of the first of these lists that an index is made of.
+pub(crate) fn first_that_stands_twice(alloc: Global) -> Option<&'static str> {
+    for texts in &TWICE {
+        if is_refused(alloc, texts) != Some(true) {
+            return Some(texts[0]);
+        }
+    }
+    None
+}
+
+/// Prefixes of which two are of both kinds, or of two lengths.
+const NOT_TWICE: [&str; 4] = ["::/0", "0.0.0.0/0", "0.0.0.0/1", "::/1"];
+
+/// Whether those are no list in which a prefix stands twice.
+pub(crate) fn two_kinds_or_lengths_are_two(alloc: Global) -> bool {
+    is_refused(alloc, &NOT_TWICE) == Some(false)
+}
+
+/// Whether an index is made that finds what it should, or an error comes, just where a growth is refused.
+fn is_made_or_refused(refusing: &Refusing<Global>, prefixes: &[Prefix]) -> bool {
+    match PrefixIndex::new(refusing, prefixes) {
+        Ok(Some(index)) => !refusing.was_refused() && finds(&index),
+        Ok(None) => false,
+        Err(_) => refusing.was_refused(),
+    }
+}
+
+/// Whether an index of all prefixes finds what it should.
+pub(crate) fn longest_is_found(alloc: Global) -> bool {
+    match prefixes(alloc, &PREFIXES) {
+        Some(prefixes) => is_made_or_refused(&Refusing::new(alloc), prefixes.as_slice()),
+        None => false,
+    }
+}
+
+/// The first growth of an index of all prefixes at which an error comes without a refusal, or none comes; 0 where there
+/// are no prefixes.
+pub(crate) fn wrong_growth(alloc: Global) -> Option<u64> {
+    let Some(prefixes) = prefixes(alloc, &PREFIXES) else {
+        return Some(0);
+    };
+    let refusing = Refusing::new(alloc);
     for n in refusing.each_growth() {
         refusing.refuse_nth(n);
-        let made = PrefixIndex::new(&refusing, prefixes.as_slice());
-        assert!(rt; made.is_err() == refusing.was_refused(), "at growth {n}");
-        let is_right = match made {
-            Ok(Some(index)) => finds(&index),
-            Ok(None) => false,
-            Err(_) => true,
-        };
-        assert!(rt; is_right, "at growth {n}");
+        if !is_made_or_refused(&refusing, prefixes.as_slice()) {
+            return Some(n);
+        }
     }
-    Ok(())
+    None
+}
+
+/// How many look-ups an index of these prefixes makes for an address of IPv4, and for one of IPv6; and where it finds
+/// the last of the many addresses, and an address behind it.
+fn facts_of(alloc: Global, prefixes: &[Prefix]) -> Option<([usize; 2], [Option<usize>; 2])> {
+    match PrefixIndex::new(alloc, prefixes) {
+        Ok(Some(index)) => Some((
+            [index.look_ups(false), index.look_ups(true)],
+            [
+                index.longest(Address::from_ipv4_octets([10, 1, 3, 254])),
+                index.longest(Address::from_ipv4_octets([10, 1, 3, 255])),
+            ],
+        )),
+        Ok(None) | Err(_) => None,
+    }
 }
 
 /// However many prefixes there are, an address costs a look-up for each length of its kind.
-pub(crate) fn look_ups_are_one_a_length<R: Abort + AllocGlobal>(rt: &R) -> Result<(), Fail> {
-    let some = prefixes(rt.alloc(), &PREFIXES)?;
-    let index = PrefixIndex::new(rt.alloc(), some.as_slice())?.ok_or("two are the same")?;
-    // 0, 8, 24, 25 and 32; 32, 33, 48, 120 and 128.
-    assert!(rt; index.look_ups(false) == 5 && index.look_ups(true) == 5);
+pub(crate) fn look_ups_are_one_a_length(alloc: Global) -> bool {
+    let Some(prefixes) = prefixes(alloc, &PREFIXES) else {
+        return false;
+    };
+    match facts_of(alloc, prefixes.as_slice()) {
+        // 0, 8, 24, 25 and 32; 32, 33, 48, 120 and 128.
+        Some(facts) => {
+            let look_ups = facts.0;
+            look_ups == [5, 5]
+        }
+        None => false,
+    }
+}
 
-    let mut many = prefixes(rt.alloc(), &["10.0.0.0/8"])?;
+/// Pushes 1023 addresses of 10.1.0.0 on: whether there is memory for them.
+fn push_many(prefixes: &mut Vec<Prefix>) -> bool {
     for n in 0..1023u16 {
         let octets = [10, 1, (n / 256) as u8, (n % 256) as u8];
-        many.push(Prefix::of(Address::from_ipv4_octets(octets)))?;
+        if prefixes
+            .push(Prefix::of(Address::from_ipv4_octets(octets)))
+            .is_err()
+        {
+            return false;
+        }
     }
-    let index = PrefixIndex::new(rt.alloc(), many.as_slice())?.ok_or("two are the same")?;
-    assert!(rt; index.look_ups(false) == 2 && index.look_ups(true) == 0);
-    let last = Address::from_ipv4_octets([10, 1, 3, 254]);
-    assert!(rt; index.longest(last) == Some(1023));
-    let behind = Address::from_ipv4_octets([10, 1, 3, 255]);
-    assert!(rt; index.longest(behind) == Some(0));
-    Ok(())
+    true
+}
+
+/// Whether an index of a prefix of 8 bits and those addresses makes two look-ups, and finds what it should.
+pub(crate) fn many_prefixes_are_two_look_ups(alloc: Global) -> bool {
+    match prefixes(alloc, &["10.0.0.0/8"]) {
+        Some(mut many) => {
+            push_many(&mut many)
+                && facts_of(alloc, many.as_slice()) == Some(([2, 0], [Some(1023), Some(0)]))
+        }
+        None => false,
+    }
 }

@@ -1,6 +1,6 @@
 //! The crates below the broker by example, those whose calls no row makes: addresses, packets as octets, Identifiers,
-//! random words, digests, seals and hidden passwords; how many entries in shared tables a call looks at; and ports that
-//! fail.
+//! random words, digests, seals and hidden passwords; how many entries in shared tables a call looks at; ports that
+//! fail; and ledgers, as octets and as a file.
 #![tactic(auto)]
 
 #[cfg(test)]
@@ -17,6 +17,10 @@ mod hide_tests;
 mod ids_tests;
 #[cfg(test)]
 mod index_tests;
+#[cfg(test)]
+mod keeping_tests;
+#[cfg(test)]
+mod ledger_tests;
 #[cfg(test)]
 mod listening_tests;
 #[cfg(test)]

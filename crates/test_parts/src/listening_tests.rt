@@ -2,12 +2,10 @@
 //!
 //! The request is an Accounting-Request of a worked exchange, whose digest was computed apart.
 
-use crate::tape::{Answer, Tape};
-use roam_conf::{Address, Endpoint, Place};
+use crate::tape::{Answer, Tape, access_server, tape_of};
+use roam_conf::Place;
 use roam_port::{FAULTS_TO_GIVE_UP, Heard, listen};
 use std::alloc::{Allocator, Global};
-use std::process::Abort;
-use std::test::Fail;
 use test_allocator::Refusing;
 
 const REQUEST: [u8; 43] = [
@@ -15,37 +13,21 @@ const REQUEST: [u8; 43] = [
     117, 64, 97, 46, 101, 120, 97, 109, 112, 108, 101, 40, 6, 0, 0, 0, 1, 44, 4, 48, 49,
 ];
 
-fn access_server() -> Endpoint {
-    Endpoint {
-        ip: Address::from_ipv4_octets([192, 0, 2, 1]),
-        port: 5000,
-    }
-}
-
-/// A port that fails 99 times, gives the request, and fails from then on.
-fn tape(alloc: Global, answers: &[Answer]) -> Tape<'_> {
-    Tape {
-        alloc,
-        answers,
-        played: 0,
-        octets: &REQUEST,
-        from: access_server(),
-        failing: &[],
-        sends: 0,
-        went: Vec::new(alloc),
-    }
-}
-
-/// What is heard, in words; a datagram where it is the request from that access server.
-fn word<A: Allocator>(heard: &Heard<A>) -> &'static str {
+/// What is heard, in words, and none for nothing; a datagram where it is the request from that access server.
+fn word<A: Allocator>(heard: &Heard<A>) -> Option<&'static str> {
     match heard {
-        Heard::Nothing => "nothing",
-        Heard::GiveUp => "given up",
-        Heard::Datagram(d)
+        Heard::Nothing => None,
+        Heard::GiveUp => Some("given up"),
+        Heard::Datagram(d) => {
             if d.at == Place::Acct(0)
                 && d.from == access_server()
-                && d.octets.as_slice() == REQUEST.as_slice() => { "the request" }
-        Heard::Datagram(_) => "another datagram",
+                && d.octets.as_slice() == REQUEST.as_slice()
+            {
+                Some("the request")
+            } else {
+                Some("another datagram")
+            }
+        }
     }
 }
 
@@ -64,48 +46,45 @@ fn heard_after_silence<A: Allocator + Copy>(
             break;
         }
         let heard = word(&listen(alloc, port, Place::Acct(0), &mut buffer, faults));
-        if heard != "nothing" {
+        if let Some(heard) = heard {
             return (n, heard, *faults);
         }
     }
     (1000, "nothing", *faults)
 }
 
-/// The answers of that port to its first hundred receives.
-fn answers() -> [Answer; 100] {
+/// What is heard at first, by this allocator, and then, at a port that fails 99 times, gives the request, and fails
+/// from then on.
+fn heard_twice<A: Allocator + Copy>(alloc: Global, first: A) -> [(u32, &'static str, u32); 2] {
     let mut answers = [Answer::Fault; 100];
     answers[99] = Answer::Datagram;
-    answers
+    let mut port = tape_of(alloc, &answers, &REQUEST, &[]);
+    let mut faults = 0;
+    [
+        heard_after_silence(first, &mut port, &mut faults),
+        heard_after_silence(alloc, &mut port, &mut faults),
+    ]
 }
 
-pub(crate) fn hundred_faults_in_a_row_give_up<R: Abort + AllocGlobal>(rt: &R) -> Result<(), Fail> {
-    let answers = answers();
-    let mut port = tape(rt.alloc(), &answers);
-    let mut faults = 0;
-    let first = heard_after_silence(rt.alloc(), &mut port, &mut faults);
-    let second = heard_after_silence(rt.alloc(), &mut port, &mut faults);
-    assert!(rt; first == (99, "the request", 0) && second == (99, "given up", 100));
-    Ok(())
+/// What should be heard there.
+const TWICE: [(u32, &str, u32); 2] = [(99, "the request", 0), (99, "given up", 100)];
+
+pub(crate) fn hundred_faults_in_a_row_give_up(alloc: Global) -> bool {
+    heard_twice(alloc, alloc) == TWICE
 }
 
-pub(crate) fn datagram_takes_no_memory<R: Abort + AllocGlobal>(rt: &R) -> Result<(), Fail> {
-    let answers = answers();
-    let mut port = tape(rt.alloc(), &answers);
-    let mut faults = 0;
-    let refusing = Refusing::new(rt.alloc());
+/// Whether the same is heard where the second growth is refused.
+pub(crate) fn datagram_takes_no_memory(alloc: Global) -> bool {
+    let refusing = Refusing::new(alloc);
     refusing.refuse_nth(2);
-    let first = heard_after_silence(&refusing, &mut port, &mut faults);
-    let second = heard_after_silence(rt.alloc(), &mut port, &mut faults);
-    assert!(rt; first == (99, "the request", 0) && second == (99, "given up", 100));
-    Ok(())
+    heard_twice(alloc, &refusing) == TWICE
 }
 
-pub(crate) fn silence_ends_a_row_of_faults<R: Abort + AllocGlobal>(rt: &R) -> Result<(), Fail> {
+/// Whether silence at the fifty-first receive ends a row of faults.
+pub(crate) fn silence_ends_a_row_of_faults(alloc: Global) -> bool {
     let mut answers = [Answer::Fault; 60];
     answers[50] = Answer::Nothing;
-    let mut port = tape(rt.alloc(), &answers);
+    let mut port = tape_of(alloc, &answers, &REQUEST, &[]);
     let mut faults = 0;
-    let heard = heard_after_silence(rt.alloc(), &mut port, &mut faults);
-    assert!(rt; heard == (150, "given up", 100));
-    Ok(())
+    heard_after_silence(alloc, &mut port, &mut faults) == (150, "given up", 100)
 }

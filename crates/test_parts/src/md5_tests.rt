@@ -1,7 +1,6 @@
 //! MD5 against the test suite of RFC 1321, and messages that end near a block's edge, in pieces.
 
 use roam_md5::Hasher;
-use std::process::Abort;
 
 /// The test suite of RFC 1321, section A.5.
 const SUITE: [(&str, [u8; 16]); 7] = [
@@ -47,10 +46,14 @@ fn digest_of_pieces(message: &[u8], at: usize) -> [u8; 16] {
     hasher.finalize()
 }
 
-pub(crate) fn digests_are_those_of_the_suite<R: Abort + AllocGlobal>(rt: &R) {
+/// The first text of the suite that has another digest.
+pub(crate) fn first_other_digest() -> Option<&'static str> {
     for &(text, digest) in &SUITE {
-        assert!(rt; digest_of_pieces(text.as_bytes(), 0) == digest, "{text}");
+        if digest_of_pieces(text.as_bytes(), 0) != digest {
+            return Some(text);
+        }
     }
+    None
 }
 
 /// Lengths, and MD5 of so many octets 0, 1, 2 and so on, by Python's hashlib: the padding just fits into the last
@@ -108,8 +111,12 @@ fn has_digest_in_pieces(len: usize, digest: [u8; 16]) -> bool {
     true
 }
 
-pub(crate) fn pieces_have_the_digest_of_the_whole<R: Abort + AllocGlobal>(rt: &R) {
+/// The first of these lengths of which two pieces have another digest than the whole.
+pub(crate) fn first_other_in_pieces() -> Option<u64> {
     for &(len, digest) in &AT_EDGES {
-        assert!(rt; has_digest_in_pieces(len, digest), "{len} octets");
+        if !has_digest_in_pieces(len, digest) {
+            return Some(len as u64);
+        }
     }
+    None
 }

@@ -2,7 +2,6 @@
 //! that were computed apart, by a ChaCha20 written from the formulas of RFC 8439, with 64 bits for the
 //! counter and 64 for the stream's number (`oracle/vectors.py`).
 use roam_random::{KeptWords, next_position, request_authenticator};
-use std::process::Abort;
 
 const ZERO_SEED: [u8; 32] = [0; 32];
 
@@ -79,26 +78,36 @@ const AUTHENTICATORS: [([u8; 32], u64, u128, u128); 21] = [
     (ZERO_SEED, 0, LAST_TWO, 0x3328845607b1768976b8e0ada0f13d90),
 ];
 
-pub(crate) fn request_authenticators_are_words_of_the_stream<R: Abort + AllocGlobal>(rt: &R) {
-    for &(seed, stream, position, expected) in &AUTHENTICATORS {
-        let drawn = u128::from_be_bytes(request_authenticator(seed, stream, position));
-        assert!(rt; drawn == expected, "stream {stream} at {position}");
+/// The first of these cases, counted from 0, in which other words are drawn.
+pub(crate) fn first_other_drawn() -> Option<u64> {
+    for (case, &(seed, stream, position, expected)) in AUTHENTICATORS.iter().enumerate() {
+        if u128::from_be_bytes(request_authenticator(seed, stream, position)) != expected {
+            return Some(case as u64);
+        }
     }
+    None
 }
 
-pub(crate) fn words_that_are_kept_are_the_same<R: Abort + AllocGlobal>(rt: &R) {
+/// The first of these cases, counted from 0, in which the words that are kept are others.
+pub(crate) fn first_other_kept() -> Option<u64> {
     let mut kept = KeptWords::new();
-    for &(seed, stream, position, expected) in &AUTHENTICATORS {
-        let drawn = u128::from_be_bytes(kept.request_authenticator(seed, stream, position));
-        assert!(rt; drawn == expected, "stream {stream} at {position}");
+    for (case, &(seed, stream, position, expected)) in AUTHENTICATORS.iter().enumerate() {
+        if u128::from_be_bytes(kept.request_authenticator(seed, stream, position)) != expected {
+            return Some(case as u64);
+        }
     }
+    None
 }
 
 /// A position, and the next one.
 const NEXT_POSITIONS: [(u128, u128); 4] = [(0, 4), (1000, 1004), (LAST_TWO - 2, 0), (LAST_TWO, 2)];
 
-pub(crate) fn four_words_are_taken_at_a_time<R: Abort + AllocGlobal>(rt: &R) {
-    for (position, next) in NEXT_POSITIONS {
-        assert!(rt; next_position(position) == next, "after {position}");
+/// The first of these cases, counted from 0, in which another position is next.
+pub(crate) fn first_other_next() -> Option<u64> {
+    for (case, &(position, next)) in NEXT_POSITIONS.iter().enumerate() {
+        if next_position(position) != next {
+            return Some(case as u64);
+        }
     }
+    None
 }

@@ -2,8 +2,6 @@
 
 use roam_conf::Place;
 use roam_port::{nth_of, place_of, socket_of, worker_of};
-use std::process::Abort;
-use std::test::Fail;
 
 /// Places, each with its number, and which of the places of that number it is.
 const SOCKETS: [(usize, u16, Place); 9] = [
@@ -18,22 +16,17 @@ const SOCKETS: [(usize, u16, Place); 9] = [
     (0, 7, Place::Auth(7)),
 ];
 
-/// The first place whose numbers aren't those of the table, or that isn't found by them.
-fn first_wrong(sockets: &[(usize, u16, Place)]) -> Option<Place> {
-    for (socket, nth, place) in sockets {
+/// Whether each place has the numbers of the table, and is found by them.
+pub(crate) fn sockets_stand_in_order() -> bool {
+    for (socket, nth, place) in &SOCKETS {
         if socket_of(*place) != *socket
             || nth_of(*place) != usize::from(*nth)
             || (*socket < 2050 && place_of(*socket, *nth) != *place)
         {
-            return Some(*place);
+            return false;
         }
     }
-    None
-}
-
-pub(crate) fn sockets_stand_in_order<R: Abort + AllocGlobal>(rt: &R) -> Result<(), Fail> {
-    assert!(rt; first_wrong(&SOCKETS).is_none());
-    Ok(())
+    true
 }
 
 /// Places, and the worker of three that hears the socket of each: in turn, and where `auth` and `acct` are spread.
@@ -48,17 +41,12 @@ const WORKERS: [(Place, usize, usize); 8] = [
     (Place::Auth(4), 1, 0),
 ];
 
-/// The first place whose workers aren't those of the table.
-fn first_elsewhere(workers: &[(Place, usize, usize)]) -> Option<Place> {
-    for (place, in_turn, spread) in workers {
+/// Whether each place has the workers of the table.
+pub(crate) fn sockets_are_dealt_out() -> bool {
+    for (place, in_turn, spread) in &WORKERS {
         if worker_of(*place, 3, false) != *in_turn || worker_of(*place, 3, true) != *spread {
-            return Some(*place);
+            return false;
         }
     }
-    None
-}
-
-pub(crate) fn sockets_are_dealt_out<R: Abort + AllocGlobal>(rt: &R) -> Result<(), Fail> {
-    assert!(rt; first_elsewhere(&WORKERS).is_none());
-    Ok(())
+    true
 }

@@ -2,9 +2,17 @@
 
 ghost use Rattle.std.specs.Prelude.{◌≤◌, length};
 
-use roam_conf::{Endpoint, Place};
+use roam_conf::{Address, Endpoint, Place};
 use roam_port::{Port, PortFault, SendFault};
 use std::alloc::Global;
+
+/// Where what is received comes from, and where what is sent goes to.
+pub fn access_server() -> Endpoint {
+    Endpoint {
+        ip: Address::from_ipv4_octets([192, 0, 2, 1]),
+        port: 5000,
+    }
+}
 
 /// One answer of a [`Tape`] to a receive.
 #[derive(Clone, Copy)]
@@ -28,6 +36,25 @@ pub struct Tape<'a> {
     pub sends: usize,
     /// The first octet of each packet that went out.
     pub went: Vec<u8>,
+}
+
+/// A port that plays these answers, of datagrams of these octets, and whose sends of these numbers fail so.
+pub fn tape_of<'a>(
+    alloc: Global,
+    answers: &'a [Answer],
+    octets: &'a [u8],
+    failing: &'a [(usize, SendFault)],
+) -> Tape<'a> {
+    Tape {
+        alloc,
+        answers,
+        played: 0,
+        octets,
+        from: access_server(),
+        failing,
+        sends: 0,
+        went: Vec::new(alloc),
+    }
 }
 
 impl Tape<'_> {

@@ -1,6 +1,7 @@
-use super::*;
+//! The file of ledgers, on the system's disk.
+
+use roam_keeping::{keep, kept, put_aside};
 use std::os::unix::fs::MetadataExt;
-use std::test::*;
 use std::{env, fs, process};
 
 /// The path of a file of this process.
@@ -56,26 +57,23 @@ fn turns(rt: &HostRuntime, path: &str, beside: &str, aside: &str) -> [bool; 10] 
     ]
 }
 
-#[test]
-fn a_file_is_kept(rt: HostRuntime) -> Result<(), Fail> {
-    let path = path_of(&rt, "ledgers").expect(&rt, "a path");
-    let beside = path_of(&rt, "ledgers.new").expect(&rt, "a path");
-    let aside = path_of(&rt, "ledgers.old").expect(&rt, "a path");
-    assert_eq!(rt;
-        turns(&rt, path.as_str(), beside.as_str(), aside.as_str()),
-        [true; 10]
-    );
-    Ok(())
+/// Whether all that is so.
+pub(crate) fn file_is_kept(rt: &HostRuntime) -> bool {
+    let path = path_of(rt, "ledgers");
+    let beside = path_of(rt, "ledgers.new");
+    let aside = path_of(rt, "ledgers.old");
+    match (&path, &beside, &aside) {
+        (Some(path), Some(beside), Some(aside)) => {
+            turns(rt, path.as_str(), beside.as_str(), aside.as_str()) == [true; 10]
+        }
+        _ => false,
+    }
 }
 
 /// Whether a folder that isn't there is told, and nothing had of it.
-fn is_told(rt: &HostRuntime, path: &str) -> [bool; 2] {
-    [keep(rt, path, b"one").is_err(), is_none(rt, path)]
-}
-
-#[test]
-fn a_folder_that_is_not_there_is_told(rt: HostRuntime) -> Result<(), Fail> {
-    let path = path_of(&rt, "no/ledgers").expect(&rt, "a path");
-    assert_eq!(rt; is_told(&rt, path.as_str()), [true; 2]);
-    Ok(())
+pub(crate) fn missing_folder_is_told(rt: &HostRuntime) -> bool {
+    match path_of(rt, "no/ledgers") {
+        Some(path) => keep(rt, path.as_str(), b"one").is_err() && is_none(rt, path.as_str()),
+        None => false,
+    }
 }
