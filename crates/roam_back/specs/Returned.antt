@@ -50,7 +50,7 @@ is_own own request a =
 -- name in its accounting (RFC 2865, section 5.1).
 -- Source: RFC 2865 section 5.1; ours
 -- Rules out: an Accept of one realm that names a user of another
--- Stands in: `roam_back` `Returned.antt`: `named`, `is_own`; `back_passing`, the law `own_names`
+-- Stands in: `roam_back` `Returned.antt`: `named`, `is_own`; `back`, the law `own_names`
 --
 -- a reply without the User-Names that don't pass
 abbrev pub named : Bool → Packet → Packet → Packet
@@ -75,7 +75,7 @@ removed_of removed code = if is_access_reply code then removed else []
 -- returned for this.
 -- Source: ours
 -- Rules out: an attribute taken out of another realm's replies; a reply's State or Proxy-State taken for one that goes
--- Stands in: `roam_back` `Returned.antt`: `passing_reply`; `back_passing`, the law `passing_replies`
+-- Stands in: `roam_back` `Returned.antt`: `passing_reply`; `back`, the law `passing_replies`
 --
 abbrev pub passing_reply : Bool → Packet → List RemovedAttribute → Packet → Packet
 passing_reply own request removed reply =

@@ -13,7 +13,7 @@
 //!   and the reply's Proxy-States is carried in its order, octet for octet; in a reply that isn't an Access
 //!   reply the Message-Authenticator stands where it stood, with another Value | law `returned_carries`
 //! - of an Access reply just those attributes are returned that no list names, in their order; any other reply is
-//!   returned whole | `back_passing`, law `passing_replies`
+//!   returned whole | `back`, law `passing_replies`
 //! - it reads, is well sealed and signed for the requester, with the request's Identifier and Proxy-States; the
 //!   seal of an Access reply stands first | laws `returned_reads`, `returned_authenticators`,
 //!   `returned_to_the_requester`, for every code
@@ -37,4 +37,4 @@ pub use laws::{
 };
 pub use negative_ack::{nak, nak_len, nak_reserved};
 pub use reply_check::check_reply;
-pub use returning::{back, back_passing};
+pub use returning::back;

@@ -112,7 +112,7 @@ fn removal_of<'a>(code: u8, removal: &Removal<'a>) -> Removal<'a>
 /// Refused in this order: `ReplyTooLong` where the packet would pass 4096 octets, looked at before
 /// memory is asked for; `NoMemory`. A refusal leaves the buffer as it was, and its
 /// capacity.
-pub fn back_passing<A: Allocator>(
+pub fn back<A: Allocator>(
     reply: &View<'_>,
     request: &View<'_>,
     removal: &Removal<'_>,
@@ -161,57 +161,4 @@ pub fn back_passing<A: Allocator>(
     };
     seal_appended(out, start, reply, request, &returning);
     Ok(())
-}
-
-/// The same of a reply of which all attributes pass.
-///
-/// Appends the packet that is returned to the requester for a reply that was taken (RFC 2865, section
-/// 2.3): the reply's code and attributes with the request's Identifier, without the Proxy-States that
-/// the reply came with and with the request's own in their place, sealed and signed for the requester.
-/// In an Access reply the Message-Authenticator stands first, and in an Access-Accept salted strings are
-/// hidden anew (RFC 2868, section 3.5; RFC 2548, section 2.4).
-///
-/// `forwarded_authenticator` and `home_secret` are those of the forwarded request and of the link from
-/// which the reply came, `client_secret` is the requester's; secrets have 1 to 64 octets.
-///
-/// Refused in this order: `ReplyTooLong` where the packet would pass 4096 octets, looked at before
-/// memory is asked for; `NoMemory`. A refusal leaves the buffer as it was, and its
-/// capacity.
-pub fn back<A: Allocator>(
-    reply: &View<'_>,
-    request: &View<'_>,
-    forwarded_authenticator: [u8; 16],
-    home_secret: &[u8],
-    client_secret: &Secret,
-    out: &mut Vec<u8, A>,
-) -> Result<(), Refusal>
-    requires at_most_one { HasAtMostOneMessageAuthenticator reply.now }
-    requires home_secret { IsSecret home_secret.now }
-    requires client_secret { IsSecret client_secret.now }
-    ensures ok { OnOk result (out.new.items ≡ out.old.items ++ packet_text (returned
-        (returning forwarded_authenticator home_secret.now client_secret.now) reply.now request.now)) }
-    ensures err { OnErr result (out.new.items ≡ out.old.items) }
-    ensures capacity { OnErr result (vec_capacity out.new ≡ vec_capacity out.old) }
-
-    // The size is looked at before memory is asked for.
-    ensures reply_too_long { IsErrOf result Refusal.ReplyTooLong ↔ (4096 < returned_length
-        (returning forwarded_authenticator home_secret.now client_secret.now) reply.now request.now) }
-    ensures causes { IfErr result (λ e. (e ≡ Refusal.ReplyTooLong) ⊎ (e ≡ Refusal.NoMemory)) }
-
-    // Memory is wanting only where there was no room for the packet.
-    ensures full { IsErrOf result Refusal.NoMemory
-        → vec_capacity out.old < vec_len out.old + returned_length
-        (returning forwarded_authenticator home_secret.now client_secret.now) reply.now request.now }
-{
-    let removal = nothing_removed();
-    back_passing(
-        reply,
-        request,
-        &removal,
-        false,
-        forwarded_authenticator,
-        home_secret,
-        client_secret,
-        out,
-    )
 }

@@ -23,7 +23,7 @@ ghost use Rattle.roam_realm.specs.Sound.{marks_of};
 
 use crate::buffers::{Buffers, copied_into};
 use roam_conf::{Link, Place};
-use roam_fwd::{Forwarding, forward_shaped_reserved};
+use roam_fwd::{Forwarding, forward};
 use roam_pending::{Key, Requester, Waiting};
 use roam_random::{KeptWords, next_position};
 use roam_realm::{RealmNumbers, RealmSettings};
@@ -161,7 +161,7 @@ fn forward_into<A: Allocator>(
         authenticator: drawn_at(settings, hop.request, position, words),
         ticket: hop.ticket,
     };
-    forward_shaped_reserved(&view, &shaping, &forwarding, out);
+    forward(&view, &shaping, &forwarding, out);
 }
 
 /// Forwards a request to a link that has a free Identifier: the next one is its Identifier there,

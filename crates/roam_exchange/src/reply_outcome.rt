@@ -28,7 +28,7 @@ use crate::happening::{Happening, Waited};
 use crate::kept_request::answered_request;
 use crate::refused_reply::{faulted, not_taken, only_heard};
 use roam_auth::Secret;
-use roam_back::{back_passing, check_reply};
+use roam_back::{back, check_reply};
 use roam_conf::{ExchangeLines, Link};
 use roam_pending::{Done, Entry, Request, Requester, Standing, Waiting};
 use roam_realm::RealmSettings;
@@ -98,7 +98,7 @@ fn returned_packet<A: Allocator + Copy>(
 {
     let removal = context.settings.removal_for(request.requester);
     let mut packet = Vec::new(context.alloc);
-    match back_passing(
+    match back(
         context.reply,
         &View::of_packet(request.octets.as_slice()),
         &removal,

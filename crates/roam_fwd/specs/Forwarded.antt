@@ -98,7 +98,7 @@ sealed f request =
 -- Source: RFC 2865 sections 2.3, 5.2, 5.3 and 5.33, RFC 3579 section 3.2; the ticket ours
 -- Rules out: a second Message-Authenticator; a password hidden with another server's secret
 -- Stands in: `roam_fwd` `Forwarded.antt`: `forwarded`, `forwarded_length`; `Rewriting.antt`: `IsRewritable`;
--- `rewrite`, `forward`, `forward_reserved`, the laws `forwarded_packet`, `forwarded_authenticator`,
+-- `rewrite`, `forward`, the laws `forwarded_packet`, `forwarded_authenticator`,
 -- `forwarded_carries`, `forwarded_marks`
 --
 -- the forwarded packet: sealed, and, unless it is an Access-Request, signed with the link's secret
@@ -130,7 +130,7 @@ pub record HasPasswordBlocks (a : Attribute) : Type 0 where
 -- blocks of 16 octets, and a forwarded packet of at most 4096 octets.
 -- Source: RFC 3579 section 3.2, RFC 2865 section 5.2; the limit ours
 -- Rules out: a packet built past its limit; a password cut off
--- Stands in: `roam_fwd` `Forwarded.antt`: `CanBeForwarded`, `forwarded_length`; `can_be_forwarded`
+-- Stands in: `roam_fwd` `Forwarded.antt`: `CanBeForwarded`, `forwarded_length`; `can_be_shaped`
 --
 -- a request that can be forwarded: at most one Message-Authenticator, of 16 octets; in an
 -- Access-Request passwords of whole blocks; and the forwarded packet has at most 4096 octets

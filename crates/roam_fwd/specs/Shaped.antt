@@ -87,7 +87,7 @@ all_added s request =
 -- Source: RFC 5580 section 4.1, RFC 4372 section 2.1; which attributes pass is ours
 -- Rules out: a second Operator-Name; what is added in front of what passes, or behind the ticket
 -- Stands in: `roam_fwd` `Shaped.antt`: `shaped`, `added_for_peer`; `forwarded_shaped_len`,
--- `forward_shaped_reserved`, the law `shaped_carries`
+-- `forward`, the law `shaped_carries`
 --
 unfoldable pub shaped : Shaping → Packet → Packet
 shaped s request =
@@ -100,7 +100,7 @@ shaped s request =
 -- is added and without what doesn't pass.
 -- Source: RFC 3579 section 3.2, RFC 2865 section 5.2; the limit ours
 -- Rules out: a request refused for the size of what doesn't pass; a packet past its limit by what is added
--- Stands in: `roam_fwd` `Shaped.antt`: `CanBeShaped`; `can_be_shaped`, `forward_shaped_reserved`
+-- Stands in: `roam_fwd` `Shaped.antt`: `CanBeShaped`; `can_be_shaped`, `forward`
 --
 pub record CanBeShaped (s : Shaping) (request : Packet) : Type 0 where
   pub message_authenticator : HasAtMostOneMessageAuthenticator request

@@ -4,10 +4,9 @@ ghost use Rattle.std.specs.Prelude.{◌≤◌, ◌↔◌, IsTrue};
 ghost use Rattle.std.specs.List.{AllByRecursion};
 ghost use Rattle.roam_hide.specs.Hiding.{HasWholeBlocks};
 ghost use Rattle.roam_auth.specs.MessageAuthenticator.{HasAtMostOneMessageAuthenticator};
-ghost use Rattle.roam_fwd.specs.Forwarded.{forwarded_length, HasPasswordBlocks, CanBeForwarded};
+ghost use Rattle.roam_fwd.specs.Forwarded.{forwarded_length, HasPasswordBlocks};
 ghost use Rattle.roam_fwd.specs.Shaped.{CanBeShaped, HasShortName, shaped, shown_shaping};
 
-use crate::length::forwarded_len;
 use crate::shaped::{MAX_SHAPED_GROWTH, forwarded_shaped_len};
 use crate::shaping::Shaping;
 use roam_auth::has_one_message_authenticator;
@@ -20,14 +19,6 @@ fn has_at_most_one_message_authenticator(request: &View<'_>) -> bool
     ensures { IsTrue result ↔ HasAtMostOneMessageAuthenticator request.now }
 {
     request.count(MESSAGE_AUTHENTICATOR) == 0 || has_one_message_authenticator(request)
-}
-
-/// Whether the forwarded packet fits and can be sealed.
-fn fits_sealed(request: &View<'_>) -> bool
-    ensures { IsTrue result ↔ (HasAtMostOneMessageAuthenticator request.now
-        × (forwarded_length request.now ≤ 4096)) }
-{
-    has_at_most_one_message_authenticator(request) && forwarded_len(request) <= MAX_PACKET_LENGTH
 }
 
 /// Whether there is one block at least, and whole blocks alone.
@@ -47,15 +38,6 @@ fn passwords_have_blocks(request: &View<'_>) -> bool
         }
     }
     true
-}
-
-/// For tests: whether a request can be forwarded: whether it has at most one Message-Authenticator, of 16 octets,
-/// each User-Password of an Access-Request has whole blocks, and the forwarded packet has at most 4096
-/// octets. Takes no memory.
-pub fn can_be_forwarded(request: &View<'_>) -> bool
-    ensures { IsTrue result ↔ CanBeForwarded request.now }
-{
-    fits_sealed(request) && (request.code() != ACCESS_REQUEST || passwords_have_blocks(request))
 }
 
 /// Whether the packet that is forwarded for a request as it is shaped has at most 4096 octets. Of a request that has

@@ -6,10 +6,10 @@
 //!
 //! # Proved
 //!
-//! - the forwarded packet's octets, in place too, and its size | `forward`, `rewrite`, `forwarded_len`
-//! - which requests can be forwarded | `can_be_forwarded`, `can_be_shaped`
+//! - the forwarded packet's octets, in place too, and its size | `rewrite`, `forwarded_len`
+//! - which requests can be forwarded | `can_be_shaped`
 //! - what a peer and a realm have taken out of a request, and what is added for the peer, in its place and counted
-//!   | `forward_shaped_reserved`, `forwarded_shaped_len`, law `shaped_carries`
+//!   | `forward`, `forwarded_shaped_len`, law `shaped_carries`
 #![tactic(auto)]
 
 mod access;
@@ -23,12 +23,12 @@ mod shaped;
 mod shaping;
 mod terms;
 
-pub use forwardable::{can_be_forwarded, can_be_shaped, fits_shaped};
-pub use forwarding::{forward, forward_reserved, rewrite};
+pub use forwardable::{can_be_shaped, fits_shaped};
+pub use forwarding::rewrite;
 pub use laws::{
     forwarded_authenticator, forwarded_carries, forwarded_marks, forwarded_packet, shaped_carries,
 };
 pub use length::{MAX_GROWTH, forwarded_len};
-pub use shaped::{forward_shaped_reserved, forwarded_shaped_len};
+pub use shaped::{forward, forwarded_shaped_len};
 pub use shaping::{Shaping, no_shaping};
 pub use terms::Forwarding;

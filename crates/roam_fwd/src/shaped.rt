@@ -108,7 +108,7 @@ fn append_shaped<A: Allocator>(
 /// the room. Takes no memory.
 ///
 /// `authenticator` counts for an Access-Request alone, and so does the requester's secret.
-pub fn forward_shaped_reserved<A: Allocator>(
+pub fn forward<A: Allocator>(
     request: &View<'_>,
     shaping: &Shaping<'_>,
     forwarding: &Forwarding<'_>,

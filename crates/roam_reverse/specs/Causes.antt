@@ -97,7 +97,7 @@ cause_at_target own realm named attributes sessions (Some peer) =
 -- is the access server's to decide.
 -- Source: RFC 5176 section 3.5 for the numbers; when each comes is ours
 -- Rules out: causes in another order; with `own_sessions` a session of another realm, or one of several
--- Stands in: `roam_reverse` `Causes.antt`: `cause`; `verdict`, `route_of`, the laws `forwarded_has_target`,
+-- Stands in: `roam_reverse` `Causes.antt`: `cause`; `route_of`, the laws `forwarded_has_target`,
 -- `forwarded_is_of_one_session`, `named_requests_need_no_session`
 --
 -- why a reverse request to a realm, of which its entry and its index are given, isn't forwarded, if it isn't, by the

@@ -218,20 +218,3 @@ pub fn route_of<A: Allocator + Copy>(
         None => Ok(peer),
     }
 }
-
-/// For tests; a realm's rules call `route_of`.
-///
-/// The Error-Cause of a reverse request that can't be forwarded, none where it can be: as `route_of`
-/// says it. Takes no memory.
-pub fn verdict<A: Allocator + Copy>(
-    config: &Config,
-    realm: u16,
-    named: Option<u16>,
-    request: &View<'_>,
-    sessions: &Sessions<A>,
-) -> Option<u32>
-    ensures { result ≡ cause (slice_get (shown config.now).realms realm) (shown config.now).peers
-        realm named request.now.attributes sessions.now.sessions }
-{
-    route_of(config, realm, named, request, sessions).err()
-}

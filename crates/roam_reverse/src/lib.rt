@@ -11,7 +11,7 @@
 //!   NAS-IP-Address, NAS-Identifier and NAS-IPv6-Address name | `target`, law `target_is_named`
 //! - why it isn't forwarded: the first cause that holds; without one there is a target among the realm's peers, no
 //!   salted string, and a User-Name names this realm; with `own_sessions` just one session of the realm's own
-//!   agrees with it | `verdict`, `route_of`, laws `forwarded_has_target`, `forwarded_is_of_one_session`
+//!   agrees with it | `route_of`, laws `forwarded_has_target`, `forwarded_is_of_one_session`
 //! - the numbers of status types and of Error-Causes are those of the RFCs | law
 //!   `numbers_of_statuses_and_causes`
 //! - the ledger of a realm's sessions: what an Accounting-Request does to it, no session twice, never more than
@@ -40,7 +40,7 @@ mod session;
 mod short;
 mod short_copies;
 
-pub use error_cause::{route_of, verdict};
+pub use error_cause::route_of;
 pub use laws::{
     closed_sessions, forwarded_has_target, forwarded_is_of_one_session, ledgers_stay_ledgers,
     named_requests_need_no_session, numbers_of_statuses_and_causes, opened_sessions,

@@ -4,7 +4,10 @@ ghost use Rattle.std.specs.Prelude.{◌≡◌, ◌<◌, ◌≤◌, [], Some, tru
 ghost use Rattle.std.specs.Bool.{OnTrue};
 ghost use Rattle.roam_wire.specs.Packet.{packet_text};
 ghost use Rattle.roam_conf.specs.Shown.{shown as shown_config};
-ghost use Rattle.roam_fwd.specs.Forwarded.{CanBeForwarded, forwarded};
+ghost use Rattle.roam_fwd.specs.Forwarded.{forwarded};
+ghost use Rattle.roam_fwd.specs.Rewriting.{shown as shown_forwarding};
+ghost use Rattle.roam_fwd.specs.Shaped.{CanBeShaped, HasShortName, shaped, shown_shaping};
+ghost use Rattle.roam_wire.specs.Secret.{IsSecret};
 ghost use Rattle.roam_back.specs.ReplyCheck.{IsTaken};
 ghost use Rattle.roam_random.specs.RandomWords.{next_position, request_authenticator_at};
 ghost use Rattle.roam_route.specs.Admission.{admission};
@@ -19,7 +22,7 @@ use roam_back::check_reply;
 use roam_book::Book;
 use roam_conf::Config;
 use roam_exchange::Outs;
-use roam_fwd::forward;
+use roam_fwd::{Forwarding, Shaping, forward, forwarded_shaped_len};
 use roam_pending::{Entry, Pending};
 use roam_random::{next_position, request_authenticator};
 use roam_reverse::Sessions;
@@ -95,39 +98,21 @@ pub fn is_open_after<A: Allocator + Copy>(
     Ok(sessions.is_open(own, peer, request))
 }
 
-/// The octets that go to a home server for a peer's request.
+/// Returns the octets that go to a home server for a peer's request, as the realm has it forwarded.
 pub fn octets_to_home<A: Allocator>(
     alloc: A,
     request: &View<'_>,
-    peer_secret: &[u8],
-    home_secret: &[u8],
-    id: u8,
-    authenticator: [u8; 16],
-    ticket: u64,
+    shaping: &Shaping<'_>,
+    forwarding: &Forwarding<'_>,
 ) -> Result<Vec<u8, A>, NoMemory>
-    requires can_be_forwarded { CanBeForwarded request.now }
-    requires peer_at_least_one { 1 ≤ length peer_secret.now }
-    requires peer_at_most_64 { length peer_secret.now ≤ 64 }
-    requires home_at_least_one { 1 ≤ length home_secret.now }
-    requires home_at_most_64 { length home_secret.now ≤ 64 }
-    ensures { IfOk result (λ octets. octets.items ≡ packet_text (forwarded (record {
-      from_secret = peer_secret.now;
-      to_secret = home_secret.now;
-      id = id;
-      authenticator = authenticator;
-      ticket = ticket;
-    }) request.now)) }
+    requires name { HasShortName (shown_shaping shaping.now) }
+    requires can_be_shaped { CanBeShaped (shown_shaping shaping.now) request.now }
+    requires secret { IsSecret forwarding.now.to_secret.now }
+    ensures { IfOk result (λ octets. octets.items ≡ packet_text (forwarded (shown_forwarding forwarding.now)
+        (shaped (shown_shaping shaping.now) request.now))) }
 {
-    let mut octets = Vec::new(alloc);
-    forward(
-        request,
-        peer_secret,
-        &Secret::new(home_secret),
-        id,
-        authenticator,
-        ticket,
-        &mut octets,
-    )?;
+    let mut octets = Vec::with_capacity(alloc, forwarded_shaped_len(request, shaping))?;
+    forward(request, shaping, forwarding, &mut octets);
     Ok(octets)
 }
 

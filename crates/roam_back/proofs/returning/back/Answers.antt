@@ -1,27 +1,53 @@
-use Rattle.std.proofs.Common.{◌≡◌, false}
+use Rattle.std.proofs.Common.{◌≡◌, ◌++◌, ◌∙◌, Bool, List, ℕ, length, ap, ap₂, arith}
+use Rattle.roam_wire.specs.Packet.{Packet, packet_text}
+use Rattle.roam_wire.specs.declared.removed_attribute.RemovedAttribute.{RemovedAttribute}
 use Rattle.roam_filter.specs.Removal.{removed_by}
-use Rattle.roam_back.specs.Returned.{passing_reply}
-use Rattle.roam_back.proofs.PassingLemmas.{passing_reply-none}
+use Rattle.roam_back.specs.Returned.{Returning, named, own_of, passing, removed_of, returning, returned}
+use Rattle.roam_back.proofs.PassingLemmas.{AtMostOne-named, AtMostOne-passing, IsPacket-named, IsPacket-passing}
+use Rattle.roam_back.proofs.PlainLemmas.{behind_plain}
 use Rattle.roam_back.proofs.returning.back.Goals as goal
 
--- where nothing is named, all passes
+-- the packet stands at the end of the buffer
+pub seal_appended-requires-clause-plain : goal.seal_appended-requires-clause-plain
+seal_appended-requires-clause-plain g c =
+    let removed : List RemovedAttribute = removed_by c.removal_of-removal.result in
+    let kept : Packet = named c.own_of-own.result c.args.request.now c.args.reply.now in
+    let reply : Packet = passing removed kept in
+    let start : c.len-start.result ≡ length c.args.out.now.items = omega arith in
+    let behind = behind_plain reply c.args.request.now c.args.out.now.items c.reserve.new.self.items
+    c.append_plain.new.out.items c.len-start.result c.returned_len-size.result
+    (IsPacket-passing removed kept (IsPacket-named c.own_of-own.result c.args.request.now c.args.reply.now
+    c.returned_len-size.ensures.reply))
+    c.returned_len-size.ensures.request c.returned_len-size.ensures.plain (omega arith) start
+    c.reserve.ensures.items c.append_plain.ensures in
+    record { text = behind.there.text; packet = behind.there.packet }
+
+pub seal_appended-requires-clause-at_most_one : goal.seal_appended-requires-clause-at_most_one
+seal_appended-requires-clause-at_most_one g c =
+    AtMostOne-passing (removed_by c.removal_of-removal.result)
+    (named c.own_of-own.result c.args.request.now c.args.reply.now)
+    (AtMostOne-named c.own_of-own.result c.args.request.now c.args.reply.now c.requires.at_most_one)
+
+-- and there it is made the returned packet
 pub returns-clause-ok : goal.returns-clause-ok
 returns-clause-ok g c =
-    let removed = removed_by c.nothing_removed-removal.result in
-    let same : passing_reply false c.args.request.now removed c.args.reply.now ≡ c.args.reply.now =
-    passing_reply-none c.args.request.now removed c.args.reply.now c.nothing_removed-removal.ensures in
-    rw same at c.back_passing.ensures.ok
-
-pub returns-clause-reply_too_long : goal.returns-clause-reply_too_long
-returns-clause-reply_too_long g c =
-    let removed = removed_by c.nothing_removed-removal.result in
-    let same : passing_reply false c.args.request.now removed c.args.reply.now ≡ c.args.reply.now =
-    passing_reply-none c.args.request.now removed c.args.reply.now c.nothing_removed-removal.ensures in
-    rw same at c.back_passing.ensures.reply_too_long
-
-pub returns-clause-full : goal.returns-clause-full
-returns-clause-full g c =
-    let removed = removed_by c.nothing_removed-removal.result in
-    let same : passing_reply false c.args.request.now removed c.args.reply.now ≡ c.args.reply.now =
-    passing_reply-none c.args.request.now removed c.args.reply.now c.nothing_removed-removal.ensures in
-    rw same at c.back_passing.ensures.full
+    let r : Returning = returning c.args.forwarded_authenticator c.args.home_secret.now c.args.client_secret.now in
+    let removed : List RemovedAttribute = removed_by c.removal_of-removal.result in
+    let kept : Packet = named c.own_of-own.result c.args.request.now c.args.reply.now in
+    let reply : Packet = passing removed kept in
+    let which : removed ≡ removed_of (removed_by c.args.removal.now) c.args.reply.now.code =
+    c.removal_of-removal.ensures ∙ ap (removed_of (removed_by c.args.removal.now)) c.code.ensures in
+    let names : c.own_of-own.result ≡ own_of c.args.own_names c.args.reply.now.code =
+    c.own_of-own.ensures ∙ ap (own_of c.args.own_names) c.code-2.ensures in
+    let start : c.len-start.result ≡ length c.args.out.now.items = omega arith in
+    let behind = behind_plain reply c.args.request.now c.args.out.now.items c.reserve.new.self.items
+    c.append_plain.new.out.items c.len-start.result c.returned_len-size.result
+    (IsPacket-passing removed kept (IsPacket-named c.own_of-own.result c.args.request.now c.args.reply.now
+    c.returned_len-size.ensures.reply))
+    c.returned_len-size.ensures.request c.returned_len-size.ensures.plain (omega arith) start
+    c.reserve.ensures.items c.append_plain.ensures in
+    c.seal_appended.ensures
+    ∙ ap (λ (front : List ℕ). front ++ packet_text (returned r reply c.args.request.now)) behind.front
+    ∙ ap₂ (λ (l : List RemovedAttribute) (own : Bool). c.args.out.now.items
+    ++ packet_text (returned r (passing l (named own c.args.request.now c.args.reply.now)) c.args.request.now))
+    which names

@@ -14,8 +14,8 @@ use Rattle.roam_realm.proofs.ShapingLemmas.{can-be-shaped}
 use Rattle.roam_exchange.proofs.forwarding.forward_into.Goals as goal
 
 -- the buffer has room for the forwarded packet
-pub forward_shaped_reserved-requires-clause-room : goal.forward_shaped_reserved-requires-clause-room
-forward_shaped_reserved-requires-clause-room g c =
+pub forward-requires-clause-room : goal.forward-requires-clause-room
+forward-requires-clause-room g c =
     let q : PlainRequest = shown_request c.args.hop.request in
     let read : c.of_packet-view.result ≡ packet_of q.octets = c.of_packet-view.ensures in
     let code : c.code.result ≡ (packet_of q.octets).code = c.code.ensures ∙ ap (λ (x : Packet). x.code) read in
@@ -25,8 +25,8 @@ forward_shaped_reserved-requires-clause-room g c =
     rw (shape, read) (omega (arith, c.requires.room.room, c.requires.room.length))
 
 -- the request can be forwarded as it is shaped
-pub forward_shaped_reserved-requires-clause-can_be_shaped : goal.forward_shaped_reserved-requires-clause-can_be_shaped
-forward_shaped_reserved-requires-clause-can_be_shaped g c =
+pub forward-requires-clause-can_be_shaped : goal.forward-requires-clause-can_be_shaped
+forward-requires-clause-can_be_shaped g c =
     let q : PlainRequest = shown_request c.args.hop.request in
     let read : c.of_packet-view.result ≡ packet_of q.octets = c.of_packet-view.ensures in
     let code : c.code.result ≡ (packet_of q.octets).code = c.code.ensures ∙ ap (λ (x : Packet). x.code) read in
@@ -49,9 +49,9 @@ returns-clause-octets g c =
     c.shaping_of-shaping.ensures.shaping
     ∙ ap (λ (k : ℕ). shaping_of config q.requester k c.args.hop.link) code in
     octets-written config q c.args.position c.args.hop.ticket target c.drawn_at.result c.args.out.now.items
-    c.forward_shaped_reserved.new.out.items c.octets.result.now c.secret_of_link.result.now
+    c.forward.new.out.items c.octets.result.now c.secret_of_link.result.now
     (shown_shaping c.shaping_of-shaping.result) c.of_packet-view.result
-    (record { octets = c.forward_shaped_reserved.ensures.octets }) c.requires.room.empty c.drawn_at.ensures
+    (record { octets = c.forward.ensures.octets }) c.requires.room.empty c.drawn_at.ensures
     (c.octets.ensures ∙ c.secret_of_requester.ensures.text) c.secret_of_link.ensures.text shape read
 
 pub returns-clause-waiting : goal.returns-clause-waiting
@@ -67,12 +67,12 @@ returns-clause-waiting g c =
     let spelt : IsSpelt (shaping config q c.args.hop.link) =
     subst IsSpelt shape
     (record { name = c.shaping_of-shaping.ensures.name; octets = c.shaping_of-shaping.ensures.octets }) in
-    let written : c.forward_shaped_reserved.new.out.items
+    let written : c.forward.new.out.items
     ≡ forwarded_octets config q c.args.position c.args.hop.ticket target =
     octets-written config q c.args.position c.args.hop.ticket target c.drawn_at.result c.args.out.now.items
-    c.forward_shaped_reserved.new.out.items c.octets.result.now c.secret_of_link.result.now
+    c.forward.new.out.items c.octets.result.now c.secret_of_link.result.now
     (shown_shaping c.shaping_of-shaping.result) c.of_packet-view.result
-    (record { octets = c.forward_shaped_reserved.ensures.octets }) c.requires.room.empty c.drawn_at.ensures
+    (record { octets = c.forward.ensures.octets }) c.requires.room.empty c.drawn_at.ensures
     (c.octets.ensures ∙ c.secret_of_requester.ensures.text) c.secret_of_link.ensures.text shape read in
     let waits = IsWaiting-forwarded config q c.args.position c.args.hop.ticket target c.requires.request c.requires.link
     spelt in
@@ -92,12 +92,12 @@ returns-clause-size g c =
     let spelt : IsSpelt (shaping config q c.args.hop.link) =
     subst IsSpelt shape
     (record { name = c.shaping_of-shaping.ensures.name; octets = c.shaping_of-shaping.ensures.octets }) in
-    let written : c.forward_shaped_reserved.new.out.items
+    let written : c.forward.new.out.items
     ≡ forwarded_octets config q c.args.position c.args.hop.ticket target =
     octets-written config q c.args.position c.args.hop.ticket target c.drawn_at.result c.args.out.now.items
-    c.forward_shaped_reserved.new.out.items c.octets.result.now c.secret_of_link.result.now
+    c.forward.new.out.items c.octets.result.now c.secret_of_link.result.now
     (shown_shaping c.shaping_of-shaping.result) c.of_packet-view.result
-    (record { octets = c.forward_shaped_reserved.ensures.octets }) c.requires.room.empty c.drawn_at.ensures
+    (record { octets = c.forward.ensures.octets }) c.requires.room.empty c.drawn_at.ensures
     (c.octets.ensures ∙ c.secret_of_requester.ensures.text) c.secret_of_link.ensures.text shape read in
     let foretold = length-forwarded_octets config q c.args.position c.args.hop.ticket target c.requires.request spelt in
     ap length written ∙ foretold (omega arith)

@@ -9,7 +9,7 @@ use Rattle.roam_fwd.specs.Shaped.{HasShortName, Shaping, shaped, shown_shaping}
 use Rattle.roam_fwd.proofs.AddedLemmas.{held-padded}
 use Rattle.roam_fwd.proofs.BufferLemmas.{HoldsRequest, can_be_rewritten, from_start, from_start-is, packet_of-there, written_back}
 use Rattle.roam_fwd.proofs.ShapedLemmas.{CanBeForwarded-shaped, IsPacket-shaped}
-use Rattle.roam_fwd.proofs.shaped.forward_shaped_reserved.Goals as goal
+use Rattle.roam_fwd.proofs.shaped.forward.Goals as goal
 
 -- what is shorter than the packet that is forwarded for it is a packet
 packet_shaped : (s : Shaping) (q : Packet) (more : ℕ) → HasShortName s → ForSome s.operator_name AreOctets →
