@@ -56,7 +56,7 @@ def measured(program: str, realms: int, words: argparse.Namespace, homes: list) 
         asked = [reload.Realm(realm) for realm in range(8)]
         server = reload.Server(program, work, asked + [further(it, 2000) for it in range(realms)])
         try:
-            peers = [(f"p{it}", f"127.1.{it // 250}.{it % 250 + 1}", f"a-long-secret-of-{it}", "") for it in range(words.peers)]
+            peers = [(f"p{it}", f"127.1.{it // 250}.{it % 250 + 1}", f"a-long-secret-of-{it}", {}) for it in range(words.peers)]
             server.peers += peers
             change(server)
             loads = [reload.Load(those, words.rate / 8) for those in (range(4), range(4, 8))]

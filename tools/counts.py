@@ -6,7 +6,7 @@
 COUNTS has what a page may count, as it is written, and how it is counted here. Other numbers of things that grow don't belong on pages.
 CONSTANTS has numbers of the program, as pages write them, and the constant of the code that each has to be.
 """
-import importlib.util
+import importlib
 import math
 import pathlib
 import re
@@ -37,12 +37,9 @@ def signed_anew() -> int:
 
 def diagnosed() -> int:
     """How many mistakes the trial of diagnoses makes."""
-    path = next(ROOT.glob("packaging/**/try-diagnoses.py"))
-    spec = importlib.util.spec_from_file_location("diagnoses", path)
-    module = importlib.util.module_from_spec(spec)
     sys.dont_write_bytecode = True
-    spec.loader.exec_module(module)
-    return len(module.MISTAKES)
+    sys.path.insert(0, str(ROOT / "packaging" / "tests"))
+    return len(importlib.import_module("try-diagnoses").MISTAKES)
 
 
 def crates() -> int:

@@ -9,16 +9,16 @@ import os
 import re
 import select
 import shutil
-import socket
 import subprocess
 import sys
+import tempfile
 import time
 
 sys.dont_write_bytecode = True
-HERE = os.path.dirname(os.path.abspath(__file__))
-sys.path.insert(0, os.path.join(HERE, "..", "..", "oracle"))
-import broker as apart  # noqa: E402
-import packets  # noqa: E402
+from looks import BAD, end, want
+from radius import bound, packets
+from server import Server
+import broker as apart
 
 FREERADIUS = """
 prefix = {root}/usr
@@ -53,12 +53,7 @@ def opened_at(config):
     for n, realm in enumerate(config.realms):
         lists |= {f"{key}:{n}": apart.listed(realm.get(key)) for key in ("out", "reverse")}
     places = {place + f":{nth}" * (nth > 0): text for place, texts in lists.items() for nth, text in enumerate(texts)}
-    sockets = {}
-    for place, text in places.items():
-        own = apart.endpoint(text)
-        sockets[place] = socket.socket(socket.AF_INET6 if apart.is_ipv6(own[0]) else socket.AF_INET, socket.SOCK_DGRAM)
-        sockets[place].bind(own)
-    return sockets
+    return {place: bound(*reversed(apart.endpoint(text))) for place, text in places.items()}
 
 
 def stand_in(path):
@@ -99,7 +94,7 @@ class Around:
     """The servers of a trial; their files and logs lie in one directory."""
 
     def __init__(self, directory):
-        self.directory, self.running = directory, {}
+        self.directory, self.running, self.server = directory, {}, None
 
     def path(self, name):
         return os.path.join(self.directory, name)
@@ -115,8 +110,11 @@ class Around:
 
     def broker(self, program, conf, milliseconds):
         """A program, or the broker that is written apart."""
-        path = self.write("broker.conf", conf)
-        self.start("broker", [program, "serve", path, str(milliseconds)] if program else [sys.executable, os.path.abspath(__file__), path])
+        if program:
+            self.server = Server(program, self.directory, conf, str(milliseconds), name="broker")
+            self.running["broker"] = self.server.process
+        else:
+            self.start("broker", [sys.executable, os.path.abspath(__file__), self.write("broker.conf", conf)])
 
     def freeradius(self, name, text, proxies="no", verbose=True):
         """One of its own, with this text behind what each has."""
@@ -135,8 +133,10 @@ class Around:
             return log.read()
 
     def close(self):
-        """Ends all, and answers which had ended by themselves."""
+        """Ends all, behind metrics of a program that balance, and answers which had ended by themselves."""
         ended = [name for name, process in self.running.items() if process.poll() is not None]
+        if self.server and self.running and not ended:
+            self.server.balances()
         for process in self.running.values():
             process.terminate()
         for process in self.running.values():
@@ -144,12 +144,31 @@ class Around:
                 process.wait(5)
             except subprocess.TimeoutExpired:
                 process.kill()
+        self.running = {}
         return ended
 
     def tell(self, lines=15):
         for name in sorted(os.listdir(self.directory)):
             if name.endswith(".log"):
                 print(f"--- {name}:\n" + "\n".join(self.log(name[:-4]).splitlines()[-lines:]))
+
+
+def tried(start, look):
+    """The status of a trial that begins all servers by `start`, waits until they serve, and looks at what they do; their logs are told
+    where a look is bad."""
+    with tempfile.TemporaryDirectory() as directory:
+        around, ended = Around(directory), []
+        try:
+            start(around)
+            time.sleep(3)
+            look(around)
+            ended = around.close()
+            want(not ended, "all of them still serve" + "".join(f", but not {it}" for it in ended))
+        finally:
+            around.close()
+            if BAD or sys.exc_info()[0]:
+                around.tell()
+    return end("" if around.server else "by the broker that is written apart")
 
 
 if __name__ == "__main__":

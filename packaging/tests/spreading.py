@@ -2,7 +2,6 @@
 """The parts of try-spreading.sh that send and receive. Each is run in a network namespace of its own.
 
 spreading.py conf BROKER SERVICE SOURCES      prints the configuration of a broker: its address, where its peers send to
-spreading.py broker CONF                      a stand-in for `roam serve`: oracle/broker.py behind sockets
 spreading.py home SEEN                        a home server, which writes whence each request came
 spreading.py access-servers SERVICE SOURCES   access servers: requests, each sent twice, from several ports
 spreading.py disconnected SOURCES             access servers, which take Disconnects
@@ -11,14 +10,12 @@ spreading.py verdict SEEN SOURCES BROKERS     whether each source kept to one br
 """
 import os
 import select
-import socket
 import sys
-import time
-import tomllib
 
-sys.path.insert(0, os.path.join(os.path.dirname(os.path.abspath(__file__)), "..", "..", "oracle"))
-from broker import Broker, Config, endpoint  # noqa: E402
-from packets import *  # noqa: E402,F403
+sys.dont_write_bytecode = True
+from radius import bound
+from server import configuration, peer, realm
+from packets import *  # noqa: F403
 
 REALM, SECRET, HOME_SECRET = "a.example", b"a secret of access servers", b"a secret of the home server"
 HOME = "10.60.3.1"
@@ -31,56 +28,17 @@ def source_address(number):
 
 
 def udp(ip, port=0):
-    opened = socket.socket(socket.AF_INET, socket.SOCK_DGRAM)
-    opened.bind((ip, port))
-    return opened
+    return bound(port, ip)
 
 
 def conf(broker, service, sources):
-    print(f'shards = 1\nseed = "{os.urandom(32).hex()}"')
-    print(f'auth = "{service}:1812"\nacct = "{service}:1813"\ntrace_limit = 1000000')
-    for number in range(1, int(sources) + 1):
-        ip = source_address(number)
-        print(f'\n[[peer]]\nname = "nas{number}"\nip = "{ip}"\nsecret = "{SECRET.decode()}"')
-        print(f'coa = "{ip}:{COA}"\nnas_id = "nas{number}"')
-    print(f'\n[[realm]]\nname = "{REALM}"\nout = "{broker}:{OUT}"\nreverse = "{broker}:{REVERSE}"')
-    print("tries = 2\nwait = 1000\nhold = 5000\nmax_pending = 1000\nmax_sessions = 1000\nrest = 0")
-    print(f'\n[[realm.server]]\nauth = "{HOME}:1812"\nacct = "{HOME}:1813"')
-    print(f'secret = "{HOME_SECRET.decode()}"')
-
-
-# A stand-in for `roam serve`
-
-def sockets_of(config):
-    with open(config) as file:
-        content = file.read()
-    tables = tomllib.loads(content)
-    places = {"auth": tables["auth"], "acct": tables["acct"]}
-    for index, realm in enumerate(tables["realm"]):
-        places[f"out:{index}"] = realm["out"]
-        places[f"reverse:{index}"] = realm["reverse"]
-    return Broker(Config(content)), {place: udp(*endpoint(at)) for place, at in places.items()}
-
-
-def broker(config):
-    core, sockets = sockets_of(config)
-    start, last = time.monotonic(), 0
-    while True:
-        ready, _, _ = select.select(list(sockets.values()), [], [], 0.01)
-        now = int((time.monotonic() - start) * 1000)
-        packets = []
-        for place, opened in sockets.items():
-            if opened in ready:
-                datagram, source = opened.recvfrom(65535)
-                try:
-                    packets += core.arrive(now, place, source, datagram)
-                except Refused as refused:
-                    print(f"refused {refused.number}", file=sys.stderr, flush=True)
-        if now >= last + 10:
-            packets += core.tick(now, 0)
-            last = now
-        for _, place, to, octets in packets:
-            sockets[place].sendto(octets, to)
+    peers = [peer(f"nas{number}", source_address(number), SECRET.decode(), coa=f"{source_address(number)}:{COA}", nas_id=f"nas{number}")
+             for number in range(1, int(sources) + 1)]
+    home = {"auth": f"{HOME}:1812", "acct": f"{HOME}:1813", "secret": HOME_SECRET.decode()}
+    print(configuration(
+        *peers, realm(REALM, home, out=f"{broker}:{OUT}", reverse=f"{broker}:{REVERSE}", tries=2, wait=1000, hold=5000, max_pending=1000,
+                      max_sessions=1000, rest=0),
+        shards=1, seed=os.urandom(32).hex(), auth=f"{service}:1812", acct=f"{service}:1813", trace_limit=1000000), end="")
 
 
 # A home server
@@ -203,5 +161,5 @@ def disconnect(seen, *brokers):
 
 if __name__ == "__main__":
     name, *words = sys.argv[1:]
-    {"conf": conf, "broker": broker, "home": home, "access-servers": access_servers,
+    {"conf": conf, "home": home, "access-servers": access_servers,
      "disconnected": disconnected, "verdict": verdict, "disconnect": disconnect}[name](*words)

@@ -7,58 +7,27 @@ through (tc-tbf(8)), and so stays charged to that socket. It needs no root: it m
 its own (unshare, ip, tc), and says so where that can't be had. It prints `ok` or `BAD` for each thing that it wants; the
 status is 1 where one is bad.
 """
-import hashlib
+import contextlib
 import os
-import re
 import shutil
-import socket
-import struct
 import subprocess
 import sys
 import tempfile
 import threading
 import time
+import urllib.request
 
-HERE, SLOW, BEYOND = '127.0.0.1', '10.9.9.1', '10.9.9.2'
-SECRET = b'a-secret-of-home'
-CONF = f'''shards = 1
-auth = "{HERE}:1812"
-acct = "{HERE}:1813"
-metrics = "{HERE}:9812"
-log_exchanges = "none"
+sys.dont_write_bytecode = True
+from looks import end, go_on, want, words
+from radius import HERE, HomeServer, access, bound, heard
+from server import Server, configuration, counts_of, peer, places, processor_time, realm, total, want_balance
 
-[[peer]]
-name = "nas1"
-ip = "{HERE}"
-secret = "a-secret-of-nas1"
-require_seal = false
-
-[[realm]]
-name = "a.example"
-out = "{SLOW}:20001"
-tries = 1
-wait = 100
-hold = 1000
-max_pending = 4096
-
-[[realm.server]]
-auth = "{BEYOND}:1812"
-acct = "{BEYOND}:1813"
-secret = "{SECRET.decode()}"
-
-[[realm]]
-name = "b.example"
-out = "{HERE}:20002"
-tries = 1
-wait = 2000
-hold = 1000
-max_pending = 4096
-
-[[realm.server]]
-auth = "{HERE}:11812"
-acct = "{HERE}:11813"
-secret = "{SECRET.decode()}"
-'''
+SLOW, BEYOND = '10.9.9.1', '10.9.9.2'
+TEXT = configuration(
+    peer('nas1', require_seal=False),
+    realm('a.example', {'auth': f'{BEYOND}:1812', 'acct': f'{BEYOND}:1813'}, out=f'{SLOW}:20001', tries=1, wait=100, hold=1000, max_pending=4096),
+    realm('b.example', 11812, out=f'{HERE}:20002', tries=1, wait=2000, hold=1000, max_pending=4096),
+    shards=1, **places(1812), metrics=f'{HERE}:9812', log_exchanges='none')
 # Realm a's socket has a device of its own; the other end of it takes nothing that the queue doesn't let through.
 NETWORK = f'''ip link set lo up
 ip link add slow type veth peer name beyond
@@ -69,38 +38,6 @@ ip neigh add {BEYOND} lladdr 02:00:00:00:00:02 dev slow
 tc qdisc add dev slow root tbf rate 1kbit burst 1540 limit 100mb'''
 # How often it is asked in realm a, and in realm b, each second.
 RATE, BESIDE = 150, 25
-BAD = []
-
-
-def want(holds, what):
-    print('  ok ' if holds else '  BAD', what, flush=True)
-    if not holds:
-        BAD.append(what)
-
-
-class Home(threading.Thread):
-    """Accepts each Access-Request (RFC 2865, section 3)."""
-
-    def __init__(self):
-        super().__init__(daemon=True)
-        self.socket = socket.socket(socket.AF_INET, socket.SOCK_DGRAM)
-        self.socket.bind((HERE, 11812))
-
-    def run(self):
-        while True:
-            packet, source = self.socket.recvfrom(4096)
-            at, states = 20, b''
-            while at + 2 <= len(packet):
-                if packet[at] == 33:
-                    states += packet[at:at + packet[at + 1]]
-                at += max(2, packet[at + 1])
-            head = struct.pack('!BBH', 2, packet[1], 20 + len(states))
-            self.socket.sendto(head + hashlib.md5(head + packet[4:20] + states + SECRET).digest() + states, source)
-
-
-def request(number, user):
-    body = bytes([1, len(user) + 2]) + user + bytes([4, 6, 192, 0, 2, 1])
-    return struct.pack('!BBH', 1, number % 256, 20 + len(body)) + os.urandom(16) + body
 
 
 class Flood(threading.Thread):
@@ -111,101 +48,80 @@ class Flood(threading.Thread):
         self.rate, self.sent, self.is_over = rate, 0, threading.Event()
 
     def run(self):
-        sockets = [socket.socket(socket.AF_INET, socket.SOCK_DGRAM) for _ in range(16)]
-        for one in sockets:
-            one.connect((HERE, 1812))
+        sockets = [bound() for _ in range(16)]
         begin = time.monotonic()
         while not self.is_over.is_set():
             while self.sent < (time.monotonic() - begin) * self.rate:
-                sockets[self.sent // 256 % 16].send(request(self.sent, b'u%d@a.example' % self.sent))
+                sockets[self.sent // 256 % 16].sendto(access(self.sent % 256, b'u%d@a.example' % self.sent), (HERE, 1812))
                 self.sent += 1
             time.sleep(.002)
 
 
 def answered(count, rate):
     """Asks so often in realm b, and answers how many are answered, and the longest time that an answer took in milliseconds."""
-    with socket.socket(socket.AF_INET, socket.SOCK_DGRAM) as one:
+    with contextlib.closing(bound(seconds=1)) as one:
         one.connect((HERE, 1812))
-        one.settimeout(1)
         done, longest = 0, 0
         for number in range(count):
             if number - done > 20:
                 break
-            begin = time.monotonic()
-            try:
-                one.send(request(number, b'v%d@b.example' % number))
-                while one.recv(4096)[1] != number % 256:
-                    pass
-                done += 1
-            except (TimeoutError, ConnectionRefusedError):
-                pass
+            begin, octets = time.monotonic(), b''
+            with contextlib.suppress(ConnectionRefusedError):
+                one.send(access(number % 256, b'v%d@b.example' % number))
+                while octets is not None and octets[1:2] != bytes([number % 256]):
+                    octets, _ = heard(one)
+            done += bool(octets)
             took = time.monotonic() - begin
             longest = max(longest, took * 1000)
             time.sleep(max(0, 1 / rate - took))
         return done, longest
 
 
-def counted():
-    """The packets that were lost, by cause."""
-    with socket.create_connection((HERE, 9812), 5) as one:
-        one.sendall(b'GET /metrics HTTP/1.1\r\nHost: roam\r\nConnection: close\r\n\r\n')
-        text = b''
-        while part := one.recv(1 << 16):
-            text += part
-    return {cause.decode(): int(count) for cause, count in re.findall(rb'^roam_lost_packets_total\{cause="(\w+)",?\} (\d+)', text, re.M)}
+def page():
+    with urllib.request.urlopen(f'http://{HERE}:9812/metrics', timeout=5) as opened:
+        return opened.read().decode()
 
 
-def processor_time(pid):
-    with open(f'/proc/{pid}/stat') as file:
-        words = file.read().rsplit(')', 1)[1].split()
-    return (int(words[11]) + int(words[12])) / os.sysconf('SC_CLK_TCK')
+def lost():
+    """How many packets found no room."""
+    return total(counts_of(page()), 'roam_lost_packets_total', cause='full_ring')
 
 
 def try_blocked(program):
     for line in NETWORK.splitlines():
         subprocess.run(line.split(), check=True)
-    Home().start()
-    with tempfile.TemporaryDirectory() as work:
-        conf = os.path.join(work, 'roam.conf')
-        with open(conf, 'w') as file:
-            file.write(CONF)
-        server = subprocess.Popen([program, 'serve', conf], stdin=subprocess.DEVNULL, stderr=subprocess.DEVNULL)
-        try:
-            end = time.monotonic() + 60
-            while answered(1, 5)[0] == 0 and time.monotonic() < end and server.poll() is None:
-                pass
-            want(answered(10, 10)[0] == 10, 'realm b is answered')
-            flood = Flood(RATE)
-            flood.start()
-            end = time.monotonic() + 60
-            while counted().get('full_ring', 0) == 0 and time.monotonic() < end:
-                time.sleep(.5)
-            before, began = processor_time(server.pid), time.monotonic()
-            done, longest = answered(125, BESIDE)
-            used = (processor_time(server.pid) - before) / (time.monotonic() - began)
-            flood.is_over.set()
-            lost = counted()
-            want(lost.get('full_ring', 0) > 0, f"realm a's socket has no room: {lost} of {flood.sent} packets are lost")
-            want(done == 125, f'of realm b {done} of 125 are answered, {longest:.0f} ms at most')
-            want(used < .6, f'{used * 100:.0f} % of a processor')
-        finally:
-            server.kill()
-            server.wait()
+    HomeServer(11812, b'a-secret-of-home')
+    with tempfile.TemporaryDirectory() as work, Server(program, work, TEXT, control=False) as server:
+        until = time.monotonic() + 60
+        while answered(1, 5)[0] == 0 and time.monotonic() < until and server.process.poll() is None:
+            pass
+        want(answered(10, 10)[0] == 10, 'realm b is answered')
+        flood = Flood(RATE)
+        flood.start()
+        until = time.monotonic() + 60
+        while lost() == 0 and time.monotonic() < until:
+            time.sleep(.5)
+        before, began = processor_time(server.process.pid), time.monotonic()
+        done, longest = answered(125, BESIDE)
+        used = (processor_time(server.process.pid) - before) / (time.monotonic() - began)
+        flood.is_over.set()
+        want(lost() > 0, f"realm a's socket has no room: {lost()} of {flood.sent} packets are lost")
+        want(done == 125, f'of realm b {done} of 125 are answered, {longest:.0f} ms at most')
+        want(used < .6, f'{used * 100:.0f} % of a processor')
+        want_balance(page)
 
 
 def main():
-    if len(sys.argv) < 2 or not os.access(sys.argv[1], os.X_OK):
-        print('usage: try-blocked.py PROGRAM', file=sys.stderr)
-        return 2
-    if sys.argv[2:] != ['inside']:
+    program, *inside = words(__doc__, 1, 2)
+    go_on()
+    if not inside:
         tools = all(shutil.which(tool) for tool in ('unshare', 'ip', 'tc'))
         if not tools or subprocess.run(['unshare', '-Urn', 'ip', 'link', 'add', 'x', 'type', 'veth'], capture_output=True).returncode:
             print('not tried: no network of its own can be had here (unshare, ip, tc)')
             return 0
-        return subprocess.run(['unshare', '-Urn', sys.executable, os.path.realpath(__file__), os.path.realpath(sys.argv[1]), 'inside']).returncode
-    try_blocked(sys.argv[1])
-    print('ok' if not BAD else f'BAD: {len(BAD)}')
-    return 1 if BAD else 0
+        return subprocess.run(['unshare', '-Urn', sys.executable, os.path.realpath(__file__), program, 'inside']).returncode
+    try_blocked(program)
+    return end()
 
 
 if __name__ == '__main__':

@@ -7,32 +7,24 @@ Runs `PROGRAM check` on each document of configuration_rows.py: it must accept i
 address, by whose secret a request from there is taken.
 """
 import concurrent.futures
-import hashlib
-import importlib.util
+import importlib
 import os
 import re
-import subprocess
 import sys
 import tempfile
 import tomllib
 
 sys.dont_write_bytecode = True
-HERE = os.path.dirname(os.path.abspath(__file__))
-sys.path.insert(0, HERE)
-import configuration_rows as rows  # noqa: E402
+import configuration_rows as rows
+from looks import be_quiet, changed, end, want, words
+from radius import accounting, attribute, signed
+from server import peer, run, table
 
-STATEMENTS = importlib.util.spec_from_file_location("statements", os.path.join(HERE, "try-statements.py"))
-statements = importlib.util.module_from_spec(STATEMENTS)
-STATEMENTS.loader.exec_module(statements)
+statements = importlib.import_module("try-statements")
 KEYS = statements.keys_of_page()
 PEER_SECRET, HOME_SECRET = b"xyzzy5461", b"h1"
 # Where the two peers of the rows take reverse requests.
 TARGETS = ["192.0.2.1:3799", "192.0.2.2:3799"]
-
-
-def want(holds, what):
-    if not holds:
-        sys.exit(f"try-configurations: {what}")
 
 
 class Trial:
@@ -49,19 +41,17 @@ class Trial:
         return path
 
     def run(self, *words):
-        ran = subprocess.run([self.program, *words], stdout=subprocess.PIPE, stderr=subprocess.PIPE, timeout=120, check=False)
-        return ran.returncode, ran.stdout.decode(), ran.stderr.decode()
+        return run(self.program, *words)
 
 
-def changed(parts, old, new):
-    text = "".join(parts)
-    want(old in text, f"{old!r} isn't in the document")
-    return text.replace(old, new, 1)
+def of_row(text, old, new):
+    """A document with one change; where both texts of a row are equal, as it stands."""
+    return text if old == new else changed(text, old, new, 1)
 
 
 def server(realm, number):
     at = f"10.{realm // 256}.{realm % 256}.{number}"
-    return f'\n[[realm.server]]\nauth = "{at}:1812"\nacct = "{at}:1813"\nsecret = "h"\n'
+    return table("realm.server", auth=f"{at}:1812", acct=f"{at}:1813", secret="h")
 
 
 def of_counts(peers, realms, servers):
@@ -69,10 +59,10 @@ def of_counts(peers, realms, servers):
     text = rows.TOP
     for n in range(peers):
         at = f"192.0.{n // 256}.{n % 256}"
-        text += f'\n[[peer]]\nname = "nas{n}"\nip = "{at}"\nsecret = "s"\ncoa = "{at}:3799"\nnas_ip = "{at}"\nnas_id = "nas{n}"\n'
+        text += peer(f"nas{n}", at, "s", coa=f"{at}:3799", nas_ip=at, nas_id=f"nas{n}")
     for n in range(realms):
         at = f"127.1.{n // 256}.{n % 256}"
-        text += rows.REALM.replace("a.example", f"r{n}.example").replace("127.0.0.1", at)
+        text += changed(changed(rows.REALM, "a.example", f"r{n}.example"), "127.0.0.1", at)
         text += "".join(server(n, number) for number in range(servers))
     return text
 
@@ -87,7 +77,7 @@ def of_lists():
     for text, of_requests, of_replies in [*rows.REMOVED, (str(["31"] * 64), True, True), (str(["31"] * 65), False, False)]:
         for key, is_good in (("request_without", of_requests), ("reply_without", of_replies)):
             for before in ("nas_id", "tries"):
-                yield changed(rows.SAMPLE, before, f"{key} = {text}\n{before}"), None if is_good else "BadValue"
+                yield changed("".join(rows.SAMPLE), before, f"{key} = {text}\n{before}", 1), None if is_good else "BadValue"
 
 
 def of_pattern_lengths():
@@ -95,19 +85,19 @@ def of_pattern_lengths():
     many = ["[" + ", ".join(f'"n{n}"' for n in range(count)) + "]" for count in (256, 257)]
     long = [f'["{front}{"x" * count}"]' for front in ("", "*.") for count in (253, 254)]
     for number, text in enumerate(many + long):
-        yield changed(rows.SAMPLE, "tries = 2", f"tries = 2\nalso = {text}"), [None, "BadValue"][number % 2]
+        yield changed("".join(rows.SAMPLE), "tries = 2", f"tries = 2\nalso = {text}", 1), [None, "BadValue"][number % 2]
 
 
 def documents():
     """Each document, and its fault."""
     for old, new, fault in rows.CHANGES:
-        yield changed(rows.SAMPLE, old, new), fault
+        yield of_row("".join(rows.SAMPLE), old, new), fault
     for parts, old, new, fault in rows.DOCUMENTS:
-        yield changed(parts, old, new), fault
+        yield of_row("".join(parts), old, new), fault
     for first, second, fault in rows.PATTERNS:
         yield with_patterns(first, second), fault
     for old, front, count, fault in rows.LENGTHS:
-        yield changed(rows.SAMPLE, old, front + "x" * count), fault
+        yield changed("".join(rows.SAMPLE), old, front + "x" * count, 1), fault
     for peers, realms, servers, fault in rows.COUNTS:
         yield of_counts(peers, realms, servers), fault
     yield from of_lists()
@@ -150,16 +140,6 @@ def look_at_numbers(trial):
         want(realm["max_sessions"] == sessions, f"max_sessions is {realm['max_sessions']}, not {sessions}")
 
 
-def signed(code, identifier, attributes, secret):
-    """A request whose Authenticator is a digest over it (RFC 2866 section 3, RFC 5176 section 2.3)."""
-    head = bytes([code, identifier]) + (20 + len(attributes)).to_bytes(2, "big")
-    return head + hashlib.md5(head + bytes(16) + attributes + secret).digest() + attributes
-
-
-def attribute(kind, octets):
-    return bytes([kind, 2 + len(octets)]) + octets
-
-
 def simulated(trial, text, lines):
     """The packets of a script: the realm, the place, where each goes, and its octets."""
     script = trial.path("\n".join(lines))
@@ -172,8 +152,7 @@ def look_at_names(trial, text, names):
     """Each name means its realm: an Accounting-Request of it is forwarded for that, or for none."""
     lines = []
     for number, (name, _) in enumerate(names):
-        attributes = attribute(1, b"u@" + name.encode()) + attribute(40, bytes([0, 0, 0, 1])) + attribute(44, b"%d" % number)
-        lines.append(f"A {number} acct 192.0.2.1:5000 {signed(4, number, attributes, PEER_SECRET).hex()}")
+        lines.append(f"A {number} acct 192.0.2.1:5000 {accounting(number, b'u@' + name.encode(), b'%d' % number, PEER_SECRET).hex()}")
     found = {}
     for realm, place, _, octets in simulated(trial, text, lines):
         sent = bytes.fromhex(octets)[20:]
@@ -199,16 +178,15 @@ def look_at_addresses(trial):
     text = "".join([rows.TOP, rows.PEER, rows.NETWORKS, rows.REALM, rows.SERVER])
     for at, peer in rows.AT_NETWORKS:
         for number, secret in enumerate(rows.SECRETS_OF_NETWORKS):
-            attributes = attribute(1, b"u@a.example") + attribute(40, bytes([0, 0, 0, 1])) + attribute(44, b"1")
-            packets = simulated(trial, text, [f"A 0 acct {at} {signed(4, 7, attributes, secret).hex()}"])
+            packets = simulated(trial, text, [f"A 0 acct {at} {accounting(7, b'u@a.example', b'1', secret).hex()}"])
             want(bool(packets) == (number == peer), f"{at} by the secret of peer {number}: {packets}")
 
 
 def main():
-    if len(sys.argv) != 2:
-        sys.exit(__doc__)
+    [program] = words(__doc__)
+    be_quiet()
     with tempfile.TemporaryDirectory() as folder:
-        trial = Trial(os.path.abspath(sys.argv[1]), folder)
+        trial = Trial(program, folder)
         tried = [(trial.path(text), text, fault) for text, fault in documents()]
         with concurrent.futures.ThreadPoolExecutor(os.cpu_count()) as pool:
             list(pool.map(lambda it: look_at(trial, *it), tried))
@@ -225,8 +203,8 @@ def main():
         look_at_addresses(trial)
         for parts, names in ((rows.CONTROLLERS, rows.OF_CONTROLLERS), (rows.STARS, rows.OF_STARS), (rows.STARRED, rows.OF_STARRED)):
             look_at_access_servers(trial, parts, names)
-    print(f"{len(tried)} configurations are accepted or refused as they should be, and mean what they state")
+    return end(f"{len(tried)} configurations are accepted or refused as they should be, and mean what they state")
 
 
 if __name__ == "__main__":
-    main()
+    sys.exit(main())

@@ -9,7 +9,7 @@ answers each request that it took, takes none any more, ends with 0 and removes 
 second (4,000), by as many processes as there are realms, each with a home server in another process.
 """
 import collections
-import hashlib
+import contextlib
 import http.client
 import json
 import multiprocessing
@@ -18,44 +18,23 @@ import select
 import signal
 import socket
 import stat
-import struct
 import subprocess
 import sys
 import tempfile
 import time
 
-HOME_SECRET = b'a-secret-of-home'
-AUTH, HOME = ('127.0.0.1', 18120), ('127.0.0.1', 28120)
-REALMS = 4
-CONF = '''shards = 2
-seed = "{0}"
-auth = "127.0.0.1:{1}"
-acct = "127.0.0.1:{2}"
-trace_limit = 100000
-control = "{3}"
+sys.dont_write_bytecode = True
+from looks import end, want, words
+from radius import HERE, access, answer, bound, user_name
+from server import Server, configuration, peer, realm, run
 
-[[peer]]
-name = "nas1"
-ip = "127.0.0.1"
-secret = "a-secret-of-nas1"
-'''
-REALM = '''
-[[realm]]
-name = "{0}.example"
-out = "127.0.0.1:{1}"
-reverse = "127.0.0.1:{2}"
-tries = 2
-wait = 2000
-hold = 5000
-max_pending = 4096
-max_sessions = 100
-rest = 0
-
-[[realm.server]]
-auth = "127.0.0.1:{3}"
-acct = "127.0.0.1:{4}"
-secret = "a-secret-of-home"
-'''
+PORT, HOME, REALMS = 18120, 28120, 4
+NAMES = ['%c.example' % letter for letter in b'abcd']
+TEXT = configuration(
+    peer('nas1'), *(realm(name, {'auth': f'{HERE}:{HOME + number}', 'acct': f'{HERE}:{HOME + 10 + number}'}, out=f'{HERE}:{PORT + 20 + number}',
+                          reverse=f'{HERE}:{PORT + 30 + number}', tries=2, wait=2000, hold=5000, max_pending=4096, max_sessions=100, rest=0)
+                    for number, name in enumerate(NAMES)),
+    shards=2, seed='0' * 64, auth=f'{HERE}:{PORT}', acct=f'{HERE}:{PORT + 10}', trace_limit=100000)
 
 
 class HomeServer(multiprocessing.Process):
@@ -65,9 +44,7 @@ class HomeServer(multiprocessing.Process):
         super().__init__(daemon=True)
         self.delay, self.taken = delay, set()
         self.near, self.far = multiprocessing.Pipe()
-        self.socket = socket.socket(socket.AF_INET, socket.SOCK_DGRAM)
-        self.socket.setsockopt(socket.SOL_SOCKET, socket.SO_RCVBUF, 1 << 22)
-        self.socket.bind((HOME[0], HOME[1] + realm))
+        self.socket = bound(HOME + realm)
 
     def count(self):
         """How many users' requests came since this was asked last."""
@@ -89,59 +66,33 @@ class HomeServer(multiprocessing.Process):
                 self.taken.clear()
             while waiting and waiting[0][0] <= time.monotonic():
                 _, packet, source = waiting.popleft()
-                self.socket.sendto(accept(packet), source)
-
-
-def attributes(packet):
-    at = 20
-    while at + 2 <= len(packet):
-        yield packet[at], packet[at + 2:at + packet[at + 1]]
-        at += packet[at + 1]
-
-
-def user_name(packet):
-    return next(value for kind, value in attributes(packet) if kind == 1)
-
-
-def accept(request):
-    """RFC 2865, section 3: the Response Authenticator, over the Proxy-States of the request."""
-    states = b''.join(bytes([33, len(v) + 2]) + v for k, v in attributes(request) if k == 33)
-    head = struct.pack('!BBH', 2, request[1], 20 + len(states))
-    return head + hashlib.md5(head + request[4:20] + states + HOME_SECRET).digest() + states
+                self.socket.sendto(answer(2, packet, b'a-secret-of-home'), source)
 
 
 class AccessServer:
     """Sends Access-Requests, each of a user of its own of one realm, and counts the replies."""
 
     def __init__(self, realm=0):
-        self.realm, self.users, self.answered = b'@%c.example' % b'abcd'[realm], 0, 0
+        self.realm, self.users, self.answered = f'@{NAMES[realm]}'.encode(), 0, 0
         self.sockets, self.poll = {}, select.epoll()
 
     def send(self):
         number = self.users % 256
         if number == 0:
-            self.last = socket.socket(socket.AF_INET, socket.SOCK_DGRAM)
-            self.last.setsockopt(socket.SOL_SOCKET, socket.SO_RCVBUF, 1 << 20)
-            self.last.connect(AUTH)
+            self.last = bound()
+            self.last.connect((HERE, PORT))
             self.sockets[self.last.fileno()] = self.last
             self.poll.register(self.last, select.EPOLLIN)
-        name = b'u%d' % self.users + self.realm
-        body = bytes([1, len(name) + 2]) + name + bytes([4, 6, 192, 0, 2, 1])
-        head = struct.pack('!BBH', 1, number, 20 + len(body)) + os.urandom(16)
-        try:
-            self.last.send(head + body)
-        except ConnectionRefusedError:
-            pass
+        with contextlib.suppress(ConnectionRefusedError):
+            self.last.send(access(number, b'u%d' % self.users + self.realm))
         self.users += 1
 
     def take(self, seconds):
         """Takes the replies that there are, and waits so long for the first. Answers whether some came."""
         before = self.answered
         for at, _ in self.poll.poll(max(0, seconds)):
-            try:
+            with contextlib.suppress(ConnectionRefusedError):
                 self.answered += len(self.sockets[at].recv(4096)) >= 20
-            except ConnectionRefusedError:
-                pass
         return self.answered > before
 
     def take_all(self, seconds):
@@ -161,30 +112,6 @@ def ask_for(realm, rate, seconds, told):
     told.send((access.users, access.answered))
 
 
-class Server:
-    def __init__(self, program, work, name='one', port=18120, path=None):
-        self.path = path or os.path.join(work, 'control')
-        self.conf = conf = os.path.join(work, name + '.conf')
-        with open(conf, 'w') as file:
-            file.write(CONF.format('0' * 64, port, port + 10, self.path))
-            for realm in range(REALMS):
-                file.write(REALM.format('abcd'[realm], port + 20 + realm, port + 30 + realm, HOME[1] + realm, HOME[1] + 10 + realm))
-        self.program, self.log = program, open(os.path.join(work, name + '.log'), 'w+')
-        self.process = subprocess.Popen([program, 'serve', conf], stderr=self.log)
-        for _ in range(100):
-            if 'serving' in self.said():
-                return
-            time.sleep(.05)
-        sys.exit('it does not serve: ' + self.said())
-
-    def said(self):
-        with open(self.log.name) as file:
-            return file.read()
-
-    def ctl(self, order, path=None):
-        return subprocess.run([self.program, 'ctl', path or self.path, order], capture_output=True, text=True, timeout=60)
-
-
 class OverUnix(http.client.HTTPConnection):
     def __init__(self, path):
         super().__init__('roam', timeout=10)
@@ -193,12 +120,6 @@ class OverUnix(http.client.HTTPConnection):
     def connect(self):
         self.sock = socket.socket(socket.AF_UNIX)
         self.sock.connect(self.path)
-
-
-def want(holds, what):
-    print('ok  ' if holds else 'FAIL', what)
-    if not holds:
-        sys.exit(1)
 
 
 def asks(server, method, path):
@@ -216,19 +137,19 @@ def try_status(server, sent):
     want(heads[4:7] == ['REQUESTS', 'FORWARDED', 'RETURNED'] and realm[1:4] == ['0', 'of', '4096'] and realm[5:] == ['0', 'of', '100'] + [str(sent)] * 3 + ['0'] * 3,
          f'of a realm {sent} requests that came, were forwarded and returned')
     want(len({len(line) for line in answer.stdout.splitlines() if line.startswith('  ') and '.example' in line and '127' not in line}) == 1, 'in columns')
-    auth, acct = ([row for row in rows if row[:3] == [word, f'{HOME[0]}:{HOME[1] + more}', 'a.example']][0] for word, more in (('auth', 0), ('acct', 10)))
+    auth, acct = ([row for row in rows if row[:3] == [word, f'{HERE}:{HOME + more}', 'a.example']][0] for word, more in (('auth', 0), ('acct', 10)))
     want(auth[3] == 'answers' and auth[7] == str(sent) and acct[3:5] == ['never', 'asked'], 'of its home server that it answers')
     want(['nas1', '127.0.0.1', str(sent), str(sent), str(sent), '0', '0', '0'] in rows, 'of the peer its address')
     status, body = asks(server, 'GET', '/status.json')
     told = json.loads(body)
-    same = subprocess.run([server.program, 'ctl', server.path, 'status', '--json'], capture_output=True, text=True, timeout=60)
+    same = server.ctl('status', '--json')
     want(same.returncode == 0 and json.loads(same.stdout)['realms'] == told['realms'], '`--json` prints the same as JSON')
     want(status == 200 and told['realms'][0]['requests'] == sent and told['realms'][0]['servers'][0]['replies'] == sent
          and told['peers'][0]['name'] == 'nas1' and told['shards'] == 2 and told['realms'][0]['servers'][0]['auth']['stands'] == 'answers'
          and told['realms'][0]['max_pending'] == 4096 and abs(told['began'] + told['seconds'] - time.time()) < 5, 'status as JSON')
     metrics = server.ctl('metrics').stdout
     want(f'roam_realm_requests_total{{realm="a.example",code="access_request",}} {sent}' in metrics, 'metrics')
-    want(all(f'roam_realm_sessions{{realm="{name}.example",}} 0' in metrics for name in 'abcd'), 'and how each realm of each shard stands')
+    want(all(f'roam_realm_sessions{{realm="{name}",}} 0' in metrics for name in NAMES), 'and how each realm of each shard stands')
     want(asks(server, 'GET', '/stop')[0] == 405 and asks(server, 'POST', '/status')[0] == 405
          and asks(server, 'GET', '/nothing')[0] == 404, 'other methods and paths are refused')
 
@@ -238,24 +159,17 @@ def try_hostile(server, access):
     for _ in range(1000):
         one = socket.socket(socket.AF_UNIX)
         one.setblocking(False)
-        try:
+        with contextlib.suppress(BlockingIOError):
             one.connect(server.path)
-        except BlockingIOError:
-            pass
         idle.append(one)
-    slow = socket.socket(socket.AF_UNIX)
-    slow.connect(server.path)
-    long = socket.socket(socket.AF_UNIX)
-    long.connect(server.path)
-    try:
+    slow, long = socket.socket(socket.AF_UNIX), socket.socket(socket.AF_UNIX)
+    for one in (slow, long):
+        one.connect(server.path)
+    with contextlib.suppress(OSError):
         long.sendall(b'GET /status HTTP/1.1\r\nx: ' + b'y' * 10_000_000)
-    except OSError:
-        pass
     for octet in b'GET':
-        try:
+        with contextlib.suppress(OSError):
             slow.send(bytes([octet]))
-        except OSError:
-            pass
         time.sleep(1)
     before = access.answered
     for _ in range(100):
@@ -295,11 +209,10 @@ def try_stop(server, homes, rate):
     time.sleep(2)
     asked = time.monotonic()
     answer = server.ctl('stop')
-    end = time.monotonic()
-    status = server.process.wait(timeout=40)
+    ended, status = time.monotonic(), server.ends(40)
     sums = [sum(numbers) for numbers in zip(*(near.recv() for near in told))]
     taken = sum(home.count() for home in homes)
-    print(f'     {sums[0]} sent in 4 s, {taken} taken, {sums[1]} answered, {end - asked:.2f} s from the question to the end')
+    print(f'     {sums[0]} sent in 4 s, {taken} taken, {sums[1]} answered, {ended - asked:.2f} s from the question to the end')
     want(.3 * sums[0] < taken < .65 * sums[0], 'it took requests until it was asked, and none after it')
     want(sums[1] == taken, 'each request that it took was answered')
     want(answer.returncode == 0 and answer.stdout == 'stopping\n', '`roam ctl` says so')
@@ -308,36 +221,37 @@ def try_stop(server, homes, rate):
 
 
 def main():
-    if not 2 <= len(sys.argv) <= 3 or not os.access(sys.argv[1], os.X_OK):
-        sys.exit('usage: try-control.py PROGRAM [RATE]')
-    program, rate = os.path.realpath(sys.argv[1]), int(sys.argv[2]) if len(sys.argv) > 2 else 4000
+    program, *given = words(__doc__, 1, 2)
     with tempfile.TemporaryDirectory() as work:
         homes, access = [HomeServer(realm, .01) for realm in range(REALMS)], AccessServer()
         for home in homes:
             home.start()
-        killed = Server(program, work)
-        mode = os.stat(killed.path).st_mode
-        want(stat.S_ISSOCK(mode) and stat.S_IMODE(mode) == 0o600, "the socket is its owner's alone")
-        killed.process.send_signal(signal.SIGKILL)
-        killed.process.wait()
+        with Server(program, work, TEXT) as killed:
+            killed.waits_for()
+            mode = os.stat(killed.path).st_mode
+            want(stat.S_ISSOCK(mode) and stat.S_IMODE(mode) == 0o600, "the socket is its owner's alone")
+            killed.process.send_signal(signal.SIGKILL)
         want(os.path.exists(killed.path), 'a killed server leaves its socket behind')
         want(killed.ctl('status').returncode == 1 and 'no answer' in killed.ctl('status').stderr, 'nobody answers there')
-        server = Server(program, work)
-        want(server.ctl('status').returncode == 0, 'and the next one takes it over')
-        other = subprocess.run([program, 'serve', server.conf], stderr=subprocess.PIPE, text=True, timeout=10)
-        want(other.returncode == 1 and f'cannot listen at {server.path}' in other.stderr and server.ctl('status').returncode == 0,
-             'but not while somebody listens')
-        want(server.ctl('status', os.path.join(work, 'nothing')).stderr.endswith('nothing: no answer\n'), 'nobody: no answer')
-        for _ in range(200):
-            access.send()
-        access.take_all(1)
-        want(access.answered == 200, '200 requests are answered')
-        try_status(server, 200)
-        try_hostile(server, access)
-        watch = try_watch(server)
-        try_stop(server, homes, rate)
-        end_watch(watch)
+        with Server(program, work, TEXT) as server:
+            server.waits_for()
+            want(server.ctl('status').returncode == 0, 'and the next one takes it over')
+            status, _, said = run(program, 'serve', server.conf)
+            want(status == 1 and f'cannot listen at {server.path}' in said and server.ctl('status').returncode == 0,
+                 'but not while somebody listens')
+            want(server.ctl('status', path=os.path.join(work, 'nothing')).stderr.endswith('nothing: no answer\n'), 'nobody: no answer')
+            for _ in range(200):
+                access.send()
+            access.take_all(1)
+            want(access.answered == 200, '200 requests are answered')
+            try_status(server, 200)
+            try_hostile(server, access)
+            server.balances()
+            watch = try_watch(server)
+            try_stop(server, homes, int(given[0]) if given else 4000)
+            end_watch(watch)
+    return end()
 
 
 if __name__ == '__main__':
-    main()
+    sys.exit(main())

@@ -19,6 +19,8 @@ import tempfile
 import tomllib
 
 sys.dont_write_bytecode = True
+from looks import be_quiet, changed, end, want, words
+
 HERE = os.path.dirname(os.path.abspath(__file__))
 ROOT = os.path.dirname(os.path.dirname(HERE))
 INSTALLED = os.path.join(os.path.dirname(HERE), "installed")
@@ -482,9 +484,9 @@ def run(words):
 def converted(path, lost):
     """What is written and counted. Where whole clients or realms are lost, the last line names them, and the status isn't 0."""
     done = run([sys.executable, CONVERTER, path])
-    assert done.returncode == (1 if lost else 0), done.stderr
+    want(done.returncode == (1 if lost else 0), done.stderr)
     counted, _, named = done.stderr.partition("\n")
-    assert all(it in named for it in lost), named
+    want(all(it in named for it in lost), named)
     return done.stdout, counted
 
 
@@ -515,48 +517,48 @@ def keeps_lists(table):
     """Attributes that don't pass."""
     for key, kept in (("request_without", (1, 2, 3, 24, 33, 60, 79, 80)), ("reply_without", (24, 33, 79, 80))):
         without = table.get(key, [])
-        assert len(set(without)) == len(without) <= 64
+        want(len(set(without)) == len(without) <= 64)
         for one in without:
             numbers = [int(it) for it in one.split(".")]
-            assert one == ".".join(map(str, numbers)) and in_range(numbers[0], 1, 255) and numbers[0] not in kept
-            assert len(numbers) == 1 or numbers[0] == 26 and len(numbers) <= 3
+            want(one == ".".join(map(str, numbers)) and in_range(numbers[0], 1, 255) and numbers[0] not in kept)
+            want(len(numbers) == 1 or numbers[0] == 26 and len(numbers) <= 3)
 
 
 def keeps_the_rules(conf):
-    assert set(conf) <= {"auth", "acct", "max_attributes", "max_hops", "status_server", "answer_unnamed", "reject", "control", "log_exchanges",
-                         "log_station", "peer", "realm"}
-    assert 1 <= len(conf["peer"]) <= 1024 and 1 <= len(conf["realm"]) <= 1024
+    want(set(conf) <= {"auth", "acct", "max_attributes", "max_hops", "status_server", "answer_unnamed", "reject", "control", "log_exchanges",
+                         "log_station", "peer", "realm"})
+    want(1 <= len(conf["peer"]) <= 1024 and 1 <= len(conf["realm"]) <= 1024)
     for peer in conf["peer"]:
-        assert set(peer) <= {"name", "ip", "secret", "require_seal", "limit_proxy_state", "operator_name", "ask_cui",
-                             "request_without", "reply_without", "coa", "nas_ip", "nas_ipv6"}
+        want(set(peer) <= {"name", "ip", "secret", "require_seal", "limit_proxy_state", "operator_name", "ask_cui",
+                             "request_without", "reply_without", "coa", "nas_ip", "nas_ipv6"})
         keeps_lists(peer)
-        assert str(ipaddress.ip_network(peer["ip"])).removesuffix("/32").removesuffix("/128") == peer["ip"]
-        assert re.fullmatch(r"[A-Za-z0-9._-]{1,64}", peer["name"]) and 1 <= len(peer["secret"].encode()) <= 64
+        want(str(ipaddress.ip_network(peer["ip"])).removesuffix("/32").removesuffix("/128") == peer["ip"])
+        want(re.fullmatch(r"[A-Za-z0-9._-]{1,64}", peer["name"]) and 1 <= len(peer["secret"].encode()) <= 64)
     names, endpoints = [], [*all_of(conf, "auth"), *all_of(conf, "acct")]
     for realm in conf["realm"]:
-        assert set(realm) <= {"name", "also", "out", "reverse", "tries", "wait", "rest", "rest_after", "hold", "max_pending", "accounting",
-                              "loop_prevention", "request_without", "reply_without", "conversations", "own_sessions", "server"}
-        assert realm.get("conversations", False) == (len(realm["server"]) > 1)
-        assert realm.get("own_sessions", False) == ("reverse" in realm and "accounting" not in realm)
+        want(set(realm) <= {"name", "also", "out", "reverse", "tries", "wait", "rest", "rest_after", "hold", "max_pending", "accounting",
+                              "loop_prevention", "request_without", "reply_without", "conversations", "own_sessions", "server"})
+        want(realm.get("conversations", False) == (len(realm["server"]) > 1))
+        want(realm.get("own_sessions", False) == ("reverse" in realm and "accounting" not in realm))
         keeps_lists(realm)
         names += [realm["name"]] + realm.get("also", [])
         endpoints += [it for key in ("out", "reverse") for it in all_of(realm, key)]
-        assert realm.get("accounting") in (None, "answer", "drop")
-        assert all(("acct" in server) == ("accounting" not in realm) for server in realm["server"])
+        want(realm.get("accounting") in (None, "answer", "drop"))
+        want(all(("acct" in server) == ("accounting" not in realm) for server in realm["server"]))
         servers = [server[key] for server in realm["server"] for key in ("auth", "acct") if key in server]
-        assert len(set(servers)) == len(servers) and all(map(is_endpoint, servers))
-        assert set(map(is_of_ipv6, all_of(realm, "out"))) == set(map(is_of_ipv6, servers))
-        assert 1 <= len(realm["server"]) <= 8 and len(realm.get("also", [])) <= 256
-        assert in_range(realm.get("tries", 3), 1, 10) and in_range(realm.get("wait", 2000), 1, 60000)
-        assert in_range(realm.get("rest", 30000), 0, 3600000) and in_range(realm.get("rest_after", 3), 1, 256) and in_range(realm.get("hold", 10000), 0, 60000)
-    assert len(conf.get("reject", [])) <= 1024 and "*" not in conf.get("reject", [])
+        want(len(set(servers)) == len(servers) and all(map(is_endpoint, servers)))
+        want(set(map(is_of_ipv6, all_of(realm, "out"))) == set(map(is_of_ipv6, servers)))
+        want(1 <= len(realm["server"]) <= 8 and len(realm.get("also", [])) <= 256)
+        want(in_range(realm.get("tries", 3), 1, 10) and in_range(realm.get("wait", 2000), 1, 60000))
+        want(in_range(realm.get("rest", 30000), 0, 3600000) and in_range(realm.get("rest_after", 3), 1, 256) and in_range(realm.get("hold", 10000), 0, 60000))
+    want(len(conf.get("reject", [])) <= 1024 and "*" not in conf.get("reject", []))
     names += conf.get("reject", [])
     for name in names:
-        assert re.fullmatch(r"(\*\.)?[A-Za-z0-9.-]{1,253}|\*", name), name
+        want(re.fullmatch(r"(\*\.)?[A-Za-z0-9.-]{1,253}|\*", name), name)
     for unique in ([name.lower() for name in names], endpoints, [peer["ip"] for peer in conf["peer"]],
                    [peer["name"] for peer in conf["peer"]]):
-        assert len(set(unique)) == len(unique)
-    assert all(map(is_endpoint, endpoints))
+        want(len(set(unique)) == len(unique))
+    want(all(map(is_endpoint, endpoints)))
 
 
 def realms_in_roam(conf):
@@ -610,17 +612,17 @@ def agree(conf, blocks):
             continue
         told += 1
         if not there.all("server"):
-            assert here is None, (user, there.name, here["name"])
+            want(here is None, f"{user}: {there.name}, and not {here}")
         else:
-            assert here is not None, (user, there.name)
-            assert here["of"] == there.name, (user, there.name, here["of"])
+            want(here is not None, f"{user}: {there.name}, and nothing")
+            want(here["of"] == there.name, f"{user}: {there.name}, and not {here}")
     return told
 
 
 def with_origin(conf, blocks):
     """Says of each realm which block it was made of: both stand in one order."""
     carried = [block for block in blocks if block.all("server") and block.name not in NOT_CARRIED]
-    assert len(carried) == len(conf["realm"]), (len(carried), len(conf["realm"]))
+    want(len(carried) == len(conf["realm"]), f"{len(carried)} realms, and not {len(conf['realm'])}")
     for realm, block in zip(conf["realm"], carried):
         realm["of"] = block.name
 
@@ -636,13 +638,13 @@ def look_over(name, text, peers, realms, told, lost, roam, is_old=True):
             file.write(text)
         if is_old and shutil.which("radsecproxy"):
             judged = run(["radsecproxy", "-p", "-c", path])
-            assert judged.returncode == 0, judged.stderr
+            want(judged.returncode == 0, judged.stderr)
         written, counted = converted(path, lost)
         conf = tomllib.loads(written)
         keeps_the_rules(conf)
-        assert (len(conf["peer"]), len(conf["realm"])) == (peers, realms), counted
+        want((len(conf["peer"]), len(conf["realm"])) == (peers, realms), counted)
         for kind, what in told:
-            assert any(line.startswith(f"# {kind}: ") and what in line for line in written.splitlines()), what
+            want(any(line.startswith(f"# {kind}: ") and what in line for line in written.splitlines()), what)
         blocks = [block for block in radsecproxy_conf.blocks_of(path)[1] if block.kind == "realm"]
         with_origin(conf, blocks)
         names = agree(conf, blocks)
@@ -651,7 +653,7 @@ def look_over(name, text, peers, realms, told, lost, roam, is_old=True):
             with open(made, "w") as file:
                 file.write(written)
             judged = run([roam, "check", made])
-            assert judged.stdout == f"ok realms {realms} peers {peers} shards 1\n", judged.stdout + judged.stderr
+            want(judged.stdout == f"ok realms {realms} peers {peers} shards 1\n", judged.stdout + judged.stderr)
         print(f"{name}: {counted.strip()}; {names} names mean the same realm")
     return conf
 
@@ -662,7 +664,7 @@ def read_expressions():
             found, notes = radsecproxy_names.items_of(text)
         except radsecproxy_names.NotASuffix:
             found, notes = None, []
-        assert found == wanted and (not notes) == is_exact, (text, found, notes)
+        want(found == wanted and (not notes) == is_exact, f"{text}: {found} {notes}")
     print(f"{len(EXPRESSIONS)} expressions")
 
 
@@ -671,14 +673,14 @@ def read_addresses():
     options = argparse.Namespace(resolve=False)
     for text, wanted in (("192.0.2.1", '"192.0.2.1:7"'), ("192.0.2.1:9", '"192.0.2.1:9"'), ("[2001:DB8::0:1]", '"[2001:db8::1]:7"'),
                          ("[2001:db8::1]:9", '"[2001:db8::1]:9"'), ("2001:db8::1", '"[2001:db8::1]:7"'), ("::ffff:192.0.2.1", '"192.0.2.1:7"')):
-        assert converted_conf.endpoint_text(converted_conf.endpoint_of(text, 7, options)) == wanted, text
+        want(converted_conf.endpoint_text(converted_conf.endpoint_of(text, 7, options)) == wanted, text)
     for text in ("*", "*:1812", "[::]", "::", "0.0.0.0:1812", "[fe80::1%eth0]", "[2001:db8::1", "[2001:db8::1]9x", "192.0.2.1:0", "a.example", "1.2.3"):
-        assert converted_conf.endpoint_of(text, 7, options) is None, text
+        want(converted_conf.endpoint_of(text, 7, options) is None, text)
     for text, wanted in (("192.0.2.18/30", "192.0.2.16/30"), ("192.0.2.1/32", "192.0.2.1"), ("2001:DB8::1/32", "2001:db8::/32"),
                          ("2001:db8::1", "2001:db8::1"), ("0.0.0.0/0", "0.0.0.0/0"), ("192.0.2.16/255.255.255.252", "192.0.2.16/30")):
-        assert converted_conf.network_text(converted_conf.network_of(text)) == wanted, text
+        want(converted_conf.network_text(converted_conf.network_of(text)) == wanted, text)
     for text in ("::ffff:192.0.2.0/120", "192.0.2.0/33", "a.example/24", "", "0.0.0.0"):
-        assert converted_conf.network_of(text) is None, text
+        want(converted_conf.network_of(text) is None, text)
 
 
 def network():
@@ -689,61 +691,63 @@ def network():
     made, usual = tomllib.loads(written), {"tries": 3, "wait": 2000, "rest": 30000, "rest_after": 3, "hold": 10000}
     for here, there in ((page, made), (page["peer"][0], made["peer"][0]), (page["realm"][0], made["realm"][0])):
         for key, value in there.items():
-            assert key in ("peer", "realm", "control") or here.get(key, usual.get(key)) == value, (key, value)
+            want(key in ("peer", "realm", "control") or here.get(key, usual.get(key)) == value, f"{key} is {value}")
         new = {key for key in here if key not in there and usual.get(key) != here[key]}
-        assert new <= {"require_seal", "coa", "nas_id", "reverse", "own_sessions"}, new
+        want(new <= {"require_seal", "coa", "nas_id", "reverse", "own_sessions"}, f"{new}")
     print(f"examples/migrating: {counted.strip()}; as docs/MIGRATING.md has it")
 
 
 def decided(conf):
     """What became of each option of DECIDED."""
     one, two, upper, elsewhere = conf["peer"]
-    assert one["operator_name"] == "visited.example" and one["ask_cui"] and one["request_without"] == ["126", "26.9.1", "26.311"]
-    assert one["reply_without"] == ["64", "65", "81"]
-    assert set(two) == {"name", "ip", "secret"}
-    assert upper["request_without"] == ["64", "65", "81"] and "reply_without" not in upper and "operator_name" not in upper
-    assert elsewhere["operator_name"] == "everybody.example" and elsewhere["request_without"] == ["30"]
+    want(one["operator_name"] == "visited.example" and one["ask_cui"] and one["request_without"] == ["126", "26.9.1", "26.311"])
+    want(one["reply_without"] == ["64", "65", "81"])
+    want(set(two) == {"name", "ip", "secret"})
+    want(upper["request_without"] == ["64", "65", "81"] and "reply_without" not in upper and "operator_name" not in upper)
+    want(elsewhere["operator_name"] == "everybody.example" and elsewhere["request_without"] == ["30"])
     a, b, c, every = conf["realm"]
-    assert a["name"] == "a.example" and a["request_without"] == ["30"] and "accounting" not in a and "loop_prevention" not in a
-    assert b["accounting"] == "answer" and c["accounting"] == "drop" and "loop_prevention" not in b
-    assert every["loop_prevention"] and every["reply_without"] == ["64", "65", "81"] and every["accounting"] == "drop"
-    assert conf["reject"] == ["shut.a.example", "*.3gppnetwork.org"] and conf["log_station"] == "hmac"
+    want(a["name"] == "a.example" and a["request_without"] == ["30"] and "accounting" not in a and "loop_prevention" not in a)
+    want(b["accounting"] == "answer" and c["accounting"] == "drop" and "loop_prevention" not in b)
+    want(every["loop_prevention"] and every["reply_without"] == ["64", "65", "81"] and every["accounting"] == "drop")
+    want(conf["reject"] == ["shut.a.example", "*.3gppnetwork.org"] and conf["log_station"] == "hmac")
 
 
 def main():
-    roam = sys.argv[1] if len(sys.argv) > 1 else None
+    [roam] = words(__doc__, 0, 1) or [None]
+    be_quiet()
     read_expressions()
     network()
     conf = look_over("eduroam.conf", EDUROAM, 7, 6, TOLD, LOST, roam)
-    assert "log_exchanges" not in conf and conf["control"] == "/run/roam/control" and conf["answer_unnamed"]
-    assert conf["reject"] == ["myabc.com", "*.myabc.com", "*.3gppnetwork.org", "suspended.example"]
-    assert [realm.get("accounting") for realm in conf["realm"]] == [None, "drop", "answer", "drop", "drop", None]
-    assert [(peer["name"], peer["ip"]) for peer in conf["peer"] if peer.get("request_without") == ["81"]] == [("wired", "192.0.2.16/30")]
-    assert [peer["ip"] for peer in conf["peer"] if "/" in peer["ip"]] == ["192.0.2.16/30", "10.20.0.0/16"]
-    assert conf["realm"][3]["out"].startswith("[::1]:") and conf["realm"][3]["server"][0]["auth"] == "[2001:db8::2]:1812"
-    assert [server["auth"] for server in conf["realm"][4]["server"]] == ["198.51.100.18:11812", "[2001:db8::2]:1812"]
-    assert [it.rpartition(":")[0] for it in conf["realm"][4]["out"]] == ["203.0.113.10", "[::1]"]
-    assert [peer["secret"] for peer in conf["peer"]][:3] == ["a\\bcA d"] + ['it is "quoted"'] * 2
+    want("log_exchanges" not in conf and conf["control"] == "/run/roam/control" and conf["answer_unnamed"])
+    want(conf["reject"] == ["myabc.com", "*.myabc.com", "*.3gppnetwork.org", "suspended.example"])
+    want([realm.get("accounting") for realm in conf["realm"]] == [None, "drop", "answer", "drop", "drop", None])
+    want([(peer["name"], peer["ip"]) for peer in conf["peer"] if peer.get("request_without") == ["81"]] == [("wired", "192.0.2.16/30")])
+    want([peer["ip"] for peer in conf["peer"] if "/" in peer["ip"]] == ["192.0.2.16/30", "10.20.0.0/16"])
+    want(conf["realm"][3]["out"].startswith("[::1]:") and conf["realm"][3]["server"][0]["auth"] == "[2001:db8::2]:1812")
+    want([server["auth"] for server in conf["realm"][4]["server"]] == ["198.51.100.18:11812", "[2001:db8::2]:1812"])
+    want([it.rpartition(":")[0] for it in conf["realm"][4]["out"]] == ["203.0.113.10", "[::1]"])
+    want([peer["secret"] for peer in conf["peer"]][:3] == ["a\\bcA d"] + ['it is "quoted"'] * 2)
     last = conf["realm"][5]
-    assert last["also"] == ["*"] and last["tries"] == 2 and last["wait"] == 3000 and last["loop_prevention"] and last["rest_after"] == 50
-    assert [server["acct"] for server in conf["realm"][0]["server"]] == ["198.51.100.17:1813", "198.51.100.18:11813"]
+    want(last["also"] == ["*"] and last["tries"] == 2 and last["wait"] == 3000 and last["loop_prevention"] and last["rest_after"] == 50)
+    want([server["acct"] for server in conf["realm"][0]["server"]] == ["198.51.100.17:1813", "198.51.100.18:11813"])
     decided(look_over("decided.conf", DECIDED, 4, 4, DECIDED_TOLD, [], roam))
     both = look_over("both-kinds.conf", BOTH_KINDS, 2, 1, [], [], roam)
-    assert both["auth"] == ["203.0.113.10:1812", "[2001:db8:1::10]:1812"] and both["acct"] == ["203.0.113.10:1813", "[2001:db8:1::10]:1813"]
-    assert both["realm"][0]["out"] == ["203.0.113.10:20001", "[2001:db8:1::10]:20001"]
-    assert [it["acct"] for it in both["realm"][0]["server"]] == ["198.51.100.17:1813", "[2001:db8:2::17]:1813"]
+    want(both["auth"] == ["203.0.113.10:1812", "[2001:db8:1::10]:1812"] and both["acct"] == ["203.0.113.10:1813", "[2001:db8:1::10]:1813"])
+    want(both["realm"][0]["out"] == ["203.0.113.10:20001", "[2001:db8:1::10]:20001"])
+    want([it["acct"] for it in both["realm"][0]["server"]] == ["198.51.100.17:1813", "[2001:db8:2::17]:1813"])
     newer = look_over("newer.conf", NEWER, 2, 1, [], [], roam, is_old=False)
-    assert [(peer.get("require_seal"), peer.get("limit_proxy_state")) for peer in newer["peer"]] == [(None, True), (True, None)]
-    assert newer["realm"][0]["accounting"] == "drop" and newer["realm"][0]["server"][0]["require_seal"]
+    want([(peer.get("require_seal"), peer.get("limit_proxy_state")) for peer in newer["peer"]] == [(None, True), (True, None)])
+    want(newer["realm"][0]["accounting"] == "drop" and newer["realm"][0]["server"][0]["require_seal"])
     read_addresses()
     look_over("five-hundred.conf", five_hundred(), 100, 500, [], [], roam)
     private = look_over("private.conf", "LogFullUsername off\n" + five_hundred(), 100, 500, [], [], roam)
-    assert private["log_exchanges"] == "none"
+    want(private["log_exchanges"] == "none")
     hashed = look_over("hashed.conf", "LogMAC VendorKeyHashed\nLogKey salt\n" + five_hundred(), 100, 500, [], [], roam)
-    assert "log_exchanges" not in hashed and hashed["log_station"] == "hmac"
-    named = five_hundred().replace("host 192.0.2.100", "host localhost")
+    want("log_exchanges" not in hashed and hashed["log_station"] == "hmac")
+    named = changed(five_hundred(), "host 192.0.2.100", "host localhost")
     look_over("named.conf", named, 99, 500, [("Not carried over", "localhost is a name")], ["client nas100"], roam)
+    return end()
 
 
 if __name__ == "__main__":
-    main()
+    sys.exit(main())

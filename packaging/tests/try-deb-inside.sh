@@ -34,6 +34,8 @@ files() {
         -o -path /var/lib/dpkg -o -path /var/lib/apt -o -path /var/lib/systemd -o -path /var/log -o -path /var/cache \) -prune \
         -o \( ! -type d -o -name '*roam*' \) -print | sort
 }
+# Changes a file by a command of sed: one that changes nothing would try nothing.
+edit() { cp -p "$1" /try/unedited; sed -i "$2" "$1"; must "an edit changes ${1##*/}" not cmp -s "$1" /try/unedited; }
 put_sample() { install -m 600 /usr/share/doc/roam/samples/visited-network.conf $conf; }
 
 without() {
@@ -56,7 +58,7 @@ without() {
     must "which says nothing of a configuration that it takes" not printed 'roam:'
     must "the configuration stays" cmp $conf kept
     must "with its mode" [ "$(stat -c '%a %U' $conf)" = "600 root" ]
-    sed -i 's/^shards.*/shards = 0/' $conf
+    edit $conf '1i shards = 0'
     must "it is installed over one that refuses the configuration" quiet dpkg -i second.deb
     must "and says so" printed 'refuses /etc/roam/roam.conf'
     must "it is removed" quiet dpkg -r roam

@@ -8,11 +8,13 @@ output may hold a secret of the file. --table prints a row for each.
 
 import os
 import re
-import subprocess
 import sys
 import tempfile
 
 sys.dont_write_bytecode = True
+from looks import be_quiet, changed, edited, end, go_on, want, words
+from server import run
+
 HERE = os.path.dirname(os.path.abspath(__file__))
 SAMPLE = os.path.join(os.path.dirname(HERE), "samples", "visited-network.conf")
 
@@ -137,7 +139,7 @@ def misspelt(header, key, other, kind, nth=0):
     """A mistake: a required key under another name."""
     def make(sample):
         i = sample.key(header, key, nth)
-        sample.lines[i] = sample.lines[i].replace(key, other, 1)
+        sample.lines[i] = changed(sample.lines[i], key, other, 1)
         number = sample.header(header, nth) + 1 if header else 0
         return "Missing", [f'{at(number)}{table(header, nth)}{key}: is missing, and "{other}" is no key of {kind}']
     return f"{(header or 'top').strip('[]')}: {other} for {key}", make
@@ -611,29 +613,24 @@ def faults_of(told, path, fault, wanted):
 
 
 def main():
-    words = [word for word in sys.argv[1:] if word != "--table"]
-    if len(words) != 1:
-        sys.exit(__doc__)
-    failed = 0
+    program, *more = words(__doc__, 1, 2)
+    go_on()
+    be_quiet()
     with tempfile.TemporaryDirectory() as directory:
         path = os.path.join(directory, "roam.conf")
         for name, make in MISTAKES:
             sample = Sample()
             fault, wanted = make(sample)
+            lines = edited(Sample().lines, sample.lines, name)
             with open(path, "w", newline="\n") as file:
-                file.write("".join(line + "\n" for line in sample.lines))
-            done = subprocess.run([words[0], "check", path], capture_output=True, text=True, check=False)
-            faults = faults_of(done.stderr, path, fault, wanted)
-            if done.returncode != 1 or done.stdout:
-                faults.append(f"status {done.returncode}, output {done.stdout!r}")
-            if "--table" in sys.argv:
-                print(f"| {name} | {fault} | {' / '.join(line.strip() for line in done.stderr.splitlines()[1:])} |")
-            for line in faults:
-                print(f"{name}: {line}\n{done.stderr}", file=sys.stderr)
-            failed += bool(faults)
-    print(f"{len(MISTAKES)} mistakes, {failed} without the diagnosis that is wanted")
-    sys.exit(failed > 0)
+                file.write("".join(line + "\n" for line in lines))
+            status, printed, told = run(program, "check", path)
+            faults = faults_of(told, path, fault, wanted) + ([] if (status, printed) == (1, "") else [f"status {status}, output {printed!r}"])
+            if more == ["--table"]:
+                print(f"| {name} | {fault} | {' / '.join(line.strip() for line in told.splitlines()[1:])} |")
+            want(not faults, f"{name}: {'; '.join(faults)}\n{told}")
+    return end(f"{len(MISTAKES)} mistakes have the diagnosis that is wanted")
 
 
 if __name__ == "__main__":
-    main()
+    sys.exit(main())

@@ -9,14 +9,15 @@ itself, too. Each case says which access server gets it, or what the broker answ
 It needs freeradius and radclient (Debian's freeradius and freeradius-utils), and no root.
 """
 
-import os
 import re
 import subprocess
 import sys
-import tempfile
 import time
 
-from around import Around, command
+sys.dont_write_bytecode = True
+from around import command, tried
+from looks import go_on, want, words
+from server import configuration, peer, realm, table
 
 # The broker; home servers of two realms, and what may disconnect for the first of them beside its server; a proxy with all
 # controllers of a city behind it, and one that says of its users by Operator-Name where they are.
@@ -26,56 +27,20 @@ AUTH, ACCT, COA, OUT, REVERSE = 28912, 28913, 23799, (28920, 28921), (28930, 289
 SECRET = "a secret of everybody here"
 FRESH = 300
 
-CONF = f"""auth = "{BROKER}:{AUTH}"
-acct = "{BROKER}:{ACCT}"
-fresh = {FRESH}
 
-[[peer]]
-name = "city"
-ip = "{CITY}"
-secret = "{SECRET}"
-coa = "{CITY}:{COA}"
-nas_ip = "{CITY}"
-nas_ids = ["wlc-*"]
 
-[[peer]]
-name = "stadium"
-ip = "{STADIUM}"
-secret = "{SECRET}"
-coa = "{STADIUM}:{COA}"
-nas_ids = ["ap-*"]
-operator_name = "stadium.example"
+def of_home(name, nth, ip, *clients):
+    """A realm whose home server is at an address, and which takes Disconnects of further clients."""
+    at = {"auth": f"{ip}:{AUTH}", "acct": f"{ip}:{ACCT}", "secret": SECRET}
+    text = realm(name, at, own_sessions=True, out=f"{BROKER}:{OUT[nth]}", reverse=f"{BROKER}:{REVERSE[nth]}", tries=2, wait=1000)
+    return text + "".join(table("realm.coa_client", ip=client, secret=SECRET) for client in clients)
 
-[[realm]]
-name = "a.example"
-own_sessions = true
-out = "{BROKER}:{OUT[0]}"
-reverse = "{BROKER}:{REVERSE[0]}"
-tries = 2
-wait = 1000
 
-[[realm.server]]
-auth = "{FIRST}:{AUTH}"
-acct = "{FIRST}:{ACCT}"
-secret = "{SECRET}"
-
-[[realm.coa_client]]
-ip = "{POLICY}"
-secret = "{SECRET}"
-
-[[realm]]
-name = "b.example"
-own_sessions = true
-out = "{BROKER}:{OUT[1]}"
-reverse = "{BROKER}:{REVERSE[1]}"
-tries = 2
-wait = 1000
-
-[[realm.server]]
-auth = "{SECOND}:{AUTH}"
-acct = "{SECOND}:{ACCT}"
-secret = "{SECRET}"
-"""
+CONF = configuration(
+    peer("city", CITY, SECRET, coa=f"{CITY}:{COA}", nas_ip=CITY, nas_ids=["wlc-*"]),
+    peer("stadium", STADIUM, SECRET, coa=f"{STADIUM}:{COA}", nas_ids=["ap-*"], operator_name="stadium.example"),
+    of_home("a.example", 0, FIRST, POLICY), of_home("b.example", 1, SECOND),
+    auth=f"{BROKER}:{AUTH}", acct=f"{BROKER}:{ACCT}", fresh=FRESH)
 
 # It answers accounting, and asks for a Disconnect itself where a session's Interim-Update has the Class `ends`.
 HOME = """
@@ -222,55 +187,40 @@ def wrong_of(around, by, kind, attributes, expected, gets):
     return None if (answer, got) == (wanted, goes_to) else f"{answer}, got by {got}"
 
 
-def faults_of(around):
-    """What is wrong, said line by line."""
-    faults = 0
+def look(what, wrong):
+    want(wrong is None, what + (f": {wrong}" if wrong else ""))
 
-    def look(what, wrong):
-        print(f"{'WRONG' if wrong else 'as decided'}: {what}" + (f": {wrong}" if wrong else ""), flush=True)
-        return int(bool(wrong))
 
+def look_at_cases(around):
     for peer, user, nas, session in SESSIONS:
         answer = account(peer, user, nas, session)
-        faults += look(f"session {session} at {nas} begins", None if answer == ("Accounting-Response", None) else answer)
+        look(f"session {session} at {nas} begins", None if answer == ("Accounting-Response", None) else answer)
     for what, *case in CASES:
-        faults += look(what, wrong_of(around, *case))
+        look(what, wrong_of(around, *case))
     # The home server asks by itself.
     before = received_by(around, "city")
     account(CITY, "u@a.example", "wlc-1", "0001", "Interim-Update", ["Class = 0x656e6473"])
     time.sleep(2)
     acked = len(re.findall(r"Received Disconnect-ACK", around.log("first")))
-    faults += look("the home server ends a session by itself", None if received_by(around, "city") == before + 1 and acked == 1 else f"{acked} answers")
+    look("the home server ends a session by itself", None if received_by(around, "city") == before + 1 and acked == 1 else f"{acked} answers")
     # One controller starts anew.
     account(CITY, "u@a.example", "wlc-1", "", "Accounting-On")
     for nas, expected, gets in (("wlc-1", (NAK, "Session-Context-Not-Found"), None), ("wlc-2", (ACK, None), CITY)):
         wrong = wrong_of(around, OF_A, "disconnect", [f'NAS-Identifier = "{nas}"', 'Acct-Session-Id = "0003"'], expected, gets)
-        faults += look(f"a session at {nas} after wlc-1 started anew", wrong)
-    return faults
+        look(f"a session at {nas} after wlc-1 started anew", wrong)
 
 
 def main():
-    if len(sys.argv) > 2:
-        sys.exit(__doc__)
-    program = os.path.abspath(sys.argv[1]) if len(sys.argv) == 2 else None
-    with tempfile.TemporaryDirectory() as directory:
-        around = Around(directory)
-        try:
-            around.broker(program, CONF, 180000)
-            for number, (name, ip) in enumerate((("first", FIRST), ("second", SECOND))):
-                around.freeradius(name, HOME.format(broker=BROKER, secret=SECRET, reverse=REVERSE[number], ip=ip, acct=ACCT), "yes")
-            for name, ip in (("city", CITY), ("stadium", STADIUM)):
-                around.freeradius(name, NAS.format(broker=BROKER, secret=SECRET, ip=ip, coa=COA))
-            time.sleep(3)
-            faults = faults_of(around)
-        finally:
-            ended = around.close()
-        if ended or faults:
-            print(f"ended by themselves: {ended}")
-            around.tell()
-    faults += len(ended)
-    print(f"try-disconnects: {len(CASES) + len(SESSIONS) + 3} cases, {faults} faults" + ("" if program else " (by the broker that is written apart)"))
-    return int(bool(faults))
+    [program] = words(__doc__, 0, 1) or [None]
+    go_on()
+
+    def start(around):
+        around.broker(program, CONF, 180000)
+        for number, (name, ip) in enumerate((("first", FIRST), ("second", SECOND))):
+            around.freeradius(name, HOME.format(broker=BROKER, secret=SECRET, reverse=REVERSE[number], ip=ip, acct=ACCT), "yes")
+        for name, ip in (("city", CITY), ("stadium", STADIUM)):
+            around.freeradius(name, NAS.format(broker=BROKER, secret=SECRET, ip=ip, coa=COA))
+    return tried(start, look_at_cases)
 
 
 if __name__ == "__main__":

@@ -15,107 +15,47 @@ Serves on loopback, and compares what the log and `roam ctl PATH metrics` say wi
 
 With `pipe` only the fifth, for so many seconds, at so many requests a second.
 """
-import atexit
 import collections
-import hashlib
-import hmac
 import json
 import os
 import re
 import select
-import socket
-import struct
-import subprocess
 import sys
 import tempfile
 import threading
 import time
 
-SECRET, HOME_SECRET = b'a-secret-of-peer', b'a-secret-of-home'
-AUTH, ACCT = ('127.0.0.1', 18120), ('127.0.0.1', 18130)
-HOMES = [('127.0.0.1', 28120), ('127.0.0.1', 28122)]
-HEAD = '''shards = 2
-seed = "{0}"
-auth = "127.0.0.1:18120"
-acct = "127.0.0.1:18130"
-trace_limit = 1000000
-control = "{1}"
-'''
-PEER = '''
-[[peer]]
-name = "{0}"
-ip = "{1}"
-secret = "a-secret-of-peer"
-'''
-REALM = '''
-[[realm]]
-name = "{0}"
-out = "127.0.0.1:{1}"
-reverse = "127.0.0.1:{2}"
-tries = 2
-wait = {3}
-hold = 5000
-max_pending = 4096
-max_sessions = 100
-rest = {4}
-rest_after = 1
-'''
-SERVER = '''
-[[realm.server]]
-auth = "127.0.0.1:{0}"
-acct = "127.0.0.1:{1}"
-secret = "a-secret-of-home"
-'''
+sys.dont_write_bytecode = True
+import radius
+import server as servers
+from looks import end, want, words
+from radius import HERE, attribute, bound, user_name
+from server import configuration, peer, realm, run, total
+
+SECRET, HOMES = b'a-secret-of-peer', (28120, 28122)
+AUTH = (HERE, 18120)
+PEER = peer('peer0', secret=SECRET.decode())
 
 
-def want(holds, what):
-    print(('ok    ' if holds else 'FAILS ') + what, flush=True)
-    if not holds:
-        sys.exit(1)
-
-
-def attributes(packet):
-    at = 20
-    while at + 2 <= len(packet):
-        yield packet[at], packet[at + 2:at + packet[at + 1]]
-        at += packet[at + 1]
-
-
-def user_name(packet):
-    return next((value for kind, value in attributes(packet) if kind == 1), b'')
-
-
-def accept(request):
-    """RFC 2865, section 3: the Response Authenticator, over the Proxy-States of the request."""
-    states = b''.join(bytes([33, len(v) + 2]) + v for k, v in attributes(request) if k == 33)
-    head = struct.pack('!BBH', 2, request[1], 20 + len(states))
-    return head + hashlib.md5(head + request[4:20] + states + HOME_SECRET).digest() + states
+def a_realm(wait, rest, homes=HOMES):
+    of_homes = [{'auth': f'{HERE}:{home}', 'acct': f'{HERE}:{home + 10}'} for home in homes]
+    return realm('a.example', *of_homes, out=f'{HERE}:18140', reverse=f'{HERE}:18150', tries=2, wait=wait, hold=5000, max_pending=4096,
+                 max_sessions=100, rest=rest, rest_after=1)
 
 
 def access_request(number, name, station=b'02-00-00-00-00-01', secret=None):
-    """With a Message-Authenticator where there is a secret (RFC 2869, section 5.14)."""
-    body = bytes([1, len(name) + 2]) + name + bytes([4, 6, 192, 0, 2, 1, 31, len(station) + 2]) + station
-    if secret is None:
-        head = struct.pack('!BBH', 1, number, 20 + len(body)) + os.urandom(16)
-        return head + body
-    head = struct.pack('!BBH', 1, number, 38 + len(body)) + os.urandom(16)
-    seal = hmac.new(secret, head + body + bytes([80, 18]) + bytes(16), hashlib.md5).digest()
-    return head + body + bytes([80, 18]) + seal
+    return radius.access(number, name, radius.NAS_IP + attribute(31, station), secret)
 
 
-class HomeServer(threading.Thread):
+class HomeServer(radius.HomeServer):
     """Accepts an Access-Request, unless its name says otherwise: `l` loses its first sending, `f` is for the second server
     alone, `g` is for none. While it is `silent` it answers nothing."""
 
     def __init__(self, place):
-        super().__init__(daemon=True)
-        self.place, self.silent = place, False
-        self.came, self.answered, self.seen = 0, 0, set()
-        self.socket = socket.socket(socket.AF_INET, socket.SOCK_DGRAM)
-        self.socket.setsockopt(socket.SOL_SOCKET, socket.SO_RCVBUF, 1 << 22)
-        self.socket.bind(HOMES[place])
+        self.place, self.silent, self.seen = place, False, set()
+        super().__init__(HOMES[place], b'a-secret-of-home', self.is_taken)
 
-    def takes(self, packet):
+    def is_taken(self, packet):
         name = user_name(packet)
         kind, again = name[:1], name in self.seen
         if kind == b'l':
@@ -123,77 +63,21 @@ class HomeServer(threading.Thread):
             return again
         return not self.silent and kind != b'g' and (kind != b'f' or self.place == 1)
 
-    def run(self):
-        while True:
-            packet, source = self.socket.recvfrom(4096)
-            self.came += 1
-            if self.takes(packet):
-                self.answered += 1
-                self.socket.sendto(accept(packet), source)
 
-
-class Server:
-    def __init__(self, program, work, text, name='roam', stderr=None):
-        self.program, self.path = program, os.path.join(work, name + '.control')
-        self.conf, self.log = os.path.join(work, name + '.conf'), os.path.join(work, name + '.log')
-        with open(self.conf, 'w') as file:
-            file.write(HEAD.format('0' * 64, self.path) + text)
-        with open(self.log, 'w') as file:
-            self.process = subprocess.Popen([program, 'serve', self.conf], stderr=stderr or file)
-        atexit.register(self.process.kill)
-        for _ in range(100):
-            if os.path.exists(self.path):
-                break
-            time.sleep(.05)
-        time.sleep(.3)
-
-    def said(self):
-        with open(self.log) as file:
-            return file.read()
-
-    def tells(self, line, seconds=5):
-        """Whether this is told, at the latest after so long: which servers keep silent is looked at about each second."""
-        ends = time.monotonic() + seconds
-        while line not in self.said() and time.monotonic() < ends:
-            time.sleep(.05)
-        return line in self.said()
-
-    def ctl(self, *order):
-        return subprocess.run([self.program, 'ctl', self.path, *order], capture_output=True, text=True)
-
-    def metrics(self):
-        found = collections.Counter()
-        for line in self.ctl('metrics').stdout.splitlines():
-            if line and line[0] != '#':
-                name, value = line.rsplit(' ', 1)
-                found[name] = float(value)
-        return found
-
-    def total(self, metrics, name, *labels):
-        return int(sum(v for k, v in metrics.items() if k.startswith(name + '{') and all(l in k for l in labels)))
-
-    def stop(self):
-        done = self.ctl('stop')
-        return done.returncode == 0 and self.process.wait() == 0
-
-
-def lines_of(text):
-    return re.findall(r'exchange result=(\w+) .*', text)
+class Server(servers.Server):
+    def __init__(self, program, work, *tables, name='roam', **how):
+        text = configuration(*tables, shards=2, seed='0' * 64, auth=f'{HERE}:18120', acct=f'{HERE}:18130', trace_limit=1000000)
+        super().__init__(program, work, text, name=name, **how)
+        want(self.is_asked(), 'it serves')
 
 
 class AccessServer:
     """Sends Access-Requests from many ports, and matches the replies by port and Identifier."""
 
     def __init__(self, ports):
-        self.sockets = []
-        for _ in range(ports):
-            one = socket.socket(socket.AF_INET, socket.SOCK_DGRAM)
-            one.setsockopt(socket.SOL_SOCKET, socket.SO_RCVBUF, 1 << 20)
-            one.connect(AUTH)
-            self.sockets.append(one)
-        self.poll = select.epoll()
-        self.by_fd = {}
+        self.sockets, self.poll, self.by_fd = [bound() for _ in range(ports)], select.epoll(), {}
         for at, one in enumerate(self.sockets):
+            one.connect(AUTH)
             self.poll.register(one, select.EPOLLIN)
             self.by_fd[one.fileno()] = at
         self.answers = collections.Counter()
@@ -203,11 +87,7 @@ class AccessServer:
         keys = []
         for fd, _ in self.poll.poll(seconds):
             at = self.by_fd[fd]
-            for _ in range(64):
-                try:
-                    packet = self.sockets[at].recv(4096, socket.MSG_DONTWAIT)
-                except (BlockingIOError, ConnectionRefusedError):
-                    break
+            for packet, _ in radius.all_of(self.sockets[at]):
                 self.answers[packet[0]] += 1
                 keys.append((at, packet[1]))
         return keys
@@ -219,9 +99,7 @@ KINDS = [b'a'] * 190 + [b'l'] * 4 + [b'd', b'd', b'w', b'w', b'f', b'g']
 
 
 def try_counts(program, work, exchanges, homes):
-    text = PEER.format('peer0', '127.0.0.1') + REALM.format('a.example', 18140, 18150, WAIT, 0)
-    text += SERVER.format(28120, 28130) + SERVER.format(28122, 28132)
-    server = Server(program, work, text)
+    server = Server(program, work, PEER, a_realm(WAIT, 0))
     access, free = AccessServer(16), collections.deque((p, n) for n in range(256) for p in range(16))
     before = [(h.came, h.answered) for h in homes]
     sent, kinds, waiting, again, bad, duplicates = 0, collections.Counter(), {}, set(), 0, 0
@@ -266,15 +144,14 @@ def try_counts(program, work, exchanges, homes):
     seconds = time.monotonic() - begun
     time.sleep(1)
     access.take(.1)
-    found, log = server.metrics(), server.said()
-    result = collections.Counter(lines_of(log))
-    dropped = server.total(found, 'roam_exchange_lines_lost_total')
+    found, log = server.counts(), server.said()
+    result = collections.Counter(re.findall(r'exchange result=(\w+) .*', log))
+    dropped = total(found, 'roam_exchange_lines_lost_total')
     came = [h.came - b[0] for h, b in zip(homes, before)]
     over, given_up, answered = kinds[b'f'] + kinds[b'g'], kinds[b'g'], exchanges - kinds[b'g']
     print(f'      {exchanges} exchanges in {seconds:.0f} s: {dict((k.decode(), v) for k, v in kinds.items())}, {bad} refused, '
           f'{duplicates} duplicates; to the home servers {came}; lines {dict(result)}, dropped {dropped}')
     one, two = 'server="127.0.0.1:28120"', 'server="127.0.0.1:28122"'
-    total = lambda name, *labels: server.total(found, name, *labels)
     for name, labels, count in [
             ('roam_realm_requests_total', [], exchanges + duplicates), ('roam_peer_requests_total', [], exchanges + duplicates),
             ('roam_realm_forwarded_total', [], exchanges), ('roam_realm_returned_total', [], answered),
@@ -284,13 +161,12 @@ def try_counts(program, work, exchanges, homes):
             ('roam_refusals_total', ['number="7"'], bad), ('roam_peer_refusals_total', ['number="7"'], bad),
             ('roam_server_answer_seconds_count', [], answered), ('roam_realm_waiting_requests', [], 0),
             ('roam_server_identifiers_in_use', [], 0)]:
-        want(total(name, *labels) == count, f'{name} {" ".join(labels)} is {count}' +
-             (f', and not {total(name, *labels)}' if total(name, *labels) != count else ''))
-    twice = total('roam_realm_waiting_duplicates_total') + total('roam_realm_answered_duplicates_total')
+        counted = total(found, name, *labels)
+        want(counted == count, f'{name} {" ".join(labels)} is {count}' + (f', and not {counted}' if counted != count else ''))
+    twice = total(found, 'roam_realm_waiting_duplicates_total') + total(found, 'roam_realm_answered_duplicates_total')
     want(twice == duplicates, f'{duplicates} duplicates are counted')
     for place, label in enumerate([one, two]):
-        to = (total('roam_server_forwarded_total', label) + total('roam_server_sent_again_total', label)
-              + total('roam_server_taken_over_total', label))
+        to = sum(total(found, f'roam_server_{it}_total', label) for it in ('forwarded', 'sent_again', 'taken_over'))
         want(to == came[place], f'home server {place + 1} was sent {came[place]} packets')
     want(result['accept'] + result['given_up'] + dropped == exchanges, 'a line tells of each exchange, or it is counted as dropped')
     if not dropped:
@@ -301,22 +177,20 @@ def try_counts(program, work, exchanges, homes):
     script = os.path.join(work, 'script')
     with open(script, 'w') as file:
         file.write(trace)
-    played = subprocess.run([program, 'sim', server.conf, script], capture_output=True, text=True)
-    want(played.returncode == 0 and trace.count('\n') > min(exchanges, 100000), f'`roam sim` plays a trace of {trace.count(chr(10))} events')
+    status, _, _ = run(program, 'sim', server.conf, script)
+    want(status == 0 and trace.count('\n') > min(exchanges, 100000), f'`roam sim` plays a trace of {trace.count(chr(10))} events')
     want('\nA ' not in server.ctl('trace', '0').stdout and server.ctl('trace', '7').returncode == 1, 'which is given once, and of shards that there are')
-    want(server.stop(), 'it ends with 0')
+    server.stop()
 
 
 def try_wrong_secret(program, work, flood):
-    text = ''.join(PEER.format(f'peer{n}', f'127.1.{n // 100}.{n % 100 + 1}') for n in range(200))
-    text += REALM.format('a.example', 18140, 18150, 200, 0) + SERVER.format(28120, 28130)
-    server = Server(program, work, text, 'secrets')
+    peers = [peer(f'peer{n}', f'127.1.{n // 100}.{n % 100 + 1}', SECRET.decode()) for n in range(200)]
+    server = Server(program, work, *peers, a_realm(200, 0, HOMES[:1]), name='secrets')
     ends = time.monotonic() + 6
     sent = [0]
 
     def pour():
-        one = socket.socket(socket.AF_INET, socket.SOCK_DGRAM)
-        one.bind(('127.2.0.1', 0))
+        one = bound(0, '127.2.0.1')
         begun = time.monotonic()
         while time.monotonic() < ends:
             for _ in range(100):
@@ -328,11 +202,7 @@ def try_wrong_secret(program, work, flood):
 
     pouring = threading.Thread(target=pour)
     pouring.start()
-    peers = []
-    for number in range(200):
-        one = socket.socket(socket.AF_INET, socket.SOCK_DGRAM)
-        one.bind((f'127.1.{number // 100}.{number % 100 + 1}', 0))
-        peers.append(one)
+    peers = [bound(0, f'127.1.{number // 100}.{number % 100 + 1}') for number in range(200)]
     asked = 0
     while time.monotonic() < ends - 1:
         for number, one in enumerate(peers):
@@ -342,7 +212,7 @@ def try_wrong_secret(program, work, flood):
         time.sleep(.2)
     pouring.join()
     time.sleep(1.5)
-    found, log = server.metrics(), server.said()
+    found, log = server.counts(), server.said()
     refused = {k: v for k, v in found.items() if k.startswith('roam_peer_refusals_total') and 'number="7"' in k}
     lines = [line for line in log.splitlines() if 'refused 7 ' in line]
     print(f'      {sent[0]} datagrams in 6 s from elsewhere; refused 7: {dict(refused)}; lines {lines[:2]}')
@@ -352,19 +222,17 @@ def try_wrong_secret(program, work, flood):
 
 
 def try_silent(program, work, homes):
-    text = PEER.format('peer0', '127.0.0.1') + REALM.format('a.example', 18140, 18150, 200, 3000)
-    text += SERVER.format(28120, 28130) + SERVER.format(28122, 28132)
-    server, access = Server(program, work, text, 'silent'), AccessServer(1)
+    server, access = Server(program, work, PEER, a_realm(200, 3000), name='silent'), AccessServer(1)
     homes[0].silent = True
     access.sockets[0].send(access_request(1, b's1@a.example'))
     waiting, ends = [], time.monotonic() + 2
     while waiting != [1, 1] and time.monotonic() < ends:
         time.sleep(.1)
-        found = server.metrics()
-        waiting = [server.total(found, *it) for it in [('roam_realm_waiting_requests',), ('roam_server_identifiers_in_use', '28120', 'auth')]]
+        found = server.counts()
+        waiting = [total(found, *it) for it in [('roam_realm_waiting_requests',), ('roam_server_identifiers_in_use', '28120', 'auth')]]
     want(waiting == [1, 1], 'a request that waits is told of its realm, and of the endpoint at which it does')
     is_told = server.tells('home server 127.0.0.1:28120 of a.example keeps silent: it rests')
-    rests = server.total(server.metrics(), 'roam_server_rests', '28120', 'auth')
+    rests = server.count('roam_server_rests', '28120', 'auth')
     want(is_told and rests == 1, 'a line and a gauge for a home server that keeps silent')
     homes[0].silent = False
     time.sleep(3.2)
@@ -404,17 +272,17 @@ def ask_at_rate(access, count, rate):
 
 
 def try_full_pipe(program, work, seconds=8, rate=2000):
-    text = PEER.format('peer0', '127.0.0.1') + REALM.format('a.example', 18140, 18150, WAIT, 0) + SERVER.format(28120, 28130)
     reads, writes = os.pipe()
-    server, access = Server(program, work, text, 'pipe', writes), AccessServer(4)
+    server, access = Server(program, work, PEER, a_realm(WAIT, 0, HOMES[:1]), name='pipe', stderr=writes), AccessServer(4)
     os.close(writes)
     count = seconds * rate
     answered, longest = ask_at_rate(access, count, rate)
     time.sleep(1)
-    dropped = server.total(server.metrics(), 'roam_exchange_lines_lost_total')
+    dropped = server.count('roam_exchange_lines_lost_total')
     print(f'      {count} requests in {seconds} s with a pipe that nobody reads: {answered} answered, each within '
           f'{longest * 1000:.0f} ms, {dropped} lines dropped')
     want(answered == count and dropped > count // 2, 'nothing stalls, and the lines are counted')
+    server.balances()
     ended, said = server.ctl('stop'), b''
     while True:
         piece = os.read(reads, 1 << 16)
@@ -426,24 +294,20 @@ def try_full_pipe(program, work, seconds=8, rate=2000):
 
 
 def main():
-    if not 2 <= len(sys.argv) <= 5 or not os.access(sys.argv[1], os.X_OK):
-        sys.exit(__doc__)
-    program = os.path.realpath(sys.argv[1])
-    if len(sys.argv) == 5:
-        HomeServer(0).start()
-        with tempfile.TemporaryDirectory() as work:
-            return try_full_pipe(program, work, int(sys.argv[3]), int(sys.argv[4]))
-    exchanges = int(sys.argv[2]) if len(sys.argv) > 2 else 20000
-    flood = int(sys.argv[3]) if len(sys.argv) > 3 else 20000
-    homes = [HomeServer(0), HomeServer(1)]
-    for home in homes:
-        home.start()
+    program, *given = words(__doc__, 1, 4)
     with tempfile.TemporaryDirectory() as work:
+        if len(given) == 3:
+            HomeServer(0)
+            try_full_pipe(program, work, int(given[1]), int(given[2]))
+            return end()
+        exchanges, flood = [int(it) for it in given] + [20000] * (2 - len(given))
+        homes = [HomeServer(0), HomeServer(1)]
         try_silent(program, work, homes)
         try_full_pipe(program, work)
         try_wrong_secret(program, work, flood)
         try_counts(program, work, exchanges, homes)
+    return end()
 
 
 if __name__ == '__main__':
-    main()
+    sys.exit(main())

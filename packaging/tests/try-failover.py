@@ -17,51 +17,30 @@ import argparse
 import os
 import re
 import select
-import socket
 import subprocess
 import sys
-import tempfile
 import threading
 import time
 
-from around import Around, command, packets
+sys.dont_write_bytecode = True
+from around import command, tried
+from looks import go_on, want
+from radius import access_with_password, bound, packets
+from server import configuration, peer, realm
 
 BROKER, FIRST, SECOND, ACCESS = "127.0.10.1", "127.0.10.17", "127.0.10.18", "127.0.10.33"
 AUTH, ACCT, OUT, SECRET, USER, PASSWORD = 29012, 29013, 29020, "a secret of everybody here", "u@a.example", "hello"
 LOOPS, REST = 6, 15000
 
-CONF = """auth = "{broker}:{auth}"
-acct = "{broker}:{acct}"
-max_attributes = 195
 
-[[peer]]
-name = "access"
-ip = "{access}"
-secret = "{secret}"
-require_seal = true
 
-[[realm]]
-name = "a.example"
-conversations = true
-peer_share = 192
-out = "{broker}:{out}"
-tries = 3
-wait = 1000
-rest = {rest}
-rest_after = 3
+def conf(seals):
+    homes = [{"auth": f"{ip}:{AUTH}", "acct": f"{ip}:{ACCT}", "secret": SECRET, "require_seal": seals} for ip in (FIRST, SECOND)]
+    return configuration(
+        peer("access", ACCESS, SECRET, require_seal=True),
+        realm("a.example", *homes, conversations=True, peer_share=192, out=f"{BROKER}:{OUT}", tries=3, wait=1000, rest=REST, rest_after=3),
+        auth=f"{BROKER}:{AUTH}", acct=f"{BROKER}:{ACCT}", max_attributes=195)
 
-[[realm.server]]
-auth = "{first}:{auth}"
-acct = "{first}:{acct}"
-secret = "{secret}"
-require_seal = {seals}
-
-[[realm.server]]
-auth = "{second}:{auth}"
-acct = "{second}:{acct}"
-secret = "{secret}"
-require_seal = {seals}
-"""
 
 # One that has users for PEAP and keeps silent about those of the name `nobody`.
 HOME = """
@@ -183,11 +162,6 @@ def accepted_by(around, name):
     return around.log(name).count("Login OK")
 
 
-def look(what, is_so, told=""):
-    print(f"{'as wanted' if is_so else 'WRONG'}: {what}" + (f" ({told})" if told else ""), flush=True)
-    return int(not is_so)
-
-
 def said_of(around, endpoint):
     """How often the broker's log says of a home server that it keeps silent."""
     return len(re.findall(rf"home server {re.escape(endpoint)}.* keeps silent", around.log("broker")))
@@ -216,28 +190,23 @@ def try_outage(around, seconds):
     failed = [(one - begun, end - begun) for one, end, success in logins if not success]
     others = [it for it in failed if not it[0] + begun <= killed <= it[1] + begun]
     slow = max((end - one for one, end, success in logins if success and one > killed + 20), default=0)
-    faults = look("no login fails but those that ran at the kill", not others and len(logins) > LOOPS,
-                  f"{len(logins)} logins, {len(failed)} of them failed" + (f", {others}" if others else ""))
-    faults += look("the first server is used for new logins within its rest, once it is back", used is not None and used < REST / 1000 + 5,
-                   f"after {used:.1f} s" if used else "never")
-    faults += look("the second one is never said to keep silent", said_of(around, f"{SECOND}:{AUTH}") == 0)
-    faults += look("the first one is, while it is away", said_of(around, f"{FIRST}:{AUTH}") > 0)
-    print(f"           the slowest login from 20 s behind the kill on took {slow:.1f} s")
-    return faults
+    want(not others and len(logins) > LOOPS,
+         f"no login fails but those that ran at the kill: {len(logins)} logins, {len(failed)} of them failed" + (f", {others}" if others else ""))
+    want(used is not None and used < REST / 1000 + 5,
+         f"the first server is used for new logins within its rest, once it is back ({f'after {used:.1f} s' if used else 'never'})")
+    want(said_of(around, f"{SECOND}:{AUTH}") == 0, "the second one is never said to keep silent")
+    want(said_of(around, f"{FIRST}:{AUTH}") > 0, "the first one is, while it is away")
+    print(f"       the slowest login from 20 s behind the kill on took {slow:.1f} s")
 
 
 # Bursts
 
 def ask(opened, number, user):
-    authenticator = os.urandom(16)
-    attributes = [(1, user.encode()), (2, packets.hidden(PASSWORD.encode().ljust(16, b"\0"), SECRET.encode(), authenticator)), (80, packets.ZEROS)]
-    attributes = packets.sealed(1, number, authenticator, attributes, SECRET.encode())
-    opened.send(packets.text(1, number, authenticator, attributes))
+    opened.send(access_with_password(number, user.encode(), SECRET.encode(), password=PASSWORD.encode()))
 
 
 def socket_of_access():
-    opened = socket.socket(socket.AF_INET, socket.SOCK_DGRAM)
-    opened.bind((ACCESS, 0))
+    opened = bound(0, ACCESS)
     opened.connect((BROKER, AUTH))
     return opened
 
@@ -257,8 +226,8 @@ def try_bursts(around, rate):
         while select.select([steady], [], [], 0.005)[0]:
             answered += steady.recv(4096)[0] == packets.ACCESS_ACCEPT
     rested = {ip: said_of(around, f"{ip}:{AUTH}") - before[ip] for ip in before}
-    faults = look("the server that answers others rests after no burst of 3, 10 or 100 that it leaves without an answer", not rested[FIRST], f"{rested}")
-    return faults + look("all others are answered", answered >= sent - 2, f"{answered} of {sent}")
+    want(not rested[FIRST], f"the server that answers others rests after no burst of 3, 10 or 100 that it leaves without an answer: {rested}")
+    want(answered >= sent - 2, f"all others are answered: {answered} of {sent}")
 
 
 def main():
@@ -269,27 +238,20 @@ def main():
     words.add_argument("program", nargs="?")
     given = words.parse_args()
     program = os.path.abspath(given.program) if given.program else None
-    with tempfile.TemporaryDirectory() as directory:
-        around = Around(directory)
+    go_on()
+
+    def start(around):
+        command("eapol_test")
         subprocess.run([command("openssl"), "req", "-x509", "-newkey", "rsa:2048", "-nodes", "-subj", "/CN=home", "-days", "9", "-keyout",
                         around.path("key.pem"), "-out", around.path("cert.pem")], check=True, stderr=subprocess.DEVNULL)
-        try:
-            around.broker(program, CONF.format(
-                broker=BROKER, auth=AUTH, acct=ACCT, out=OUT, access=ACCESS, secret=SECRET, first=FIRST, second=SECOND, rest=REST,
-                seals="false" if given.no_seals else "true"), int(given.seconds * 1000) + 120000)
-            start_home(around, "first", FIRST)
-            start_home(around, "second", SECOND)
-            time.sleep(3)
-            faults = try_outage(around, given.seconds)
-            faults += try_bursts(around, given.rate)
-        finally:
-            ended = around.close()
-        faults += len(ended)
-        if faults:
-            print(f"ended by themselves: {ended}")
-            around.tell()
-    print(f"try-failover: {faults} faults" + ("" if program else " (by the broker that is written apart)"))
-    return int(bool(faults))
+        around.broker(program, conf(not given.no_seals), int(given.seconds * 1000) + 120000)
+        start_home(around, "first", FIRST)
+        start_home(around, "second", SECOND)
+
+    def look(around):
+        try_outage(around, given.seconds)
+        try_bursts(around, given.rate)
+    return tried(start, look)
 
 
 if __name__ == "__main__":

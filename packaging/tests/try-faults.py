@@ -9,7 +9,6 @@ prints the cases.
 """
 import contextlib
 import ctypes
-import hashlib
 import os
 import pty
 import re
@@ -18,153 +17,58 @@ import select
 import signal
 import socket
 import stat
-import struct
 import subprocess
 import sys
 import tempfile
 import threading
 import time
 
-HERE, PORT, METRICS, HOME = '127.0.0.1', 37120, 37180, 37220
-SECRET = b'a-secret-of-home'
-CONF = f'''shards = {{shards}}
-seed = "{'0' * 64}"
-auth = "{HERE}:{{port}}"
-acct = "{HERE}:{{acct}}"
-trace_limit = {{limit}}
-{{more}}
-[[peer]]
-name = "nas1"
-ip = "{HERE}"
-secret = "a-secret-of-nas1"
+sys.dont_write_bytecode = True
+import radius
+import server as servers
+from looks import changed, end, go_on, want
+from radius import HERE, HomeServer
+from server import configuration, peer, processor_time, realm
 
-[[realm]]
-name = "a.example"
-out = "{HERE}:{{out}}"
-reverse = "{HERE}:{{reverse}}"
-tries = 2
-wait = 2000
-hold = 1000
-max_pending = 4096
-max_sessions = 100
-
-[[realm.server]]
-auth = "{HERE}:{HOME}"
-acct = "{HERE}:{HOME + 1}"
-secret = "{SECRET.decode()}"
-'''
-
-
-class Home(threading.Thread):
-    """Accepts each Access-Request (RFC 2865, section 3)."""
-
-    def __init__(self):
-        super().__init__(daemon=True)
-        self.socket = socket.socket(socket.AF_INET, socket.SOCK_DGRAM)
-        self.socket.setsockopt(socket.SOL_SOCKET, socket.SO_RCVBUF, 1 << 22)
-        self.socket.bind((HERE, HOME))
-
-    def run(self):
-        while True:
-            packet, source = self.socket.recvfrom(4096)
-            at, states = 20, b''
-            while at + 2 <= len(packet):
-                if packet[at] == 33:
-                    states += packet[at:at + packet[at + 1]]
-                at += max(2, packet[at + 1])
-            head = struct.pack('!BBH', 2, packet[1], 20 + len(states))
-            self.socket.sendto(head + hashlib.md5(head + packet[4:20] + states + SECRET).digest() + states, source)
+PORT, METRICS, HOME = 37120, 37180, 37220
 
 
 def answered(count, patience=8.0, name=b'u%d'):
-    """Sends so many Access-Requests, 64 at a time, each again after a second without an answer, as access servers do, and
-    answers how many are answered."""
-    done = 0
-    for begin in range(0, count, 64):
-        with socket.socket(socket.AF_INET, socket.SOCK_DGRAM) as one:
-            one.connect((HERE, PORT))
-            waiting = {}
-            for number in range(min(64, count - begin)):
-                user = name % (begin + number) + b'@a.example'
-                body = bytes([1, len(user) + 2]) + user + bytes([4, 6, 192, 0, 2, 1])
-                waiting[number] = struct.pack('!BBH', 1, number, 20 + len(body)) + os.urandom(16) + body
-            sent, end = len(waiting), time.monotonic() + patience
-            while waiting and time.monotonic() < end:
-                for packet in waiting.values():
-                    one.send(packet)
-                again = min(end, time.monotonic() + 1)
-                while waiting and select.select([one], [], [], max(0, again - time.monotonic()))[0]:
-                    waiting.pop(one.recv(4096)[1], None)
-            done += sent - len(waiting)
-            if waiting:
-                break
-    return done
+    """How many of so many Access-Requests are answered."""
+    return radius.answered(count, (HERE, PORT), patience, name + b'@a.example')
 
 
-class Server:
+class Server(servers.Server):
     """A server of one realm, whose standard error is this, or a file that is read."""
 
-    def __init__(self, program, work, stderr=None, port=PORT, name='one', path=None, metrics=METRICS, limit=100000,
-                 nofile=None, more='', shards=1, user=None):
-        self.program, self.work, self.name = program, work, name
-        self.path = os.path.join(work, name + '.socket') if path is None else path
-        self.conf = os.path.join(work, name + '.conf')
-        more = f'control = "{self.path}"\n' + (f'metrics = "{HERE}:{metrics}"\n' if metrics else '') + more
-        with open(self.conf, 'w') as file:
-            file.write(CONF.format(port=port, acct=port + 10, out=port + 20, reverse=port + 30, more=more, limit=limit, shards=shards))
-        self.log = None if stderr is not None else open(os.path.join(work, name + '.log'), 'w+')
-        limits = (lambda: resource.setrlimit(resource.RLIMIT_NOFILE, (nofile, nofile))) if nofile else None
-        who = {'user': user, 'group': user, 'extra_groups': []} if user else {}
-        self.process = subprocess.Popen([program, 'serve', self.conf], stdin=subprocess.DEVNULL, stdout=subprocess.DEVNULL,
-                                        stderr=self.log if stderr is None else stderr, preexec_fn=limits, **who)
+    def __init__(self, program, work, stderr=None, port=PORT, name='one', path=True, metrics=METRICS, limit=100000, nofile=None, shards=1,
+                 user=None):
+        text = configuration(
+            peer('nas1'), realm('a.example', HOME, out=f'{HERE}:{port + 20}', reverse=f'{HERE}:{port + 30}', tries=2, wait=2000, hold=1000,
+                                max_pending=4096, max_sessions=100),
+            shards=shards, seed='0' * 64, auth=f'{HERE}:{port}', acct=f'{HERE}:{port + 10}', trace_limit=limit,
+            metrics=f'{HERE}:{metrics}' if metrics else None)
+        how = {'stderr': stderr} if stderr is not None else {}
+        how |= {'preexec_fn': lambda: resource.setrlimit(resource.RLIMIT_NOFILE, (nofile, nofile))} if nofile else {}
+        how |= {'user': user, 'group': user, 'extra_groups': []} if user else {}
+        super().__init__(program, work, text, name=name, control=path, **how)
 
-    def said(self):
-        with open(self.log.name) as file:
-            return file.read()
+    def ctl(self, *order, seconds=12, path=None):
+        return super().ctl(*order, seconds=seconds, path=path)
 
-    def waits(self, seconds=5):
-        """Whether it answers at its control socket within so many seconds."""
-        end = time.monotonic() + seconds
-        while time.monotonic() < end and self.process.poll() is None:
-            if self.ctl('status').returncode == 0:
-                return True
-            time.sleep(.05)
-        return False
+    def last(self):
+        """The last line that it told, or nothing."""
+        return (self.said().strip().splitlines() or [''])[-1]
 
-    def ctl(self, *order, seconds=12):
-        try:
-            return subprocess.run([self.program, 'ctl', self.path, *order], capture_output=True, timeout=seconds)
-        except subprocess.TimeoutExpired:
-            return subprocess.CompletedProcess(order, 124, b'', b'it takes too long')
-
-    def count(self, begin):
-        """What `roam ctl metrics` says behind this."""
-        said = [line for line in self.ctl('metrics').stdout.decode().splitlines() if line.startswith(begin)]
-        return int(said[0].split()[-1]) if said else -1
-
-    def ends(self, seconds):
-        """Its status, where it ends within so many seconds."""
-        try:
-            return self.process.wait(seconds)
-        except subprocess.TimeoutExpired:
-            return None
-
-    def __enter__(self):
-        return self
-
-    def __exit__(self, *_):
-        if self.process.poll() is None:
-            self.process.kill()
-        self.process.wait()
-
-
-BAD = []
-
-
-def want(holds, what):
-    print('  ok ' if holds else '  BAD', what, flush=True)
-    if not holds:
-        BAD.append(what)
+    def is_stopped(self, what='`ctl stop`', balances=True):
+        """Has it stop, within a minute, behind metrics that balance."""
+        if balances:
+            self.balances()
+        begin = time.monotonic()
+        stop, status = self.ctl('stop', seconds=60), self.ends(5)
+        took = time.monotonic() - begin
+        want(stop.returncode == 0 and status == 0, f'{what} ends with {stop.returncode}, the server with {status}, after {took:.1f} s')
+        return took
 
 
 def try_log(program, work, stderr, close=()):
@@ -172,7 +76,7 @@ def try_log(program, work, stderr, close=()):
     with Server(program, work, stderr) as server:
         for fd in close:
             os.close(fd)
-        want(server.waits(), 'it serves')
+        want(server.is_asked(), 'it serves')
         first = answered(3000)
         want(first == 3000, f'{first} of 3000 exchanges are answered')
         begin = time.monotonic()
@@ -180,11 +84,7 @@ def try_log(program, work, stderr, close=()):
         want(reload.returncode == 0, f'a reload ends with {reload.returncode} after {time.monotonic() - begin:.1f} s')
         more = answered(50, 4)
         want(more == 50, f'{more} of 50 are answered after it')
-        begin = time.monotonic()
-        stop = server.ctl('stop', seconds=60)
-        status = server.ends(5)
-        took = time.monotonic() - begin
-        want(stop.returncode == 0 and status == 0 and took < 8, f'`ctl stop` ends with {stop.returncode}, the server with {status}, after {took:.1f} s')
+        want(server.is_stopped() < 8, 'within 8 s')
 
 
 def log_terminal(program, work):
@@ -222,14 +122,13 @@ def log_dead(program, work):
     with Server(program, work, write) as server:
         os.close(write)
         os.close(read)
-        want(server.waits(), 'it serves')
+        want(server.is_asked(), 'it serves')
         first = answered(12000)
         want(first == 12000, f'{first} of 12000 exchanges are answered')
         time.sleep(1.5)
-        dropped = server.count('roam_exchange_lines_lost_total{cause="dropped"')
+        dropped = server.count('roam_exchange_lines_lost_total', cause='dropped')
         want(dropped > 1000, f'{dropped} lines are counted as dropped')
-        stop = server.ctl('stop', seconds=60)
-        want(stop.returncode == 0 and server.ends(5) == 0, f'`ctl stop` ends with {stop.returncode}')
+        server.is_stopped()
 
 
 def log_again(program, work):
@@ -237,7 +136,7 @@ def log_again(program, work):
     master, slave = pty.openpty()
     try:
         with Server(program, work, slave) as server:
-            want(server.waits(), 'it serves')
+            want(server.is_asked(), 'it serves')
             first = answered(3000)
             want(first == 3000, f'{first} of 3000 exchanges are answered')
             text, end = b'', time.monotonic() + 5
@@ -246,6 +145,7 @@ def log_again(program, work):
                     text += os.read(master, 65536)
             users = [int(user) for user in re.findall(rb'user="?u(\d+)@', text)]
             want(len(users) == 3000 and sorted(users) == list(range(3000)), f'{len(users)} lines of 3000 come when it is read')
+            server.balances()
             stop = server.ctl('stop', seconds=60)
             while select.select([master], [], [], .3)[0]:
                 try:
@@ -261,9 +161,7 @@ def log_again(program, work):
 def is_declined(program, work, path, what):
     """A server whose control socket can't be had ends with 1, and says which path."""
     with Server(program, work, path=path, name='declined', port=PORT, metrics=METRICS) as server:
-        status = server.ends(3)
-        said = server.said().strip().splitlines()
-        last = said[-1] if said else ''
+        status, last = server.ends(3), server.last()
         want(status == 1 and path in last and last.startswith('roam: '), f'{what}: it ends with {status}: {last}')
 
 
@@ -299,56 +197,48 @@ def control_foreign(program, work):
 def control_left(program, work):
     """a socket that a killed server left behind is taken over"""
     with Server(program, work) as killed:
-        want(killed.waits(), 'it serves')
+        want(killed.is_asked(), 'it serves')
         killed.process.send_signal(signal.SIGKILL)
         killed.process.wait()
         want(os.path.exists(killed.path), 'it leaves its socket behind')
     with Server(program, work) as server:
-        want(server.waits(), 'the next one serves')
-        want(server.ctl('stop', seconds=60).returncode == 0 and server.ends(5) == 0 and not os.path.exists(server.path), 'and takes its socket away at its end')
+        want(server.is_asked(), 'the next one serves')
+        server.is_stopped()
+        want(not os.path.exists(server.path), 'and takes its socket away at its end')
 
 
 def control_two(program, work):
     """two servers at one path"""
     with Server(program, work) as first:
-        want(first.waits(), 'the first serves')
+        want(first.is_asked(), 'the first serves')
         with Server(program, work, port=PORT + 5, name='two', path=first.path, metrics=None) as second:
-            want(second.ends(3) == 1 and first.path in second.said(), f'the second declines: {second.said().strip().splitlines()[-1:]}')
+            want(second.ends(3) == 1 and first.path in second.said(), f'the second declines: {second.last()}')
         want(first.ctl('status').returncode == 0, 'and the first is still asked')
         os.unlink(first.path)
         with Server(program, work, port=PORT + 5, name='two', path=first.path, metrics=None) as second:
-            want(second.waits(), 'where the socket of the first is gone, the second serves there')
+            want(second.is_asked(), 'where the socket of the first is gone, the second serves there')
             first.process.send_signal(signal.SIGTERM)
             first.process.wait()
             want(second.ctl('status').returncode == 0, 'it is asked')
-    with Server(program, work, more='') as first:
-        want(first.waits(), 'again, with an end by its time')
-    with open(os.path.join(work, 'one.conf')) as file:
-        text = file.read()
-    conf = os.path.join(work, 'timed.conf')
-    path = os.path.join(work, 'timed.socket')
-    with open(conf, 'w') as file:
-        file.write(text.replace('one.socket', 'timed.socket'))
+    with Server(program, work) as first:
+        want(first.is_asked(), 'again, with an end by its time')
+    conf, path = os.path.join(work, 'timed.conf'), os.path.join(work, 'timed.control')
+    with open(first.conf) as file, open(conf, 'w') as other:
+        other.write(changed(file.read(), 'one.control', 'timed.control'))
     timed = subprocess.Popen([program, 'serve', conf, '2000'], stderr=subprocess.DEVNULL)
     time.sleep(1)
     os.unlink(path)
     with Server(program, work, port=PORT + 5, name='two', path=path, metrics=None) as second:
-        want(second.waits(), 'a second serves where the socket of the first is gone')
+        want(second.is_asked(), 'a second serves where the socket of the first is gone')
         want(timed.wait(10) == 0, 'the first ends by its time')
         want(os.path.exists(path) and second.ctl('status').returncode == 0, "and leaves the second's socket")
-
-
-def processor_time(pid):
-    with open(f'/proc/{pid}/stat') as file:
-        words = file.read().rsplit(')', 1)[1].split()
-    return (int(words[11]) + int(words[12])) / os.sysconf('SC_CLK_TCK')
 
 
 def descriptors_none(program, work):
     """no descriptor is left: it waits, and says so"""
     # With fewer than 17 the wait for connections itself fails (poll(2), EINVAL).
     with Server(program, work, shards=4) as server:
-        want(server.waits(), 'it serves')
+        want(server.is_asked(), 'it serves')
         used = {int(fd) for fd in os.listdir(f'/proc/{server.process.pid}/fd')}
         held = min(set(range(len(used) + 1)) - used)
         resource.prlimit(server.process.pid, resource.RLIMIT_NOFILE, (held, held))
@@ -369,6 +259,7 @@ def descriptors_none(program, work):
         resource.prlimit(server.process.pid, resource.RLIMIT_NOFILE, (1024, 1024) if hard_limit(server.process.pid) >= 1024 else (held, held))
         for one in idle:
             one.close()
+        server.balances()
 
 
 def hard_limit(pid):
@@ -378,12 +269,11 @@ def hard_limit(pid):
 def descriptors_count(program, work):
     """with as many descriptors as it says that it wants, it starts, takes 32 connections and reloads"""
     with Server(program, work, nofile=11) as server:
-        status, said = server.ends(3), server.said().strip().splitlines()[-1:]
-        words = said[0].split() if said else []
-        want(status == 1 and 'wanted' in words, f'with 11: {said}')
+        status, words = server.ends(3), server.last().split()
+        want(status == 1 and 'wanted' in words, f'with 11: {server.last()}')
     wanted = int(words[words.index('wanted') - 1]) if 'wanted' in words else 20
     with Server(program, work, nofile=wanted) as server:
-        want(server.waits(), f'with {wanted} it serves')
+        want(server.is_asked(), f'with {wanted} it serves')
         idle = []
         for _ in range(16):
             one = socket.create_connection((HERE, METRICS))
@@ -395,6 +285,7 @@ def descriptors_count(program, work):
         want(reload.returncode == 0, f'a reload beside 32 connections ends with {reload.returncode}: {reload.stdout[-80:]} {reload.stderr[-80:]}')
         for one in idle:
             one.close()
+        server.is_stopped()
 
 
 def limit_threads(pid, count, user):
@@ -420,21 +311,21 @@ def threads_none(program, work):
     """no thread can be started at a reload: it is declined, and all goes on"""
     user = thread_user(work)
     with Server(program, work, user=user) as server:
-        want(server.waits(), 'it serves')
+        want(server.is_asked(), 'it serves')
         want(answered(50) == 50, '50 exchanges are answered')
         limit_threads(server.process.pid, 1, user)
         reload = server.ctl('reload')
-        want(reload.returncode == 1 and reload.stdout == b'roam: cannot start a thread\n', f'the reload ends with {reload.returncode}: {reload.stdout}')
+        want(reload.returncode == 1 and reload.stdout == 'roam: cannot start a thread\n', f'the reload ends with {reload.returncode}: {reload.stdout}')
         more = answered(50, name=b'v%d')
         want(more == 50, f'{more} of 50 more are answered under the limit')
         want(server.ctl('status').returncode == 0, 'it is asked how it stands')
         lift_limit(server.process.pid, user)
         reload = server.ctl('reload')
         want(reload.returncode == 0, f'a reload without the limit ends with {reload.returncode}: {reload.stdout[-60:]}')
-        steps = server.count('roam_history_steps_total{outcome="stored",}')
+        steps = server.count('roam_history_steps_total', outcome='stored')
         want(steps >= 200, f'what it counted goes on: {steps} steps')
         limit_threads(server.process.pid, 1, user)
-        want(server.ctl('stop', seconds=50).returncode == 0 and server.ends(5) == 0, 'it stops under the limit')
+        server.is_stopped('under the limit `ctl stop`')
 
 
 def ptrace(request, thread):
@@ -452,7 +343,7 @@ def reload_without_threads(server, user):
     ptrace(seize, timer)
     ptrace(interrupt, timer)
     os.waitpid(timer, every_thread)
-    reload = subprocess.Popen([server.program, 'ctl', server.path, 'reload'], stdout=subprocess.PIPE, stderr=subprocess.STDOUT)
+    reload = subprocess.Popen([server.program, 'ctl', server.path, 'reload'], stdout=subprocess.PIPE, stderr=subprocess.STDOUT, text=True)
     end = time.monotonic() + 8
     while len(os.listdir(f'/proc/{server.process.pid}/task')) >= len(before) and time.monotonic() < end:
         time.sleep(.02)
@@ -465,33 +356,34 @@ def threads_gone(program, work):
     """no thread can be started when the old ones have ended: it keeps what it has, says why, is asked and stopped, and serves on"""
     user = thread_user(work)
     with Server(program, work, user=user) as server:
-        want(server.waits(), 'it serves')
+        want(server.is_asked(), 'it serves')
         want(answered(50) == 50, '50 exchanges are answered')
         reload = reload_without_threads(server, user)
         said = reload.communicate(timeout=20)[0]
-        want(reload.returncode == 1 and said.startswith(b'roam: cannot start a thread\n') and b'tried again' in said,
+        want(reload.returncode == 1 and said.startswith('roam: cannot start a thread\n') and 'tried again' in said,
              f'the reload ends with {reload.returncode}: {said}')
         status = server.ctl('status')
-        want(status.returncode == 1 and status.stdout.startswith(b'roam: cannot start a thread\n'), f'`status` says so: {status.stdout}')
-        want('tried again' in server.said(), f'the log too: {server.said().splitlines()[-1:]}')
+        want(status.returncode == 1 and status.stdout.startswith('roam: cannot start a thread\n'), f'`status` says so: {status.stdout}')
+        want('tried again' in server.said(), f'the log too: {server.last()}')
         lift_limit(server.process.pid, user)
         more = answered(50, name=b'v%d')
         want(more == 50, f'{more} of 50 more are answered once it can')
         want('reload: the file is served' in server.said(), 'it says that the file is served')
-        steps = server.count('roam_history_steps_total{outcome="stored",}')
+        steps = server.count('roam_history_steps_total', outcome='stored')
         want(steps >= 200, f'what it counted goes on: {steps} steps')
+        server.balances()
         reload_without_threads(server, user).communicate(timeout=20)
-        want(server.ctl('stop', seconds=50).returncode == 0 and server.ends(5) == 0, 'it stops where none can be started')
+        server.is_stopped('where none can be started `ctl stop`', balances=False)
 
 
 def steps_of(text):
-    return sum(line[:2] in (b'A ', b'T ') for line in text.splitlines())
+    return len(re.findall(r'^[AT] ', text if isinstance(text, str) else text.decode(), re.M))
 
 
 def trace_slow(program, work):
     """a trace whose reader stops for 7 seconds in the middle is whole; one of `ctl` is, or it says that it isn't"""
     with Server(program, work) as server:
-        want(server.waits(), 'it serves')
+        want(server.is_asked(), 'it serves')
         want(answered(6000) == 6000, '6000 exchanges are answered')
         with socket.socket(socket.AF_UNIX) as one:
             one.connect(server.path)
@@ -519,12 +411,13 @@ def trace_slow(program, work):
         os.close(read)
         status, said = one.wait(20), one.stderr.read()[-60:]
         want(status == 0 and steps_of(text) >= 12000 or status == 1 and said, f'`ctl`: {steps_of(text)} of some 12000 steps, status {status} {said}')
+        server.is_stopped()
 
 
 def says_missing(server, what):
     """Whether a trace says that some 12,000 steps before it are missing, or has them."""
     answer = server.ctl('trace', '0')
-    missing = re.match(rb'# (\d+) steps before these are missing', answer.stdout)
+    missing = re.match(r'# (\d+) steps before these are missing', answer.stdout)
     holds = answer.returncode == 0 and (steps_of(answer.stdout) >= 12000 or missing and int(missing[1]) >= 12000)
     return holds, f'{what}: {steps_of(answer.stdout)} steps, status {answer.returncode}, begins with {answer.stdout[:60]}'
 
@@ -532,7 +425,7 @@ def says_missing(server, what):
 def trace_killed(program, work):
     """`ctl trace` that is killed in the middle: the next one says what is missing"""
     with Server(program, work) as server:
-        want(server.waits(), 'it serves')
+        want(server.is_asked(), 'it serves')
         want(answered(6000) == 6000, '6000 exchanges are answered')
         one = socket.socket(socket.AF_UNIX)
         one.connect(server.path)
@@ -543,7 +436,7 @@ def trace_killed(program, work):
         want(first.startswith(b'HTTP/1.1 200'), 'a trace is begun, and the one who asked goes away')
         want(*says_missing(server, 'the second'))
         third = server.ctl('trace', '0')
-        want(third.returncode == 0 and not third.stdout.startswith(b'#'), f'a third has nothing missing: {third.stdout[:60]}')
+        want(third.returncode == 0 and not third.stdout.startswith('#'), f'a third has nothing missing: {third.stdout[:60]}')
         want(answered(6000, name=b'v%d') == 6000, '6000 more are answered')
         read, write = os.pipe()
         with subprocess.Popen([program, 'ctl', server.path, 'trace', '0'], stdout=write) as one:
@@ -555,7 +448,8 @@ def trace_killed(program, work):
         # It has read all but the last octet by then, which it takes when all is printed.
         want(*says_missing(server, 'where `roam ctl` is killed while nobody reads what it prints, the next one'))
         third = server.ctl('trace', '0')
-        want(third.returncode == 0 and not third.stdout.startswith(b'#'), f'what it printed whole is taken: {third.stdout[:60]}')
+        want(third.returncode == 0 and not third.stdout.startswith('#'), f'what it printed whole is taken: {third.stdout[:60]}')
+        server.is_stopped()
 
 
 @contextlib.contextmanager
@@ -614,7 +508,7 @@ def answer_foreign(program, work):
 def scrape_whole(program, work):
     """idle connections, more than may be open, don't cut a scrape"""
     with Server(program, work) as server:
-        want(server.waits(), 'it serves')
+        want(server.is_asked(), 'it serves')
         whole, cut, none, stop = 0, 0, 0, threading.Event()
 
         def crowd():
@@ -643,6 +537,7 @@ def scrape_whole(program, work):
                 cut += bool(text) and lengths != [len(body)]
         stop.set()
         want(whole > 5 and cut == 0 and none * 100 <= whole, f'{whole} scrapes are whole, {cut} are cut, {none} made way before a word')
+        server.is_stopped()
 
 
 CASES = [log_terminal, log_pipe, log_full, log_dead, log_again, control_file, control_foreign, control_left, control_two,
@@ -658,7 +553,8 @@ def main():
     if len(sys.argv) < 2 or not os.access(sys.argv[1], os.X_OK) or not set(sys.argv[2:]) <= set(names):
         print('usage: try-faults.py PROGRAM [CASE ..], where a CASE is one of', *names, file=sys.stderr)
         return 2
-    Home().start()
+    go_on()
+    HomeServer(HOME, b'a-secret-of-home')
     for name in sys.argv[2:] or names:
         print(f'{name}: {names[name].__doc__}', flush=True)
         with tempfile.TemporaryDirectory() as work:
@@ -666,8 +562,7 @@ def main():
                 names[name](os.path.realpath(sys.argv[1]), work)
             except (OSError, ValueError, IndexError, subprocess.SubprocessError) as error:
                 want(False, f'{type(error).__name__}: {error}')
-    print('ok' if not BAD else f'BAD: {len(BAD)}')
-    return 1 if BAD else 0
+    return end()
 
 
 if __name__ == '__main__':

@@ -6,17 +6,20 @@ installed, it judges them (`-XC`). What is written has to keep docs/FILES.md, an
 FreeRADIUS chooses. Where a program ROAM is given, `roam check` judges it too.
 """
 
-import importlib.util
+import importlib
 import os
 import random
 import re
 import shutil
-import subprocess
 import sys
 import tempfile
 import tomllib
 
 sys.dont_write_bytecode = True
+from looks import be_quiet, changed, end, want, words
+from server import run
+
+converter = importlib.import_module("try-converter")
 HERE = os.path.dirname(os.path.abspath(__file__))
 ROOT = os.path.dirname(os.path.dirname(HERE))
 CONVERTER = os.path.join(ROOT, "packaging", "installed", "from-freeradius.py")
@@ -232,24 +235,13 @@ TOLD += [("Changed", what) for what in (
 LOST = ["client six", "realm here.example"]
 
 
-def parts_of_try_converter():
-    spec = importlib.util.spec_from_file_location("converter", os.path.join(HERE, "try-converter.py"))
-    module = importlib.util.module_from_spec(spec)
-    spec.loader.exec_module(module)
-    return module
-
-
-def run(words):
-    return subprocess.run(words, capture_output=True, text=True, check=False)
-
-
 def judged_by_freeradius(directory):
     program = shutil.which("freeradius") or shutil.which("freeradius", path="/usr/sbin")
     if not program:
         return False
     root = re.sub("/usr/sbin/freeradius$", "", program)
-    judged = run([program, "-XC", "-d", directory, "-D", f"{root}/usr/share/freeradius"])
-    assert judged.returncode == 0, judged.stdout[-2000:]
+    status, printed, _ = run(program, "-XC", "-d", directory, "-D", f"{root}/usr/share/freeradius")
+    want(status == 0, f"FreeRADIUS reads it: {printed[-2000:]}")
     return True
 
 
@@ -270,75 +262,76 @@ def agree(realm_of):
         there = realm_in_freeradius(name)
         here = realm_of("u@" + (name.upper() if chance.randrange(2) else name))
         if there in made:
-            assert here and here["name"] == made[there], (name, there, here and here["name"])
+            want(here and here["name"] == made[there], f"{name}: {there}, not {here and here['name']}")
             told += 1
         elif there == "here.example":
-            assert here is None, (name, here["name"])
+            want(here is None, f"{name}: none, not {here and here['name']}")
     return told
 
 
-def look_over(name, texts, module, roam, lost):
+def look_over(name, texts, roam, lost):
     with tempfile.TemporaryDirectory() as directory:
         for file, text in texts.items():
             with open(os.path.join(directory, file), "w", encoding="utf-8") as opened:
-                opened.write(text.replace("{directory}", directory) if file == "radiusd.conf" else text)
+                opened.write(changed(text, "{directory}", directory) if file == "radiusd.conf" else text)
         is_judged = "radiusd.conf" in texts and judged_by_freeradius(directory)
         paths = [os.path.join(directory, it) for it in (["radiusd.conf"] if "radiusd.conf" in texts else texts)]
-        done = run([sys.executable, CONVERTER, *paths])
-        assert done.returncode == (1 if lost else 0), done.stderr
-        assert all(it in done.stderr for it in lost), done.stderr
-        conf = tomllib.loads(done.stdout)
-        module.keeps_the_rules(conf)
+        status, written, said = run(sys.executable, CONVERTER, *paths)
+        want(status == (1 if lost else 0) and all(it in said for it in lost), f"{name}: {status}, {said}")
+        conf = tomllib.loads(written)
+        converter.keeps_the_rules(conf)
         if roam:
             made = os.path.join(directory, "roam.conf")
             with open(made, "w", encoding="utf-8") as opened:
-                opened.write(done.stdout)
-            assert run([roam, "check", made]).returncode == 0, run([roam, "check", made]).stderr
-        print(f"{name}: {done.stderr.splitlines()[0]}" + ("; read by FreeRADIUS" if is_judged else ""))
-    return conf, done.stdout
+                opened.write(written)
+            judged = run(roam, "check", made)
+            want(judged[0] == 0, f"{name}: roam accepts it: {judged[2]}")
+        print(f"{name}: {said.splitlines()[0]}" + ("; read by FreeRADIUS" if is_judged else ""))
+    return conf, written
 
 
 def main():
-    roam, module = sys.argv[1] if len(sys.argv) > 1 else None, parts_of_try_converter()
+    [roam] = words(__doc__, 0, 1) or [None]
+    be_quiet()
     program = shutil.which("freeradius") or "/usr/sbin/freeradius"
     radiusd = RADIUSD.format(root=re.sub("/usr/sbin/freeradius$", "", program), directory="{directory}", auth="no")
-    conf, text = look_over("each kind", {"radiusd.conf": radiusd, "clients.conf": CLIENTS, "proxy.conf": PROXY}, module, roam, LOST)
+    conf, text = look_over("each kind", {"radiusd.conf": radiusd, "clients.conf": CLIENTS, "proxy.conf": PROXY}, roam, LOST)
     for kind, what in TOLD:
-        assert any(line.startswith(f"# {kind}: ") and what in line for line in text.splitlines()), what
-    assert [(it["name"], it["ip"], it["secret"]) for it in conf["peer"]][:3] == [
-        ("first", "192.0.2.1", 'a "secret" # of one'), ("192.0.2.2", "192.0.2.2", "of-two"), ("wired", "192.0.2.16/30", "of wired")]
+        want(any(line.startswith(f"# {kind}: ") and what in line for line in text.splitlines()), what)
+    want([(it["name"], it["ip"], it["secret"]) for it in conf["peer"]][:3] == [
+        ("first", "192.0.2.1", 'a "secret" # of one'), ("192.0.2.2", "192.0.2.2", "of-two"), ("wired", "192.0.2.16/30", "of wired")])
     first = conf["peer"][0]
-    assert first["coa"] == "192.0.2.1:3799" and first["nas_ip"] == "192.0.2.1" and first["limit_proxy_state"] and "require_seal" not in first
-    assert [it["name"] for it in conf["peer"] if it.get("require_seal")] == ["wired"]
-    assert [it["ip"] for it in conf["peer"] if "coa" not in it] == ["192.0.2.2", "192.0.2.16/30", "10.20.0.0/16", "192.0.2.40"]
+    want(first["coa"] == "192.0.2.1:3799" and first["nas_ip"] == "192.0.2.1" and first["limit_proxy_state"] and "require_seal" not in first)
+    want([it["name"] for it in conf["peer"] if it.get("require_seal")] == ["wired"])
+    want([it["ip"] for it in conf["peer"] if "coa" not in it] == ["192.0.2.2", "192.0.2.16/30", "10.20.0.0/16", "192.0.2.40"])
     a, b, x, six, both, every = conf["realm"]
-    assert six["out"].startswith("[::1]:") and [it["auth"] for it in six["server"]] == ["[2001:db8::2]:1812"]
-    assert [it["auth"] for it in both["server"]] == ["198.51.100.1:1812", "[2001:db8::2]:1812"]
-    assert [it.rpartition(":")[0] for it in both["out"]] == ["203.0.113.11", "[::1]"]
-    assert a["server"] == [{"auth": "198.51.100.1:1812", "acct": "198.51.100.1:1813", "secret": "of-home", "require_seal": True}]
-    assert (a["wait"], a["rest"], a["out"], a["reverse"], a["hold"]) == (4000, 60000, "203.0.113.11:20001", "203.0.113.10:3799", 7000)
-    assert b["also"] == ["*.b.example"] and b["server"][0]["acct"] == "198.51.100.2:11813" and "rest" not in b and b["reverse"] != a["reverse"]
-    assert x["accounting"] == every["accounting"] == "answer" and every["also"] == ["*"] and every["rest_after"] == 50
-    assert conf["reject"] == ["here.example"] and conf["log_exchanges"] == "none" and "status_server" not in conf
-    assert b["conversations"] and "conversations" not in a and a["own_sessions"] and "own_sessions" not in x and conf["max_attributes"] == 150
-    print(f"{agree(module.realms_in_roam(conf))} names mean the same realm")
+    want(six["out"].startswith("[::1]:") and [it["auth"] for it in six["server"]] == ["[2001:db8::2]:1812"])
+    want([it["auth"] for it in both["server"]] == ["198.51.100.1:1812", "[2001:db8::2]:1812"])
+    want([it.rpartition(":")[0] for it in both["out"]] == ["203.0.113.11", "[::1]"])
+    want(a["server"] == [{"auth": "198.51.100.1:1812", "acct": "198.51.100.1:1813", "secret": "of-home", "require_seal": True}])
+    want((a["wait"], a["rest"], a["out"], a["reverse"], a["hold"]) == (4000, 60000, "203.0.113.11:20001", "203.0.113.10:3799", 7000))
+    want(b["also"] == ["*.b.example"] and b["server"][0]["acct"] == "198.51.100.2:11813" and "rest" not in b and b["reverse"] != a["reverse"])
+    want(x["accounting"] == every["accounting"] == "answer" and every["also"] == ["*"] and every["rest_after"] == 50)
+    want(conf["reject"] == ["here.example"] and conf["log_exchanges"] == "none" and "status_server" not in conf)
+    want(b["conversations"] and "conversations" not in a and a["own_sessions"] and "own_sessions" not in x and conf["max_attributes"] == 150)
+    print(f"{agree(converter.realms_in_roam(conf))} names mean the same realm")
     with tempfile.NamedTemporaryFile("w", suffix=".conf") as file:
         file.write('client one {\n  secret = "never shown\n}\n')
         file.flush()
-        done = run([sys.executable, CONVERTER, file.name])
-        assert (done.returncode, done.stderr) == (1, f"from-freeradius.py: {file.name}:2: a quotation mark without its end\n"), done.stderr
+        status, _, said = run(sys.executable, CONVERTER, file.name)
+        want((status, said) == (1, f"from-freeradius.py: {file.name}:2: a quotation mark without its end\n"), said)
     files = {it: open(os.path.join(ROOT, "examples", "migrating", it), encoding="utf-8").read() for it in ("clients.conf", "proxy.conf")}
-    conf, _ = look_over("examples/migrating", files, module, roam, [])
+    conf, _ = look_over("examples/migrating", files, roam, [])
     with open(os.path.join(ROOT, "docs", "MIGRATING.md"), encoding="utf-8") as file:
         page = tomllib.loads(file.read().split("```toml\n")[1].split("```")[0])
     for key in ("auth", "acct", "max_hops", "status_server", "answer_unnamed"):
-        assert conf[key] == page[key], key
+        want(conf[key] == page[key], key)
     for key in ("name", "ip", "secret", "require_seal", "coa"):
-        assert conf["peer"][0][key] == page["peer"][0][key], key
+        want(conf["peer"][0][key] == page["peer"][0][key], key)
     for key in ("name", "out", "server"):
-        assert conf["realm"][0][key] == page["realm"][0][key], key
-    print("examples/migrating: as docs/MIGRATING.md has it")
+        want(conf["realm"][0][key] == page["realm"][0][key], key)
+    return end("examples/migrating is as docs/MIGRATING.md has it")
 
 
 if __name__ == "__main__":
-    main()
+    sys.exit(main())

@@ -14,6 +14,9 @@ import subprocess
 import sys
 import tempfile
 
+sys.dont_write_bytecode = True
+from looks import end, go_on, want
+
 HERE = os.path.dirname(os.path.abspath(__file__))
 PROGRAM = os.path.join(os.path.dirname(HERE), 'installed', 'f-ticks.py')
 PAGE = os.path.join(os.path.dirname(os.path.dirname(HERE)), 'docs', 'OPERATING.md')
@@ -46,13 +49,10 @@ FORMS = [
 ]
 GIVEN_UP = 'x exchange result=given_up request=access'
 FORGED = [ACCEPT, HEADED, REFUSED, WARNED, GIVEN_UP]
-failed = []
 
 
 def must(what, holds):
-    print(('yes: ' if holds else 'NO: ') + what)
-    if not holds:
-        failed.append(what)
+    want(holds, what)
 
 
 def quoted(value):
@@ -252,6 +252,7 @@ def try_page():
 
 
 def main():
+    go_on()
     with tempfile.NamedTemporaryFile('w', suffix='.key') as key:
         key.write(KEY)
         key.flush()
@@ -260,8 +261,7 @@ def main():
         with tempfile.TemporaryDirectory() as folder:
             try_cursor(key.name, folder)
     try_page()
-    print(f'try-fticks.py: {len(failed) or "no"} failure')
-    return 1 if failed else 0
+    return end()
 
 
 if __name__ == '__main__':

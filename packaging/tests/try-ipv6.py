@@ -11,59 +11,36 @@ It needs freeradius, radclient and radsecproxy (Debian has them), and no root.
 """
 
 import hashlib
-import os
 import socket
 import subprocess
 import sys
-import tempfile
 import time
 import urllib.request
 
-from around import Around, command, packets
+sys.dont_write_bytecode = True
+import radius
+from around import command, tried
+from looks import want, words
+from radius import attribute, bound, packets, received, sealed_answer
+from server import configuration, peer, realm
 
 SIX, FOUR = "::1", "127.0.0.1"
 AUTH, ACCT, COA, METRICS, OUT, REVERSE, HOME = 29012, 29013, 29799, 29812, (29020, 29021, 29022), 29030, (29112, 29113, 29212, 29213)
 FREERADIUS, RADSECPROXY = (29312, 29313), (29412, 29413)
 PEER, SERVERS = b"a secret of the peer", b"a secret of the servers"
-CONF = f"""auth = "[{SIX}]:{AUTH}"
-acct = "[{SIX}]:{ACCT}"
 
-[[peer]]
-name = "six"
-ip = "::/127"
-secret = "{PEER.decode()}"
-coa = "[{SIX}]:{COA}"
-nas_ipv6 = "2001:db8::7"
 
-[[realm]]
-name = "six.example"
-own_sessions = true
-out = "[{SIX}]:{OUT[0]}"
-reverse = "[{SIX}]:{REVERSE}"
+def of_home(ip, ports):
+    host = f"[{ip}]" if ":" in ip else ip
+    return {"auth": f"{host}:{ports[0]}", "acct": f"{host}:{ports[1]}", "secret": SERVERS.decode()}
 
-[[realm.server]]
-auth = "[{SIX}]:{HOME[0]}"
-acct = "[{SIX}]:{HOME[1]}"
-secret = "{SERVERS.decode()}"
 
-[[realm]]
-name = "four.example"
-out = "{FOUR}:{OUT[1]}"
-
-[[realm.server]]
-auth = "{FOUR}:{HOME[2]}"
-acct = "{FOUR}:{HOME[3]}"
-secret = "{SERVERS.decode()}"
-
-[[realm]]
-name = "free.example"
-out = "[{SIX}]:{OUT[2]}"
-
-[[realm.server]]
-auth = "[{SIX}]:{FREERADIUS[0]}"
-acct = "[{SIX}]:{FREERADIUS[1]}"
-secret = "{SERVERS.decode()}"
-"""
+CONF = configuration(
+    peer("six", "::/127", PEER.decode(), coa=f"[{SIX}]:{COA}", nas_ipv6="2001:db8::7"),
+    realm("six.example", of_home(SIX, HOME), own_sessions=True, out=f"[{SIX}]:{OUT[0]}", reverse=f"[{SIX}]:{REVERSE}"),
+    realm("four.example", of_home(FOUR, HOME[2:]), out=f"{FOUR}:{OUT[1]}"),
+    realm("free.example", of_home(SIX, FREERADIUS), out=f"[{SIX}]:{OUT[2]}"),
+    auth=f"[{SIX}]:{AUTH}", acct=f"[{SIX}]:{ACCT}")
 
 HOME_OF_FREERADIUS = f"""
 client broker {{
@@ -130,46 +107,15 @@ realm * {{
 
 
 def opened(ip, port):
-    """A socket of its own there."""
-    one = socket.socket(socket.AF_INET6 if ":" in ip else socket.AF_INET, socket.SOCK_DGRAM)
-    one.bind((ip, port))
-    one.settimeout(3)
-    return one
-
-
-def want(holds, what):
-    print(("ok    " if holds else "FAILS ") + what, flush=True)
-    if not holds:
-        sys.exit(1)
-
-
-def received(at):
-    """A datagram as a packet, and where it is from; nothing, where none comes."""
-    try:
-        octets, source = at.recvfrom(4096)
-    except TimeoutError:
-        return None, None
-    return packets.Packet(octets), source[:2]
+    return bound(port, ip, seconds=3)
 
 
 def access(number, user):
-    authenticator = hashlib.md5(bytes([number])).digest()
-    attributes = [(1, user), (2, packets.hidden(b"a password".ljust(16, b"\0"), PEER, authenticator)), (80, packets.ZEROS)]
-    code = packets.ACCESS_REQUEST
-    return packets.text(code, number, authenticator, packets.sealed(code, number, authenticator, attributes, PEER))
+    return radius.access_with_password(number, user, PEER, hashlib.md5(bytes([number])).digest())
 
 
 def accounting(number, user, session):
-    attributes = [(1, user), (95, socket.inet_pton(socket.AF_INET6, "2001:db8::7")), (40, bytes([0, 0, 0, 1])), (44, session)]
-    return packets.signed(packets.ACCOUNTING_REQUEST, number, packets.ZEROS, attributes, PEER)
-
-
-def answer(asked, code):
-    """A reply with the request's Proxy-States; of an Access-Request a sealed one."""
-    attributes = [(33, it) for it in asked.values(33)]
-    if code == packets.ACCESS_ACCEPT:
-        attributes = packets.sealed(code, asked.id, asked.authenticator, [(80, packets.ZEROS)] + attributes, SERVERS)
-    return packets.signed(code, asked.id, asked.authenticator, attributes, SERVERS)
+    return radius.accounting(number, user, session, PEER, body=attribute(95, socket.inet_pton(socket.AF_INET6, "2001:db8::7")))
 
 
 def exchange(nas, home, to, request, code, source):
@@ -178,7 +124,7 @@ def exchange(nas, home, to, request, code, source):
     asked, came_from = received(home)
     if asked is None or came_from != source:
         return False
-    home.sendto(answer(asked, code), came_from)
+    home.sendto(sealed_answer(code, asked.octets, SERVERS), came_from)
     reply, replied_from = received(nas)
     return reply is not None and (reply.code, reply.id, replied_from) == (code, request[1], (SIX, to))
 
@@ -216,8 +162,7 @@ def try_it(program):
     disconnect(home[0], 5, "2001:db8::7")
     asked, came_from = received(coa)
     want(asked is not None and asked.code == packets.DISCONNECT_REQUEST and came_from == six, "a Disconnect by its NAS-IPv6-Address")
-    states = [(33, it) for it in asked.values(33)]
-    coa.sendto(packets.signed(packets.DISCONNECT_ACK, asked.id, asked.authenticator, states, PEER), came_from)
+    coa.sendto(radius.answer(packets.DISCONNECT_ACK, asked.octets, PEER), came_from)
     reply, _ = received(home[0])
     want(reply is not None and (reply.code, reply.id) == (packets.DISCONNECT_ACK, 5), "its ACK")
     disconnect(home[0], 6, "2001:db8::8")
@@ -234,25 +179,18 @@ def try_it(program):
 
 
 def main():
-    if len(sys.argv) > 2:
-        sys.exit(__doc__)
-    program = os.path.abspath(sys.argv[1]) if len(sys.argv) == 2 else None
-    with tempfile.TemporaryDirectory() as directory:
-        around = Around(directory)
+    [program] = words(__doc__, 0, 1) or [None]
+
+    def start(around):
         around.broker(program, (f'metrics = "[{SIX}]:{METRICS}"\n' if program else "") + CONF, 60000)
         around.freeradius("home", HOME_OF_FREERADIUS)
         around.start("proxy", [command("radsecproxy"), "-f", "-c", around.write("proxy.conf", PROXY), "-i", around.path("proxy.pid")])
-        time.sleep(3)
-        try:
-            try_it(program)
-            try_neighbours()
-        except SystemExit:
-            around.tell()
-            raise
-        finally:
-            ended = around.close()
-    want(not ended, "all of them still serve")
+
+    def look(_):
+        try_it(program)
+        try_neighbours()
+    return tried(start, look)
 
 
 if __name__ == "__main__":
-    main()
+    sys.exit(main())

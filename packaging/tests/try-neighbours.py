@@ -12,18 +12,13 @@ import hashlib
 import os
 import re
 import select
-import shutil
-import socket
-import subprocess
 import sys
-import tempfile
-import time
 
 sys.dont_write_bytecode = True
-HERE = os.path.dirname(os.path.abspath(__file__))
-sys.path.insert(0, os.path.join(HERE, "..", "..", "oracle"))
-import broker as apart  # noqa: E402
-import packets  # noqa: E402
+from around import command, tried
+from looks import go_on, want, words
+from radius import bound, packets
+from server import configuration, peer, realm
 
 # Whom there is, each at an address of its own: the broker, two institutions' home servers, a third one's that lets the country in alone,
 # a foreign one; the proxy of an institution, the proxy above, an access server of its own; and access servers behind these two proxies.
@@ -32,69 +27,24 @@ UNIVERSITY, ABOVE, LIBRARY, OF_UNIVERSITY, OF_ABOVE = "127.0.9.11", "127.0.9.65"
 AUTH, ACCT, SECRET, PASSWORD = 28812, 28813, b"a secret of everybody here", b"hello"
 GONE, OPERATOR, CUI = (6, 64, 65, 81), "1university.example", "0x00"
 
-CONF = f"""auth = "{BROKER}:{AUTH}"
-acct = "{BROKER}:{ACCT}"
-reject = ["example", "*.example", "*.3gppnetwork.org"]
-well_formed = true
-answer_unnamed = true
-status_server = true
 
-[[peer]]
-name = "university"
-ip = "{UNIVERSITY}"
-secret = "{SECRET.decode()}"
-require_seal = true
-operator_name = "university.example"
-ask_cui = true
-request_without = ["26.9", "126"]
-reply_without = ["6", "64", "65", "81"]
 
-[[peer]]
-name = "above"
-ip = "{ABOVE}"
-secret = "{SECRET.decode()}"
-require_seal = true
+def of_home(ip, *services):
+    return {**{name: f"{ip}:{port}" for name, port in services}, "secret": SECRET.decode()}
 
-[[peer]]
-name = "library"
-ip = "{LIBRARY}"
-secret = "{SECRET.decode()}"
-limit_proxy_state = true
 
-[[realm]]
-name = "college.example"
-also = ["*.college.example"]
-loop_prevention = true
-out = "{BROKER}:28820"
-
-[[realm.server]]
-auth = "{COLLEGE}:{AUTH}"
-acct = "{COLLEGE}:{ACCT}"
-secret = "{SECRET.decode()}"
-
-[[realm]]
-name = "school.example"
-peers = ["university", "library"]
-accounting = "drop"
-out = "{BROKER}:28821"
-
-[[realm.server]]
-auth = "{SCHOOL}:{AUTH}"
-secret = "{SECRET.decode()}"
-
-[[realm]]
-name = "elsewhere.invalid"
-also = ["*"]
-accounting = "answer"
-loop_prevention = true
-share = 64
-rest_after = 50
-out = "{BROKER}:28822"
-
-[[realm.server]]
-auth = "{ABOVE}:{AUTH}"
-secret = "{SECRET.decode()}"
-"""
+BOTH = (("auth", AUTH), ("acct", ACCT))
+CONF = configuration(
+    peer("university", UNIVERSITY, SECRET.decode(), require_seal=True, operator_name="university.example", ask_cui=True,
+         request_without=["26.9", "126"], reply_without=["6", "64", "65", "81"]),
+    peer("above", ABOVE, SECRET.decode(), require_seal=True),
+    peer("library", LIBRARY, SECRET.decode(), limit_proxy_state=True),
+    realm("college.example", of_home(COLLEGE, *BOTH), also=["*.college.example"], loop_prevention=True, out=f"{BROKER}:28820"),
+    realm("school.example", of_home(SCHOOL, BOTH[0]), peers=["university", "library"], accounting="drop", out=f"{BROKER}:28821"),
+    realm("elsewhere.invalid", of_home(ABOVE, BOTH[0]), also=["*"], accounting="answer", loop_prevention=True, share=64, rest_after=50,
+          out=f"{BROKER}:28822"),
+    auth=f"{BROKER}:{AUTH}", acct=f"{BROKER}:{ACCT}", reject=["example", "*.example", "*.3gppnetwork.org"], well_formed=True,
+    answer_unnamed=True, status_server=True)
 
 
 def radsecproxy(address, clients, servers, realms):
@@ -115,25 +65,6 @@ UPPER = radsecproxy(ABOVE, {"broker": BROKER, "nas": OF_ABOVE},
                     {"down": (BROKER, AUTH), "foreign": (FOREIGN, AUTH)}, {**{name: "server foreign" for name in ("inst.org", "inst..org", "nobody.example", r"/3gppnetwork\.org$")}, "*": "server down"})
 # It tells what it sees in the Reply-Message, and gives what no guest is to get.
 HOME = """
-prefix = {root}/usr
-libdir = {libraries}
-logdir = {directory}
-run_dir = {directory}
-db_dir = {directory}
-radacctdir = {directory}
-cleanup_delay = 0
-proxy_requests = no
-log {{
-  destination = files
-  file = {directory}/freeradius.log
-}}
-security {{
-  reject_delay = 0
-  allow_vulnerable_openssl = yes
-}}
-thread pool {{
-  start_servers = 1
-}}
 client everybody {{
   ipaddr = 127.0.9.0/24
   secret = "{secret}"
@@ -182,31 +113,6 @@ def listens():
     return said
 
 
-def stand_in(path):
-    """Serves a configuration by the broker that is written apart."""
-    with open(path, encoding="utf-8") as file:
-        config = apart.Config(file.read())
-    places = {"auth": (BROKER, AUTH), "acct": (BROKER, ACCT)}
-    places |= {f"out:{n}": apart.endpoint(realm["out"]) for n, realm in enumerate(config.realms)}
-    core, sockets, start, last = apart.Broker(config), {}, time.monotonic(), 0
-    for place, endpoint in places.items():
-        sockets[place] = socket.socket(socket.AF_INET, socket.SOCK_DGRAM)
-        sockets[place].bind(endpoint)
-    while True:
-        ready, now, sent = select.select(list(sockets.values()), [], [], 0.01)[0], int((time.monotonic() - start) * 1000), []
-        for place, opened in sockets.items():
-            if opened in ready:
-                datagram, source = opened.recvfrom(65535)
-                try:
-                    sent += core.arrive(now, place, source, datagram)
-                except packets.Refused as refused:
-                    print(f"refused {refused.number} at {place} from {source[0]}", file=sys.stderr, flush=True)
-        if now >= last + 10:
-            sent, last = sent + core.tick(now, 0), now
-        for _, place, to, octets in sent:
-            sockets[place].sendto(octets, to)
-
-
 # Asking
 
 def ask(source, to, code, user, attributes=(), password=PASSWORD, sealed=True, seconds=4):
@@ -218,8 +124,7 @@ def ask(source, to, code, user, attributes=(), password=PASSWORD, sealed=True, s
         octets = packets.text(code, number, authenticator, packets.sealed(code, number, authenticator, attributes, SECRET))
     else:
         octets = packets.signed(code, number, packets.ZEROS, attributes, SECRET)
-    with socket.socket(socket.AF_INET, socket.SOCK_DGRAM) as opened:
-        opened.bind((source, 0))
+    with bound(0, source) as opened:
         opened.connect(to)
         for _ in range(max(1, int(seconds / 1.5))):
             opened.send(octets)
@@ -279,68 +184,26 @@ def wrong_of(by, code, user, more, expected, seen):
     return None
 
 
-def started(words, log):
-    return subprocess.Popen(words, stdout=log, stderr=log, stdin=subprocess.DEVNULL)
-
-
-def command(name):
-    found = shutil.which(name) or shutil.which(name, path="/usr/sbin")
-    return found or sys.exit(f"try-neighbours: {name} isn't here")
-
-
-def serve(directory, program):
+def start(around, program):
     """Starts all of them; their logs lie in the directory."""
-    proxy, home = command("radsecproxy"), command("freeradius")
-    root = re.sub("/usr/sbin/freeradius$", "", home)
-    files = {"broker.conf": CONF, "before.conf": BEFORE, "upper.conf": UPPER,
-             "radiusd.conf": HOME.format(root=root, libraries=f"{root}/usr/lib/freeradius", directory=directory,
-                                         secret=SECRET.decode(), password=PASSWORD.decode(), listens=listens())}
-    for name, text in files.items():
-        with open(os.path.join(directory, name), "w", encoding="utf-8") as file:
-            file.write(text)
-    conf = os.path.join(directory, "broker.conf")
-    broker = [program, "serve", conf, "120000"] if program else [sys.executable, os.path.abspath(__file__), "--stand-in", conf]
-    every = [("broker", broker), ("home", [home, "-fxx", "-l", "stdout", "-d", directory, "-n", "radiusd", "-D", f"{root}/usr/share/freeradius"])]
-    every += [(name, [proxy, "-f", "-c", os.path.join(directory, f"{name}.conf"), "-i", os.path.join(directory, f"{name}.pid")])
-              for name in ("before", "upper")]
-    running = []
-    for name, words in every:
-        with open(os.path.join(directory, f"{name}.log"), "wb") as log:
-            running.append(started(words, log))
-    return running
+    around.broker(program, CONF, 120000)
+    around.freeradius("home", HOME.format(secret=SECRET.decode(), password=PASSWORD.decode(), listens=listens()))
+    for name, text in (("before", BEFORE), ("upper", UPPER)):
+        around.start(name, [command("radsecproxy"), "-f", "-c", around.write(f"{name}.conf", text), "-i", around.path(f"{name}.pid")])
+
+
+def look_at_cases(around):
+    for what, *case in CASES:
+        wrong = wrong_of(*case)
+        want(wrong is None, what + (f": {wrong}" if wrong else ""))
+    accounted = len(set(re.findall(r"Received Accounting-Request Id (\d+)", around.log("home"))))
+    want(accounted == 1, f"the home server had {accounted} Accounting-Request, of 1")
 
 
 def main():
-    if sys.argv[1:2] == ["--stand-in"]:
-        stand_in(sys.argv[2])
-    if len(sys.argv) > 2:
-        sys.exit(__doc__)
-    program, faults = os.path.abspath(sys.argv[1]) if len(sys.argv) == 2 else None, 0
-    with tempfile.TemporaryDirectory() as directory:
-        running = serve(directory, program)
-        try:
-            time.sleep(3)
-            for what, by, code, user, more, expected, seen in CASES:
-                wrong = wrong_of(by, code, user, more, expected, seen)
-                faults += bool(wrong)
-                print(f"{'WRONG' if wrong else 'as decided'}: {what}" + (f": {wrong}" if wrong else ""), flush=True)
-            ended = [process.args[0] for process in running if process.poll() is not None]
-        finally:
-            for process in running:
-                process.terminate()
-            for process in running:
-                process.wait(10)
-        with open(os.path.join(directory, "home.log"), encoding="utf-8", errors="replace") as log:
-            accounted = len(set(re.findall(r"Received Accounting-Request Id (\d+)", log.read())))
-        if ended or accounted != 1:
-            print(f"WRONG: ended are {ended}; the home server had {accounted} Accounting-Requests, not 1")
-            faults += 1
-        if faults:
-            for name in ("broker", "home", "before", "upper"):
-                with open(os.path.join(directory, f"{name}.log"), encoding="utf-8", errors="replace") as log:
-                    print(f"--- {name}:\n" + "".join(log.readlines()[-15:]))
-    print(f"try-neighbours: {len(CASES)} requests, {faults} faults" + ("" if program else " (by the broker that is written apart)"))
-    return int(bool(faults))
+    [program] = words(__doc__, 0, 1) or [None]
+    go_on()
+    return tried(lambda around: start(around, program), look_at_cases)
 
 
 if __name__ == "__main__":

@@ -12,87 +12,40 @@ It needs no root.
 
 import collections
 import hashlib
-import os
 import select
-import socket
 import sys
-import tempfile
 import threading
 import time
 
-from around import Around, packets
+sys.dont_write_bytecode = True
+import radius
+from around import tried
+from looks import want, words
+from radius import HERE, bound, packets, received, sealed_answer
+from server import configuration, peer, realm
 
-HERE = "127.0.0.1"
 AUTH, ACCT, REVERSE, COA, HOME = (29511, 29521), (29512, 29522), (29530, 29531), 29532, (29541, 29542)
 OUT = tuple(range(29550, 29558))
 PEER, SERVER = b"a secret of the peer", b"a secret of the server"
 COUNT, NASES = 2000, 8
-CONF = f"""shards = 2
-auth = ["{HERE}:{AUTH[0]}", "{HERE}:{AUTH[1]}"]
-acct = ["{HERE}:{ACCT[0]}", "{HERE}:{ACCT[1]}"]
-
-[[peer]]
-name = "nas"
-ip = "{HERE}"
-secret = "{PEER.decode()}"
-coa = "{HERE}:{COA}"
-nas_id = "nas"
-
-[[realm]]
-name = "a.example"
-out = [{", ".join(f'"{HERE}:{port}"' for port in OUT)}]
-reverse = ["{HERE}:{REVERSE[0]}", "{HERE}:{REVERSE[1]}"]
-wait = 5000
-
-[[realm.server]]
-auth = "{HERE}:{HOME[0]}"
-acct = "{HERE}:{HOME[1]}"
-secret = "{SERVER.decode()}"
-"""
-
-
-def want(holds, what):
-    print(("ok    " if holds else "FAILS ") + what, flush=True)
-    if not holds:
-        sys.exit(1)
+CONF = configuration(
+    peer("nas", secret=PEER.decode(), coa=f"{HERE}:{COA}", nas_id="nas"),
+    realm("a.example", {"auth": f"{HERE}:{HOME[0]}", "acct": f"{HERE}:{HOME[1]}", "secret": SERVER.decode()},
+          out=[f"{HERE}:{port}" for port in OUT], reverse=[f"{HERE}:{port}" for port in REVERSE], wait=5000),
+    shards=2, auth=[f"{HERE}:{port}" for port in AUTH], acct=[f"{HERE}:{port}" for port in ACCT])
 
 
 def opened(port):
-    """A socket there, with room for what comes at one time."""
-    one = socket.socket(socket.AF_INET, socket.SOCK_DGRAM)
-    one.setsockopt(socket.SOL_SOCKET, socket.SO_RCVBUF, 1 << 22)
-    one.bind((HERE, port))
-    one.settimeout(5)
-    return one
-
-
-def received(at):
-    try:
-        octets, source = at.recvfrom(4096)
-    except TimeoutError:
-        return None, None
-    return packets.Packet(octets), source[1]
+    return bound(port, seconds=5)
 
 
 def access(number, source):
     """A request of an Identifier, told from others by its source's number."""
-    authenticator = hashlib.md5(b"%d %d" % (number, source)).digest()
-    attributes = [(1, b"u@a.example"), (2, packets.hidden(b"a password".ljust(16, b"\0"), PEER, authenticator)), (80, packets.ZEROS)]
-    code = packets.ACCESS_REQUEST
-    return packets.text(code, number, authenticator, packets.sealed(code, number, authenticator, attributes, PEER))
+    return radius.access_with_password(number, b"u@a.example", PEER, hashlib.md5(b"%d %d" % (number, source)).digest())
 
 
 def accounting(number, session):
-    attributes = [(1, b"u@a.example"), (32, b"nas"), (40, bytes([0, 0, 0, 1])), (44, session)]
-    return packets.signed(packets.ACCOUNTING_REQUEST, number, packets.ZEROS, attributes, PEER)
-
-
-def answer(asked, code):
-    """A reply with the request's Proxy-States; of an Access-Request a sealed one."""
-    attributes = [(33, it) for it in asked.values(33)]
-    if code == packets.ACCESS_ACCEPT:
-        attributes = packets.sealed(code, asked.id, asked.authenticator, [(80, packets.ZEROS)] + attributes, SERVER)
-    return packets.signed(code, asked.id, asked.authenticator, attributes, SERVER)
+    return radius.accounting(number, b"u@a.example", session, PEER, body=radius.attribute(32, b"nas"))
 
 
 class SlowServer:
@@ -109,7 +62,7 @@ class SlowServer:
         octets, source = self.socket.recvfrom(4096)
         is_new = (source[1], octets[:20]) not in self.seen
         self.seen.add((source[1], octets[:20]))
-        self.waiting.append((time.monotonic(), packets.Packet(octets), source, is_new))
+        self.waiting.append((time.monotonic(), octets, source, is_new))
         self.now[source[1]] += is_new
         self.most[source[1]] = max(self.most[source[1]], self.now[source[1]])
 
@@ -126,7 +79,7 @@ class SlowServer:
             while self.waiting and self.is_answered(max(last, self.waiting[0][0])):
                 _, asked, source, is_new = self.waiting.popleft()
                 self.now[source[1]] -= is_new
-                self.socket.sendto(answer(asked, packets.ACCESS_ACCEPT), source)
+                self.socket.sendto(sealed_answer(packets.ACCESS_ACCEPT, asked, SERVER), source)
 
     def close(self):
         self.is_over = True
@@ -182,46 +135,35 @@ def each_place():
         for port in at:
             nas.sendto(request, (HERE, port))
             asked, source = received(home)
-            want(asked is not None and source == OUT[0], f"a request at {port} is forwarded, though it came elsewhere before")
-            home.sendto(answer(asked, code), (HERE, OUT[1]))
+            want(asked is not None and source == (HERE, OUT[0]), f"a request at {port} is forwarded, though it came elsewhere before")
+            home.sendto(sealed_answer(code, asked.octets, SERVER), (HERE, OUT[1]))
             nas.settimeout(0.5)
             want(received(nas) == (None, None), "a reply at another out goes nowhere")
             nas.settimeout(5)
-            home.sendto(answer(asked, code), (HERE, source))
+            home.sendto(sealed_answer(code, asked.octets, SERVER), source)
             reply, replied_from = received(nas)
-            want(reply is not None and (reply.code, replied_from) == (code, port), "its reply leaves from where it came")
+            want(reply is not None and (reply.code, replied_from) == (code, (HERE, port)), "its reply leaves from where it came")
     names = [(1, b"u@a.example"), (32, b"nas"), (44, b"0001"), (55, int(time.time()).to_bytes(4, "big"))]
     homes[0].sendto(packets.signed(packets.DISCONNECT_REQUEST, 3, packets.ZEROS, names, SERVER), (HERE, REVERSE[1]))
     asked, source = received(coa)
-    want(asked is not None and source == OUT[0], "a Disconnect at the second reverse is forwarded")
-    states = [(33, it) for it in asked.values(33)]
-    coa.sendto(packets.signed(packets.DISCONNECT_ACK, asked.id, asked.authenticator, states, PEER), (HERE, source))
+    want(asked is not None and source == (HERE, OUT[0]), "a Disconnect at the second reverse is forwarded")
+    coa.sendto(radius.answer(packets.DISCONNECT_ACK, asked.octets, PEER), source)
     reply, replied_from = received(homes[0])
-    want(reply is not None and (reply.code, replied_from) == (packets.DISCONNECT_ACK, REVERSE[1]), "its ACK leaves from there")
+    want(reply is not None and (reply.code, replied_from) == (packets.DISCONNECT_ACK, (HERE, REVERSE[1])), "its ACK leaves from there")
     for one in (nas, coa, *homes):
         one.close()
 
 
 def main():
-    if len(sys.argv) > 2:
-        sys.exit(__doc__)
-    program = os.path.abspath(sys.argv[1]) if len(sys.argv) == 2 else None
-    with tempfile.TemporaryDirectory() as directory:
-        around = Around(directory)
-        around.broker(program, CONF, 120000)
-        time.sleep(3)
-        try:
-            each_place()
-            if program:
-                many(waits_for_all=False)
-                many(waits_for_all=True)
-        except SystemExit:
-            around.tell()
-            raise
-        finally:
-            ended = around.close()
-    want(not ended, "it still serves")
+    [program] = words(__doc__, 0, 1) or [None]
+
+    def look(_):
+        each_place()
+        if program:
+            many(waits_for_all=False)
+            many(waits_for_all=True)
+    return tried(lambda around: around.broker(program, CONF, 120000), look)
 
 
 if __name__ == "__main__":
-    main()
+    sys.exit(main())

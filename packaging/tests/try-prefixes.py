@@ -5,29 +5,17 @@ Serves peers at an address and at a prefix that has it, and has `roam ctl .. rel
 come at its address. What is asked from there must be the peer's of the longest prefix that is in the file: an Accounting-Request that is
 signed by its secret is answered, and one signed by another's isn't, those of peers that went among them.
 """
-import hashlib
-import os
-import socket
-import subprocess
 import sys
 import tempfile
 import time
 
-HERE, PORT = "127.0.0.1", 17820
-HEAD = f"""shards = 1
-auth = "{HERE}:{PORT}"
-acct = "{HERE}:{PORT + 1}"
-control = "%s"
-"""
-REALM = f"""
-[[realm]]
-name = "a.example"
-out = "{HERE}:{PORT + 2}"
-accounting = "answer"
-[[realm.server]]
-auth = "{HERE}:{PORT + 10}"
-secret = "a-secret-of-home"
-"""
+sys.dont_write_bytecode = True
+from looks import be_quiet, end, want, words
+from radius import HERE, accounting, asked
+from server import Server, configuration, peer, places, realm
+
+PORT = 17820
+REALM = realm("a.example", {"auth": f"{HERE}:{PORT + 10}"}, out=f"{HERE}:{PORT + 2}", accounting="answer")
 NETWORK = ("network", "127.0.0.0/8")
 # The peers of each file, and whose the requests from 127.0.0.1 are.
 FILES = [
@@ -42,28 +30,14 @@ FILES = [
 NAMES = sorted({name for peers, _ in FILES for name, _ in peers})
 
 
-def want(holds, what):
-    if not holds:
-        sys.exit(f"try-prefixes: {what}")
-
-
 def secret_of(name):
     return f"a-secret-of-{name}"
 
 
 def is_answered(name):
     """Whether an Accounting-Request that is signed by the secret of a peer is answered."""
-    with socket.socket(socket.AF_INET, socket.SOCK_DGRAM) as asking:
-        asking.bind((HERE, 0))
-        asking.settimeout(2)
-        attributes = bytes([1, 13]) + b"u@a.example" + bytes([40, 6, 0, 0, 0, 1, 44, 3]) + b"1"
-        head = bytes([4, 7]) + (20 + len(attributes)).to_bytes(2, "big")
-        signature = hashlib.md5(head + bytes(16) + attributes + secret_of(name).encode()).digest()
-        asking.sendto(head + signature + attributes, (HERE, PORT + 1))
-        try:
-            return asking.recv(4096)[0] == 5
-        except TimeoutError:
-            return False
+    reply = asked(accounting(7, b"u@a.example", b"1", secret_of(name).encode()), (HERE, PORT + 1))
+    return reply is not None and reply[0] == 5
 
 
 def look_at(peers, owner, round_of):
@@ -71,40 +45,25 @@ def look_at(peers, owner, round_of):
         want(is_answered(name) == (name == owner), f"{round_of}: of {peers} it isn't {owner} alone that is answered, but {name}")
 
 
-def try_all(program, folder):
-    conf, control = os.path.join(folder, "roam.conf"), os.path.join(folder, "control")
-
-    def write(peers):
-        tables = "".join(f'\n[[peer]]\nname = "{name}"\nip = "{ip}"\nsecret = "{secret_of(name)}"\n' for name, ip in peers)
-        with open(conf, "w", encoding="utf-8") as file:
-            file.write(HEAD % control + tables + REALM)
-        os.chmod(conf, 0o600)
-
-    write(FILES[0][0])
-    with open(os.path.join(folder, "said"), "w", encoding="utf-8") as said:
-        server = subprocess.Popen([program, "serve", conf], stdout=subprocess.DEVNULL, stderr=said)
-    try:
-        end = time.monotonic() + 60
-        while not is_answered(FILES[0][1]):
-            want(server.poll() is None and time.monotonic() < end, "it doesn't serve")
-        for number, (peers, owner) in enumerate(FILES):
-            if number:
-                write(peers)
-                ran = subprocess.run([program, "ctl", control, "reload"], stdout=subprocess.PIPE, stderr=subprocess.STDOUT, timeout=60, check=False)
-                want(ran.returncode == 0, f"{peers} aren't taken: {ran.stdout.decode()}")
-            look_at(peers, owner, f"file {number}")
-    finally:
-        server.terminate()
-        server.wait(60)
+def text_of(peers):
+    return configuration(*(peer(name, ip, secret_of(name)) for name, ip in peers), REALM, shards=1, **places(PORT))
 
 
 def main():
-    if len(sys.argv) != 2:
-        sys.exit(__doc__)
-    with tempfile.TemporaryDirectory() as folder:
-        try_all(os.path.abspath(sys.argv[1]), folder)
-    print(f"of {len(FILES)} files each has its peer at an address")
+    [program] = words(__doc__)
+    be_quiet()
+    with tempfile.TemporaryDirectory() as folder, Server(program, folder, text_of(FILES[0][0])) as server:
+        until = time.monotonic() + 60
+        while not is_answered(FILES[0][1]):
+            want(server.process.poll() is None and time.monotonic() < until, "it serves")
+        for number, (peers, owner) in enumerate(FILES):
+            if number:
+                ran = server.reload(text_of(peers))
+                want(ran.returncode == 0, f"{peers} are taken: {ran.stdout}{ran.stderr}")
+            look_at(peers, owner, f"file {number}")
+        server.stop()
+    return end(f"of {len(FILES)} files each has its peer at an address")
 
 
 if __name__ == "__main__":
-    main()
+    sys.exit(main())

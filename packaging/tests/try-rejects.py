@@ -11,146 +11,101 @@ unless
 """
 import os
 import re
-import socket
-import struct
-import subprocess
 import sys
 import tempfile
 import time
 
-AUTH = ('127.0.0.1', 18126)
-CONFIGURATION = '''shards = 1
-seed = "{seed}"
-auth = "127.0.0.1:18126"
-acct = "127.0.0.1:18136"
-trace_limit = 1000
-control = "{control}"
+sys.dont_write_bytecode = True
+from looks import end, go_on, want, words
+from radius import HERE, access, attribute, bound, heard
+from server import Server, configuration, peer, places, realm
 
-[[peer]]
-name = "north"
-ip = "127.0.0.1"
-secret = "a-secret-of-peer"
-
-[[realm]]
-name = "b.example"
-out = "127.0.0.1:22126"
-reverse = "127.0.0.1:23126"
-tries = 1
-wait = 1000
-hold = 0
-max_pending = 10
-max_sessions = 0
-server = [{{ auth = "127.0.0.1:28126", acct = "127.0.0.1:28136", secret = "h" }}]
-'''
+PORT = 18126
+TEXT = configuration(
+    peer("north", secret="a-secret-of-peer"),
+    realm("b.example", 28126, out=f"{HERE}:22126", reverse=f"{HERE}:23126", tries=1, wait=1000, hold=0, max_pending=10, max_sessions=0),
+    shards=1, **places(PORT), trace_limit=1000)
 LINE = re.compile(r'^[^"\n]*INFO exchange result=local_reject request=(?:access|other) realm=- peer=(\S+) user=(\S+) station=(\S+) '
                   r'server=- ms=0 tries=0(?: why=\w+)?(?: times=(\d+))?$', re.MULTILINE)
-failed = []
 
 
-def must(what, holds):
-    print(('yes: ' if holds else 'NO: ') + what, flush=True)
-    if not holds:
-        failed.append(what)
+def request(user, station=b"02-00-00-00-00-01", identifier=0):
+    return access(identifier, user, attribute(31, station))
 
 
-def request(user, station=b'02-00-00-00-00-01', identifier=0):
-    values = b''.join(struct.pack('BB', kind, len(value) + 2) + value for kind, value in [(1, user), (31, station)])
-    return struct.pack('!BBH', 1, identifier, 20 + len(values)) + os.urandom(16) + values
+def lines_of(server):
+    """The lines of local rejects: peer, user, station, and how many they tell of."""
+    return [(who, user, station, int(times or 1)) for who, user, station, times in LINE.findall(server.said())]
 
 
-class Server:
-    def __init__(self, program, folder):
-        self.program, self.control = program, os.path.join(folder, 'control')
-        path, self.log = os.path.join(folder, 'roam.conf'), os.path.join(folder, 'log')
-        with open(path, 'w', encoding='utf-8') as file:
-            file.write(CONFIGURATION.format(seed='11' * 32, control=self.control))
-        with open(self.log, 'wb') as log:
-            self.process = subprocess.Popen([program, 'serve', path], stderr=log)
+def counted(server):
+    return server.count("roam_peer_local_rejects_total", peer="north")
 
-    def lines(self):
-        """The lines of local rejects: peer, user, station, and how many they tell of."""
-        with open(self.log, encoding='ascii') as log:
-            return [(peer, user, station, int(times or 1)) for peer, user, station, times in LINE.findall(log.read())]
 
-    def counted(self):
-        page = subprocess.run([self.program, 'ctl', self.control, 'metrics'], stdout=subprocess.PIPE, check=True).stdout.decode()
-        return int(re.search(r'^roam_peer_local_rejects_total\{peer="north",\} (\d+)', page, re.MULTILINE)[1])
-
-    def settle(self):
-        """Waits until no more are rejected, what lay in the socket's buffer among them, and until all of them are told."""
-        for _ in range(60):
-            before = self.counted()
-            time.sleep(2.5)
-            if self.counted() == before:
-                return
+def settle(server):
+    """Waits until no more are rejected, what lay in the socket's buffer among them, and until all of them are told."""
+    for _ in range(60):
+        before = counted(server)
+        time.sleep(2.5)
+        if counted(server) == before:
+            return
 
 
 def ask(client, packet):
     """Sends a request until it is answered."""
     for _ in range(100):
-        client.sendto(packet, AUTH)
-        try:
-            return client.recv(4096)
-        except (TimeoutError, ConnectionRefusedError):
-            time.sleep(0.05)
-    return b''
+        client.sendto(packet, (HERE, PORT))
+        if reply := heard(client)[0]:
+            return reply
+        time.sleep(.05)
+    return b""
 
 
 def flood(client, seconds):
     """Sends requests of different names, some with long values, as fast as it can."""
     client.setblocking(False)
-    end, sent = time.monotonic() + seconds, 0
-    while time.monotonic() < end:
+    until, sent = time.monotonic() + seconds, 0
+    while time.monotonic() < until:
         for _ in range(50):
-            name = b'%d@nowhere%d.example' % (sent, sent)
+            name = b"%d@nowhere%d.example" % (sent, sent)
             try:
-                client.sendto(request(name.ljust(253, b'\n'), b'\0' * 253, sent % 256), AUTH)
+                client.sendto(request(name.ljust(253, b"\n"), b"\0" * 253, sent % 256), (HERE, PORT))
                 sent += 1
             except BlockingIOError:
                 pass
-        try:
-            while True:
-                client.recv(4096)
-        except BlockingIOError:
+        while heard(client)[0]:
             pass
     return sent
 
 
 def main():
-    if len(sys.argv) not in (2, 3):
-        sys.exit(__doc__.splitlines()[0])
-    seconds = float(sys.argv[2]) if len(sys.argv) == 3 else 5
-    with tempfile.TemporaryDirectory() as folder, socket.socket(socket.AF_INET, socket.SOCK_DGRAM) as client:
-        client.settimeout(0.2)
-        server = Server(sys.argv[1], folder)
-        try:
-            must('a request for no realm is rejected', ask(client, request(b'dean@nowhere.example'))[:1] == b'\3')
-            time.sleep(2)
-            must('and told with its peer, user and station', ('"north"', '"dean@nowhere.example"', '"02-00-00-00-00-01"')
-                 in [line[:3] for line in server.lines()])
-            before = len(server.lines())
-            for identifier in range(1, 101):
-                ask(client, request(b'same@nowhere.example', identifier=identifier))
-            time.sleep(2)
-            told = [line for line in server.lines()[before:] if line[1] == '"same@nowhere.example"']
-            must(f'a hundred equal ones are told in few lines ({len(told)})', 1 <= len(told) <= 4)
-            must('which say how many they were', sum(line[3] for line in told) >= 100)
-            before, size, began = len(server.lines()), os.path.getsize(server.log), time.monotonic()
-            sent = flood(client, seconds)
-            server.settle()
-            flooded = server.lines()[before:]
-            octets = os.path.getsize(server.log) - size
-            print(f'{sent} datagrams sent, {sum(line[3] for line in flooded)} told in {len(flooded)} lines of {octets} octets')
-            must('a flood gives nine lines a second at most', len(flooded) <= 9 * (time.monotonic() - began))
-            must('and one at least', flooded)
-            must(f'and all are told: {sum(line[3] for line in server.lines())} of {server.counted()}',
-                 sum(line[3] for line in server.lines()) == server.counted())
-        finally:
-            server.process.terminate()
-            server.process.wait()
-    print(f'try-rejects.py: {len(failed) or "no"} failure')
-    return 1 if failed else 0
+    program, *given = words(__doc__, 1, 2)
+    seconds = float(given[0]) if given else 5
+    go_on()
+    with tempfile.TemporaryDirectory() as folder, bound(seconds=.2) as client, Server(program, folder, TEXT) as server:
+        want(ask(client, request(b"dean@nowhere.example"))[:1] == b"\3", "a request for no realm is rejected")
+        time.sleep(2)
+        want(('"north"', '"dean@nowhere.example"', '"02-00-00-00-00-01"') in [line[:3] for line in lines_of(server)],
+             "and told with its peer, user and station")
+        before = len(lines_of(server))
+        for identifier in range(1, 101):
+            ask(client, request(b"same@nowhere.example", identifier=identifier))
+        time.sleep(2)
+        told = [line for line in lines_of(server)[before:] if line[1] == '"same@nowhere.example"']
+        want(1 <= len(told) <= 4, f"a hundred equal ones are told in few lines ({len(told)})")
+        want(sum(line[3] for line in told) >= 100, "which say how many they were")
+        before, size, began = len(lines_of(server)), os.path.getsize(server.log), time.monotonic()
+        sent = flood(client, seconds)
+        settle(server)
+        flooded = lines_of(server)[before:]
+        print(f"{sent} datagrams sent, {sum(line[3] for line in flooded)} told in {len(flooded)} lines of {os.path.getsize(server.log) - size} octets")
+        want(len(flooded) <= 9 * (time.monotonic() - began), "a flood gives nine lines a second at most")
+        want(flooded, "and one at least")
+        every = sum(line[3] for line in lines_of(server))
+        want(every == counted(server), f"and all are told: {every} of {counted(server)}")
+        server.stop(is_told=False)
+    return end()
 
 
-if __name__ == '__main__':
+if __name__ == "__main__":
     sys.exit(main())

@@ -25,93 +25,27 @@ busy machine drops since a buffer is full counts as lost too, and is said: net.c
 """
 import array
 import collections
-import hashlib
+import contextlib
 import heapq
 import multiprocessing
 import os
+import re
 import resource
 import select
-import socket
-import struct
-import subprocess
 import sys
 import tempfile
 import time
+
+sys.dont_write_bytecode = True
+import server as servers
+from looks import changed, end, want, words
+from radius import HERE, NAS_IP, all_of, access, accounting, answer, asked, attribute, bound, heard, signed
+from server import configuration, peer, places, realm, run
 
 SECRET = b'a-secret-of-home'
 NEW_SECRET = b'another-secret-of-home'
 NAS_SECRET = b'a-secret-of-nas1'
 PORT, HOME = 17120, 27120
-HERE = '127.0.0.1'
-HEAD = '''shards = {shards}
-seed = "{seed}"
-auth = "{address}:{auth}"
-acct = "{address}:{acct}"
-trace_limit = 100000
-spread = {spread}
-log_exchanges = false
-control = "{control}"
-'''
-PEER = '''
-[[peer]]
-name = "{name}"
-ip = "{ip}"
-secret = "{secret}"
-{more}'''
-SERVER = '''
-[[realm.server]]
-auth = "127.0.0.1:{home}"
-acct = "127.0.0.1:{acct}"
-secret = "{secret}"
-'''
-REALM = '''
-[[realm]]
-name = "{name}"
-out = "127.0.0.1:{out}"
-reverse = "127.0.0.1:{reverse}"
-tries = 2
-wait = {wait}
-hold = {hold}
-max_pending = 4096
-max_sessions = {sessions}
-rest = 0
-''' + SERVER
-
-
-def attributes(packet):
-    at = 20
-    while at + 2 <= len(packet):
-        yield packet[at], packet[at + 2:at + packet[at + 1]]
-        at += packet[at + 1]
-
-
-def value_of(packet, kind):
-    return next((value for one, value in attributes(packet) if one == kind), None)
-
-
-def answer(code, request, secret):
-    """RFC 2865, section 3: the Response Authenticator, over the Proxy-States of the request."""
-    states = b''.join(bytes([33, len(v) + 2]) + v for k, v in attributes(request) if k == 33)
-    head = struct.pack('!BBH', code, request[1], 20 + len(states))
-    return head + hashlib.md5(head + request[4:20] + states + secret).digest() + states
-
-
-def signed(code, number, body, secret):
-    """RFC 2866, section 3, and RFC 5176, section 2.3: the Request Authenticator."""
-    head = struct.pack('!BBH', code, number, 20 + len(body))
-    return head + hashlib.md5(head + bytes(16) + body + secret).digest() + body
-
-
-def attribute(kind, value):
-    return bytes([kind, len(value) + 2]) + value
-
-
-def bound(port):
-    one = socket.socket(socket.AF_INET, socket.SOCK_DGRAM)
-    one.setsockopt(socket.SOL_SOCKET, socket.SO_RCVBUF, 1 << 22)
-    one.setblocking(False)
-    one.bind((HERE, port))
-    return one
 
 
 def dropped():
@@ -119,15 +53,6 @@ def dropped():
     with open('/proc/net/snmp') as file:
         names, values = [line.split() for line in file if line.startswith('Udp:')]
     return int(values[names.index('RcvbufErrors')])
-
-
-def all_of(one):
-    """What lies in a socket's buffer, 64 datagrams at most."""
-    for _ in range(64):
-        try:
-            yield one.recvfrom(4096)
-        except (BlockingIOError, ConnectionRefusedError):
-            return
 
 
 class HomeServers(multiprocessing.Process):
@@ -140,7 +65,7 @@ class HomeServers(multiprocessing.Process):
         self.homes = {}
         for realm, secret in realms:
             for port in HOME + realm, HOME + 100 + realm:
-                one = bound(port)
+                one = bound(port, seconds=0)
                 self.homes[one.fileno()] = one, realm, secret, .25 if realm == 7 else 0 if realm % 2 else .01
 
     def told(self):
@@ -180,18 +105,15 @@ class Requests:
         self.sockets, self.waiting = [], {}
         self.when, self.took = array.array('d'), array.array('d')
         for _ in range(sockets):
-            one = bound(0) if source == HERE else socket.socket(socket.AF_INET, socket.SOCK_DGRAM)
-            if source != HERE:
-                one.bind((source, 0))
-                one.setblocking(False)
+            one = bound(0, source, 0)
             one.connect((HERE, PORT))
             self.sockets.append(one)
         self.by_fd = {one.fileno(): at for at, one in enumerate(self.sockets)}
 
     def send(self):
         at, number = self.sent % len(self.sockets), self.sent // len(self.sockets) % 256
-        body = attribute(1, b'u%d@%s' % (self.sent, self.realm)) + attribute(4, bytes([192, 0, 2, 1]))
-        packet = struct.pack('!BBHQ', 1, number, 20 + len(body), self.sent) + self.realm[:8].ljust(8) + body
+        drawn = self.sent.to_bytes(8, 'big') + self.realm[:8].ljust(8)
+        packet = access(number, b'u%d@%s' % (self.sent, self.realm), authenticator=drawn)
         self.overtaken += (at, number) in self.waiting
         self.waiting[at, number] = time.monotonic()
         self.sockets[at].send(packet)
@@ -249,64 +171,43 @@ class Load(multiprocessing.Process):
                        for realm, one in zip(self.realms, asks)})
 
 
-def want(holds, what):
-    print('ok  ' if holds else 'FAIL', what)
-    if not holds:
-        sys.exit(1)
-
-
 class Realm:
-    def __init__(self, number, **more):
-        self.words = {'name': '%c.example' % (97 + number), 'out': PORT + 200 + number, 'reverse': PORT + 300 + number,
-                      'wait': 4000, 'hold': 2000, 'sessions': 100, 'home': HOME + number, 'acct': HOME + 100 + number,
-                      'secret': SECRET.decode(), 'further': []}
-        self.words.update(more)
+    def __init__(self, number, further=(), home=None, secret=SECRET, **more):
+        home = HOME + number if home is None else home
+        of_home = [(home, secret), *((one, SECRET) for one in further)]
+        self.name = '%c.example' % (97 + number)
+        self.servers = [{'auth': f'{HERE}:{at}', 'acct': f'{HERE}:{at + 100}', 'secret': of.decode()} for at, of in of_home]
+        self.keys = {'out': f'{HERE}:{PORT + 200 + number}', 'reverse': f'{HERE}:{PORT + 300 + number}', 'tries': 2, 'wait': 4000,
+                     'hold': 2000, 'max_pending': 4096, 'max_sessions': 100, 'rest': 0, **more}
 
     def __str__(self):
-        return REALM.format(**self.words) + ''.join(
-            SERVER.format(home=home, acct=home + 100, secret=SECRET.decode()) for home in self.words['further'])
+        return realm(self.name, *self.servers, **self.keys)
 
 
-class Server:
+def a_peer(name, ip, secret=NAS_SECRET.decode(), **more):
+    return name, ip, secret, more
+
+
+class Server(servers.Server):
     def __init__(self, program, work, realms):
-        self.program, self.work = program, work
-        self.path, self.conf = os.path.join(work, 'control'), os.path.join(work, 'roam.conf')
-        self.peers = [('nas1', HERE, NAS_SECRET.decode(), f'coa = "127.0.0.1:{PORT + 400}"\nnas_ip = "192.0.2.1"\n')]
-        self.realms, self.shards, self.spread, self.address = realms, 2, 'true', '0.0.0.0'
-        self.write()
-        self.log = open(os.path.join(work, 'log'), 'w+')
-        self.process = subprocess.Popen([program, 'serve', self.conf], stdout=subprocess.DEVNULL, stderr=self.log)
-        for _ in range(100):
-            if 'serving' in self.said():
-                return
-            time.sleep(.05)
-        sys.exit('it does not serve: ' + self.said())
-
-    def said(self):
-        with open(self.log.name) as file:
-            return file.read()
+        self.peers = [a_peer('nas1', HERE, coa=f'{HERE}:{PORT + 400}', nas_ip='192.0.2.1')]
+        self.realms, self.shards, self.spread, self.address = realms, 2, True, '0.0.0.0'
+        super().__init__(program, work, self.text())
+        self.waits_for()
 
     def text(self):
-        return (HEAD.format(shards=self.shards, seed='0' * 64, address=self.address, auth=PORT, acct=PORT + 1,
-                            spread=self.spread, control=self.path)
-                + ''.join(PEER.format(name=n, ip=i, secret=s, more=m) for n, i, s, m in self.peers)
-                + ''.join(map(str, self.realms)))
-
-    def write(self, text=None):
-        with open(self.conf + '.new', 'w') as file:
-            file.write(self.text() if text is None else text)
-        os.replace(self.conf + '.new', self.conf)
-
-    def ctl(self, *order):
-        return subprocess.run([self.program, 'ctl', self.path, *order], capture_output=True, text=True, timeout=60)
+        tables = [*(peer(name, ip, secret, **(more or {})) for name, ip, secret, more in self.peers), *map(str, self.realms)]
+        return configuration(*tables, shards=self.shards, seed='0' * 64, **places(PORT, self.address), trace_limit=100000,
+                             spread=self.spread, log_exchanges=False)
 
     def reload(self, text=None, lose=()):
-        self.write(text)
-        return self.ctl('reload', *lose)
+        """Has it read its file anew. The realms that lose something then by its answer are noted."""
+        result = super().reload(self.text() if text is None else text, lose)
+        self.may_lose.update(re.findall(r'^realm (\S+): (?:loses|gone)', result.stdout, re.M) if lose else [])
+        return result
 
-    def count(self, line):
-        told = [int(one.split()[-1]) for one in self.ctl('metrics').stdout.splitlines() if one.startswith(line)]
-        return told[0] if told else 0
+    def of_realm_a(self):
+        return self.count('roam_realm_requests_total', realm='a.example', code='access_request')
 
     def size(self):
         """Pages in memory, and open descriptors."""
@@ -323,38 +224,20 @@ def asks_once(realm, source=HERE):
 
 def open_session():
     """An Accounting-Request Start at realm a, whose reply says that the ledger has the session."""
-    body = (attribute(1, b'user@a.example') + attribute(40, struct.pack('!I', 1)) + attribute(44, b'session-1')
-            + attribute(4, bytes([192, 0, 2, 1])))
-    access = socket.socket(socket.AF_INET, socket.SOCK_DGRAM)
-    access.connect((HERE, PORT + 1))
-    access.settimeout(5)
-    access.send(signed(4, 1, body, NAS_SECRET))
-    return access.recv(4096)[0] == 5
+    reply = asked(accounting(1, b'user@a.example', b'session-1', NAS_SECRET, body=NAS_IP), (HERE, PORT + 1), seconds=5)
+    return reply is not None and reply[0] == 5
 
 
 def disconnect():
     """A Disconnect-Request of realm a's home server that names a session and no user: whether the access server gets it, and
     its answer comes back."""
-    access = socket.socket(socket.AF_INET, socket.SOCK_DGRAM)
-    access.bind((HERE, PORT + 400))
-    access.settimeout(5)
-    home = socket.socket(socket.AF_INET, socket.SOCK_DGRAM)
-    home.bind((HERE, 0))
-    home.settimeout(5)
-    body = attribute(4, bytes([192, 0, 2, 1])) + attribute(44, b'session-1')
-    home.sendto(signed(40, 7, body, SECRET), (HERE, PORT + 300))
-    try:
-        packet, source = access.recvfrom(4096)
-        access.sendto(answer(41, packet, NAS_SECRET), source)
-        return home.recv(4096)[0] == 41
-    except TimeoutError:
-        return False
-    finally:
-        access.close()
-        home.close()
-
-
-COUNT = 'roam_realm_requests_total{realm="a.example",code="access_request",}'
+    with contextlib.closing(bound(PORT + 400, seconds=5)) as nas, contextlib.closing(bound(seconds=5)) as home:
+        home.sendto(signed(40, 7, NAS_IP + attribute(44, b'session-1'), SECRET), (HERE, PORT + 300))
+        packet, source = heard(nas)
+        if packet is None:
+            return False
+        nas.sendto(answer(41, packet, NAS_SECRET), source)
+        return (heard(home)[0] or b'\0')[0] == 41
 
 
 def says(result, *lines):
@@ -367,15 +250,15 @@ LOSE = ('--lose',)
 def try_changes(server):
     """One change after the other, under load."""
     want(open_session(), 'a session is opened')
-    before = server.count(COUNT)
+    before = server.of_realm_a()
     server.realms.append(Realm(8))
     want(says(server.reload(), 'realm a.example: unchanged', 'realm h.example: unchanged', 'realm i.example: new'),
          'a realm is added')
     want(asks_once(b'i.example'), 'and serves at once')
-    server.peers.append(('nas2', '127.0.0.2', NAS_SECRET.decode(), ''))
+    server.peers.append(a_peer('nas2', '127.0.0.2'))
     want(says(server.reload(), 'peer nas2: new', 'realm a.example: unchanged', 'realm i.example: unchanged'), 'a peer is added')
     want(asks_once(b'a.example', '127.0.0.2'), 'and is served at once')
-    server.realms[7] = Realm(7, home=HOME + 9, acct=HOME + 109, secret=NEW_SECRET.decode())
+    server.realms[7] = Realm(7, home=HOME + 9, secret=NEW_SECRET)
     declined = server.reload()
     want(declined.returncode == 1 and 'realm h.example: would lose' in declined.stdout,
          'another home server and secret is declined while requests wait')
@@ -387,7 +270,7 @@ def try_changes(server):
     server.realms.pop()
     want(says(server.reload(lose=LOSE), 'realm a.example: unchanged', 'realm i.example: gone: loses all'), 'a realm goes')
     want(not asks_once(b'i.example'), 'and asks its home server no more')
-    after = server.count(COUNT)
+    after = server.of_realm_a()
     want(after > before > 0, f'the counts of a realm go on ({before}, {after})')
     want(disconnect(), 'a session of before is disconnected after')
 
@@ -396,19 +279,12 @@ class Held:
     """A request whose reply is held."""
 
     def __init__(self, realm):
-        self.socket = socket.socket(socket.AF_INET, socket.SOCK_DGRAM)
-        self.socket.connect((HERE, PORT))
-        self.socket.settimeout(2)
-        body = attribute(1, b'held@' + realm) + attribute(4, bytes([192, 0, 2, 1]))
-        self.packet = struct.pack('!BBH', 1, 77, 20 + len(body)) + b'held-held-held-h' + body
+        self.socket, self.packet = bound(seconds=2), access(77, b'held@' + realm, authenticator=b'held-held-held-h')
         self.reply = self.ask()
 
     def ask(self):
-        self.socket.send(self.packet)
-        try:
-            return self.socket.recv(4096)
-        except TimeoutError:
-            return None
+        self.socket.sendto(self.packet, (HERE, PORT))
+        return heard(self.socket)[0]
 
     def is_held(self):
         return self.reply is not None and self.ask() == self.reply
@@ -440,27 +316,26 @@ def try_what_others_change(server):
         want(asks_once(b'i.example'), 'and serves')
         server.realms.pop(0)
         follow(server, 'and goes', 'realm i.example: gone: loses all', realm + 'unchanged', lose=LOSE)
-    place = next(at for at, one in enumerate(server.realms) if one.words['name'] == 'b.example')
-    for what, more in (('wait', {'wait': 3000}), ('max_sessions', {'sessions': 200}), ('server', {'further': [HOME + 2]}),
+    place = next(at for at, one in enumerate(server.realms) if one.name == 'b.example')
+    for what, more in (('wait', {'wait': 3000}), ('max_sessions', {'max_sessions': 200}), ('server', {'further': [HOME + 2]}),
                        ('server', {'further': []})):
         server.realms[place] = Realm(1, hold=60000, **more)
         want(server.reload().returncode == 0, f"b's {what} changes without a loss: {more}")
     want(held.is_held(), 'the reply that was held is sent again')
     want(disconnect(), 'and a session of before is disconnected')
-    server.realms.sort(key=lambda one: one.words['name'])
+    server.realms.sort(key=lambda one: one.name)
 
 
 def try_sockets(server):
     """Other sockets at the same ports, under load: one for all workers, one for each, and at an address of every one's."""
-    for spread in ('false', 'true'):
+    for spread in (False, True):
         server.spread = spread
         want(server.reload().returncode == 0, f'spread = {spread} follows')
         time.sleep(.5)
     server.address = HERE
     want(server.reload().returncode == 0, '127.0.0.1 follows 0.0.0.0')
     time.sleep(.5)
-    taken = socket.socket(socket.AF_INET, socket.SOCK_DGRAM)
-    taken.bind(('127.0.0.3', PORT))
+    taken = bound(PORT, '127.0.0.3')
     server.address = '0.0.0.0'
     result = server.reload()
     want(result.returncode == 1 and f'0.0.0.0:{PORT}' in result.stdout and f'127.0.0.1:{PORT} is served' in result.stdout,
@@ -473,11 +348,11 @@ def try_sockets(server):
 def faults(server):
     """Texts that may not follow, each with a word of what is said of it."""
     good = server.text()
-    return [(good.replace('auth =', 'auht =', 1), 'Missing'),
+    return [(changed(good, 'auth =', 'auht =', 1), 'Missing'),
             (good + 'this is no toml', 'roam.conf'),
-            (good + str(Realm(9, out=PORT + 500)), 'cannot bind'),
-            (good + str(Realm(9, out=PORT + 200)), 'Duplicate'),
-            (good.replace('shards = 2', 'shards = 3'), 'may not follow: shards')]
+            (good + str(Realm(9, out=f'{HERE}:{PORT + 500}')), 'cannot bind'),
+            (good + str(Realm(9, out=f'{HERE}:{PORT + 200}')), 'Duplicate'),
+            (changed(good, 'shards = 2', 'shards = 3'), 'may not follow: shards')]
 
 
 def try_fifty(server):
@@ -508,8 +383,8 @@ def try_check(server):
     """The text of a fault is that of `roam check`."""
     text, _ = faults(server)[0]
     result = server.reload(text)
-    checked = subprocess.run([server.program, 'check', server.conf], capture_output=True, text=True)
-    want(result.returncode == 1 and result.stdout == checked.stderr, 'a fault is told as `roam check` tells it')
+    _, _, told = run(server.program, 'check', server.conf)
+    want(result.returncode == 1 and result.stdout == told, 'a fault is told as `roam check` tells it')
     want(server.reload().returncode == 0, 'and a good file follows')
 
 
@@ -593,26 +468,20 @@ def try_all(server, homes, rate):
     want(not any(again[realm] for realm in range(7)), 'and none is sent again')
     print(f'     the one that got another home server: {told[7][0]} requests, {told[7][1]} answered')
     try_refused(server)
-    result = server.ctl('stop')
-    want(result.returncode == 0 and server.process.wait(timeout=40) == 0 and 'audited' in server.said(),
-         'it stops after all that, audited')
+    server.stop()
 
 
 def main():
-    if not 2 <= len(sys.argv) <= 3 or not os.access(sys.argv[1], os.X_OK):
-        sys.exit('usage: try-reload.py PROGRAM [RATE]')
-    program, rate = os.path.realpath(sys.argv[1]), int(sys.argv[2]) if len(sys.argv) > 2 else 10000
+    program, *given = words(__doc__, 1, 2)
     with tempfile.TemporaryDirectory() as work:
         homes = [HomeServers([(realm, SECRET) for realm in range(0, 5)]),
                  HomeServers([(realm, SECRET) for realm in range(5, 9)] + [(9, NEW_SECRET)])]
         for home in homes:
             home.start()
-        server = Server(program, work, [Realm(realm) for realm in range(8)])
-        try:
-            try_all(server, homes, rate)
-        finally:
-            server.process.kill()
+        with Server(program, work, [Realm(realm) for realm in range(8)]) as server:
+            try_all(server, homes, int(given[0]) if given else 10000)
+    return end()
 
 
 if __name__ == '__main__':
-    main()
+    sys.exit(main())

@@ -15,145 +15,66 @@ ends and starts it again. It fails unless
 
 It prints how many sessions there were.
 """
-import importlib
 import os
 import signal
 import socket
-import struct
-import subprocess
 import sys
 import tempfile
 import threading
 import time
 
 sys.dont_write_bytecode = True
-sys.path.insert(0, os.path.dirname(os.path.abspath(__file__)))
-told = importlib.import_module('try-reload')
-answer, attribute, signed, want = told.answer, told.attribute, told.signed, told.want
-HERE, PORT, HOME, COA = '127.0.0.1', 17520, 27520, 17920
+import radius
+import server as servers
+from looks import changed, end, want, words
+from radius import HERE, HomeServer, asked, attribute, signed
+from server import configuration, peer, places, realm
+
+PORT, HOME, COA = 17520, 27520, 17920
 PEERS = [('nas1', HERE, b'a-secret-of-nas1', COA), ('nas2', '127.0.0.2', b'a-secret-of-nas2', COA + 1)]
 REALMS = ['a.example', 'b.example']
 SECRET = b'a-secret-of-home'
 RUN = os.path.join(os.path.dirname(os.path.abspath(__file__)), '..', 'installed', 'roam-run')
-HEAD = '''shards = 2
-auth = "127.0.0.1:{auth}"
-acct = "127.0.0.1:{acct}"
-log_exchanges = "none"
-control = "{control}"
-state = "{state}"
-state_every = 1
-'''
-PEER = '''
-[[peer]]
-name = "{name}"
-ip = "{ip}"
-secret = "{secret}"
-coa = "{ip}:{coa}"
-nas_id = "{name}"
-'''
-REALM = '''
-[[realm]]
-name = "{name}"
-out = "127.0.0.1:{out}"
-reverse = "127.0.0.1:{reverse}"
-own_sessions = {own}
-tries = 2
-wait = 500
-
-[[realm.server]]
-auth = "127.0.0.1:{home}"
-acct = "127.0.0.1:{home_acct}"
-secret = "a-secret-of-home"
-'''
 
 
-def bound(ip, port):
-    one = socket.socket(socket.AF_INET, socket.SOCK_DGRAM)
-    one.bind((ip, port))
-    one.settimeout(3)
-    return one
-
-
-def answering(port, code, secret):
-    """A home server, or an access server, that answers everything by this code."""
-    one = bound(*port)
-    one.settimeout(None)
-
-    def serve():
-        while True:
-            packet, source = one.recvfrom(4096)
-            one.sendto(answer(code, packet, secret), source)
-    threading.Thread(target=serve, daemon=True).start()
-
-
-class Server:
+class Server(servers.Server):
     def __init__(self, program, work):
-        self.program, self.work = program, work
-        self.control, self.conf, self.state = (os.path.join(work, it) for it in ('control', 'roam.conf', 'sessions'))
-        self.peers, self.realms, self.own = list(PEERS), list(REALMS), 'false'
-        self.process = None
+        self.state, self.peers, self.realms, self.own = os.path.join(work, 'sessions'), list(PEERS), list(REALMS), False
+        super().__init__(program, work, '')
 
-    def write(self):
-        with open(self.conf, 'w') as file:
-            file.write(HEAD.format(auth=PORT, acct=PORT + 1, control=self.control, state=self.state))
-            for name, ip, secret, coa in self.peers:
-                file.write(PEER.format(name=name, ip=ip, secret=secret.decode(), coa=coa))
-            for name in self.realms:
-                at = REALMS.index(name)
-                file.write(REALM.format(name=name, out=PORT + 200 + at, reverse=PORT + 300 + at, own=self.own, home=HOME + at,
-                                        home_acct=HOME + 100 + at))
+    def text(self):
+        peers = [peer(name, ip, secret.decode(), coa=f'{ip}:{coa}', nas_id=name) for name, ip, secret, coa in self.peers]
+        realms = [realm(name, {'auth': f'{HERE}:{HOME + at}', 'acct': f'{HERE}:{HOME + 100 + at}'}, out=f'{HERE}:{PORT + 200 + at}',
+                        reverse=f'{HERE}:{PORT + 300 + at}', own_sessions=self.own, tries=2, wait=500)
+                  for at, name in sorted(enumerate(REALMS), key=lambda it: self.realms.index(it[1]))]
+        return configuration(*peers, *realms, shards=2, **places(PORT), log_exchanges='none', state=self.state, state_every=1)
 
     def start(self, by_script=False):
-        self.write()
-        self.log = open(os.path.join(self.work, 'log'), 'w+')
-        words = [RUN, self.conf] if by_script else [self.program, 'serve', self.conf]
-        self.process = subprocess.Popen(words, stdout=subprocess.DEVNULL, stderr=self.log,
-                                        env={**os.environ, 'ROAM': self.program})
-        for _ in range(200):
-            if 'serving' in self.said():
-                return
-            time.sleep(.05)
-        sys.exit('it does not serve: ' + self.said())
-
-    def said(self):
-        with open(self.log.name) as file:
-            return file.read()
+        self.write(self.text())
+        super().start(*([RUN, self.conf] if by_script else []), ROAM=self.program)
+        self.waits_for()
 
     def stop(self):
-        result = subprocess.run([self.program, 'ctl', self.control, 'stop'], capture_output=True, text=True, timeout=60)
-        want(result.returncode == 0 and self.process.wait(timeout=60) == 0, 'it stops')
+        super().stop(is_told=False)
 
     def restart(self):
         self.stop()
         self.start()
 
 
-def accounting(peer, realm, status, session, number, more=b''):
+def accounting(number_of_peer, realm, status, session, number, more=b''):
     """Whether an Accounting-Request of a peer is answered."""
-    name, ip, secret, _ = PEERS[peer]
-    body = (attribute(1, b'user@' + realm.encode()) + attribute(40, struct.pack('!I', status)) + attribute(44, session)
-            + attribute(32, name.encode()) + more)
-    one = bound(ip, 0)
-    one.sendto(signed(4, number % 256, body, secret), (HERE, PORT + 1))
-    try:
-        return one.recv(4096)[0] == 5
-    except TimeoutError:
-        return False
-    finally:
-        one.close()
+    name, ip, secret, _ = PEERS[number_of_peer]
+    body = attribute(32, name.encode()) + more
+    reply = asked(radius.accounting(number % 256, b'user@' + realm.encode(), session, secret, status, body), (HERE, PORT + 1), ip, 3)
+    return reply is not None and reply[0] == 5
 
 
-def is_disconnected(realm, session, peer, more=b''):
+def is_disconnected(realm, session, number_of_peer, more=b''):
     """Whether a Disconnect-Request of the realm's home server, which names a session and no user, is acknowledged."""
-    body = attribute(32, PEERS[peer][0].encode()) + attribute(44, session) + more
-    one = bound(HERE, 0)
-    one.sendto(signed(40, 7, body, SECRET), (HERE, PORT + 300 + REALMS.index(realm)))
-    try:
-        return one.recv(4096)[0] == 41
-    except TimeoutError:
-        return False
-    finally:
-        one.close()
+    body = attribute(32, PEERS[number_of_peer][0].encode()) + attribute(44, session) + more
+    reply = asked(signed(40, 7, body, SECRET), (HERE, PORT + 300 + REALMS.index(realm)), HERE, 3)
+    return reply is not None and reply[0] == 41
 
 
 class Sessions:
@@ -218,7 +139,7 @@ def try_signal(server):
     sessions = Sessions()
     sessions.some(50)
     server.process.send_signal(signal.SIGTERM)
-    want(server.process.wait(timeout=60) == 0, 'roam-run ends it by TERM')
+    want(server.ends(60) == 0, 'roam-run ends it by TERM')
     server.start()
     sessions.are_disconnected('after TERM')
 
@@ -244,7 +165,7 @@ def try_faulty(server):
     with open(server.state, 'rb') as file:
         whole = file.read()
     faulty = [('cut', whole[:-1]), ('cut', whole[:len(whole) // 2]), ('cut', whole[:15]), ('no file of ledgers', b''),
-              ("another version's file of ledgers", whole.replace(b'ledgers 2\n', b'ledgers 1\n', 1)),
+              ("another version's file of ledgers", changed(whole, b'ledgers 2\n', b'ledgers 1\n', 1)),
               ('no file of ledgers', b'somebody else\'s\n'), ('octets behind the end', whole + b'\0')]
     for word, octets in faulty:
         with open(server.state, 'wb') as file:
@@ -262,7 +183,7 @@ def try_faulty(server):
 
 
 def try_unwritable(server):
-    state, server.state = server.state, os.path.join(server.work, 'no', 'sessions')
+    state, server.state = server.state, os.path.join(server.folder, 'no', 'sessions')
     server.start()
     time.sleep(.5)
     want(f"sessions aren't kept in {server.state} (errno 2)" in server.said(), 'where it cannot be written that is said')
@@ -270,8 +191,7 @@ def try_unwritable(server):
     sessions.some(4)
     sessions.are_disconnected('and all else goes on')
     server.state = state
-    server.write()
-    result = subprocess.run([server.program, 'ctl', server.control, 'reload'], capture_output=True, text=True)
+    result = server.reload(server.text())
     sessions.some(4)
     server.stop()
     want(result.returncode == 0, 'a reload takes another path')
@@ -292,7 +212,7 @@ def try_other(server):
     want(all(is_disconnected(realm, it, peer) == (peer == 0) for it, (realm, peer, _) in sessions.open.items()),
          'sessions of a peer that went are not taken up, all others are')
     server.stop()
-    server.own = 'true'
+    server.own = True
     server.start()
     want(not any(is_disconnected(realm, it, peer) for it, (realm, peer, _) in sessions.open.items()),
          'nor are those of a realm that tells its sessions otherwise now')
@@ -301,7 +221,7 @@ def try_other(server):
 
 def try_names(server):
     """Two sessions of one id, of access servers that are told by their NAS-IPv6-Address (RFC 3162, section 2.1)."""
-    server.own = 'true'
+    server.own = True
     server.start()
     names = [attribute(95, socket.inet_pton(socket.AF_INET6, it)) for it in ('2001:db8::1', '2001:db8::2', '2001:db8::3')]
     want(all(accounting(0, REALMS[0], 1, b'1', number, it) for number, it in enumerate(names[:2])), 'two sessions have one id')
@@ -312,22 +232,17 @@ def try_names(server):
 
 
 def main():
-    if len(sys.argv) != 2 or not os.access(sys.argv[1], os.X_OK):
-        sys.exit('usage: try-restart.py PROGRAM')
+    [program] = words(__doc__)
     for at in range(2):
-        answering((HERE, HOME + at), 2, SECRET)
-        answering((HERE, HOME + 100 + at), 5, SECRET)
+        HomeServer(HOME + at, SECRET)
+        HomeServer(HOME + 100 + at, SECRET)
     for _, ip, secret, coa in PEERS:
-        answering((ip, coa), 41, secret)
-    with tempfile.TemporaryDirectory() as work:
-        server = Server(os.path.realpath(sys.argv[1]), work)
-        server.start()
-        try:
-            for part in try_stop, try_signal, try_kill, try_faulty, try_unwritable, try_other, try_names:
-                part(server)
-        finally:
-            server.process.kill()
+        HomeServer(coa, secret, address=ip)
+    with tempfile.TemporaryDirectory() as work, Server(program, work) as server:
+        for part in try_stop, try_signal, try_kill, try_faulty, try_unwritable, try_other, try_names:
+            part(server)
+    return end()
 
 
 if __name__ == '__main__':
-    main()
+    sys.exit(main())

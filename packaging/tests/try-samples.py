@@ -8,17 +8,16 @@ is given, `roam check` has to accept each sample, and `roam sim` to print the sa
 
 import hashlib
 import os
-import subprocess
 import sys
 import tempfile
 
 sys.dont_write_bytecode = True
-HERE = os.path.dirname(os.path.abspath(__file__))
-ROOT = os.path.dirname(os.path.dirname(HERE))
-SAMPLES = os.path.join(ROOT, "packaging", "samples")
-sys.path.insert(0, os.path.join(ROOT, "oracle"))
-import broker  # noqa: E402
-import packets  # noqa: E402
+from looks import be_quiet, end, go_on, want, words
+from radius import packets, sealed_answer
+from server import run
+import broker
+
+SAMPLES = os.path.join(os.path.dirname(os.path.dirname(os.path.abspath(__file__))), "samples")
 
 ACCESS, ACCOUNTING = packets.ACCESS_REQUEST, packets.ACCOUNTING_REQUEST
 CLASS = (25, b"of a class")
@@ -127,16 +126,7 @@ def request(code, number, user, secret, how):
 
 def reply(octets, secret, attributes):
     """A home server's sealed Access-Accept of a forwarded request."""
-    asked = packets.Packet(octets)
-    attributes = [(80, packets.ZEROS)] + attributes + [(33, it) for it in asked.values(33)]
-    attributes = packets.sealed(packets.ACCESS_ACCEPT, asked.id, asked.authenticator, attributes, secret)
-    return answer_text(asked, attributes, secret)
-
-
-def answer_text(asked, attributes, secret):
-    """A reply whose Response Authenticator is right (RFC 2865 section 3)."""
-    unsigned = packets.text(packets.ACCESS_ACCEPT, asked.id, asked.authenticator, attributes)
-    return unsigned[:4] + hashlib.md5(unsigned + secret).digest() + unsigned[20:]
+    return sealed_answer(packets.ACCESS_ACCEPT, octets, secret, attributes)
 
 
 class Played:
@@ -226,11 +216,6 @@ def share(played):
     return [] if numbers == [None] * 64 + [27, None] else [f"federation: of one name {numbers.count(None)} wait, {numbers[-2:]}"]
 
 
-def run(program, *words):
-    ran = subprocess.run([program, *words], capture_output=True, text=True, timeout=60, check=False)
-    return ran.returncode, ran.stdout, ran.stderr
-
-
 def by_program(program, name, played):
     """What the program does otherwise."""
     path = os.path.join(SAMPLES, f"{name}.conf")
@@ -249,22 +234,24 @@ def by_program(program, name, played):
 
 
 def main():
-    if len(sys.argv) > 2:
-        sys.exit(__doc__)
+    [program] = words(__doc__, 0, 1) or [None]
+    go_on()
+    be_quiet()
     names = sorted(it.removesuffix(".conf") for it in os.listdir(SAMPLES))
-    played, faults = {name: Played(name) for name in names}, []
+    played = {name: Played(name) for name in names}
     for number, (sample, *case) in enumerate(CASES, 1):
         wrong = played[sample].play(number, *case)
-        if wrong:
-            faults.append(f"{sample}: {case[:3]}: {wrong}")
-    faults += share(played["federation"])
+        want(not wrong, f"{sample}: {case[:3]}: {wrong}")
+    faults = share(played["federation"])
+    want(not faults, f"{faults}")
     for sample, *case in SESSIONS:
-        faults += [f"{sample}: {it}" for it in session(played[sample], *case)]
-    faults += [f"{name}: no case is of it" for name in names if name not in {it[0] for it in CASES}]
-    for name in names if len(sys.argv) == 2 else []:
-        faults += by_program(os.path.abspath(sys.argv[1]), name, played[name])
-    print("\n".join(faults) or f"{len(CASES)} requests and the ends of {len(SESSIONS)} sessions are answered and forwarded as {len(names)} samples say")
-    return int(bool(faults))
+        faults = session(played[sample], *case)
+        want(not faults, f"{sample}: {faults}")
+    for name in names:
+        want(name in {it[0] for it in CASES}, f"{name}: a case is of it")
+        faults = by_program(program, name, played[name]) if program else []
+        want(not faults, f"{faults}") if program else None
+    return end(f"{len(CASES)} requests and the ends of {len(SESSIONS)} sessions are answered and forwarded as {len(names)} samples say")
 
 
 if __name__ == "__main__":

@@ -8,52 +8,20 @@ descriptors. The packets follow the formulas of RFC 2865 and RFC 2866, computed 
 """
 import collections
 import contextlib
-import hashlib
 import os
 import re
 import resource
-import select
 import signal
-import socket
-import subprocess
 import sys
 import tempfile
 import time
 
-HERE, AUTH, ACCT, HOME, COA, OUT, REVERSE, CLIENT = "127.0.0.1", 38112, 38113, 38212, 38299, 38120, 38130, 38250
-TOP = f"""shards = {{shards}}
-{{more}}seed = "{'0' * 64}"
-auth = "{HERE}:{AUTH}"
-acct = "{HERE}:{ACCT}"
-trace_limit = {{limit}}
-control = "{{control}}"
+sys.dont_write_bytecode = True
+from looks import be_quiet, end, want, words
+from radius import HERE, access, answer, bound, drained, heard
+from server import Server, configuration, peer, places, realm, run, total
 
-[[peer]]
-name = "nas1"
-ip = "{HERE}"
-secret = "xyzzy5461"
-coa = "{HERE}:{COA}"
-nas_ip = "192.0.2.1"
-nas_id = "nas1"
-"""
-REALM = f"""
-[[realm]]
-name = "{{letter}}.example"
-out = "{HERE}:{{out}}"
-reverse = "{HERE}:{{reverse}}"
-tries = {{tries}}
-wait = {{wait}}
-hold = {{hold}}
-max_pending = 300
-max_sessions = 100
-rest = 0
-"""
-SERVER = """
-[[realm.server]]
-auth = "{0}:{1}"
-acct = "{0}:{2}"
-secret = "h1"
-"""
+AUTH, ACCT, HOME, COA, OUT, REVERSE, CLIENT = 38112, 38113, 38212, 38299, 38120, 38130, 38250
 Exchange = collections.namedtuple("Exchange", "to request forwarded reply returned")
 
 
@@ -103,32 +71,11 @@ HOSTILE = [(AUTH, 0, 0, 1), (ACCT, 0, 19, 1), (AUTH, 0, 20, 2), (REVERSE, 255, 6
            (AUTH, 4, 1028, 5), (REVERSE, 4, 1028, 5), (ACCT, 4, 1028, 6), (ACCT, 4, 65507, 6)]
 
 
-def want(holds, what):
-    if not holds:
-        sys.exit(f"try-serve: {what}")
-
-
-def bound(port, address=HERE):
-    it = socket.socket(socket.AF_INET, socket.SOCK_DGRAM)
-    it.setsockopt(socket.SOL_SOCKET, socket.SO_RCVBUF, 1 << 22)
-    it.bind((address, port))
-    it.settimeout(.1)
-    return it
-
-
-def heard(it):
-    """What arrives in time, and from where; nothing."""
-    try:
-        return it.recvfrom(4096)
-    except TimeoutError:
-        return None, None
-
-
 class Ends:
     """The sockets of the access server and of the home server."""
 
     def __init__(self):
-        self.client, self.home, self.acct_home, self.coa = (bound(port) for port in (CLIENT, HOME, HOME + 1, COA))
+        self.client, self.home, self.acct_home, self.coa = (bound(port, seconds=.1) for port in (CLIENT, HOME, HOME + 1, COA))
 
     def close(self):
         for it in (self.client, self.home, self.acct_home, self.coa):
@@ -167,110 +114,54 @@ class Ends:
         want(False, "no reply is held")
 
 
-def signed_accept(forwarded):
-    """The Access-Accept to a forwarded request (RFC 2865, section 3)."""
-    head = bytes([2, forwarded[1], 0, 20])
-    return head + hashlib.md5(head + forwarded[4:20] + b"h1").digest()
+def named(identifier, letter="a"):
+    """An Access-Request of a realm's user."""
+    return access(identifier, f"u@{letter}.example".encode(), b"", authenticator=b"Z" * 16)
 
 
-def access(identifier, letter="a"):
-    body = f"u@{letter}.example".encode()
-    return bytes([1, identifier, 0, 22 + len(body)]) + b"Z" * 16 + bytes([1, 2 + len(body)]) + body
+def text_of(letters="a", shards=1, limit=1000000, tries=2, wait=1000, hold=5000, servers=(HERE,), **more):
+    of_home = [{"auth": f"{it}:{HOME}", "acct": f"{it}:{HOME + 1}", "secret": "h1"} for it in servers]
+    realms = [realm(f"{letter}.example", *of_home, out=f"{HERE}:{OUT + number}", reverse=f"{HERE}:{REVERSE + number}", tries=tries,
+                    wait=wait, hold=hold, max_pending=300, max_sessions=100, rest=0) for number, letter in enumerate(letters)]
+    nas = peer("nas1", secret="xyzzy5461", coa=f"{HERE}:{COA}", nas_ip="192.0.2.1", nas_id="nas1")
+    return configuration(nas, *realms, shards=shards, seed="0" * 64, **places(AUTH), trace_limit=limit, **more)
 
 
-def text_of(folder, letters="a", shards=1, limit=1000000, more="", tries=2, wait=1000, hold=5000, servers=(HERE,)):
-    text = TOP.format(shards=shards, limit=limit, more=more, control=os.path.join(folder, "control"))
-    for number, letter in enumerate(letters):
-        text += REALM.format(letter=letter, out=OUT + number, reverse=REVERSE + number, tries=tries, wait=wait, hold=hold)
-        text += "".join(SERVER.format(server, HOME, HOME + 1) for server in servers)
-    return text
-
-
-def total(counts, name, **labels):
-    """The sum of the counts of a name with these labels."""
-    return sum(value for key, value in counts.items()
-               if key.startswith(name + "{") and all(f'{label}="{it}"' in key for label, it in labels.items()))
-
-
-class Server:
-    """A server of a configuration, and what it told."""
-
-    def __init__(self, program, folder, text, *words, seed=("--seed-of-file",)):
-        self.program, self.folder, self.path = program, folder, os.path.join(folder, "control")
-        self.conf, self.log = os.path.join(folder, "a.conf"), os.path.join(folder, "log")
-        with open(self.conf, "w", encoding="utf-8") as file:
-            file.write(text)
-        self.words = [program, "serve", *seed, self.conf, *words]
-        with open(self.log, "w", encoding="utf-8") as file:
-            self.process = subprocess.Popen(self.words, stderr=file)
-
-    def said(self):
-        with open(self.log, encoding="utf-8") as file:
-            return file.read()
-
-    def waits_for(self, pattern):
-        for _ in range(400):
-            found = re.search(pattern, self.said())
-            if found:
-                return found
-            time.sleep(.05)
-        want(False, f"it isn't told: {pattern}, but {self.said()}")
-
-    def counts(self):
-        """The counts of `ctl metrics`, by name and labels."""
-        page = subprocess.run([self.program, "ctl", self.path, "metrics"], capture_output=True, text=True, timeout=60, check=True).stdout
-        return {line.rsplit(" ", 1)[0]: float(line.rsplit(" ", 1)[1]) for line in page.splitlines() if line and line[0] != "#"}
-
-    def count(self, name, **labels):
-        return total(self.counts(), name, **labels)
-
-    def looks_whole(self):
-        """Each datagram that was received is counted as what became of it."""
-        counts = self.counts()
-        received, handled = (sum(value for key, value in counts.items() if key.startswith(f"roam_{it}_datagrams_total"))
-                             for it in ("received", "handled"))
-        want(received == handled, f"{received} datagrams are received, and {handled} handled")
-
-    def stop(self):
-        """Stops it: it is audited. How many steps it recorded, and how often it let go of some."""
-        ran = subprocess.run([self.program, "ctl", self.path, "stop"], capture_output=True, text=True, timeout=60, check=False)
-        want(ran.returncode == 0, f"it doesn't stop: {ran}")
-        want(self.process.wait(60) == 0, f"it ends with {self.process.returncode}: {self.said()}")
-        found = self.waits_for(r"ended after (\d+) steps, let go of (\d+) times: audited")
-        return int(found[1]), int(found[2])
+def steps_of(server):
+    """How many steps it recorded until it ended, and how often it let go of some: it is audited."""
+    found = server.waits_for(r"ended after (\d+) steps, let go of (\d+) times: audited")
+    return int(found[1]), int(found[2])
 
 
 @contextlib.contextmanager
-def served(program, text=None, *words, seed=("--seed-of-file",), **keys):
+def served(program, *words, options=("--seed-of-file",), **keys):
     """A server, its two ends, and its end, which is audited."""
-    with tempfile.TemporaryDirectory() as folder:
-        server, ends = Server(program, folder, text or text_of(folder, **keys), *words, seed=seed), Ends()
+    with tempfile.TemporaryDirectory() as folder, Server(program, folder, text_of(**keys), *words, options=options) as server:
+        ends = Ends()
         try:
-            server.waits_for(r"serving ")
+            server.waits_for()
             yield server, ends
             if server.process.poll() is None and not words:
-                server.looks_whole()
                 server.stop()
         finally:
             ends.close()
-            server.process.kill()
-            server.process.wait()
 
 
 def accounting(program):
     """The worked exchange; a second server beside the first has no port; the time ends the server."""
     begin = time.monotonic()
-    with served(program, None, "6000") as (server, ends):
+    with served(program, "6000") as (server, ends):
         ends.complete(ACCOUNTING)
         counts = server.counts()
         for who in ("realm", "server", "peer"):
             for name, code in (("forwarded", "accounting_request"), ("returned", "accounting_response")):
                 want(total(counts, f"roam_{who}_{name}_total", code=code) == 1, f"roam_{who}_{name}_total isn't 1")
-        second = subprocess.run(server.words[:-1], capture_output=True, text=True, timeout=60, check=False)
-        want(second.returncode == 1 and "roam: cannot " in second.stderr, f"a second server: {second}")
-        want(server.process.wait(60) == 0 and time.monotonic() - begin >= 6, f"it ends before its time: {server.said()}")
-        steps = int(server.waits_for(r"ended after (\d+) steps, let go of 0 times: audited")[1])
-        want(steps <= 100, f"a server at rest stores {steps} steps")
+        second = run(program, "serve", "--seed-of-file", server.conf)
+        want(second[0] == 1 and "roam: cannot " in second[2], f"a second server is declined: {second}")
+        server.balances()
+        want(server.ends(60) == 0 and time.monotonic() - begin >= 6, "it ends at its time")
+        steps, times = steps_of(server)
+        want(steps <= 100 and times == 0, f"a server at rest stores {steps} steps")
 
 
 def hostile(program):
@@ -308,21 +199,20 @@ def steps_let_go(program):
         ends.alone(SECOND_ACCOUNTING)
         ends.alone(DISCONNECT)
         want(server.count("roam_history_let_go_total") >= 5, "it isn't counted how often steps are let go of")
-        server.looks_whole()
-        _, times = server.stop()
-        want(times >= 5, f"steps are let go of {times} times")
+        server.stop()
+        want(steps_of(server)[1] >= 5, f"steps are let go of {steps_of(server)[1]} times")
 
 
 def spread(program):
     """Sockets of its own for each worker: the system deals the clients out."""
-    with served(program, letters="ab", shards=2, more="spread = true\n") as (_, ends):
+    with served(program, letters="ab", shards=2, spread=True) as (_, ends):
         for number in range(1, 17):
-            client = bound(CLIENT + number)
+            client = bound(CLIENT + number, seconds=.1)
             for _ in range(50):
-                client.sendto(access(number), (HERE, AUTH))
+                client.sendto(named(number), (HERE, AUTH))
                 packet, source = heard(ends.home)
                 if packet is not None:
-                    ends.home.sendto(signed_accept(packet), source)
+                    ends.home.sendto(answer(2, packet, b"h1"), source)
                 packet, source = heard(client)
                 if packet is not None:
                     break
@@ -338,14 +228,6 @@ def unreachable(program):
         server.waits_for(r"packets lost since they may not be sent")
 
 
-def drained(it, first=.3):
-    """All that arrives, until nothing comes for a while; how long is waited for the first one."""
-    found = []
-    while select.select([it], [], [], .3 if found else first)[0]:
-        found.append(it.recvfrom(4096))
-    return found
-
-
 def forwarded(ends, clients):
     """256 requests of each realm, and what the home server hears of them."""
     found = {}
@@ -353,7 +235,7 @@ def forwarded(ends, clients):
         for first in range(0, 256, 32):
             for _ in range(50):
                 for identifier in range(first, first + 32):
-                    clients[letter].sendto(access(identifier, letter), (HERE, AUTH))
+                    clients[letter].sendto(named(identifier, letter), (HERE, AUTH))
                 for packet, source in drained(ends.home):
                     found[source[1], packet[1]] = (packet, source)
                 if len(found) == 256 * number + first + 32:
@@ -366,9 +248,9 @@ def crowd(program):
     """More packets at once than a ring holds: 1,280 requests are due at one tick, while the server was stopped; then 1,280 replies wait at
     its sockets, while it was stopped again. None is lost."""
     with contextlib.ExitStack() as opened:
-        clients = {letter: opened.enter_context(bound(CLIENT + 1 + number)) for number, letter in enumerate("abcde")}
+        clients = {letter: opened.enter_context(bound(CLIENT + 1 + number, seconds=.1)) for number, letter in enumerate("abcde")}
         server, ends = opened.enter_context(served(program, letters="abcde", tries=10, wait=20000, hold=60000))
-        replies = [(signed_accept(packet), source) for packet, source in forwarded(ends, clients)]
+        replies = [(answer(2, packet, b"h1"), source) for packet, source in forwarded(ends, clients)]
         os.kill(server.process.pid, signal.SIGSTOP)
         time.sleep(21)
         os.kill(server.process.pid, signal.SIGCONT)
@@ -388,7 +270,7 @@ def crowd(program):
                 ends.home.sendto(reply, source)
                 time.sleep(.0002)
             for letter, identifier in waiting:
-                clients[letter].sendto(access(identifier, letter), (HERE, AUTH))
+                clients[letter].sendto(named(identifier, letter), (HERE, AUTH))
         want(not waiting, f"{len(waiting)} replies are lost")
         counts = server.counts()
         want(total(counts, "roam_lost_packets_total") == 0, "packets are lost")
@@ -399,7 +281,7 @@ def drawn(program):
     """The first Request Authenticator that a server draws is neither that of the file's seed, nor one of another server."""
     seen = {ACCESS.forwarded[4:20]}
     for _ in range(2):
-        with served(program, seed=()) as (_, ends):
+        with served(program, options=()) as (_, ends):
             for _ in range(50):
                 ends.client.sendto(ACCESS.request, (HERE, AUTH))
                 packet, _ = heard(ends.home)
@@ -412,24 +294,21 @@ def drawn(program):
 def refused(program):
     """A port that is taken, and too few descriptors: it says so, and ends with 1."""
     with tempfile.TemporaryDirectory() as folder:
-        text = text_of(folder)
-        with contextlib.closing(bound(REVERSE)):
-            server = Server(program, folder, text)
-            want(server.process.wait(60) == 1, f"a taken port: {server.said()}")
-            want(f"roam: cannot bind {HERE}:{REVERSE}: Address already in use\n" in server.said(), server.said())
-        ran = subprocess.run(server.words, capture_output=True, text=True, timeout=60, check=False,
-                             preexec_fn=lambda: resource.setrlimit(resource.RLIMIT_NOFILE, (8, 8)))
-        want(ran.returncode == 1 and re.search(r"^roam: too few file descriptors: \d+ wanted$", ran.stderr, re.M), f"few descriptors: {ran}")
+        with contextlib.closing(bound(REVERSE)), Server(program, folder, text_of()) as server:
+            want(server.ends(60) == 1, "with a port that is taken it ends with 1")
+            want(f"roam: cannot bind {HERE}:{REVERSE}: Address already in use\n" in server.said(), "and says which")
+        few = run(program, "serve", server.conf, preexec_fn=lambda: resource.setrlimit(resource.RLIMIT_NOFILE, (8, 8)))
+        want(few[0] == 1 and re.search(r"^roam: too few file descriptors: \d+ wanted$", few[2], re.M), f"few descriptors: {few}")
 
 
 def main():
-    if len(sys.argv) != 2:
-        sys.exit(__doc__)
-    program = os.path.abspath(sys.argv[1])
+    [program] = words(__doc__)
+    be_quiet()
     for row in (accounting, hostile, steps_let_go, spread, unreachable, crowd, drawn, refused):
         row(program)
         print(f"{row.__name__}: as it should be", flush=True)
+    return end()
 
 
 if __name__ == "__main__":
-    main()
+    sys.exit(main())

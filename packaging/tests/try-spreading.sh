@@ -117,7 +117,7 @@ for broker in broker1 broker2; do
         "$roam" check "$dir/$broker.conf"
         start $broker "$roam" serve "$dir/$broker.conf"
     else
-        start $broker python3 "$here/spreading.py" broker "$dir/$broker.conf"
+        start $broker python3 "$here/around.py" "$dir/$broker.conf"
     fi
 done
 start home python3 "$here/spreading.py" home "$dir/seen"

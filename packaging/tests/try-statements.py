@@ -11,12 +11,14 @@ import ipaddress
 import os
 import re
 import shutil
-import subprocess
 import sys
 import tempfile
 import tomllib
 
 sys.dont_write_bytecode = True
+from looks import be_quiet, changed, end, want, words
+from server import run
+
 ROOT = os.path.dirname(os.path.dirname(os.path.dirname(os.path.abspath(__file__))))
 FOLDERS = ("packaging/samples", "examples")
 # What counts where one of these is absent can't be written.
@@ -24,16 +26,6 @@ WITHOUT_DEFAULT = {"max_hops", "metrics", "control", "coa", "nas_ip", "nas_ipv6"
                    "max_attributes", "fresh", "peer_share", "coa_client", "state"}
 ENDPOINTS = {"auth", "acct", "out", "reverse", "coa", "metrics"}
 USAGE = "usage: roam check CONF\n"
-
-
-def run(program, *words, user=None):
-    ran = subprocess.run([program, *words], stdout=subprocess.PIPE, stderr=subprocess.PIPE, timeout=60, check=False, user=user)
-    return ran.returncode, ran.stdout.decode(), ran.stderr.decode()
-
-
-def want(holds, what):
-    if not holds:
-        sys.exit(f"try-statements: {what}")
 
 
 def keys_of_page():
@@ -129,30 +121,27 @@ def look_at_faults(program, folder):
     samples = os.path.join(ROOT, "packaging", "samples")
     old = os.path.join(samples, "visited-network.conf")
     with open(old, "rb") as file:
-        fewer = write("fewer.conf", re.sub(rb"\n\[\[realm\]\].*?(?=\n\[\[realm\]\])", b"", file.read(), count=1, flags=re.S))
+        text = file.read()
+    fewer = write("fewer.conf", changed(text, re.compile(rb"\n\[\[realm\]\].*?(?=\n\[\[realm\]\])", re.S), b"", 1))
     gone = run(program, "check", old, fewer)
     want((gone[0], gone[2]) == (0, "") and re.match(r"may follow\nrealm \S+: gone: loses all\n", gone[1]), f"fewer realms: {gone}")
-    with open(old, "rb") as file:
-        shards = write("shards.conf", b"shards = 2\n" + re.sub(rb"(?m)^shards = .*\n", b"", file.read()))
+    want(tomllib.loads(text.decode()).get("shards") != 2, "the sample has another number of shards")
+    shards = write("shards.conf", b"shards = 2\n" + re.sub(rb"(?m)^shards = .*\n", b"", text))
     status, printed, said = run(program, "check", old, shards)
     want((status, said) == (1, f"roam: {shards}: may not follow\n") and printed.startswith("may not follow: "), f"shards: {status} {printed}{said}")
 
 
 def main():
-    if len(sys.argv) != 2:
-        sys.exit(__doc__)
-    program = os.path.abspath(sys.argv[1])
-    keys = keys_of_page()
-    count = 0
+    [program] = words(__doc__)
+    be_quiet()
+    keys, paths = keys_of_page(), [os.path.join(ROOT, part, name) for part in FOLDERS for name in sorted(os.listdir(os.path.join(ROOT, part)))]
     with tempfile.TemporaryDirectory() as folder:
-        for part in FOLDERS:
-            for name in sorted(os.listdir(os.path.join(ROOT, part))):
-                if name.endswith(".conf"):
-                    look_at_file(program, os.path.join(ROOT, part, name), keys, folder)
-                    count += 1
+        configurations = [path for path in paths if path.endswith(".conf")]
+        for path in configurations:
+            look_at_file(program, path, keys, folder)
         look_at_faults(program, folder)
-    print(f"{count} configurations are stated with all their defaults, and mean the same; faults are told")
+    return end(f"{len(configurations)} configurations are stated with all their defaults, and mean the same; faults are told")
 
 
 if __name__ == "__main__":
-    main()
+    sys.exit(main())

@@ -73,6 +73,9 @@ as_service() { setpriv --reuid "$(status Uid | cut -d ' ' -f 2)" --regid "$(stat
 plant() { (umask 077; echo secret > /var/shadow); as_service ln -s /var/shadow /run/roam/roam.conf; }
 is_untouched() { [ "$(stat -c '%a %U' /var/shadow)" = "600 root" ] && [ "$(cat /var/shadow)" = secret ]; }
 
+# Changes a file by a command of sed: one that changes nothing would try nothing.
+edit() { cp -p "$1" /var/unedited; sed -i "$2" "$1"; must "an edit changes ${1##*/}" eval "! cmp -s $1 /var/unedited"; }
+
 systemctl start roam
 must "it serves" within 20 serves
 must "a user of its own" [ "$(status Uid)" != "Uid: 0 0 0 0" ]
@@ -110,7 +113,7 @@ must "by the same process" [ "$(of MainPID)" = "$first" ]
 must "which has a copy of it" cmp -s /etc/roam/roam.conf $copy/roam.conf
 must "and others can't read that one" eval "! strangers_read $copy/roam.conf 2> /dev/null"
 must "the journal says what became of each realm" within 5 said '^realm more.example: new'
-sed -i 's/^shards.*/shards = 0/' /etc/roam/roam.conf
+edit /etc/roam/roam.conf 's/^shards.*/shards = 0/'
 must "a file that is refused isn't followed" eval "! systemctl reload roam 2> /dev/null"
 must "the journal says why" within 5 said 'roam.conf:8: shards: 0 is not in'
 must "and it serves on" eval "serves && [ $(of MainPID) = $first ]"
@@ -132,7 +135,7 @@ systemctl start roam
 must "without a file it says so, and isn't served" eval "[ \"$(of ActiveState)\" != active ] && said 'there is no /etc/roam/roam.conf'"
 systemctl stop roam
 mv /etc/roam/away /etc/roam/roam.conf
-sed -i 's/^shards.*/shards = 0/' /etc/roam/roam.conf
+edit /etc/roam/roam.conf 's/^shards.*/shards = 0/'
 systemctl start roam
 must "a refused configuration isn't served" [ "$(of ActiveState)" != active ]
 systemctl stop roam

@@ -13,14 +13,10 @@ import tempfile
 import threading
 
 sys.dont_write_bytecode = True
-sys.path.insert(0, os.path.dirname(os.path.abspath(__file__)))
-import command_rows as rows  # noqa: E402
-import diagnosis_rows as diagnosis  # noqa: E402
-
-
-def want(holds, what):
-    if not holds:
-        sys.exit(f"try-words: {what}")
+import command_rows as rows
+import diagnosis_rows as diagnosis
+from looks import be_quiet, changed, end, want, words
+from server import run
 
 
 class Trial:
@@ -36,8 +32,7 @@ class Trial:
         return path
 
     def ends(self, words, status, printed, told):
-        ran = subprocess.run([self.program, *words], stdout=subprocess.PIPE, stderr=subprocess.PIPE, timeout=60, check=False)
-        found = (ran.returncode, ran.stdout.decode(), ran.stderr.decode())
+        found = run(self.program, *words)
         want(found == (status, printed, told), f"{words}: {found}, not {(status, printed, told)}")
 
 
@@ -49,7 +44,7 @@ def look_at_words(trial):
         trial.ends(words, 2, "", f"roam: {words[0]}: no such command\n{rows.USAGE}")
     for word in ("help", "--help", "-h"):
         trial.ends([word], 0, rows.USAGE, "")
-    version = subprocess.run([trial.program, "version"], capture_output=True, text=True, check=True).stdout
+    _, version, _ = run(trial.program, "version")
     want(version.startswith("roam 1.0.0\nrattle-kit-") and version.count("\n") == 2, f"the version is {version!r}")
     for word in ("--version", "-V"):
         trial.ends([word], 0, version, "")
@@ -74,7 +69,7 @@ def look_at_configurations(trial):
 def look_at_faults(trial):
     """A configuration at fault is refused by its name, whatever is to be done with it."""
     for old, new, name, place in rows.REFUSED:
-        path = trial.file("refused.conf", rows.CONFIGURATION.replace(old, new, 1))
+        path = trial.file("refused.conf", changed(rows.CONFIGURATION, old, new, 1))
         told = f"roam: {path}: {name}\n{path}{place}\n"
         # Its own text is no script, and that isn't looked at.
         for words in (["check", path], ["check", "--all", path], ["sim", path, path], ["serve", path], ["serve", path, "86400000"]):
@@ -84,15 +79,14 @@ def look_at_faults(trial):
 def look_at_diagnoses(trial):
     """Of each change of the sample it is told what is wrong or unwise, and where."""
     for old, new, wanted in diagnosis.TOLD:
-        want(old in diagnosis.SAMPLE, f"{old!r} isn't in the sample")
-        path = trial.file("a.conf", diagnosis.SAMPLE.replace(old, new, 1))
+        path = trial.file("a.conf", diagnosis.SAMPLE if old == new else changed(diagnosis.SAMPLE, old, new, 1))
         fault, end, lines = wanted.partition("\n")
         if fault.isalpha():
             told, ends = f"roam: {path}: {fault}{end}" + lines.replace("a.conf", path), (1, "")
         else:
             told, ends = wanted.replace("a.conf", path), (0, "ok realms")
-        ran = subprocess.run([trial.program, "check", path], capture_output=True, text=True, timeout=60, check=False)
-        want((ran.returncode, ran.stdout[:9], ran.stderr) == (*ends, told), f"{new!r}: {ran}, not {told!r}")
+        status, printed, said = run(trial.program, "check", path)
+        want((status, printed[:9], said) == (*ends, told), f"{new!r}: {status} {printed} {said}, not {told!r}")
 
 
 def look_at_files(trial):
@@ -173,20 +167,15 @@ def look_at_answers(trial):
 
 
 def main():
-    if len(sys.argv) != 2:
-        sys.exit(__doc__)
+    [program] = words(__doc__)
+    be_quiet()
     with tempfile.TemporaryDirectory() as folder:
-        trial = Trial(os.path.abspath(sys.argv[1]), folder)
-        look_at_words(trial)
-        look_at_configurations(trial)
-        look_at_faults(trial)
-        look_at_diagnoses(trial)
-        look_at_files(trial)
-        look_at_scripts(trial)
-        look_at_writes(trial)
-        look_at_answers(trial)
-    print("words, configurations, scripts and answers are told as they should be")
+        trial = Trial(program, folder)
+        for look in (look_at_words, look_at_configurations, look_at_faults, look_at_diagnoses, look_at_files, look_at_scripts,
+                     look_at_writes, look_at_answers):
+            look(trial)
+    return end("words, configurations, scripts and answers are told as they should be")
 
 
 if __name__ == "__main__":
-    main()
+    sys.exit(main())
