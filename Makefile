@@ -31,19 +31,10 @@ test:
 	.ci/run
 
 pages:
-	python3 tools/theorem.py
-	python3 tools/definitions.py
-	python3 tools/claims.py
-	tools/metrics.py
-	python3 tools/pictures.py
+	tools/pages.py
+	tools/pages.py --check
 	python3 packaging/installed/grafana.py check
-	tools/names.py
-	tools/counts.py
-	tools/lists.py --check
-	tools/mistakes.py
-	tools/sizes.py
-	tools/unused.py
-	tools/tests_only.py
+	tools/look.py
 
 look:
 	tools/quick.py $(CRATE)

@@ -1,8 +1,9 @@
 #!/usr/bin/env python3
 """Tries the mistakes that the prover has to refuse.
 
-    mistakes/try.py [CRATE ..]      all that are kept of these crates, or of all
-    mistakes/try.py --gate [JOBS]   those that .ci/run tries, each by its function alone, those of a crate at one time
+    mistakes/try.py [CRATE ..]            all that are kept of these crates, or of all
+    mistakes/try.py --gate [JOBS]         those that .ci/run tries: a third of those with a function, which the commit chooses
+    mistakes/try.py --gate --all [JOBS]   all with a function: before a release, and after a change of what they stand over
 
 Each file of `mistakes/CRATE` is an edit in the form that `rt must-fail` takes. They are laid into the crate's `must-fail`,
 `rt must-fail CRATE` tries them all (the crate and those below it are proved first, where that isn't done), and they are
@@ -12,6 +13,9 @@ taken away again. The status is 0 where the prover refuses them all.
 --gate the prover checks this function, and those that it calls, of a copy of the crate that has the edit, over the libraries that
 were proved before. It is refused where the prover has read all of it and has no proof of this function, for more than a name that
 the edit took away. A copy has one edit of each function that a crate's edits name: most of what such a check costs is reading.
+
+The third is that of the commit's hash (`git rev-parse HEAD`), which no one picks: each edit of each crate has its turn as commits go by.
+What it leaves out it counts; where there is no commit it tries all.
 """
 import concurrent.futures
 import os
@@ -138,12 +142,25 @@ def refused_alone(crates: dict, edits: list[pathlib.Path]) -> bool:
     return not any(faults.values())
 
 
-def gate(jobs: int) -> int:
-    """Tries the edits that name a function."""
+def third_of(edits: list[pathlib.Path]) -> list[pathlib.Path]:
+    """Those of the edits that this commit's run tries, every third one from a place that its hash gives; says which these are."""
+    asked = subprocess.run(["git", "rev-parse", "HEAD"], cwd=ROOT, capture_output=True, text=True, check=False)
+    commit = asked.stdout.strip()
+    if asked.returncode or not re.fullmatch("[0-9a-f]{40,}", commit):
+        print(f"there is no commit: all {len(edits)} mistakes with a function are tried", flush=True)
+        return edits
+    first = int(commit, 16) % 3
+    print(f"third {first + 1} of 3 of the mistakes, by commit {commit[:8]}: {len(edits[first::3])} of {len(edits)} are tried", flush=True)
+    return edits[first::3]
+
+
+def gate(jobs: int, is_all: bool) -> int:
+    """Tries the edits that name a function, or the commit's third of them."""
     # The kit's own module knows a crate's words.
     sys.path.insert(0, str(pathlib.Path(os.path.realpath(subprocess.check_output(["which", "rt"], text=True).strip())).parent))
     import rtlib  # pylint: disable=import-outside-toplevel,import-error
     edits = sorted(it for it in HERE.glob("*/*.edit") if function_of(it))
+    edits = edits if is_all else third_of(edits)
     of_crates = [[it for it in edits if it.parent.name == name] for name in sorted({it.parent.name for it in edits})]
     os.chdir(ROOT)
     known: dict = {}
@@ -156,7 +173,8 @@ def gate(jobs: int) -> int:
 def main() -> int:
     """Tries the crates that are named, or all."""
     if sys.argv[1:2] == ["--gate"]:
-        return gate(int(sys.argv[2]) if sys.argv[2:] else 2)
+        more = [it for it in sys.argv[2:] if it != "--all"]
+        return gate(int(more[0]) if more else 2, "--all" in sys.argv[2:])
     named = sys.argv[1:] or sorted(it.name for it in HERE.iterdir() if it.is_dir() and not it.name.startswith("_"))
     return 0 if all([refused(crate) for crate in named]) else 1
 

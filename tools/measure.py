@@ -9,7 +9,7 @@ import statistics
 import subprocess
 import sys
 
-import sizes
+from looking import sizes
 
 
 def product(root: pathlib.Path) -> list[pathlib.Path]:

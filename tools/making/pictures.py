@@ -1,8 +1,4 @@
-#!/usr/bin/env python3
 """Draws the pictures of the pages: docs/pictures/NAME.txt becomes docs/pictures/NAME.svg.
-
-    tools/pictures.py            draws them
-    tools/pictures.py --check    says whether each is what its text gives; ends with 1 where one isn't
 
 A text has a line for each thing, in which `#` begins a comment:
 
@@ -15,9 +11,8 @@ A text has a line for each thing, in which `#` begins a comment:
 """
 import html
 import pathlib
-import sys
 
-PICTURES = pathlib.Path(__file__).resolve().parent.parent / "docs" / "pictures"
+PICTURES = pathlib.Path(__file__).resolve().parents[2] / "docs" / "pictures"
 FILL = {"plain": "#ffffff", "own": "#dbe9f6", "soft": "#f3f3f3", "warn": "#fbe3d6"}
 FONT = 'font-family="DejaVu Sans, Verdana, sans-serif"'
 
@@ -84,21 +79,13 @@ def picture(source: str, name: str) -> str:
     head = ('<defs><marker id="head" markerWidth="9" markerHeight="8" refX="8" refY="4" orient="auto">'
             '<path d="M0,0 L9,4 L0,8 z" fill="#44546a"/></marker></defs>')
     return "\n".join([f'<svg xmlns="http://www.w3.org/2000/svg" viewBox="0 0 {width:g} {height:g}" width="{width:g}" '
-                      f'height="{height:g}" role="img">', f"<!-- made of {name}.txt by tools/pictures.py -->", head,
+                      f'height="{height:g}" role="img">', f"<!-- made of {name}.txt by tools/pages.py -->", head,
                       f'<rect width="{width:g}" height="{height:g}" fill="#ffffff"/>', *drawn, "</svg>"]) + "\n"
 
 
-def main() -> int:
-    status = 0
-    for source in sorted(PICTURES.glob("*.txt")):
-        made, target = picture(source.read_text(encoding="utf-8"), source.stem), source.with_suffix(".svg")
-        if sys.argv[1:] != ["--check"]:
-            target.write_text(made, encoding="utf-8")
-        elif not target.exists() or target.read_text(encoding="utf-8") != made:
-            print(f"{target.name} isn't what its text gives: run tools/pictures.py", file=sys.stderr)
-            status = 1
-    return status
+def made() -> dict[pathlib.Path, str]:
+    return {source.with_suffix(".svg"): picture(source.read_text(encoding="utf-8"), source.stem) for source in sorted(PICTURES.glob("*.txt"))}
 
 
-if __name__ == "__main__":
-    sys.exit(main())
+def faults() -> list[str]:
+    return []

@@ -1,8 +1,4 @@
-#!/usr/bin/env python3
 """Holds the lists of keys and refusals together: each stands once, and everything else is made of it or compared with it.
-
-    tools/lists.py            writes the lists of the manual page
-    tools/lists.py --check    says what doesn't agree; ends with 1 where something doesn't
 
 - The keys of a configuration: the table of docs/FILES.md. The manual page's are made of it, and the reader's own lists
   (crates/roam_conf_reader/src/tables.rt) compared with it; each stands in examples/two-realms.conf.
@@ -15,10 +11,9 @@
 """
 import pathlib
 import re
-import sys
 import textwrap
 
-ROOT = pathlib.Path(__file__).resolve().parent.parent
+ROOT = pathlib.Path(__file__).resolve().parents[2]
 MANUAL = ROOT / "packaging" / "installed" / "roam.8"
 HEADS = {
     "top": "At the top:",
@@ -107,7 +102,7 @@ def manual() -> str:
     """The manual page with its lists made anew."""
     page = MANUAL.read_text(encoding="utf-8")
     for name, made in (("keys", keys_in_mdoc()), ("refusals", refusals_in_mdoc()), ("faults", faults_in_mdoc())):
-        begin, end = f'.\\" {name}: made by tools/lists.py\n', f'.\\" {name}: end\n'
+        begin, end = f'.\\" {name}: made by tools/pages.py\n', f'.\\" {name}: end\n'
         if begin not in page or end not in page:
             raise SystemExit(f"packaging/installed/roam.8 has no place for the {name}")
         page = page.split(begin)[0] + begin + made + "\n" + end + page.split(end)[1]
@@ -165,22 +160,8 @@ def faults() -> list[str]:
     if f"```text\nusage: {usage}```" not in (ROOT / "docs" / "REFUSALS.md").read_text(encoding="utf-8"):
         said.append("the usage in docs/REFUSALS.md isn't the one that the program prints")
     said += lost_texts()
-    if MANUAL.read_text(encoding="utf-8") != manual():
-        said.append("packaging/installed/roam.8 isn't what the pages give: run tools/lists.py")
     return said
 
 
-def main() -> int:
-    if sys.argv[1:] == ["--check"]:
-        said = faults()
-        print("\n".join(said) or "the lists of keys and refusals agree")
-        return int(bool(said))
-    if sys.argv[1:]:
-        print(__doc__, file=sys.stderr)
-        return 2
-    MANUAL.write_text(manual(), encoding="utf-8")
-    return 0
-
-
-if __name__ == "__main__":
-    sys.exit(main())
+def made() -> dict[pathlib.Path, str]:
+    return {MANUAL: manual()}

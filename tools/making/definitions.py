@@ -1,8 +1,4 @@
-#!/usr/bin/env python3
 """Writes docs/DEFINITIONS.md from what stands above the definitions in crates/*/specs, in the order of docs/definitions.txt.
-
-    tools/definitions.py            writes the page
-    tools/definitions.py --check    says what is wrong, or that the page is what the sources give; ends with 1 where something is
 
 Above a definition that the page has stands a comment of this form, and below it, after an empty line of comment, the
 definition's own:
@@ -14,17 +10,16 @@ definition's own:
     -- Stands in: `crate` `File.antt`: `names`; the functions and laws that carry it
     --
 
-Wrong is a page that isn't this, a file with such definitions that docs/definitions.txt doesn't name, and a name behind "Stands in"
+Wrong is a file with such definitions that docs/definitions.txt doesn't name, and a name behind "Stands in"
 that isn't in its file.
 """
 import pathlib
 import re
-import sys
 
-ROOT = pathlib.Path(__file__).resolve().parent.parent
+ROOT = pathlib.Path(__file__).resolve().parents[2]
 PAGE = ROOT / "docs" / "DEFINITIONS.md"
 ORDER = ROOT / "docs" / "definitions.txt"
-MARK = "<!-- Made by tools/definitions.py from the comments in crates/*/specs: change those. -->\n"
+MARK = "<!-- Made by tools/pages.py from the comments in crates/*/specs: change those. -->\n"
 TAGS = ("Source", "Rules out", "Stands in")
 KINDS = {
     "also": "**To be believed as well**, wherever a contract or a definition above uses a word of theirs:",
@@ -171,19 +166,5 @@ def missing(text: str) -> list[str]:
     return said
 
 
-def main() -> int:
-    if sys.argv[1:] == ["--check"]:
-        said = faults()
-        if not PAGE.exists() or PAGE.read_text(encoding="utf-8") != written():
-            said.append("docs/DEFINITIONS.md isn't what the sources give: run tools/definitions.py")
-        print("\n".join(said) or "the definitions' page is what the sources give")
-        return int(bool(said))
-    if sys.argv[1:]:
-        print(__doc__, file=sys.stderr)
-        return 2
-    PAGE.write_text(written(), encoding="utf-8")
-    return 0
-
-
-if __name__ == "__main__":
-    sys.exit(main())
+def made() -> dict[pathlib.Path, str]:
+    return {PAGE: written()}

@@ -1,25 +1,19 @@
-#!/usr/bin/env python3
 """Writes docs/CLAIMS.md from what the crates' heads say is proved of them, in the order of docs/claims.txt.
-
-    tools/claims.py            writes the page
-    tools/claims.py --check    says what is wrong, or that the page is what the sources give; ends with 1 where something is
 
 In the head of a crate's lib.rt (main.rt, of a program) stands, behind "//! # Proved", a list of what is proved of it:
 
     //! - the claim, in words | `function`: `clause`, `clause`; the law `name`
 
 A name behind the bar is a function, type, clause, field or definition of the claim's own crate, or of one that the claim names there;
-or docs/claims.txt says which crate has it, and then the page does. Wrong is a name of which none of these is so, a page that isn't
-this, and a crate with such a list that docs/claims.txt doesn't name.
+or docs/claims.txt says which crate has it, and then the page does. Wrong is a name of which none of these is so, and a crate with such a list that docs/claims.txt doesn't name.
 """
 import pathlib
 import re
-import sys
 
-ROOT = pathlib.Path(__file__).resolve().parent.parent
+ROOT = pathlib.Path(__file__).resolve().parents[2]
 PAGE = ROOT / "docs" / "CLAIMS.md"
 ORDER = ROOT / "docs" / "claims.txt"
-MARK = "<!-- Made by tools/claims.py from the heads of the crates (lib.rt) and docs/claims.txt: change those. -->\n"
+MARK = "<!-- Made by tools/pages.py from the heads of the crates (lib.rt) and docs/claims.txt: change those. -->\n"
 
 
 def head_of(crate: pathlib.Path) -> list[tuple[str, str]]:
@@ -109,19 +103,5 @@ def faults() -> list[str]:
     return said
 
 
-def main() -> int:
-    if sys.argv[1:] == ["--check"]:
-        said = faults()
-        if not PAGE.exists() or PAGE.read_text(encoding="utf-8") != written():
-            said.append("docs/CLAIMS.md isn't what the sources give: run tools/claims.py")
-        print("\n".join(said) or "the claims' page is what the sources give")
-        return int(bool(said))
-    if sys.argv[1:]:
-        print(__doc__, file=sys.stderr)
-        return 2
-    PAGE.write_text(written(), encoding="utf-8")
-    return 0
-
-
-if __name__ == "__main__":
-    sys.exit(main())
+def made() -> dict[pathlib.Path, str]:
+    return {PAGE: written()}

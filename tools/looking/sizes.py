@@ -1,19 +1,16 @@
-#!/usr/bin/env python3
 """Measures files, bodies and lines: files of at most 300 lines, bodies of at most 40, lines of at most 120 columns.
 
-    tools/sizes.py            says what is longer and isn't among tools/sizes.txt's exceptions; ends with 1 where something is
-    tools/sizes.py --list     prints all that is longer
-    tools/sizes.py --write    writes the exceptions as they are now: do so when something has become shorter
+    tools/look.py sizes --list     prints all that is longer
+    tools/look.py sizes --write    writes the exceptions as they are now: do so when something has become shorter
 
-An exception is a limit of its own: what stands in tools/sizes.txt may be as long as is said there, and no longer. Files and bodies
+An exception is a limit of its own: what stands in sizes.txt beside this file may be as long as is said there, and no longer. Files and bodies
 are those of crates/*/src, specs and proofs (bodies: of functions of the product); columns also those of proofs. A line of an import,
 of a contract's name, or of one text literal may be longer. Of long lines it is counted how many a file has.
 """
 import pathlib
 import re
-import sys
 
-ROOT = pathlib.Path(__file__).resolve().parent.parent
+ROOT = pathlib.Path(__file__).resolve().parents[2]
 KEPT = pathlib.Path(__file__).resolve().parent / "sizes.txt"
 FILE, BODY, COLUMNS = 300, 40, 120
 
@@ -67,22 +64,19 @@ def excepted() -> dict[str, int]:
     return {name: int(size) for size, _, name in (line.partition(" ") for line in lines if line)}
 
 
-def main() -> int:
-    now, words = longer(), sys.argv[1:]
-    if words == ["--list"]:
-        print("\n".join(f"{size} {name}" for name, size in now.items()))
-        return 0
-    if words == ["--write"]:
-        KEPT.write_text("".join(f"{size} {name}\n" for name, size in now.items()), encoding="utf-8")
-        return 0
-    if words:
-        print(__doc__, file=sys.stderr)
-        return 2
+GOOD = "nothing is longer than it may be"
+
+
+def faults() -> list[str]:
+    """What is longer and isn't among the exceptions."""
     may = excepted()
-    said = [f"{name}: {size}, where {may.get(name, 0) or 'the limit'} may be" for name, size in now.items() if size > may.get(name, 0)]
-    print("\n".join(said) or f"nothing is longer than it may be ({len(now)} exceptions)")
-    return int(bool(said))
+    return [f"{name}: {size}, where {may.get(name, 0) or 'the limit'} may be" for name, size in longer().items() if size > may.get(name, 0)]
 
 
-if __name__ == "__main__":
-    sys.exit(main())
+def other(words: list[str]) -> int | None:
+    """Does what is asked for by further words: the status, or nothing where they aren't known."""
+    if words == ["--list"]:
+        print("\n".join(f"{size} {name}" for name, size in longer().items()))
+    elif words == ["--write"]:
+        KEPT.write_text("".join(f"{size} {name}\n" for name, size in longer().items()), encoding="utf-8")
+    return 0 if words in (["--list"], ["--write"]) else None

@@ -1,7 +1,4 @@
-#!/usr/bin/env python3
 """Says which public functions of the product nothing but tests calls, where the first line above them doesn't say so.
-
-    tools/tests_only.py     prints each with its file; ends with 1 where there is one
 
 A first line that begins with "For tests" says so, above the function or above its type. It goes by names alone: a function is called
 where its name stands before a parenthesis or behind `::` in a product crate's code, outside of contracts and imports. So one may
@@ -10,9 +7,8 @@ be left out whose name another has. Laws (laws.rt, bounds.rt, and what has no bo
 import collections
 import pathlib
 import re
-import sys
 
-ROOT = pathlib.Path(__file__).resolve().parent.parent
+ROOT = pathlib.Path(__file__).resolve().parents[2]
 SKIPPED = re.compile(r"\s*(//|(pub(\(\w+\))? )?use\b|ghost\b|requires\b|ensures\b|preserved\b)")
 
 
@@ -43,10 +39,11 @@ def first_line(lines: list[str], at: int) -> str:
     return said
 
 
-def main() -> int:
-    if sys.argv[1:]:
-        print(__doc__, file=sys.stderr)
-        return 2
+GOOD = "what only tests call says so"
+
+
+def faults() -> list[str]:
+    """Each such function, with its file."""
     files = sources()
     called, types, unsaid = calls(files), set(), set()
     for lines in files.values():
@@ -63,10 +60,4 @@ def main() -> int:
                 continue
             if next(it for it in lines[at:] if it.strip() in ("{", "{}") or it.endswith((" {", "{}"))).strip() != "{}":
                 unsaid.add(f"{name} {found.group(1)}")
-    faults = [f"crates/{it}: only tests call it, if any, and its first line doesn't say so" for it in sorted(unsaid)]
-    print("\n".join(faults) or "what only tests call says so")
-    return int(bool(faults))
-
-
-if __name__ == "__main__":
-    sys.exit(main())
+    return [f"crates/{it}: only tests call it, if any, and its first line doesn't say so" for it in sorted(unsaid)]

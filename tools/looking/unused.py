@@ -1,9 +1,8 @@
-#!/usr/bin/env python3
 """Finds what nothing uses: imports of .antt files, `ghost use` of .rt files, and lemmas that nothing names.
 
-    tools/unused.py [--fix] [CRATE ..]     (all crates where none is named)
+    tools/look.py unused [--fix] CRATE ..
 
-It prints each with its file and line, and ends with 1 where there is one. With --fix it takes them out, again and again until
+Of the crates that are named, or of all, it prints each with its file and line. With --fix it takes them out, again and again until
 nothing is left, for what goes may have been the only user of something else; `rt fmt` and `rt lib` in the crate come after it.
 
 It goes by names alone: an import is used where its name stands in the same file outside of the lines that import, a lemma where
@@ -13,9 +12,8 @@ that is named. What a standard's values give (StandardFacts.antt) isn't looked a
 import collections
 import pathlib
 import re
-import sys
 
-ROOT = pathlib.Path(__file__).resolve().parent.parent
+ROOT = pathlib.Path(__file__).resolve().parents[2]
 SPLIT = re.compile(r"[\s(){}\[\],;.:\"`|&*!<>=?/#]+")
 PLAIN_NAME = re.compile(r"[\w'-]+")
 USE = re.compile(r"^[ \t]*(ghost )?use ([^\n{;]*?)(\{([^}]*)\})?( as \S+?)?;?[ \t]*$", re.M)
@@ -148,40 +146,37 @@ def files_of(crates: list[str]) -> list[pathlib.Path]:
     return found
 
 
-def look(crates: list[str], fix: bool) -> int:
-    """Says what nothing uses, and with fix takes it out; how many there were."""
-    tree, count = Tree(), 0
+def look(crates: list[str], fix: bool) -> list[str]:
+    """What nothing uses; with fix it is taken out."""
+    tree, said = Tree(), []
     for path in files_of(crates):
         where = path.relative_to(ROOT)
         lemmas = tree.dead_lemmas(path) if is_of_lemmas(path) else []
         imports = unused_imports(path)
         text = path.read_text(encoding="utf-8")
-        for use, lost in imports:
-            print(f"{where}:{text.count(chr(10), 0, use.start()) + 1}: nothing uses {', '.join(lost)}")
-            count += len(lost)
-        for name, _, at, _ in lemmas:
-            print(f"{where}:{at + 1}: nothing names {name}")
-            count += 1
+        said += [f"{where}:{text.count(chr(10), 0, use.start()) + 1}: nothing uses {it}" for use, lost in imports for it in lost]
+        said += [f"{where}:{at + 1}: nothing names {name}" for name, _, at, _ in lemmas]
         if fix and (imports or lemmas):
             if lemmas:
                 path.write_text(without(path, [], lemmas), encoding="utf-8")
             path.write_text(without(path, unused_imports(path), []), encoding="utf-8")
-    return count
+    return said
 
 
-def main() -> int:
-    words = sys.argv[1:]
-    fix = "--fix" in words
-    crates = [it for it in words if it != "--fix"]
+GOOD = "nothing is unused"
+
+
+def faults() -> list[str]:
+    return look([], False)
+
+
+def other(words: list[str]) -> int | None:
+    """Does what is asked for by further words: the status, or nothing where they aren't known."""
+    fix, crates = "--fix" in words, [it for it in words if it != "--fix"]
     if any(it.startswith("-") or not (ROOT / "crates" / it).is_dir() for it in crates):
-        print(__doc__, file=sys.stderr)
-        return 2
-    count = look(crates, fix)
-    while fix and count and look(crates, fix):
-        pass
-    print(f"{count} that nothing uses" if count else "nothing is unused")
-    return int(bool(count) and not fix)
-
-
-if __name__ == "__main__":
-    sys.exit(main())
+        return None
+    while said := look(crates, fix):
+        print("\n".join(said))
+        if not fix:
+            return 1
+    return 0

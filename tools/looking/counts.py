@@ -1,7 +1,4 @@
-#!/usr/bin/env python3
 """Looks whether the counts on the pages are those of the sources.
-
-    tools/counts.py     says each that isn't, with its page and line; ends with 1 where there is one
 
 COUNTS has what a page may count, as it is written, and how it is counted here. Other numbers of things that grow don't belong on pages.
 CONSTANTS has numbers of the program, as pages write them, and the constant of the code that each has to be.
@@ -12,7 +9,7 @@ import pathlib
 import re
 import sys
 
-ROOT = pathlib.Path(__file__).resolve().parent.parent
+ROOT = pathlib.Path(__file__).resolve().parents[2]
 
 
 def rows(folder: str = "r*") -> list[str]:
@@ -81,7 +78,11 @@ def constant(path: str, name: str) -> int:
     return math.prod(factors)
 
 
-def main() -> int:
+GOOD = "the counts on the pages are those of the sources"
+
+
+def faults() -> list[str]:
+    """Each count that isn't, with its page and line."""
     said, known = [], {}
     counted = COUNTS | {pattern: lambda where=where: constant(*where) for pattern, where in CONSTANTS.items()}
     pages = [ROOT / "README.md", *sorted((ROOT / "docs").glob("*.md")), *ROOT.glob("*/README.md"), *ROOT.glob("packaging/**/try-*")]
@@ -92,10 +93,4 @@ def main() -> int:
                 number = int(next(it for it in found.groups() if it).replace(",", ""))
                 if known.setdefault(pattern, count()) != number:
                     said.append(f"{page.relative_to(ROOT)}:{text.count(chr(10), 0, found.start()) + 1}: {found.group(0)!r}: there are {known[pattern]}")
-    said += [f"no page has {pattern!r} any more: take it out of CONSTANTS, or spell it as the page does" for pattern in CONSTANTS if pattern not in known]
-    print("\n".join(said) or "the counts on the pages are those of the sources")
-    return int(bool(said))
-
-
-if __name__ == "__main__":
-    sys.exit(main())
+    return said + [f"no page has {pattern!r} any more: take it out of CONSTANTS, or spell it as the page does" for pattern in CONSTANTS if pattern not in known]

@@ -1,20 +1,15 @@
-#!/usr/bin/env python3
 """Writes docs/METRICS.md from what roam_metrics gives to Prometheus: names, labels, their values, and what each means (its HELP).
 
-    tools/metrics.py            writes the page
-    tools/metrics.py --check    says what is wrong, or that the page is what the sources give; ends with 1 where something is
-
-Wrong is a page that isn't this, and a name in the sources of which nothing is told.
+Wrong is a name in the sources of which nothing is told.
 """
 import pathlib
 import re
-import sys
 
-ROOT = pathlib.Path(__file__).resolve().parent.parent
+ROOT = pathlib.Path(__file__).resolve().parents[2]
 SOURCES = ROOT / "crates" / "roam_metrics" / "src"
 PAGE = ROOT / "docs" / "METRICS.md"
 TEXT = r'"([^"]*)"'
-HEAD = """<!-- Made by tools/metrics.py from crates/roam_metrics/src: change that. -->
+HEAD = """<!-- Made by tools/pages.py from crates/roam_metrics/src: change that. -->
 
 # The metrics of `roam serve`
 
@@ -89,22 +84,8 @@ def faults() -> list[str]:
     told = {it.replace("_WHO_", who) for it in re.findall(r"`(\w+)`", page) for who in ("_realm_", "_server_", "_peer_")}
     names = {it for path in SOURCES.glob("*.rt") for it in re.findall(r'"((?:roam|process)_\w+)"', path.read_text(encoding="utf-8"))}
     said = [f"nothing is told of {it}" for it in sorted(names) if re.sub("_(sum|count|bucket)$", "", it) not in told]
-    if not PAGE.exists() or PAGE.read_text(encoding="utf-8") != page:
-        said.append("docs/METRICS.md isn't what the sources give: run tools/metrics.py")
     return said
 
 
-def main() -> int:
-    if sys.argv[1:] == ["--check"]:
-        said = faults()
-        print("\n".join(said) or "the metrics' page is what the sources give")
-        return int(bool(said))
-    if sys.argv[1:]:
-        print(__doc__, file=sys.stderr)
-        return 2
-    PAGE.write_text(written(), encoding="utf-8")
-    return 0
-
-
-if __name__ == "__main__":
-    sys.exit(main())
+def made() -> dict[pathlib.Path, str]:
+    return {PAGE: written()}

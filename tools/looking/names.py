@@ -1,7 +1,4 @@
-#!/usr/bin/env python3
 """Says which names on the pages aren't there: files, sections, functions written as `Type::function`, names that link to a file, and laws.
-
-    tools/names.py          prints each of them with its page and line; ends with 1 where there is one
 
 It looks at README.md and docs/*.md: at paths in backticks and in links; at sections, in links and as `docs/PAGE.md`, "Section", or
 "Section", above or below; at `Type::function` and `crate::function` in backticks, which one crate has to have, and that one where
@@ -11,15 +8,14 @@ crates/test_callers, so that the gate proves them.
 """
 import pathlib
 import re
-import sys
 
-ROOT = pathlib.Path(__file__).resolve().parent.parent
+ROOT = pathlib.Path(__file__).resolve().parents[2]
 # Names of the toolchain and of the language, and forms that stand for a name.
 KNOWN_TYPES = {"Option", "Result", "Vec", "String", "Hash", "UdpSocket", "Scope", "Process", "Refusal", "Self", "Rattle", "std", "self"}
 # Names of others on pages about the code.
 KNOWN_NAMES = {"LoadCredential"}
 CODE_PAGES = ("ARCHITECTURE", "CONTRIBUTING", "DECISIONS", "GLOSSARY", "PROOFS", "TOUR")
-SOURCES = ("crates/*/src/**/*.rt", "crates/*/specs/**/*.antt", "crates/*/proofs/**/*.antt", "oracle/*.py", "packaging/**/*.*", "tools/*.py")
+SOURCES = ("crates/*/src/**/*.rt", "crates/*/specs/**/*.antt", "crates/*/proofs/**/*.antt", "oracle/*.py", "packaging/**/*.*", "tools/**/*.py")
 OWN_FOLDERS = ("crates", "docs", "oracle", "load", "packaging", "mistakes", "tools", "examples")
 
 
@@ -132,19 +128,17 @@ def faults_of(page: pathlib.Path, code, specs: set[str]) -> list[str]:
     return faults
 
 
-def main() -> int:
+GOOD = "each name on the pages is there"
+
+
+def faults() -> list[str]:
+    """What isn't there, with its page and line."""
     code, specs = names_of_code(), spec_names()
     pages = [ROOT / "README.md", *sorted((ROOT / "docs").glob("*.md"))]
-    faults = [it for page in pages if page.name != "THEOREM.md" for it in faults_of(page, code, specs)]
+    said = [it for page in pages if page.name != "THEOREM.md" for it in faults_of(page, code, specs)]
     texts = {page: page.read_text(encoding="utf-8") for page in pages if page.name != "THEOREM.md"}
-    faults += [f"{page.relative_to(ROOT)}: {it} isn't there" for page, text in texts.items()
-               for it in missing_sections(page, text) + missing_rust(text)]
+    said += [f"{page.relative_to(ROOT)}: {it} isn't there" for page, text in texts.items()
+             for it in missing_sections(page, text) + missing_rust(text)]
     words = words_of_code() | KNOWN_NAMES
-    faults += [f"{page.relative_to(ROOT)}: {it} isn't there" for page, text in texts.items() if page.stem in CODE_PAGES
-               for it in missing_words(text, words)]
-    print("\n".join(faults) or "each name on the pages is there")
-    return int(bool(faults))
-
-
-if __name__ == "__main__":
-    sys.exit(main())
+    return said + [f"{page.relative_to(ROOT)}: {it} isn't there" for page, text in texts.items() if page.stem in CODE_PAGES
+                   for it in missing_words(text, words)]

@@ -1,19 +1,15 @@
-#!/usr/bin/env python3
 """Writes docs/THEOREM.md from the sources: what `run` promises, and each definition under it, chapter by chapter.
-
-  python3 tools/theorem.py           writes the page
-  python3 tools/theorem.py --check   says whether the page is what the sources give; ends with 1 where it isn't
 
 It reads the clauses in crates/roam_core/src/runs.rt, the definitions in crates/*/specs, and the types and
 constants in crates/*/src that these name. Nothing of the proofs is read. A name of a crate of the repository
 that it can't find is an error.
 """
 import os
+import pathlib
 import re
-import sys
 
-ROOT = os.path.dirname(os.path.dirname(os.path.abspath(__file__)))
-PAGE = os.path.join(ROOT, "docs", "THEOREM.md")
+ROOT = str(pathlib.Path(__file__).resolve().parents[2])
+PAGE = pathlib.Path(ROOT) / "docs" / "THEOREM.md"
 RUN = ("roam_core", "src/runs.rt")
 
 # Functions under the headline for which a law says which relation they decide or answer: the page has the law
@@ -94,7 +90,7 @@ HEAD = re.compile(r"(?:abbrev |unfoldable )?pub (?:(record|data) )?([A-Za-z_][A-
 
 
 def without_words(lines):
-    """The lines of a file without the comments that docs/DEFINITIONS.md is made of (tools/definitions.py)."""
+    """The lines of a file without the comments that docs/DEFINITIONS.md is made of (definitions.py)."""
     kept, is_in = [], False
     for line in lines:
         is_in = is_in or line.lstrip().startswith("-- ## ")
@@ -552,8 +548,8 @@ def clauses(lines, names):
 
 def print_introduction(page, book):
     """What the page is, what has to be believed, and how long each chapter is."""
-    page.append("<!-- Made by tools/theorem.py from the sources: change those. -->\n\n# The theorem, with each definition under it\n")
-    page.append("Made from the sources by `tools/theorem.py`; the gate says whether it still is what they give.\n")
+    page.append("<!-- Made by tools/pages.py from the sources: change those. -->\n\n# The theorem, with each definition under it\n")
+    page.append("Made from the sources by `tools/pages.py`; the gate says whether it still is what they give.\n")
     page.append("**The written broker** is the specification: functions on lists and records, in these definitions, which nobody runs. `run` "
                 "is the program's call that gives a list of events to a broker, and what is proved compares the two.\n")
     page.append("**To be believed**: that the definitions on this page say what RADIUS and the promise say; the toolchain "
@@ -646,21 +642,9 @@ def in_order(sources, book):
     return order
 
 
-def main():
-    page = written()
-    if sys.argv[1:] == ["--check"]:
-        there = open(PAGE, encoding="utf-8").read() if os.path.exists(PAGE) else ""
-        if there != page:
-            print("docs/THEOREM.md isn't what the sources give: run python3 tools/theorem.py", file=sys.stderr)
-            return 1
-        return 0
-    if sys.argv[1:]:
-        print(__doc__, file=sys.stderr)
-        return 2
-    with open(PAGE, "w", encoding="utf-8") as file:
-        file.write(page)
-    return 0
+def made():
+    return {PAGE: written()}
 
 
-if __name__ == "__main__":
-    sys.exit(main())
+def faults():
+    return []
