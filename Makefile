@@ -5,7 +5,7 @@ ROAM = $(CURDIR)/crates/roam/out/roam
 # A crate, for `make proof` and `make look`: make proof CRATE=roam_book.
 CRATE =
 
-.PHONY: help see run test pages look proof scripts trials deb
+.PHONY: help see run test pages look proof scripts trials around deb
 
 help:
 	@echo 'make see                  a script of datagrams, played in two minutes, without a proof'
@@ -17,6 +17,7 @@ help:
 	@echo 'make scripts              tries the converters, the samples and f-ticks.py; no program, no root'
 	@echo 'make trials ROAM=PROGRAM  tries a program by its sockets: diagnoses, control, reload, exchanges, and what fails beside'
 	@echo '                          it (a log, a path, descriptors, an answer, a socket without room); no root'
+	@echo 'make around ROAM=PROGRAM  tries it between servers of others, where these are installed; no root'
 	@echo 'make deb ROAM=PROGRAM     the Debian package'
 	@echo 'What each is about: docs/CONTRIBUTING.md.'
 
@@ -42,27 +43,15 @@ look:
 proof:
 	tools/prove.py $(CRATE)
 
+# Which trials there are, and when each runs, is in packaging/tests/trials.txt.
 scripts:
-	packaging/tests/try-converter.py
-	packaging/tests/try-from-freeradius.py
-	packaging/tests/try-samples.py
-	packaging/tests/try-fticks.py
+	packaging/tests/trials.py scripts
 
 trials: scripts
-	packaging/tests/try-diagnoses.py $(ROAM)
-	packaging/tests/try-samples.py $(ROAM)
-	packaging/tests/try-statements.py $(ROAM)
-	packaging/tests/try-words.py $(ROAM)
-	packaging/tests/try-configurations.py $(ROAM)
-	packaging/tests/try-serve.py $(ROAM)
-	packaging/tests/try-prefixes.py $(ROAM)
-	packaging/tests/try-places.py $(ROAM)
-	packaging/tests/try-control.py $(ROAM)
-	packaging/tests/try-reload.py $(ROAM)
-	packaging/tests/try-restart.py $(ROAM)
-	packaging/tests/try-exchanges.py $(ROAM)
-	packaging/tests/try-faults.py $(ROAM)
-	packaging/tests/try-blocked.py $(ROAM)
+	packaging/tests/trials.py trials $(ROAM)
+
+around:
+	packaging/tests/trials.py around $(ROAM)
 
 deb:
 	$(MAKE) -C packaging deb ROAM=$(ROAM)

@@ -1,7 +1,8 @@
 #!/usr/bin/env python3
 """Reads the processor minutes of each crate while a command proves and tests, and keeps them for the pages.
 
-    tools/minutes.py run FILE CMD ..    runs CMD, and writes into FILE a line for each crate; ends with CMD's status
+    tools/minutes.py run FILE CMD ..    runs CMD, and writes into FILE a line for each crate; ends with CMD's status. As a crate begins it
+                                        says which of how many that is, and about how long all that are left take, by docs/minutes.txt
     tools/minutes.py take FILE          takes such lines over, of that file or of what .ci/run printed, into docs/minutes.txt, and
                                         writes the table of docs/CONTRIBUTING.md anew
     tools/minutes.py --check            says whether that table is what docs/minutes.txt gives; ends with 1 if not
@@ -62,16 +63,25 @@ def crate_and_kind(process: int) -> tuple[str, str] | None:
     return (name, "runs") if (ROOT / "crates" / name).is_dir() and name else None
 
 
-def look(process: int, seen: dict[tuple[int, str], tuple[tuple[str, str], float]]) -> None:
-    """Notes what each process below one has taken so far."""
+def is_proving(process: int) -> bool:
+    """Whether a process proves something: a pass over names and types alone has no logic among its words."""
+    return b"\0--logic-built\0" in pathlib.Path("/proc", str(process), "cmdline").read_bytes()
+
+
+def look(process: int, seen: dict[tuple[int, str], tuple[tuple[str, str], float]]) -> set[str]:
+    """Notes what each process below one has taken so far; the crates that one proves now."""
+    working = set()
     for it in below(process):
         try:
             fields = pathlib.Path("/proc", str(it), "stat").read_text().rsplit(")", 1)[1].split()
             what = crate_and_kind(it)
+            if what and what[1] in ("proof", "tests") and is_proving(it):
+                working.add(what[0])
         except (OSError, IndexError):
             continue
         if what:
             seen[it, fields[19]] = (what, (int(fields[11]) + int(fields[12])) / TICKS)
+    return working
 
 
 def seconds_of_loop() -> float:
@@ -86,15 +96,45 @@ def pace_of(looks: list[float]) -> str:
     return f"# pace: {statistics.median(looks):.2f} s of a processor for a million steps of a loop (median of {len(looks)} looks)\n"
 
 
+class Progress:
+    """Which crates have begun, and what is left of them."""
+
+    def __init__(self) -> None:
+        kept = {name: sum(of.values()) for name, of in read(KEPT.read_text(encoding="utf-8")).items()}
+        names = re.findall(r"^(\w+):", (ROOT / "crates.txt").read_text(encoding="utf-8"), re.M)
+        # Of a crate that no run had is taken what half of them take less than.
+        usual = statistics.median(kept.values())
+        self.left = {name: kept.get(name, usual) for name in names}
+        self.count, self.begun, self.running, self.done = len(names), 0, {}, 0.0
+        self.began = time.monotonic()
+
+    def clock(self) -> float:
+        """About how many minutes by the clock are left: by what those that ended took, at first by the number of processors."""
+        elapsed = (time.monotonic() - self.began) / 60
+        at_once = self.done / elapsed if self.done > 10 and elapsed > 5 else os.cpu_count() or 1
+        return (sum(self.left.values()) + sum(self.running.values()) / 2) / max(at_once, .1)
+
+    def tell(self, working: set[str]) -> None:
+        """Says of each crate that begins which it is. Nothing is said of one that ends: so the command's last line stays the last."""
+        for name in set(self.running) - working:
+            self.done += self.running.pop(name)
+        for name in sorted(working & set(self.left)):
+            self.running[name] = self.left.pop(name)
+            self.begun += 1
+            print(f"progress: {name} begins, crate {self.begun} of {self.count}; about {self.clock():.0f} minutes of proofs and their tests are left",
+                  file=sys.stderr, flush=True)
+
+
 def run(file: str, words: list[str]) -> int:
     """Runs a command, and writes the minutes of each crate."""
+    progress = Progress()
     seen: dict[tuple[int, str], tuple[tuple[str, str], float]] = {}
     looks = [seconds_of_loop()]
     started = subprocess.Popen(words)
     timed = time.monotonic()
     while started.poll() is None:
         try:
-            look(started.pid, seen)
+            progress.tell(look(started.pid, seen))
         except (OSError, ValueError):
             pass                        # a process that ended while it was looked at: the next look has the others
         if time.monotonic() - timed >= APART:
