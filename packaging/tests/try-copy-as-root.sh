@@ -100,6 +100,10 @@ must "nor its folder" fails as $service touch "$(dirname "$copy")/another"
 kill $racer
 wait $racer || true
 racer=
+rm "$work/etc/roam/station.key"
+run ExecReload
+must "a key that was removed is removed there too" is "$(find "$work/run" -name station.key)" ""
+must "and the service reads the copy of the configuration" is "$(as $service cat "$copy")" 'secret = "another"'
 run ExecStopPost
 rm -rf "$work/run/roam"
 must "nothing of it is left" is "$(find "$work/run" -mindepth 1)" ""
