@@ -125,6 +125,19 @@ row.arrive(request(2), [given_back(back(request(2)))])
 row.arrive(request(0), [])
 row.arrive(request(1), [sent(forward(request(1), 3, 3))])
 
+row = Row("held-above-a-limit-that-stays", file_of(PEER, REALM_A))
+for n in range(3):
+    row.arrive(request(n), [sent(forward(request(n), n, n))])
+row.change(file_of(PEER, REALM_A.replace("max_pending = 300", "max_pending = 2")))
+for n in range(3):
+    row.reply(response(forward(request(n), n, n)), [given_back(back(request(n)))])
+row.change(file_of(PEER, REALM_A.replace("max_pending = 300", "max_pending = 2").replace("hold = 5000", "hold = 4000")))
+for n in range(3):
+    row.arrive(request(n), [given_back(back(request(n)))])
+row.change(file_of(PEER, REALM_A.replace("max_pending = 300", "max_pending = 1")))
+row.arrive(request(2), [given_back(back(request(2)))])
+row.arrive(request(0), [sent(forward(request(0), 3, 3))])
+
 row = Row("a-realm-in-front-goes-and-comes-back", BOTH)
 row.arrive(qb, [sent(fb, realm=1)])
 row.change(file_of(PEER, REALM_B))

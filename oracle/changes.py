@@ -94,7 +94,9 @@ class Change:
         return True
 
     def make_way(self, entries):
-        """Where fewer may be pending, answered ones go in order of ticket."""
+        """Where fewer may be pending than before, answered ones go in order of ticket; above a limit that stays they stay."""
+        if self.new.table["max_pending"] >= self.old.table["max_pending"]:
+            return entries
         over = len(entries) - self.new.table["max_pending"]
         going = [e for e in entries if not e.waits()][:max(over, 0)]
         return [e for e in entries if e not in going]
