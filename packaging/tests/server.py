@@ -85,6 +85,8 @@ def imbalances(page, may_lose=()):
     """What doesn't balance of a page of metrics. Of a realm that may lose requests they are wanted to be counted as dropped
     where the program counts such."""
     counts, found = counts_of(page), []
+    if "# TYPE roam_received_datagrams_total " not in page:
+        found.append(f"there is no page of metrics, but {page[:100]!r}")
     received, handled = (total(counts, f"roam_{it}_datagrams_total") for it in ("received", "handled"))
     if received != handled:
         found.append(f"{received} datagrams received, {handled} handled")
