@@ -15,11 +15,12 @@ import tempfile
 import time
 
 sys.dont_write_bytecode = True
-from looks import BAD, end, want
+from looks import BAD, end, over_lines, want
 from radius import bound, packets
 from server import Server
 import broker as apart
 
+# What each FreeRADIUS has; a block on one line stands for one over several.
 FREERADIUS = """
 prefix = {root}/usr
 libdir = {root}/usr/lib/freeradius
@@ -121,7 +122,7 @@ class Around:
         home = command("freeradius")
         root = re.sub("/usr/sbin/freeradius$", "", home)
         os.makedirs(self.path(name), exist_ok=True)
-        self.write(f"{name}.conf", FREERADIUS.format(root=root, directory=self.directory, name=name, proxies=proxies) + text)
+        self.write(f"{name}.conf", FREERADIUS.format(root=root, directory=self.directory, name=name, proxies=proxies) + over_lines(text))
         self.start(name, [home, "-fxx" if verbose else "-f", "-l", "stdout", "-d", self.directory, "-n", name,
                           "-D", f"{root}/usr/share/freeradius"])
 

@@ -48,6 +48,16 @@ def changed(text, old, new, times=-1):
     return edited(text, old.sub(new, text, max(0, times)) if is_expression else text.replace(old, new, times), f"{old!r} in place of {new!r}")
 
 
+def over_lines(text, step=2):
+    """Returns the text of another server's file, in which a block on one line, as `listen { type = auth; port = 1812 }`, stands for one over
+    several."""
+    def spread(found):
+        indent, head, inner = found.groups()
+        lines = [" " * step + it for it in inner.strip().split("; ")] if inner.strip() else []
+        return "\n".join([f"{indent}{head} {{", *(indent + it for it in lines), indent + "}"])
+    return re.sub(r"^( *)(\S.*?) \{ (.*?)\}$", spread, text, flags=re.M)
+
+
 def words(usage, least=1, most=None):
     """Returns the words of the command line, the first as the path of a program, where they are so many; else tells the usage."""
     given = sys.argv[1:]

@@ -19,7 +19,7 @@ import tempfile
 import tomllib
 
 sys.dont_write_bytecode = True
-from looks import be_quiet, changed, end, want, words
+from looks import be_quiet, changed, end, over_lines, want, words
 
 HERE = os.path.dirname(os.path.abspath(__file__))
 ROOT = os.path.dirname(os.path.dirname(HERE))
@@ -31,6 +31,7 @@ import radsecproxy_names  # noqa: E402
 
 CONVERTER = os.path.join(INSTALLED, "from-radsecproxy.py")
 
+# Files of radsecproxy; a block on one line stands for one over several.
 EDUROAM = r"""# A national proxy's server, as one meets it
 ListenUDP 203.0.113.10:1812
 ListenUDP 203.0.113.10:1813
@@ -41,177 +42,44 @@ LoopPrevention on
 FTicksReporting Full
 FTicksKey "a key"
 
-rewrite no-vlan {
-    removeAttribute 81
-}
+rewrite no-vlan { removeAttribute 81 }
 
-client wireless-1 {
-    host 192.0.2.1
-    type udp
-    secret "a\bc%41 d"
-    duplicateInterval 10
-    fticksVISCOUNTRY EX
-}
-client wireless-2 {
-    host 192.0.2.2
-    host 192.0.2.3
-    type udp
-    secret 'it is "quoted"'
-}
-client wired {
-    host 192.0.2.16/30
-    type udp
-    secret prefix-of-four
-    rewriteIn no-vlan
-}
-client wired-1 {
-    host 192.0.2.18
-    type udp
-    secret one-of-four
-}
-client dormitories {
-    host 10.20.0.0/16
-    type udp
-    secret prefix-of-many
-}
-client upper-1 {
-    host 198.51.100.1
-    type udp
-    secret "the secret of the first upper server"
-}
-client upper-2 {
-    host 198.51.100.2
-    type udp
-    secret "the secret of the second upper server"
-}
-client of-six {
-    host [2001:db8::1]
-    type udp
-    secret of-six
-}
-client named {
-    host localhost
-    ipv4only on
-    type udp
-    secret named
-}
-client long {
-    host 192.0.2.40
-    type udp
-    secret 123456789012345678901234567890123456789012345678901234567890123456789012345678901234567890
-}
-client again {
-    host 192.0.2.1
-    type udp
-    secret again
-}
+client wireless-1 { host 192.0.2.1; type udp; secret "a\bc%41 d"; duplicateInterval 10; fticksVISCOUNTRY EX }
+client wireless-2 { host 192.0.2.2; host 192.0.2.3; type udp; secret 'it is "quoted"' }
+client wired { host 192.0.2.16/30; type udp; secret prefix-of-four; rewriteIn no-vlan }
+client wired-1 { host 192.0.2.18; type udp; secret one-of-four }
+client dormitories { host 10.20.0.0/16; type udp; secret prefix-of-many }
+client upper-1 { host 198.51.100.1; type udp; secret "the secret of the first upper server" }
+client upper-2 { host 198.51.100.2; type udp; secret "the secret of the second upper server" }
+client of-six { host [2001:db8::1]; type udp; secret of-six }
+client named { host localhost; ipv4only on; type udp; secret named }
+client long { host 192.0.2.40; type udp; secret 123456789012345678901234567890123456789012345678901234567890123456789012345678901234567890 }
+client again { host 192.0.2.1; type udp; secret again }
 
-server upper-1 {
-    host 198.51.100.1
-    type udp
-    secret "the secret of the first upper server"
-    statusServer on
-    retryCount 1
-    retryInterval 3
-}
-server upper-2 {
-    host 198.51.100.2
-    type udp
-    secret "the secret of the second upper server"
-    statusServer on
-    retryCount 1
-    retryInterval 3
-}
-server home-1 {
-    host 198.51.100.17
-    type udp
-    secret "the secret of home"
-}
-server home-1-acct {
-    host 198.51.100.17
-    port 1813
-    type udp
-    secret "the secret of home"
-}
-server home-2 {
-    host 198.51.100.18
-    port 11812
-    type udp
-    secret "the secret of the second"
-    loopPrevention off
-}
-server books {
-    host 198.51.100.19
-    port 1813
-    type udp
-    secret "another secret"
-}
-server of-six {
-    host [2001:db8::2]
-    type udp
-    secret of-six
-}
-server spare-six {
-    host [2001:db8::3]
-    type tcp
-    secret spare-six
-}
-server spare {
-    host 198.51.100.20
-    type udp
-    secret spare
-}
+server upper-1 { host 198.51.100.1; type udp; secret "the secret of the first upper server"; statusServer on; retryCount 1; retryInterval 3 }
+server upper-2 { host 198.51.100.2; type udp; secret "the secret of the second upper server"; statusServer on; retryCount 1; retryInterval 3 }
+server home-1 { host 198.51.100.17; type udp; secret "the secret of home" }
+server home-1-acct { host 198.51.100.17; port 1813; type udp; secret "the secret of home" }
+server home-2 { host 198.51.100.18; port 11812; type udp; secret "the secret of the second"; loopPrevention off }
+server books { host 198.51.100.19; port 1813; type udp; secret "another secret" }
+server of-six { host [2001:db8::2]; type udp; secret of-six }
+server spare-six { host [2001:db8::3]; type tcp; secret spare-six }
+server spare { host 198.51.100.20; type udp; secret spare }
 
-realm /^$/ {
-    replymessage "no name"
-}
-realm /@$/ {
-    replymessage "no realm"
-}
-realm /@(.+\.)?myabc\.com$/ {
-    replymessage "a default of some device"
-}
-realm /@.+\.3gppnetwork\.org$/ {
-    replymessage "no telephones"
-}
-realm suspended.example {
-    replymessage "suspended"
-}
-realm home.example {
-    server home-1
-    server home-2
-    accountingServer home-1-acct
-}
-realm /\.home\.example$/ {
-    server home-1
-    accountingServer books
-}
-realm lab.home.example {
-    server home-2
-}
-realm /@(.+\.)?inst2\.example$/ {
-    server home-2
-    accountingResponse on
-}
-realm six.example {
-    server of-six
-}
-realm both.example {
-    server home-2
-    server of-six
-}
-realm seven.example {
-    server spare-six
-}
-realm /^[a-k].*@half\.example$/ {
-    server home-2
-}
-realm * {
-    server upper-1
-    server upper-2
-    accountingServer upper-1
-    accountingServer upper-2
-}
+realm /^$/ { replymessage "no name" }
+realm /@$/ { replymessage "no realm" }
+realm /@(.+\.)?myabc\.com$/ { replymessage "a default of some device" }
+realm /@.+\.3gppnetwork\.org$/ { replymessage "no telephones" }
+realm suspended.example { replymessage "suspended" }
+realm home.example { server home-1; server home-2; accountingServer home-1-acct }
+realm /\.home\.example$/ { server home-1; accountingServer books }
+realm lab.home.example { server home-2 }
+realm /@(.+\.)?inst2\.example$/ { server home-2; accountingResponse on }
+realm six.example { server of-six }
+realm both.example { server home-2; server of-six }
+realm seven.example { server spare-six }
+realm /^[a-k].*@half\.example$/ { server home-2 }
+realm * { server upper-1; server upper-2; accountingServer upper-1; accountingServer upper-2 }
 """
 
 # Words that must stand in a comment, beside whether something is lost by it.
@@ -246,96 +114,27 @@ rewrite defaultClient {
     supplementAttribute 126:1visited.example
     removeAttribute 33
 }
-rewrite guests {
-    removeAttribute 64
-    removeAttribute 65
-    removeAttribute 81
-    removeAttribute 81
-    supplementAttribute 27:3600
-}
-rewrite only-some {
-    whitelistMode on
-    whitelistAttribute 1
-}
-rewrite towards-home {
-    removeAttribute 30
-    supplementAttribute 126:'1everybody.example
-}
-rewrite spare {
-    removeAttribute 6
-}
+rewrite guests { removeAttribute 64; removeAttribute 65; removeAttribute 81; removeAttribute 81; supplementAttribute 27:3600 }
+rewrite only-some { whitelistMode on; whitelistAttribute 1 }
+rewrite towards-home { removeAttribute 30; supplementAttribute 126:'1everybody.example }
+rewrite spare { removeAttribute 6 }
 
-client one {
-    host 192.0.2.1
-    type udp
-    secret of-one
-    rewriteOut guests
-}
-client two {
-    host 192.0.2.2
-    type udp
-    secret of-two
-    rewriteIn only-some
-}
-client upper {
-    host 198.51.100.1
-    type udp
-    secret of-upper
-    rewriteIn guests
-}
-client elsewhere {
-    host 192.0.2.4
-    type udp
-    secret of-elsewhere
-    rewrite towards-home
-}
+client one { host 192.0.2.1; type udp; secret of-one; rewriteOut guests }
+client two { host 192.0.2.2; type udp; secret of-two; rewriteIn only-some }
+client upper { host 198.51.100.1; type udp; secret of-upper; rewriteIn guests }
+client elsewhere { host 192.0.2.4; type udp; secret of-elsewhere; rewrite towards-home }
 
-server upper {
-    host 198.51.100.1
-    type udp
-    secret of-upper
-    rewriteIn guests
-}
-server home {
-    host 198.51.100.17
-    type udp
-    secret of-home
-    rewriteOut towards-home
-}
-server home-2 {
-    host 198.51.100.18
-    type udp
-    secret of-home
-    loopPrevention off
-}
-server elsewhere {
-    host 198.51.100.33
-    type udp
-    secret of-elsewhere
-}
+server upper { host 198.51.100.1; type udp; secret of-upper; rewriteIn guests }
+server home { host 198.51.100.17; type udp; secret of-home; rewriteOut towards-home }
+server home-2 { host 198.51.100.18; type udp; secret of-home; loopPrevention off }
+server elsewhere { host 198.51.100.33; type udp; secret of-elsewhere }
 
-realm shut.a.example {
-}
-realm /@(.+\.)?a\.example$/ {
-    server home
-    server home-2
-    accountingServer home
-    accountingServer home-2
-}
-realm b.example {
-    server elsewhere
-    accountingResponse on
-}
-realm c.example {
-    server elsewhere
-}
-realm /@.+\.3gppnetwork\.org$/ {
-    replyMessage "no telephones"
-    accountingResponse on
-}
-realm * {
-    server upper
-}
+realm shut.a.example { }
+realm /@(.+\.)?a\.example$/ { server home; server home-2; accountingServer home; accountingServer home-2 }
+realm b.example { server elsewhere; accountingResponse on }
+realm c.example { server elsewhere }
+realm /@.+\.3gppnetwork\.org$/ { replyMessage "no telephones"; accountingResponse on }
+realm * { server upper }
 """
 
 DECIDED_TOLD = [("Not carried over", what) for what in (
@@ -356,69 +155,20 @@ BOTH_KINDS = """ListenUDP 203.0.113.10:1812
 ListenUDP 203.0.113.10:1813
 ListenUDP [2001:db8:1::10]:1812
 ListenUDP [2001:db8:1::10]:1813
-client of-four {
-    host 192.0.2.1
-    type udp
-    secret of-four
-}
-client of-six {
-    host [2001:db8::]/48
-    type udp
-    secret of-six
-}
-server four {
-    host 198.51.100.17
-    type udp
-    secret of-home
-}
-server four-acct {
-    host 198.51.100.17
-    port 1813
-    type udp
-    secret of-home
-}
-server six {
-    host [2001:db8:2::17]
-    type udp
-    secret of-home
-}
-server six-acct {
-    host [2001:db8:2::17]
-    port 1813
-    type udp
-    secret of-home
-}
-realm a.example {
-    server four
-    server six
-    accountingServer four-acct
-    accountingServer six-acct
-}
+client of-four { host 192.0.2.1; type udp; secret of-four }
+client of-six { host [2001:db8::]/48; type udp; secret of-six }
+server four { host 198.51.100.17; type udp; secret of-home }
+server four-acct { host 198.51.100.17; port 1813; type udp; secret of-home }
+server six { host [2001:db8:2::17]; type udp; secret of-home }
+server six-acct { host [2001:db8:2::17]; port 1813; type udp; secret of-home }
+realm a.example { server four; server six; accountingServer four-acct; accountingServer six-acct }
 """
 # Options of radsecproxy 1.11, which an older one doesn't know.
 NEWER = """ListenUDP 203.0.113.10:1812
-client one {
-    host 192.0.2.1
-    type udp
-    secret of-one
-    requireMessageAuthenticatorProxy on
-}
-client two {
-    host 192.0.2.2
-    type udp
-    secret of-two
-    requireMessageAuthenticator on
-    requireMessageAuthenticatorProxy on
-}
-server home {
-    host 198.51.100.17
-    type udp
-    secret of-home
-    requireMessageAuthenticator on
-}
-realm a.example {
-    server home
-}
+client one { host 192.0.2.1; type udp; secret of-one; requireMessageAuthenticatorProxy on }
+client two { host 192.0.2.2; type udp; secret of-two; requireMessageAuthenticator on; requireMessageAuthenticatorProxy on }
+server home { host 198.51.100.17; type udp; secret of-home; requireMessageAuthenticator on }
+realm a.example { server home }
 """
 
 
@@ -635,7 +385,7 @@ def look_over(name, text, peers, realms, told, lost, roam, is_old=True):
     with tempfile.TemporaryDirectory() as directory:
         path = os.path.join(directory, name)
         with open(path, "w") as file:
-            file.write(text)
+            file.write(over_lines(text, 4))
         if is_old and shutil.which("radsecproxy"):
             judged = run(["radsecproxy", "-p", "-c", path])
             want(judged.returncode == 0, judged.stderr)

@@ -44,42 +44,23 @@ CONF = configuration(
 
 # It answers accounting, and asks for a Disconnect itself where a session's Interim-Update has the Class `ends`.
 HOME = """
-client broker {{
-  ipaddr = {broker}
-  secret = "{secret}"
-  coa_server = reverse
-}}
+client broker {{ ipaddr = {broker}; secret = "{secret}"; coa_server = reverse }}
 home_server reverse {{
   type = coa
   ipaddr = {broker}
   port = {reverse}
   secret = "{secret}"
   src_ipaddr = {ip}
-  coa {{
-    irt = 2
-    mrt = 16
-    mrc = 1
-    mrd = 5
-  }}
+  coa {{ irt = 2; mrt = 16; mrc = 1; mrd = 5 }}
 }}
 modules {{
-  always ok {{
-    rcode = ok
-  }}
+  always ok {{ rcode = ok }}
 }}
 server default {{
-  listen {{
-    type = acct
-    ipaddr = {ip}
-    port = {acct}
-  }}
+  listen {{ type = acct; ipaddr = {ip}; port = {acct} }}
   accounting {{
     if (&Class && &Class == 0x656e6473) {{
-      update disconnect {{
-        User-Name = &request:User-Name
-        NAS-Identifier = &request:NAS-Identifier
-        Acct-Session-Id = &request:Acct-Session-Id
-      }}
+      update disconnect {{ User-Name = &request:User-Name; NAS-Identifier = &request:NAS-Identifier; Acct-Session-Id = &request:Acct-Session-Id }}
     }}
     ok
   }}
@@ -88,25 +69,13 @@ server default {{
 
 # It has each session that it is asked for.
 NAS = """
-client broker {{
-  ipaddr = {broker}
-  secret = "{secret}"
-}}
+client broker {{ ipaddr = {broker}; secret = "{secret}" }}
 modules {{
-  always ok {{
-    rcode = ok
-  }}
+  always ok {{ rcode = ok }}
 }}
 server coa {{
-  listen {{
-    type = coa
-    ipaddr = {ip}
-    port = {coa}
-    virtual_server = coa
-  }}
-  recv-coa {{
-    ok
-  }}
+  listen {{ type = coa; ipaddr = {ip}; port = {coa}; virtual_server = coa }}
+  recv-coa {{ ok }}
 }}
 """
 

@@ -44,10 +44,7 @@ def conf(seals):
 
 # One that has users for PEAP and keeps silent about those of the name `nobody`.
 HOME = """
-client broker {{
-  ipaddr = {broker}
-  secret = "{secret}"
-}}
+client broker {{ ipaddr = {broker}; secret = "{secret}" }}
 modules {{
   eap {{
     default_eap_type = peap
@@ -61,68 +58,35 @@ modules {{
       tls_min_version = "1.2"
       tls_max_version = "1.2"
     }}
-    peap {{
-      tls = common
-      default_eap_type = mschapv2
-      copy_request_to_tunnel = no
-      use_tunneled_reply = no
-      virtual_server = "inner"
-    }}
-    mschapv2 {{
-    }}
+    peap {{ tls = common; default_eap_type = mschapv2; copy_request_to_tunnel = no; use_tunneled_reply = no; virtual_server = "inner" }}
+    mschapv2 {{ }}
   }}
-  mschap {{
-  }}
-  pap {{
-  }}
-  always ok {{
-    rcode = ok
-  }}
-  always handled {{
-    rcode = handled
-  }}
+  mschap {{ }}
+  pap {{ }}
+  always ok {{ rcode = ok }}
+  always handled {{ rcode = handled }}
 }}
 server default {{
-  listen {{
-    type = auth
-    ipaddr = {ip}
-    port = {auth}
-  }}
+  listen {{ type = auth; ipaddr = {ip}; port = {auth} }}
   authorize {{
     if (&User-Name =~ /^nobody/) {{
-      update control {{
-        Response-Packet-Type := Do-Not-Respond
-      }}
+      update control {{ Response-Packet-Type := Do-Not-Respond }}
       handled
     }}
-    eap {{
-      ok = return
-    }}
-    update control {{
-      Cleartext-Password := "{password}"
-    }}
-    update reply {{
-      Message-Authenticator := 0x00
-    }}
+    eap {{ ok = return }}
+    update control {{ Cleartext-Password := "{password}" }}
+    update reply {{ Message-Authenticator := 0x00 }}
     pap
   }}
-  authenticate {{
-    pap
-    eap
-  }}
+  authenticate {{ pap; eap }}
 }}
 server inner {{
   authorize {{
-    update control {{
-      Cleartext-Password := "{password}"
-    }}
+    update control {{ Cleartext-Password := "{password}" }}
     mschap
     eap
   }}
-  authenticate {{
-    mschap
-    eap
-  }}
+  authenticate {{ mschap; eap }}
 }}
 """
 

@@ -16,7 +16,7 @@ import tempfile
 import tomllib
 
 sys.dont_write_bytecode = True
-from looks import be_quiet, changed, end, want, words
+from looks import be_quiet, changed, end, over_lines, want, words
 from server import run
 
 converter = importlib.import_module("try-converter")
@@ -87,38 +87,14 @@ client one {
   limit_proxy_state = yes
   coa_server = one-coa
 }
-client 192.0.2.2 {
-  secret = of-two
-}
-client wired {
-  ipaddr = 192.0.2.16/30
-  secret = 'of wired'
-  coa_server = one-coa
-  require_message_authenticator = yes
-}
-client dormitories {
-  ipaddr = 10.20.0.0/16
-  secret = of-many
-}
-client six {
-  ipv6addr = 2001:db8::1
-  secret = of-six
-}
-client undecided {
-  ipaddr = 192.0.2.40
-  secret = of-undecided
-  limit_proxy_state = auto
-}
+client 192.0.2.2 { secret = of-two }
+client wired { ipaddr = 192.0.2.16/30; secret = 'of wired'; coa_server = one-coa; require_message_authenticator = yes }
+client dormitories { ipaddr = 10.20.0.0/16; secret = of-many }
+client six { ipv6addr = 2001:db8::1; secret = of-six }
+client undecided { ipaddr = 192.0.2.40; secret = of-undecided; limit_proxy_state = auto }
 """
-PROXY = r"""proxy server {
-  default_fallback = no
-}
-home_server one-coa {
-  type = coa
-  ipaddr = 192.0.2.1
-  port = 3799
-  secret = of-coa
-}
+PROXY = r"""proxy server { default_fallback = no }
+home_server one-coa { type = coa; ipaddr = 192.0.2.1; port = 3799; secret = of-coa }
 home_server home-1 {
   type = auth
   ipaddr = 198.51.100.1
@@ -131,12 +107,7 @@ home_server home-1 {
   src_ipaddr = 203.0.113.11
   require_message_authenticator = yes
 }
-home_server home-1-acct {
-  type = acct
-  ipaddr = 198.51.100.1
-  port = 1813
-  secret = of-home
-}
+home_server home-1-acct { type = acct; ipaddr = 198.51.100.1; port = 1813; secret = of-home }
 home_server home-2 {
   type = auth+acct
   ipaddr = 198.51.100.2
@@ -146,85 +117,26 @@ home_server home-2 {
   status_check = status-server
   check_interval = 30
 }
-home_server upper {
-  type = auth
-  ipaddr = 198.51.100.65
-  port = 1812
-  secret = of-upper
-  response_window = 6
-}
-home_server of-six {
-  type = auth
-  ipv6addr = 2001:db8::2
-  port = 1812
-  secret = of-six
-}
-home_server_pool home {
-  type = fail-over
-  home_server = home-1
-}
-home_server_pool home-acct {
-  type = fail-over
-  home_server = home-1-acct
-}
-home_server home-3 {
-  type = auth+acct
-  ipaddr = 198.51.100.3
-  port = 1812
-  secret = of-home-3
-}
-home_server_pool second {
-  type = keyed-balance
-  home_server = home-2
-  home_server = home-3
-}
-home_server_pool upper {
-  type = fail-over
-  home_server = upper
-}
-home_server_pool six {
-  type = fail-over
-  home_server = of-six
-}
-home_server_pool both {
-  type = fail-over
-  home_server = home-1
-  home_server = of-six
-}
-realm a.example {
-  auth_pool = home
-  acct_pool = home-acct
-  nostrip
-}
-realm "~^(.*\.)*b\.example$" {
-  pool = second
-}
-realm "~.*\.c\.b\.example$" {
-  pool = second
-}
-realm x.b.example {
-  auth_pool = home
-  nostrip
-}
-realm here.example {
-}
-realm six.example {
-  auth_pool = six
-}
-realm both.example {
-  auth_pool = both
-}
-realm "~^[a-k]+\.half\.example$" {
-  pool = second
-}
-realm LOCAL {
-}
-realm NULL {
-}
-realm DEFAULT {
-  auth_pool = upper
-  nostrip
-}
+home_server upper { type = auth; ipaddr = 198.51.100.65; port = 1812; secret = of-upper; response_window = 6 }
+home_server of-six { type = auth; ipv6addr = 2001:db8::2; port = 1812; secret = of-six }
+home_server_pool home { type = fail-over; home_server = home-1 }
+home_server_pool home-acct { type = fail-over; home_server = home-1-acct }
+home_server home-3 { type = auth+acct; ipaddr = 198.51.100.3; port = 1812; secret = of-home-3 }
+home_server_pool second { type = keyed-balance; home_server = home-2; home_server = home-3 }
+home_server_pool upper { type = fail-over; home_server = upper }
+home_server_pool six { type = fail-over; home_server = of-six }
+home_server_pool both { type = fail-over; home_server = home-1; home_server = of-six }
+realm a.example { auth_pool = home; acct_pool = home-acct; nostrip }
+realm "~^(.*\.)*b\.example$" { pool = second }
+realm "~.*\.c\.b\.example$" { pool = second }
+realm x.b.example { auth_pool = home; nostrip }
+realm here.example { }
+realm six.example { auth_pool = six }
+realm both.example { auth_pool = both }
+realm "~^[a-k]+\.half\.example$" { pool = second }
+realm LOCAL { }
+realm NULL { }
+realm DEFAULT { auth_pool = upper; nostrip }
 """
 TOLD = [("Not carried over", what) for what in (
     "client six: 2001:db8::1 is of IPv6, and `auth` of IPv4", "client wired: coa_server one-coa: a prefix", "realm ~.*\\.c\\.b\\.example$: *.c.b.example is never reached",
@@ -295,7 +207,7 @@ def main():
     be_quiet()
     program = shutil.which("freeradius") or "/usr/sbin/freeradius"
     radiusd = RADIUSD.format(root=re.sub("/usr/sbin/freeradius$", "", program), directory="{directory}", auth="no")
-    conf, text = look_over("each kind", {"radiusd.conf": radiusd, "clients.conf": CLIENTS, "proxy.conf": PROXY}, roam, LOST)
+    conf, text = look_over("each kind", {"radiusd.conf": over_lines(radiusd), "clients.conf": over_lines(CLIENTS), "proxy.conf": over_lines(PROXY)}, roam, LOST)
     for kind, what in TOLD:
         want(any(line.startswith(f"# {kind}: ") and what in line for line in text.splitlines()), what)
     want([(it["name"], it["ip"], it["secret"]) for it in conf["peer"]][:3] == [

@@ -20,7 +20,7 @@ import urllib.request
 sys.dont_write_bytecode = True
 import radius
 from around import command, tried
-from looks import want, words
+from looks import over_lines, want, words
 from radius import attribute, bound, packets, received, sealed_answer
 from server import configuration, peer, realm
 
@@ -43,66 +43,29 @@ CONF = configuration(
     auth=f"[{SIX}]:{AUTH}", acct=f"[{SIX}]:{ACCT}")
 
 HOME_OF_FREERADIUS = f"""
-client broker {{
-  ipv6addr = {SIX}
-  secret = "{SERVERS.decode()}"
-}}
+client broker {{ ipv6addr = {SIX}; secret = "{SERVERS.decode()}" }}
 modules {{
-  pap {{
-  }}
-  always ok {{
-    rcode = ok
-  }}
+  pap {{ }}
+  always ok {{ rcode = ok }}
 }}
 server default {{
-  listen {{
-    type = auth
-    ipv6addr = {SIX}
-    port = {FREERADIUS[0]}
-  }}
-  listen {{
-    type = acct
-    ipv6addr = {SIX}
-    port = {FREERADIUS[1]}
-  }}
+  listen {{ type = auth; ipv6addr = {SIX}; port = {FREERADIUS[0]} }}
+  listen {{ type = acct; ipv6addr = {SIX}; port = {FREERADIUS[1]} }}
   authorize {{
-    update control {{
-      Cleartext-Password := "hello"
-    }}
+    update control {{ Cleartext-Password := "hello" }}
     pap
   }}
-  authenticate {{
-    pap
-  }}
-  accounting {{
-    ok
-  }}
+  authenticate {{ pap }}
+  accounting {{ ok }}
 }}
 """
 PROXY = f"""ListenUDP [{SIX}]:{RADSECPROXY[0]}
 ListenUDP [{SIX}]:{RADSECPROXY[1]}
 SourceUDP [{SIX}]
-client nas {{
-  host [{SIX}]
-  type udp
-  secret "{PEER.decode()}"
-}}
-server broker {{
-  host [{SIX}]
-  port {AUTH}
-  type udp
-  secret "{PEER.decode()}"
-}}
-server broker-acct {{
-  host [{SIX}]
-  port {ACCT}
-  type udp
-  secret "{PEER.decode()}"
-}}
-realm * {{
-  server broker
-  accountingServer broker-acct
-}}
+client nas {{ host [{SIX}]; type udp; secret "{PEER.decode()}" }}
+server broker {{ host [{SIX}]; port {AUTH}; type udp; secret "{PEER.decode()}" }}
+server broker-acct {{ host [{SIX}]; port {ACCT}; type udp; secret "{PEER.decode()}" }}
+realm * {{ server broker; accountingServer broker-acct }}
 """
 
 
@@ -184,7 +147,7 @@ def main():
     def start(around):
         around.broker(program, (f'metrics = "[{SIX}]:{METRICS}"\n' if program else "") + CONF, 60000)
         around.freeradius("home", HOME_OF_FREERADIUS)
-        around.start("proxy", [command("radsecproxy"), "-f", "-c", around.write("proxy.conf", PROXY), "-i", around.path("proxy.pid")])
+        around.start("proxy", [command("radsecproxy"), "-f", "-c", around.write("proxy.conf", over_lines(PROXY)), "-i", around.path("proxy.pid")])
 
     def look(_):
         try_it(program)

@@ -65,32 +65,19 @@ UPPER = radsecproxy(ABOVE, {"broker": BROKER, "nas": OF_ABOVE},
                     {"down": (BROKER, AUTH), "foreign": (FOREIGN, AUTH)}, {**{name: "server foreign" for name in ("inst.org", "inst..org", "nobody.example", r"/3gppnetwork\.org$")}, "*": "server down"})
 # It tells what it sees in the Reply-Message, and gives what no guest is to get.
 HOME = """
-client everybody {{
-  ipaddr = 127.0.9.0/24
-  secret = "{secret}"
-  require_message_authenticator = yes
-}}
+client everybody {{ ipaddr = 127.0.9.0/24; secret = "{secret}"; require_message_authenticator = yes }}
 modules {{
-  pap {{
-  }}
-  always ok {{
-    rcode = ok
-  }}
+  pap {{ }}
+  always ok {{ rcode = ok }}
 }}
 server default {{
 {listens}
   authorize {{
-    update control {{
-      Cleartext-Password := "{password}"
-    }}
+    update control {{ Cleartext-Password := "{password}" }}
     pap
   }}
-  authenticate {{
-    pap
-  }}
-  accounting {{
-    ok
-  }}
+  authenticate {{ pap }}
+  accounting {{ ok }}
   post-auth {{
     update reply {{
       Reply-Message := "%{{request:Operator-Name}},%{{request:Chargeable-User-Identity}},%{{request:Called-Station-Id}},%{{request:Cisco-AVPair}}"
