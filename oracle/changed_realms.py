@@ -27,10 +27,13 @@ class Row:
     rows = []
 
     def __init__(self, name, first):
-        self.name, self.first, self.events = name, first, []
+        self.name, self.first, self.now, self.events = name, first, first, []
         Row.rows.append(self)
 
     def change(self, text):
+        if text == self.now:
+            raise SystemExit(f"{self.name}: a change that changes nothing tests nothing")
+        self.now = text
         self.events.append((None, text, None))
 
     def note(self, line, expected):

@@ -207,6 +207,7 @@ class Server:
         return self
 
     def __exit__(self, *_):
-        if self.process.poll() is None:
+        if self.process and self.process.poll() is None:
             self.process.kill()
-        self.process.wait()
+        if self.process:
+            self.process.wait()

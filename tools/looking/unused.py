@@ -179,4 +179,5 @@ def other(words: list[str]) -> int | None:
         print("\n".join(said))
         if not fix:
             return 1
+    print(GOOD)
     return 0
