@@ -67,6 +67,14 @@ impl<'s> Socket<'s> {
     pub fn descriptor(&self) -> RawFd {
         self.socket.as_raw_fd()
     }
+
+    /// Hands a packet to the system once.
+    fn send_once(&self, to: Endpoint, octets: &[u8]) -> Result<(), SendFault> {
+        match self.socket.send_to(octets, to.socket_address()) {
+            Ok(_) => Ok(()),
+            Err(error) => Err(send_fault_of(error.kind())),
+        }
+    }
 }
 
 /// A datagram of so many octets, with its source, where that has an address here.
@@ -100,10 +108,11 @@ impl Port for Socket<'_> {
         Err(PortFault)
     }
 
+    // Where a signal came first, or the system had no memory for the packet (ENOBUFS), a second call mostly succeeds.
     fn send(&mut self, _from: Place, to: Endpoint, octets: &[u8]) -> Result<(), SendFault> {
-        match self.socket.send_to(octets, to.socket_address()) {
-            Ok(_) => Ok(()),
-            Err(error) => Err(send_fault_of(error.kind())),
+        match self.send_once(to, octets) {
+            Err(SendFault::Other) => self.send_once(to, octets),
+            sent => sent,
         }
     }
 }
