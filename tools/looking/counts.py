@@ -67,6 +67,7 @@ CONSTANTS = {
     r"as may \(\d+; (\d+) with 1,024 realms\)": ("roam_port/src/sharing.rt", "LEAST_SHARE"),
     r"at most (\d+)\s+connections are open": ("roam_control/src/connections.rt", "CONNECTIONS"),
     r"asks for ([\d,]+) octets a socket": ("roam_sockets/src/options.rt", "RECEIVE_BUFFER"),
+    r"and for ([\d,]+) for each of the eight": ("roam_sockets/src/options.rt", "BUFFER_OF_SEVERAL"),
     r"and (\d+) beside them want": ("roam_sockets/src/descriptors.rt", "BESIDE"),
 }
 

@@ -5,3 +5,4 @@ pub mod Faults
 pub mod PlaceSockets
 pub mod Seeded
 pub mod SocketErrors
+pub mod Turns

@@ -11,7 +11,7 @@ use crate::descriptors::descriptors_wanted;
 use crate::fault::ServeFault;
 use crate::one_socket::{beside_which, bind_one, open_beside, share};
 use crate::opening::{bind_beside, is_free};
-use crate::workers::{is_spread_at, wanted_at, worker_of_nth};
+use crate::workers::{has_several, is_spread_at, wanted_at, worker_of_nth};
 use roam_conf::{Config, Endpoint, Place, is_same_endpoint};
 use roam_port::{MOST_OF_A_NUMBER, endpoint_of, place_of, socket_numbers};
 use std::alloc::Global;
@@ -26,12 +26,14 @@ pub struct BoundSocket {
     pub worker: usize,
     /// Whether other workers have one of the same endpoint.
     pub is_spread: bool,
+    /// Whether there are others of the same endpoint.
+    pub is_one_of_several: bool,
     /// Whether it was open before for another configuration.
     pub was_open: bool,
     pub socket: UdpSocket,
 }
 
-/// The sockets of a place: one, or one for each worker.
+/// The sockets that are bound so far.
 #[derive(Drop)]
 struct Sockets {
     bound: Vec<BoundSocket>,
@@ -60,6 +62,7 @@ impl Sockets {
                     endpoint,
                     worker: worker_of_nth(config, place, 0),
                     is_spread: false,
+                    is_one_of_several: false,
                     was_open: false,
                     socket,
                 })?;
@@ -69,7 +72,7 @@ impl Sockets {
         }
     }
 
-    /// Binds the sockets of a place for the workers from this one on, up to so many, which others may be beside.
+    /// Binds the sockets of a place from this one on, up to so many, which others may be beside.
     fn bind_rest(
         &mut self,
         config: &Config,
@@ -84,13 +87,14 @@ impl Sockets {
             (wanted - first)) }
         ensures err { IfErr result (IsFaultOf (shown config.now)) }
     {
-        for worker in first..wanted {
+        for nth in first..wanted {
             match bind_beside(endpoint) {
                 Ok(socket) => self.bound.push(BoundSocket {
                     place,
                     endpoint,
-                    worker,
-                    is_spread: true,
+                    worker: worker_of_nth(config, place, nth),
+                    is_spread: is_spread_at(config, place),
+                    is_one_of_several: true,
                     was_open: false,
                     socket,
                 })?,
@@ -100,8 +104,8 @@ impl Sockets {
         Ok(())
     }
 
-    /// Binds a socket of a place for each worker.
-    fn bind_spread<R: Net>(
+    /// Binds the sockets of a place that has several.
+    fn bind_several<R: Net>(
         &mut self,
         rt: &R,
         config: &Config,
@@ -119,7 +123,7 @@ impl Sockets {
             }
         }
         share(open, endpoint, true);
-        let wanted = usize::from(config.shards);
+        let wanted = wanted_at(config, place);
         match self.bind_rest(config, place, endpoint, 0, wanted) {
             Ok(()) => {
                 share(open, endpoint, false);
@@ -155,6 +159,7 @@ impl Sockets {
                         endpoint: bound.endpoint,
                         worker: worker_of_nth(config, place, count),
                         is_spread: is_spread_at(config, place),
+                        is_one_of_several: has_several(place),
                         was_open: true,
                         socket,
                     })?,
@@ -179,8 +184,8 @@ impl Sockets {
         ensures ok { OnOk result (GainsSome place endpoint self.old.bound.items self.new.bound.items) }
         ensures err { IfErr result (IsFaultOf (shown config.now)) }
     {
-        if is_spread_at(config, place) {
-            self.bind_spread(rt, config, place, endpoint, open)
+        if has_several(place) {
+            self.bind_several(rt, config, place, endpoint, open)
         } else {
             self.bind_one(rt, config, place, endpoint, open)
         }

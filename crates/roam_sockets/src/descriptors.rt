@@ -4,6 +4,7 @@ ghost use Rattle.std.specs.Prelude.{◌≡◌, ◌≤◌, ◌^◌, ◌+◌, leng
 ghost use Rattle.roam_conf.specs.Shown.{shown};
 ghost use Rattle.roam_sockets.specs.Descriptors as spec;
 
+use crate::workers::sockets_of_several;
 use roam_conf::Config;
 use roam_port::socket_count;
 
@@ -11,22 +12,18 @@ use roam_port::socket_count;
 /// which connections are taken, 32 connections, and the file of its configuration while that is read.
 const BESIDE: u32 = 38;
 
-/// How many descriptors a configuration takes: its sockets, where they are spread one of each `auth` and `acct` for
-/// each worker more, and two to wait with and one to be woken by for each worker and the timer.
+/// Returns how many descriptors a configuration takes: its sockets, those that each `auth` and `acct` has beside its
+/// first, and two to wait with and one to be woken by for each worker and the timer.
 fn descriptors_of(config: &Config) -> u32
     ensures value { result ≡ spec.descriptors_of (shown config.now) }
     ensures bound { result ≤ 2 ^ 20 }
 {
     let workers = u32::from(config.shards);
-    let more = if config.spread {
-        shared_places(config) * (workers - 1)
-    } else {
-        0
-    };
+    let more = shared_places(config) * (sockets_of_several(config) as u32 - 1);
     socket_count(config) as u32 + more + 3 * (workers + 1)
 }
 
-/// How many places the workers share where they are spread.
+/// Returns how many places have several sockets.
 fn shared_places(config: &Config) -> u32
     ensures value { result ≡ length (shown config.now).auth + length (shown config.now).acct }
     ensures bound { result ≤ 16 }

@@ -10,6 +10,8 @@
 //!   least; a worker receives from exactly those that it hears, each at its place, and sends from the number of a
 //!   place by a socket of that place. That a socket is where it says, the system alone knows | `bind_all`,
 //!   `bind_following`: `bound`; `receivers`: `heard`; `ports`: `own`
+//! - an `auth` or `acct` has eight sockets, with `spread` eight for each worker, and any other place one: so many
+//!   descriptors are wanted. To which of them a datagram goes, the system decides | `descriptors_wanted`
 //! - a drawn seed changes the seed alone; without one the fault says so | `with_drawn_seed`: `ok`, `err`
 //! - a socket at which a receive failed is due again from eleven milliseconds later on, and not before. That it
 //!   is received from just then is the loop's code | `Receiver::is_due`: `due`, `waits`; `rest_after_fault`:

@@ -77,12 +77,12 @@ pub(crate) fn beside_which<'s>(
     open
 }
 
-/// Lets others be bound beside those sockets that are open there, or no longer, where the system does so. Those of
-/// which there are several let them anyway.
+/// Lets others be bound beside those sockets that are open there, or no longer, where the system does so. Those that
+/// are one of several let them anyway.
 pub(crate) fn share(open: &[BoundSocket], endpoint: Endpoint, is_shared: bool) {
     let number = if is_shared { 1 } else { 0 };
     for bound in open {
-        if !bound.is_spread && overlaps(bound.endpoint, endpoint) {
+        if !bound.is_one_of_several && overlaps(bound.endpoint, endpoint) {
             let _is_set = set_option(bound.socket.as_raw_fd(), libc::net::SO_REUSEPORT, number);
         }
     }

@@ -1,6 +1,7 @@
 //! What is asked of a socket by its number: options, room, and an address as the system takes it.
 
-ghost use Rattle.std.specs.Prelude.{◌≤◌, pos};
+ghost use Rattle.std.specs.Prelude.{◌≡◌, ◌<◌, ◌≤◌, pos};
+ghost use Rattle.roam_sockets.specs.declared.options.TheConstants.{RECEIVE_BUFFER};
 ghost use Rattle.libc.specs.Net.{Family, SockOption};
 
 use roam_conf::Endpoint;
@@ -9,6 +10,9 @@ use std::os::fd::{AsRawFd, RawFd};
 
 /// What a socket is to have room for, in octets that arrived.
 pub const RECEIVE_BUFFER: u32 = 4 * 1024 * 1024;
+
+/// The same, in octets, of each of the sockets of an `auth` or `acct`.
+const BUFFER_OF_SEVERAL: u32 = 1024 * 1024;
 
 /// What it is to have room for, in octets that leave.
 pub const SEND_BUFFER: u32 = 1024 * 1024;
@@ -74,21 +78,43 @@ pub fn bind_to(fd: RawFd, endpoint: Endpoint) -> bool {
     unsafe { libc::net::bind(fd, &address, size) == 0 }
 }
 
-/// Asks for room for what arrives and what leaves, and answers how many octets that arrived the system gives
-/// room for.
-pub fn widen(socket: &UdpSocket) -> u32 {
-    let fd = socket.as_raw_fd();
-    let _is_wider = set_option(fd, libc::net::SO_SNDBUF, SEND_BUFFER);
-    let _is_wider = set_option(fd, libc::net::SO_RCVBUF, RECEIVE_BUFFER);
+/// Returns the number that an option of a socket has, or 0 where the system doesn't say.
+fn option_of(fd: RawFd, name: i32) -> u32
+    requires name { SockOption (pos 1) name }
+{
     let mut value = [0u8; 16];
     let mut size = 4;
     unsafe {
-        let level = libc::net::SOL_SOCKET;
-        let name = libc::net::SO_RCVBUF;
-        if libc::net::getsockopt(fd, level, name, &mut value, &mut size) != 0 {
+        if libc::net::getsockopt(fd, libc::net::SOL_SOCKET, name, &mut value, &mut size) != 0 {
             return 0;
         }
     }
+    u32::from_ne_bytes([value[0], value[1], value[2], value[3]])
+}
+
+/// Returns the octets that are given, or `RECEIVE_BUFFER` where they are all that are wanted.
+fn room_of(given: u32, wanted: u32) -> u32
+    ensures all { wanted ≤ given → result ≡ RECEIVE_BUFFER }
+    ensures less { given < wanted → result ≡ given }
+{
+    if given < wanted {
+        given
+    } else {
+        RECEIVE_BUFFER
+    }
+}
+
+/// Asks for room for what arrives and what leaves. Returns how many octets that arrived the system gives room for;
+/// `RECEIVE_BUFFER` where it gives all that was asked for.
+pub fn widen(socket: &UdpSocket) -> u32 {
+    let fd = socket.as_raw_fd();
+    let wanted = if option_of(fd, libc::net::SO_REUSEPORT) == 0 {
+        RECEIVE_BUFFER
+    } else {
+        BUFFER_OF_SEVERAL
+    };
+    let _is_wider = set_option(fd, libc::net::SO_SNDBUF, SEND_BUFFER);
+    let _is_wider = set_option(fd, libc::net::SO_RCVBUF, wanted);
     // The system reports twice what it gives.
-    u32::from_ne_bytes([value[0], value[1], value[2], value[3]]) / 2
+    room_of(option_of(fd, libc::net::SO_RCVBUF) / 2, wanted)
 }

@@ -1,10 +1,10 @@
--- One for each worker.
+-- One at least.
 use Rattle.std.proofs.Common.{arith}
-use Rattle.roam_sockets.proofs.bind.Sockets.bind_spread.Goals as goal
+use Rattle.roam_sockets.proofs.bind.Sockets.bind_several.Goals as goal
 
 pub returns-in-Ok-clause-ok : goal.returns-in-Ok-clause-ok
 returns-in-Ok-clause-ok g c = record {
   count = _;
   gains = c.in-Ok.ensures.ok;
-  some = omega (arith, c.from-wanted.ensures, c.args.config.now.shards_range.0);
+  some = omega (arith, c.wanted_at-wanted.ensures);
 }
