@@ -6,6 +6,9 @@
 //! - whenever packets were handed to their sockets, all that was counted of them was taken over, to be told
 //!   | `Outgoing::settle`
 //! - the packets that still wait at the end are given back | `Outgoing::into_outbox`
+//! - while a socket has no room and the system can't tell when it has some, a thread waits 10 ms at most before it tries
+//!   that socket again, and otherwise as long as it would. That it waits no longer is the loop's code
+//!   | `Outgoing::wait_for_room`
 #![tactic(auto)]
 
 mod losses;

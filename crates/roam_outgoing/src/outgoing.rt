@@ -1,6 +1,6 @@
 //! The packets of a thread on their way to the sockets.
 
-ghost use Rattle.std.specs.Prelude.{◌≡◌, ◌≤◌, IfOk};
+ghost use Rattle.std.specs.Prelude.{◌≡◌, ◌≤◌, min, true, false, IfOk};
 ghost use Rattle.std.specs.Vec.{vec_len};
 ghost use Rattle.roam_port.specs.Outbox.{account_of, port_count, told_of};
 
@@ -18,6 +18,10 @@ use std::time::Duration;
 
 /// How many sockets that have room again are looked at in one go.
 pub const ROOM_EVENTS: usize = 64;
+
+/// The longest time, in milliseconds, that a thread waits before it tries a socket again that has no room and can't be
+/// watched.
+pub const RETRY_WITHIN: u64 = 10;
 
 /// What tells which sockets have room again.
 pub struct RoomEvents {
@@ -135,6 +139,19 @@ impl<'s> Outgoing<'s> {
     /// Whether a socket had no room, and isn't known to have some again.
     pub fn is_blocked(&self) -> bool {
         self.watched > 0 || self.is_unwatched
+    }
+
+    /// Returns how long a thread waits, in milliseconds, that would wait so long: `RETRY_WITHIN` at most while nothing
+    /// tells when a socket has room again.
+    pub fn wait_for_room(&self, milliseconds: u64) -> u64
+        ensures unwatched { self.now.is_unwatched ≡ true → result ≡ min milliseconds 10 }
+        ensures watched { self.now.is_unwatched ≡ false → result ≡ milliseconds }
+    {
+        if self.is_unwatched {
+            milliseconds.min(RETRY_WITHIN)
+        } else {
+            milliseconds
+        }
     }
 
     /// Puts packets behind those that wait. Where there is no more room for one, what waits is sent first.
