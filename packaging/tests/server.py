@@ -1,4 +1,7 @@
-"""A program that serves, for the trials: what its file says, how it is started, asked and ended, and whether its metrics balance."""
+"""A program that serves, for the trials: what its file says, how it is started, asked and ended, and whether its metrics balance.
+
+    server.py PAGE    says what doesn't balance of a page of metrics, for the scripts of the shell; ends with 1 where something doesn't
+"""
 import atexit
 import collections
 import json
@@ -211,3 +214,8 @@ class Server:
             self.process.kill()
         if self.process:
             self.process.wait()
+
+
+if __name__ == "__main__":
+    with open(sys.argv[1], encoding="utf-8") as opened:
+        sys.exit("; ".join(imbalances(opened.read())) or 0)

@@ -77,6 +77,7 @@ done
 sleep 0.2
 curl -sf -o "$work/page" http://127.0.0.1:19813/metrics
 promtool check metrics < "$work/page"
+python3 "$here/server.py" "$work/page"
 grep -q '^roam_peer_refusals_total{peer="nas1",number="5",} 3$' "$work/page"
 grep -q '^roam_refusals_total{number="1",} 3$' "$work/page"
 version=$("$program" version | sed -n 's/^roam //p')

@@ -155,6 +155,8 @@ kill -HUP -- "-$runner"
 wait_for 1 'declined'
 "$ROAM" ctl "$work/control" status > "$work/status" || fail "it serves no more"
 grep -q 'peers 2' "$work/status" || fail "a refused file changed something"
+"$ROAM" ctl "$work/control" metrics > "$work/page"
+python3 "$(dirname "$(realpath "$0")")/server.py" "$work/page" || fail "the metrics don't balance"
 echo "ok   HUP: the changed file is served, and of a refused one nothing"
 
 # Nobody answers this one, so that it waits; a second signal ends it.
