@@ -4,7 +4,9 @@
 Has a program serve on loopback, and the broker that is written apart (oracle/changes.py over oracle/broker.py) beside it: random requests,
 repeats, replies, Disconnects and junk, and between them random changes of the file, each followed by `roam ctl reload --lose`. What the
 program sends for each datagram, from where, where to and to the octet, must be what the other one says; so must the numbers of what it
-refuses. Seeds are fixed (2 to 16; 1 is a case said by hand), and the whole takes less than a minute. Nothing falls due in it: waits and holds are a minute long.
+refuses. Seeds are fixed (2 to 16; 1 is a case said by hand), and the whole takes less than a minute. With the last of them requests are
+sent again, go to the next server, are given up, and held replies end: nothing else happens while something falls due. With all others waits
+and holds are a minute long.
 """
 import collections
 import copy
@@ -22,12 +24,15 @@ import broker as apart
 from changes import ChangingBroker
 
 SEEDS, EVENTS, LIMIT = range(1, 17), 130, 50
+# From this seed on time passes: what falls due is so many milliseconds away from all else that happens.
+TIMED, MARGIN, EVENTS_IN_TIME = 15, 300, 60
 AUTH, ACCT, OUT, REVERSE, COA, HOME = 39012, 39013, 39020, 39040, 39799, 39112
 NASES, HOMES, WATCH = [f"127.0.12.{n}" for n in (11, 12, 13)], [f"127.0.12.{n}" for n in (21, 22, 23)], "127.0.12.9"
 NAMES, SECRETS = ["a.example", "b.example", "c.example"], ["a secret", "another secret", "a third one"]
 LIMITS = {"max_pending": (1, 1, 2, 3, 8), "max_sessions": (1, 2, 20), "peer_share": (None, None, 2, 4), "share": (None, None, 1, 3),
           "own_sessions": (False, True), "reply_without": ([], ["6"], ["25"]), "request_without": ([], ["25"]),
           "peers": (None, None, ["nas0", "nas1"]), "also": ([], ["*.example"]), "accounting": ("forward", "forward", "answer", "drop")}
+IN_TIME = {"wait": (1200, 1500), "hold": (0, 900), "tries": (1, 2), "rest": (0, 30000), "rest_after": (1, 2)}
 PEER_KEYS = {"require_seal": (False, False, True), "limit_proxy_state": (False, True), "ask_cui": (False, True), "nas_ip": (None, "192.0.2.1"),
              "operator_name": (None, "nas.example"), "reply_without": ([], ["25"])}
 
@@ -35,11 +40,10 @@ PEER_KEYS = {"require_seal": (False, False, True), "limit_proxy_state": (False, 
 class File:
     """The file of the time, as tables of its keys, and how it changes."""
 
-    def __init__(self, chance):
-        self.chance = chance
+    def __init__(self, chance, is_timed):
+        self.chance, self.limits = chance, {**LIMITS, **(IN_TIME if is_timed else {})}
         self.peers = [self.a_peer(n) for n in range(3)]
         self.realms = [self.a_realm(n) for n in range(3)]
-        self.gone = []
 
     def a_peer(self, number):
         keys = {key: self.chance.choice(values) for key, values in PEER_KEYS.items() if key != "nas_ip" or number == 0}
@@ -51,7 +55,7 @@ class File:
         return {"auth": f"{HOMES[number]}:{HOME}", "acct": f"{HOMES[number]}:{HOME + 1}", "secret": self.chance.choice(SECRETS)}
 
     def a_realm(self, number):
-        keys = {key: self.chance.choice(values) for key, values in LIMITS.items() if key not in ("also", "peers")}
+        keys = {key: self.chance.choice(values) for key, values in self.limits.items() if key not in ("also", "peers")}
         servers = [self.a_server(it) for it in self.chance.sample(range(3), self.chance.choice((1, 2, 2)))]
         return {"name": NAMES[number], "out": f"{HERE}:{OUT + number}", "reverse": f"{HERE}:{REVERSE + number}", "tries": 3, "wait": 60000,
                 "hold": 60000, "server": servers, **keys}
@@ -71,9 +75,9 @@ class File:
         return "tables turned about"
 
     def limit(self):
-        one, key = self.chance.choice(self.realms), self.chance.choice([*LIMITS, "max_pending", "max_pending"])
+        one, key = self.chance.choice(self.realms), self.chance.choice([*self.limits, "max_pending", "max_pending"])
         taken = any("also" in it and it["also"] for it in self.realms)
-        one[key] = self.chance.choice(LIMITS[key]) if key != "also" or not taken else []
+        one[key] = self.chance.choice(self.limits[key]) if key != "also" or not taken else []
         if key == "peers" and one[key]:
             one[key] = [it["name"] for it in self.peers][:2]
         return f"{one['name']}: {key} = {one[key]}"
@@ -175,13 +179,34 @@ class Play:
 
     def __init__(self, program, folder, seed):
         self.chance, self.seed, self.ends = random.Random(seed), seed, Ends()
-        self.file = File(self.chance)
+        self.file, self.is_timed, self.began = File(self.chance, seed >= TIMED), seed >= TIMED, time.monotonic()
         self.server = Server(program, folder, self.file.text(), options=("--seed-of-file",))
         # Each change is agreed to, so each realm may lose something by it.
         self.server.may_lose = set(NAMES)
         self.server.waits_for()
         self.broker = ChangingBroker(apart.Config(self.file.text()))
         self.asked, self.sent, self.refused, self.done = [], [], collections.Counter(), []
+
+    def now(self):
+        """The moment of the other broker's clock, in milliseconds."""
+        return int((time.monotonic() - self.began) * 1000) if self.is_timed else 0
+
+    def pass_time(self, ahead=MARGIN):
+        """Waits until nothing falls due that is near, and looks at what was sent for all that did. Each falls due at its own moment."""
+        wanted, falls = [], 0
+        while near := [e.deadline for it in self.broker.realms for e in it.entries if e.deadline < self.now() + ahead]:
+            moment = min(near)
+            time.sleep(max(0, moment + MARGIN - self.now()) / 1000)
+            sent = self.broker.tick(moment, 0)
+            wanted, falls = wanted + [(self.place_of(at), to, octets) for _, at, to, octets in sent], falls + 1
+        if not falls:
+            return True
+        got = self.ends.taken(len(wanted))
+        self.done.append(f"-- time passes: {falls} fall due, {len(wanted)} packets")
+        want(got == sorted(wanted), f"seed {self.seed}, time passes:\n" + "\n".join(
+            f"    {word} {one[0]} -> {one[1]} {one[2].hex()}" for word, of in (("wanted", sorted(wanted)), ("got", got)) for one in of)
+            + "\n    before it:\n      " + "\n      ".join(self.done[-6:]))
+        return got == sorted(wanted)
 
     def place_of(self, place):
         """The endpoint of a place under the file of the time."""
@@ -193,8 +218,10 @@ class Play:
 
     def give(self, what, place, source, octets):
         """An event for both: whether what is sent for it is the same."""
+        if self.is_timed and not self.pass_time():
+            return False
+        line = f"A {self.now()}/{int(time.time())} {place} {apart.at(*source)} {octets.hex()}"
         waiting = {id(e): e.octets for _, e in self.waiting()}
-        line = f"A 0/{int(time.time())} {place} {apart.at(*source)} {octets.hex()}"
         sent, refusal = self.broker.event(line)
         self.refused[refusal] += refusal is not None
         self.sent += [(it, e.link, e.octets) for it, e in self.waiting() if waiting.get(id(e)) != e.octets]
@@ -281,6 +308,8 @@ class Play:
         return self.give("a wrong bit", place, source, octets if self.chance.random() < .8 else octets[:self.chance.randrange(1, 20)])
 
     def change(self):
+        if self.is_timed and not self.pass_time(3 * MARGIN):
+            return False
         what = self.file.change()
         answer = self.server.reload(self.file.text(), ("--lose",))
         self.done.append(f"-- {what}")
@@ -301,7 +330,7 @@ class Play:
 
     def run(self):
         makes = (self.request, self.repeat, self.reply, self.late, self.disconnect, self.junk, self.change)
-        for _ in range(EVENTS):
+        for _ in range(EVENTS_IN_TIME if self.is_timed else EVENTS):
             if not self.chance.choices(makes, (34, 12, 26, 4, 8, 4, 12))[0]():
                 return
         time.sleep(.1)
@@ -357,7 +386,7 @@ def main():
             finally:
                 play.server.__exit__()
                 play.ends.close()
-            played, changes = played + len(play.done), changes + sum(it.startswith("-- ") for it in play.done)
+            played, changes = played + len(play.done), changes + sum(it.startswith("-- ") and "time passes" not in it for it in play.done)
     want(bool(seeds) or changes >= 100, f"{changes} changes are a hundred or more")
     print(f"{played} events, {changes} of them changes, in {time.monotonic() - begun:.0f} s")
     return end("each packet is as the broker written apart has it")
