@@ -63,7 +63,7 @@ class Server(servers.Server):
 
 
 def answered(count=12, name=b"u%d"):
-    return radius.answered(count, (HERE, PORT), 12, name + b"@a.example")
+    return radius.answered(count, (HERE, PORT), 20, name + b"@a.example")
 
 
 def session(number):
@@ -74,10 +74,10 @@ def session(number):
 
 
 def stops(server):
-    """Has a server stop, behind metrics that balance. Where the question itself met the fault it is asked again."""
-    server.balances(10)
-    asked_for = 0
-    while server.ends(.1) is None and asked_for < 5:
+    """Has a server stop, behind metrics that balance. The thread that answers meets the fault too: it is asked again."""
+    server.balances(30)
+    asked_for, until = 0, time.monotonic() + 30
+    while server.ends(.1) is None and time.monotonic() < until:
         server.ctl("stop", seconds=20)
         asked_for += 1
     want(server.ends(30) == 0, f"it is asked to stop {asked_for} times, and ends with {server.process.poll()}")
@@ -86,7 +86,7 @@ def stops(server):
 def serves(program, folder, *faults, least=1, **how):
     """Under these faults all requests are answered, and so many calls fail at least; they are over when it ends, or go on."""
     with Server(program, folder, *faults, **how) as server:
-        want(server.is_asked(10), "it serves")
+        want(server.is_asked(30), "it serves")
         done = answered()
         want(done == 12, f"{done} of 12 requests are answered")
         want(server.injected() >= least, f"{server.injected()} calls failed ({', '.join(faults)})")
@@ -196,7 +196,7 @@ def log_blocks(program, folder):
 def log_fails(program, folder):
     """no line of the log can be written"""
     with Server(program, folder, "write:error=EIO:when=1+", path=os.path.join(folder, "roam.log")) as server:
-        want(server.is_asked(10) and answered() == 12, "it serves, and answers 12 of 12")
+        want(server.is_asked(30) and answered() == 12, "it serves, and answers 12 of 12")
         stops(server)
 
 
@@ -204,8 +204,11 @@ def keeps(program, folder, fault):
     """A state file that can't be written for a while: that is told, the one before stays, and the next writing has all."""
     state = os.path.join(folder, "sessions")
     with Server(program, folder, fault, state=state, state_every=1) as server:
-        want(server.is_asked(10) and session(1), "a session begins")
-        want(server.tells("sessions", 10) and re.search(r"WARN .*" + re.escape(state), server.said()) is not None, f"it is told: {server.said()[-200:]}")
+        want(server.is_asked(30) and session(1), "a session begins")
+        until = time.monotonic() + 10
+        while not (told := re.search(r"WARN .*" + re.escape(state) + ".*", server.said())) and time.monotonic() < until:
+            time.sleep(.1)
+        want(told, f"it is told: {told and told[0]}")
         want(session(2) and answered() == 12, "another one begins, and 12 of 12 requests are answered")
         until = time.monotonic() + 10
         while time.monotonic() < until and not os.path.exists(state):
@@ -214,7 +217,7 @@ def keeps(program, folder, fault):
         want(server.injected() > 0, f"{server.injected()} calls failed ({fault})")
     want(os.path.exists(state) and not os.path.exists(state + ".new"), "the file is there, and none is left beside it")
     with Server(program, folder, state=state, state_every=1) as server:
-        want(server.is_asked(10) and server.count("roam_realm_sessions") == 2, "both sessions are known after a start")
+        want(server.is_asked(30) and server.count("roam_realm_sessions") == 2, "both sessions are known after a start")
 
 
 def sync_fails(program, folder):
@@ -244,7 +247,7 @@ def start_fails(program, folder):
 def calls_of_a_start(program, folder, name):
     """How often a start makes a call."""
     with Server(program, folder, f"{name}:delay_enter=0") as server:
-        server.is_asked(10)
+        server.is_asked(30)
         count = server.count_of_calls()
         server.ctl("stop")
         server.ends(30)
@@ -256,7 +259,7 @@ def reload_fails(program, folder):
     for name, error in (("epoll_create1", "EMFILE"), ("eventfd2", "EMFILE"), ("epoll_ctl", "ENOSPC")):
         count = calls_of_a_start(program, folder, name)
         with Server(program, folder, f"{name}:error={error}:when={count + 1}") as server:
-            want(server.is_asked(10) and answered() == 12, f"{name}: 12 of 12 are answered")
+            want(server.is_asked(30) and answered() == 12, f"{name}: 12 of 12 are answered")
             reload = server.ctl("reload")
             want(reload.returncode == 1 and reload.stdout.startswith("roam: "), f"the reload ends with {reload.returncode}: {reload.stdout.strip()}")
             want(server.injected() == 1, f"{server.injected()} call failed")
