@@ -241,7 +241,8 @@ def descriptors_none(program, work):
         want(server.is_asked(), 'it serves')
         used = {int(fd) for fd in os.listdir(f'/proc/{server.process.pid}/fd')}
         held = min(set(range(len(used) + 1)) - used)
-        resource.prlimit(server.process.pid, resource.RLIMIT_NOFILE, (held, held))
+        before = resource.prlimit(server.process.pid, resource.RLIMIT_NOFILE)
+        resource.prlimit(server.process.pid, resource.RLIMIT_NOFILE, (held, before[1]))
         idle = []
         for _ in range(3):
             one = socket.create_connection((HERE, METRICS))
@@ -249,21 +250,17 @@ def descriptors_none(program, work):
             other.connect(server.path)
             idle += [one, other]
         time.sleep(.5)
-        before = processor_time(server.process.pid)
+        begun = processor_time(server.process.pid)
         time.sleep(3)
-        used = processor_time(server.process.pid) - before
+        used = processor_time(server.process.pid) - begun
         want(used < .3, f'{used / 3 * 100:.0f} % of a processor over 3 s')
         want(answered(100) == 100, 'requests are answered')
         lines = [line for line in server.said().splitlines() if 'connection' in line and 'WARN' in line]
         want(len(lines) == 2, f'it says so, once for each of the two: {lines[:2]}')
-        resource.prlimit(server.process.pid, resource.RLIMIT_NOFILE, (1024, 1024) if hard_limit(server.process.pid) >= 1024 else (held, held))
+        resource.prlimit(server.process.pid, resource.RLIMIT_NOFILE, before)
         for one in idle:
             one.close()
-        server.balances()
-
-
-def hard_limit(pid):
-    return resource.prlimit(pid, resource.RLIMIT_NOFILE)[1]
+        server.is_stopped()
 
 
 def descriptors_count(program, work):
