@@ -340,18 +340,24 @@ realm c.example: unchanged
 realm d.example: gone: loses all
 """)
 
-# What is advised of the first one: a line of the file, and what is said there.
+# What is advised of the first one: a line of the file (none where the key is absent from the top table), and what is said there.
+ABSENT = (None, "advice: status_server: is absent: a peer that asks by Status-Server whether the broker is there gets no answer")
 LEAST_ADVICE = [
-    (16, "realm \"a.example\": own_sessions: isn't true beside reverse: a Disconnect or CoA may name a session of another realm"),
-    (29, 'realm "a.example", server 1: secret: has less than 8 octets, and can be found by trying'),
+    ABSENT,
+    (16, "advice: realm \"a.example\": own_sessions: isn't true beside reverse: a Disconnect or CoA may name a session of another realm"),
+    (29, 'advice: realm "a.example", server 1: secret: has less than 8 octets, and can be found by trying'),
 ]
 
 # What is advised of the larger one.
 ADVICE = [
-    (10, 'peer "nas1": secret: has less than 8 octets, and can be found by trying (and so in 1 more)'),
-    (7, "peer \"nas1\": require_seal: isn't true: an Access-Request without a Message-Authenticator, which can be forged, is taken (and so in 1 more)"),
-    (26, 'realm "a.example", server 1: secret: has less than 8 octets, and can be found by trying (and so in 2 more)'),
-    (26, "realm \"a.example\", server 1: require_seal: isn't true: an Access-Accept without a Message-Authenticator, which can be forged, is taken (and so in 2 more)"),
+    ABSENT,
+    (10, 'advice: peer "nas1": secret: has less than 8 octets, and can be found by trying (and so in 1 more)'),
+    (7, "advice: peer \"nas1\": require_seal: isn't true: an Access-Request without a Message-Authenticator, which can be forged, is taken (and so in 1 more)"),
+    (17, 'advice: realm "a.example": peer_share: is absent where several peers may ask: one may take all Identifiers, 256 for each out, from the others (and so in 2 more)'),
+    (22, 'advice: realm "a.example": wait: is in milliseconds, not in seconds: did you mean 1000? (and so in 2 more)'),
+    (20, 'advice: realm "a.example": reverse: is there, and no peer that may ask has coa: no Disconnect or CoA is delivered (and so in 2 more)'),
+    (26, 'advice: realm "a.example", server 1: secret: has less than 8 octets, and can be found by trying (and so in 2 more)'),
+    (26, "advice: realm \"a.example\", server 1: require_seal: isn't true: an Access-Accept without a Message-Authenticator, which can be forged, is taken (and so in 2 more)"),
 ]
 
 # A line of the configuration, what stands in its place, the fault, and what is told behind the path of the file.

@@ -204,16 +204,34 @@ def session(played, name, user, nas, sender, endpoint):
     return wrong
 
 
-def share(played):
-    """What is wrong of a realm's share: of one name, dead at home, no more wait than the sample has; another name goes on."""
-    peer = next(it for it in played.config.peers if it["name"] == "university")
-    played.now += 100000
+def numbers_of(played, name, users):
+    """The refusals of a peer's requests for these users, which no home server answers."""
+    peer = next(it for it in played.config.peers if it["name"] == name)
     numbers = []
-    for number in range(66):
-        user = "u@alive.org" if number == 65 else "u@dead.org"
-        octets = request(ACCESS, number, user, peer["secret"].encode(), None)
-        numbers.append(played.event(f"A {played.now} auth {within(peer)}:40001 {octets.hex()}")[1])
-    return [] if numbers == [None] * 64 + [27, None] else [f"federation: of one name {numbers.count(None)} wait, {numbers[-2:]}"]
+    for number, user in enumerate(users):
+        octets = request(ACCESS, number % 256, user, peer["secret"].encode(), None)
+        numbers.append(played.event(f"A {played.now} auth {within(peer)}:{40001 + number // 256} {octets.hex()}")[1])
+    return numbers
+
+
+def share(played):
+    """What is wrong of a realm's shares: one peer has no more waiting than the sample says, of a name that is dead at home, and
+    another one may still ask for that name, up to the name's share, and for others."""
+    played.now += 100000
+    first = numbers_of(played, "university", ["u@dead.org"] * 129 + ["u@alive.org"])
+    second = numbers_of(played, "college", ["u@dead.org"] * 33 + ["u@alive.org"])
+    if (first, second) == ([None] * 128 + [27, 27], [None] * 32 + [27, None]):
+        return []
+    return [f"federation: of one peer {first.count(None)} wait, {first[-2:]}, and of another {second.count(None)}, {second[-2:]}"]
+
+
+# What `roam check` advises of each sample: that its secrets are everybody's, and what it says of itself that a proxy is old.
+ADVISED = {
+    "federation": ("secret: is a sample's, ", 'advice: peer "school": require_seal: ', 'advice: realm "school.example", server 1: require_seal: ',
+                   'advice: realm "school.example": name: is without *. '),
+    "hub": ("secret: is a sample's, ",),
+    "visited-network": ("secret: is a sample's, ",),
+}
 
 
 def by_program(program, name, played):
@@ -223,6 +241,9 @@ def by_program(program, name, played):
     status, printed, said = run(program, "check", path)
     if (status, printed) != (0, counts):
         return [f"{name}: check prints {printed!r} {said!r}, not {counts!r}"]
+    further = [line for line in said.splitlines() if not any(it in line for it in ADVISED[name])]
+    if further:
+        return [f"{name}: check advises {further}"]
     with tempfile.NamedTemporaryFile("w", suffix=".script") as script:
         script.write("\n".join(played.script) + "\n")
         script.flush()

@@ -51,7 +51,7 @@ def look_at_words(trial):
 
 
 def lines_of(path, lines):
-    return "".join(f"{path}:{number}: {words}\n" for number, words in lines)
+    return "".join(f"{path}:{number}: {words}\n" if number else f"{path}: {words}\n" for number, words in lines)
 
 
 def look_at_configurations(trial):

@@ -1,13 +1,14 @@
 //! What is legal in a configuration, and unwise.
 
+use crate::advices::{ADVICES, Advice};
 use crate::document::{Document, Located};
 use crate::lines::Lines;
-use crate::place::TableKind;
-use crate::{names, servers, sessions};
+use crate::survey::Survey;
+use crate::{deliveries, names, servers, sessions, sharing, slips};
 
 /// What is unwise in a table, in what stands under a key.
 #[derive(Clone, Copy)]
-enum Unwise {
+pub(crate) enum Unwise {
     /// `require_seal` isn't true.
     Unsealed,
     /// A reply is held for longer than 30 seconds.
@@ -36,10 +37,32 @@ enum Unwise {
     Looping,
     /// One of the realms behind it may take all that wait.
     Unshared,
+    /// One of the peers may take all from the others.
+    PeersUnshared,
+    /// One of the peers may take a name's share from the others.
+    NameUnshared,
     /// Reverse requests are to name a session, and none is remembered.
     NoSessions,
     /// Reverse requests may name another realm's session.
     OthersSessions,
+    /// Reverse requests come, and no peer of the realm takes any.
+    NoDelivery,
+    /// Sessions are remembered for reverse requests, which neither come nor could go anywhere.
+    NoUseOfSessions,
+    /// Reverse requests could go to the peer, and none names it.
+    NeverNamed,
+    /// Reverse requests could go to the peer, and no realm has any for it.
+    NeverReached,
+    /// So few milliseconds that seconds are meant.
+    Seconds,
+    /// A name that begins with a dot.
+    Dotted,
+    /// The port that is usual for the other service.
+    Port(u16),
+    /// A path that depends on the folder in which the program is started.
+    Relative,
+    /// The key is absent.
+    Absent,
 }
 
 /// The numbers of a realm that the advice is about, also where they aren't written.
@@ -73,7 +96,13 @@ fn is_at_any_address(at: Located<'_>, key: &str) -> bool {
 }
 
 impl Unwise {
-    fn is_in(self, document: &Document<'_>, at: Located<'_>, key: &str) -> bool {
+    fn is_in<'a>(
+        self,
+        document: &Document<'a>,
+        survey: &Survey<'a>,
+        at: Located<'a>,
+        key: &str,
+    ) -> bool {
         match self {
             Unwise::Unsealed => !at.keys.is_set("require_seal"),
             Unwise::LongHold => number(at, "hold") > 30000,
@@ -85,158 +114,52 @@ impl Unwise {
             },
             Unwise::SampleSecret => at.keys.has_sample_secret(),
             Unwise::AnyAddress => is_at_any_address(at, key),
-            Unwise::OwnServer => servers::is_own(document, at, key),
-            Unwise::OtherSecret => servers::has_other_secret(document, at),
+            Unwise::OwnServer => servers::is_own(&survey.own, at, key),
+            Unwise::OtherSecret => servers::has_other_secret(&survey.servers, at),
             Unwise::Default => names::has_default(at, key),
-            Unwise::OpenBelow => names::is_open_below(document, at),
+            Unwise::OpenBelow => survey.patterns.are_open_below(at),
             Unwise::IllFormed => {
                 names::has_pattern(at, "*") && !names::are_well_formed(document)
             }
             Unwise::Looping => { names::has_pattern(at, "*") && !at.keys.is_set("loop_prevention") }
             Unwise::Unshared => names::has_pattern(at, "*") && !at.keys.has("share"),
+            Unwise::PeersUnshared => sharing::is_unshared(survey, document.peers(), at),
+            Unwise::NameUnshared => sharing::is_name_unshared(survey, document.peers(), at),
             Unwise::NoSessions => sessions::are_never_there(at),
             Unwise::OthersSessions => sessions::may_be_others(at),
+            Unwise::NoDelivery => survey.deliveries.are_taken_in_vain(&survey.names, at),
+            Unwise::NoUseOfSessions => survey.deliveries.are_remembered_in_vain(&survey.names, at),
+            Unwise::NeverNamed => deliveries::is_never_named(at),
+            Unwise::NeverReached => survey.deliveries.never_reach(at),
+            Unwise::Seconds => slips::has_seconds(at, key),
+            Unwise::Dotted => slips::has_dotted(at, key),
+            Unwise::Port(port) => slips::has_port(at, key, port),
+            Unwise::Relative => slips::is_relative(at, key),
+            Unwise::Absent => !at.keys.has(key),
+        }
+    }
+
+    /// Says what is meant, where that follows from what stands under the key.
+    fn say_meant(self, at: Located<'_>, key: &str, lines: &mut Lines) {
+        match self {
+            Unwise::Seconds => slips::say_milliseconds(at, key, lines),
+            Unwise::Dotted => slips::say_starred(at, key, lines),
+            _ => {}
         }
     }
 }
 
-/// An advice: for which tables and keys it is, where it is given, and what it says.
-#[derive(Clone, Copy)]
-struct Advice(TableKind, &'static str, Unwise, &'static str);
-
-const SHORT_SECRET: &str = "has less than 8 octets, and can be found by trying";
-
-const SAMPLE_SECRET: &str = "is a sample's, which everybody knows: make one of your own";
-
-const ANY_ADDRESS: &str =
-    "is every address: replies may leave from another address than the one that was asked";
-
-const OWN_SERVER: &str = "is the broker's own: what is sent there comes back to it";
-
-const DEFAULT: &str = "is a name as any other: what FreeRADIUS calls DEFAULT is also = [\"*\"]";
-
-/// The advice for each kind of tables, in the order in which it is said; that for sockets first.
-const ADVICES: [Advice; 26] = [
-    Advice(TableKind::Top, "auth", Unwise::AnyAddress, ANY_ADDRESS),
-    Advice(TableKind::Top, "acct", Unwise::AnyAddress, ANY_ADDRESS),
-    Advice(TableKind::Realm, "out", Unwise::AnyAddress, ANY_ADDRESS),
-    Advice(TableKind::Realm, "reverse", Unwise::AnyAddress, ANY_ADDRESS),
-    Advice(
-        TableKind::Peer,
-        "secret",
-        Unwise::SampleSecret,
-        SAMPLE_SECRET,
-    ),
-    Advice(TableKind::Peer, "secret", Unwise::ShortSecret, SHORT_SECRET),
-    Advice(
-        TableKind::Peer,
-        "require_seal",
-        Unwise::Unsealed,
-        "isn't true: an Access-Request without a Message-Authenticator, which can be forged, is taken",
-    ),
-    Advice(TableKind::Realm, "name", Unwise::Default, DEFAULT),
-    Advice(TableKind::Realm, "also", Unwise::Default, DEFAULT),
-    Advice(
-        TableKind::Realm,
-        "name",
-        Unwise::OpenBelow,
-        "is without *. and this name in also: names below it go to the realm of *",
-    ),
-    Advice(
-        TableKind::Realm,
-        "also",
-        Unwise::IllFormed,
-        "has * without well_formed: names that can be no realm's, as a..b, are forwarded too",
-    ),
-    Advice(
-        TableKind::Realm,
-        "loop_prevention",
-        Unwise::Looping,
-        "isn't true beside *: a request may go back to the proxy that it came from",
-    ),
-    Advice(
-        TableKind::Realm,
-        "share",
-        Unwise::Unshared,
-        "is absent beside *: one realm of a dead server may take all Identifiers from the others",
-    ),
-    Advice(
-        TableKind::Realm,
-        "rest",
-        Unwise::ShortRest,
-        "is less than tries times wait, which it takes to find that a server is silent",
-    ),
-    Advice(
-        TableKind::Realm,
-        "hold",
-        Unwise::LongHold,
-        "is beyond 30000, and RFC 5080 says 5 to 30 seconds",
-    ),
-    Advice(
-        TableKind::Realm,
-        "max_pending",
-        Unwise::FewEntries,
-        "is less than what one exchange a second takes, with replies held for hold",
-    ),
-    Advice(
-        TableKind::Realm,
-        "own_sessions",
-        Unwise::NoSessions,
-        "is true where no session is remembered, by max_sessions or accounting: no Disconnect or CoA is forwarded",
-    ),
-    Advice(
-        TableKind::Realm,
-        "own_sessions",
-        Unwise::OthersSessions,
-        "isn't true beside reverse: a Disconnect or CoA may name a session of another realm",
-    ),
-    Advice(TableKind::Server, "auth", Unwise::OwnServer, OWN_SERVER),
-    Advice(TableKind::Server, "acct", Unwise::OwnServer, OWN_SERVER),
-    Advice(
-        TableKind::Server,
-        "secret",
-        Unwise::SampleSecret,
-        SAMPLE_SECRET,
-    ),
-    Advice(
-        TableKind::Server,
-        "secret",
-        Unwise::ShortSecret,
-        SHORT_SECRET,
-    ),
-    Advice(
-        TableKind::Server,
-        "secret",
-        Unwise::OtherSecret,
-        "isn't what this server has in another realm: it knows the broker by one address, so one is wrong",
-    ),
-    Advice(
-        TableKind::Server,
-        "require_seal",
-        Unwise::Unsealed,
-        "isn't true: an Access-Accept without a Message-Authenticator, which can be forged, is taken",
-    ),
-    Advice(
-        TableKind::Client,
-        "secret",
-        Unwise::SampleSecret,
-        SAMPLE_SECRET,
-    ),
-    Advice(
-        TableKind::Client,
-        "secret",
-        Unwise::ShortSecret,
-        SHORT_SECRET,
-    ),
-];
-
-/// The first table that an advice is for, and how many more there are.
-fn first_of<'a>(document: &Document<'a>, advice: Advice) -> (Option<Located<'a>>, u32) {
+/// Returns the first table that an advice is for, and how many more there are.
+fn first_of<'a>(
+    document: &Document<'a>,
+    survey: &Survey<'a>,
+    advice: Advice,
+) -> (Option<Located<'a>>, u32) {
     let Advice(kind, key, unwise, _) = advice;
     let mut first = None;
     let mut more = 0u32;
     for at in document.tables.as_slice() {
-        if at.place.kind == kind && unwise.is_in(document, *at, key) {
+        if at.place.kind == kind && unwise.is_in(document, survey, *at, key) {
             match first {
                 None => first = Some(*at),
                 Some(_) => more = more.saturating_add(1),
@@ -247,11 +170,12 @@ fn first_of<'a>(document: &Document<'a>, advice: Advice) -> (Option<Located<'a>>
 }
 
 /// Says an advice of the first table that it is for, and of how many more.
-fn say(document: &Document<'_>, advice: Advice, lines: &mut Lines) {
-    let (first, more) = first_of(document, advice);
+fn say<'a>(document: &Document<'a>, survey: &Survey<'a>, advice: Advice, lines: &mut Lines) {
+    let (first, more) = first_of(document, survey, advice);
     if let Some(at) = first {
-        document.begin_line(at, advice.1, lines);
+        document.begin_advice(at, advice.1, lines);
         lines.put(": ", advice.3, "");
+        advice.2.say_meant(at, advice.1, lines);
         if more > 0 {
             lines.put(" (and so in ", more, " more)");
         }
@@ -259,9 +183,17 @@ fn say(document: &Document<'_>, advice: Advice, lines: &mut Lines) {
     }
 }
 
+/// Says what is unwise, by a survey of the document.
+fn say_each<'a>(document: &Document<'a>, survey: &Survey<'a>, lines: &mut Lines) {
+    for advice in &ADVICES {
+        say(document, survey, *advice, lines);
+    }
+}
+
 /// Says what is unwise.
 pub(crate) fn say_advice(document: &Document<'_>, lines: &mut Lines) {
-    for advice in &ADVICES {
-        say(document, *advice, lines);
+    match Survey::new(document) {
+        Ok(survey) => say_each(document, &survey, lines),
+        Err(_) => lines.fail(),
     }
 }

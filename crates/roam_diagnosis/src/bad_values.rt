@@ -3,7 +3,9 @@
 use crate::document::{Document, Located};
 use crate::form_words::say_misfit;
 use crate::forms::{ValueForm, is_list, is_of_tables, misfit};
+use crate::hidden::is_hidden;
 use crate::lines::Lines;
+use crate::nearest::nearest_key;
 use crate::place::{TableKind, name_of};
 use crate::quoted::quote;
 use crate::rules::{has_rule, header_of, owner_of, rules_of};
@@ -66,6 +68,18 @@ fn say_length(length: Option<usize>, lines: &mut Lines) {
     }
 }
 
+/// Says what stands under a key and isn't of its form, unless it may be a secret.
+fn say_shown(key: &str, form: ValueForm, value: &Value, lines: &mut Lines) {
+    let shown = misfit(form, value);
+    if is_hidden(key, shown) {
+        say_misfit(form, lines);
+        lines.say(" (it isn't shown: it may be a secret)");
+        return;
+    }
+    say_value(shown, lines);
+    say_misfit(form, lines);
+}
+
 /// Says that what stands under a key isn't of its form. A secret isn't shown.
 fn say_bad(
     document: &Document<'_>,
@@ -78,8 +92,7 @@ fn say_bad(
     lines.say(": ");
     match at.keys.value(key) {
         Some(value) => {
-            say_value(misfit(form, value), lines);
-            say_misfit(form, lines);
+            say_shown(key, form, value, lines);
             say_remedy(form, value, header_of(key), lines);
         }
         None => {
@@ -102,7 +115,14 @@ fn say_owner(here: TableKind, key: &str, lines: &mut Lines) {
             lines.put(": write [[", header_of(key), "]]");
         }
         Some(owner) => lines.put(": it is one of ", name_of(owner), ""),
-        None => {}
+        None => say_nearest(here, key, lines),
+    }
+}
+
+/// Says which key is meant by one that no kind of tables has, where one is near.
+fn say_nearest(here: TableKind, key: &str, lines: &mut Lines) {
+    if let Some(nearest) = nearest_key(here, key) {
+        lines.put(": did you mean ", nearest, "?");
     }
 }
 

@@ -19,7 +19,6 @@ fn say_in_table(document: &Document<'_>, at: Located<'_>, fault: ConfFault, line
         (ConfFault::Missing, _) => say_missing(document, at, lines),
         (ConfFault::BadValue, _) => say_bad_values(document, at, lines),
         (ConfFault::NoWayOut, TableKind::Server) => say_no_way_out(document, at, lines),
-        (ConfFault::UnknownPeer, TableKind::Realm) => say_unknown_peers(document, at, lines),
         _ => {}
     }
 }
@@ -29,7 +28,10 @@ fn say_fault(document: &Document<'_>, fault: ConfFault, lines: &mut Lines) {
     for at in document.tables.as_slice() {
         say_in_table(document, *at, fault, lines);
     }
-    say_duplicates(document, fault, lines);
+    match fault {
+        ConfFault::UnknownPeer => say_unknown_peers(document, lines),
+        _ => say_duplicates(document, fault, lines),
+    }
 }
 
 /// Says where the fault of a document stands, or what is unwise in one that has none.

@@ -24,6 +24,8 @@ pub(crate) struct Document<'a> {
     pub path: &'a str,
     pub text: &'a str,
     pub tables: Vec<Located<'a>>,
+    /// How many peers there are. They stand behind the top table, before all others.
+    peers: usize,
     /// Whether a growth of memory was refused.
     pub has_failed: bool,
 }
@@ -49,11 +51,13 @@ impl<'a> Document<'a> {
             path,
             text,
             tables: Vec::new(alloc),
+            peers: 0,
             has_failed: false,
         };
         let top = Keys::new(table);
         document.add(TablePlace::TOP, top, top);
         document.add_all(TablePlace::peer(0), top, "peer");
+        document.peers = document.tables.len().saturating_sub(1);
         document.add_all(TablePlace::realm(0), top, "realm");
         document
     }
@@ -91,6 +95,13 @@ impl<'a> Document<'a> {
         }
     }
 
+    /// Returns the tables of the peers.
+    pub(crate) fn peers(&self) -> &[Located<'a>] {
+        let tables = self.tables.as_slice();
+        let behind_top = tables.get(1..).unwrap_or(tables);
+        behind_top.get(..self.peers).unwrap_or(behind_top)
+    }
+
     /// The top table, which has a place in each document.
     pub(crate) fn top(&self) -> Option<Keys<'a>> {
         match self.tables.first() {
@@ -105,6 +116,14 @@ impl<'a> Document<'a> {
         self.say_place("", at, key, " ", lines);
     }
 
+    /// Begins a line of advice, as `PATH:LINE: advice:`, with the table of a key and its name.
+    pub(crate) fn begin_advice(&self, at: Located<'_>, key: &str, lines: &mut Lines) {
+        lines.put("", self.path, ":");
+        self.say_number("", at, key, " ", lines);
+        lines.say("advice: ");
+        say_key(at, key, lines);
+    }
+
     /// Says the place of a key, within a line: a word and the number of its line, its table and its name. Where there
     /// is no such line, another word stands in place of that and the number.
     pub(crate) fn say_place(
@@ -115,11 +134,16 @@ impl<'a> Document<'a> {
         without: &str,
         lines: &mut Lines,
     ) {
+        self.say_number(word, at, key, without, lines);
+        say_key(at, key, lines);
+    }
+
+    /// Says a word and the number of a key's line, or another word where there is no such line.
+    fn say_number(&self, word: &str, at: Located<'_>, key: &str, without: &str, lines: &mut Lines) {
         match nearest_line(self.text, at.place, key) {
             0 => lines.say(without),
             number => lines.put(word, number, ": "),
         }
-        say_key(at, key, lines);
     }
 }
 

@@ -11,25 +11,34 @@
 #![tactic(auto)]
 
 mod advice;
+mod advices;
 mod bad_values;
+mod deliveries;
 mod diagnosis;
 mod document;
 mod duplicates;
+mod foreign;
 mod form_words;
 mod forms;
+mod hidden;
 mod keys;
 mod line;
 mod lines;
 mod missing;
 mod names;
+mod nearest;
 mod network_forms;
+mod peer_names;
 mod place;
 mod quoted;
 mod rules;
 mod scan;
 mod servers;
 mod sessions;
+mod sharing;
+mod slips;
 mod statements;
+mod survey;
 mod syntax;
 mod unknown_peers;
 mod ways;

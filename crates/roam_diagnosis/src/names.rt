@@ -1,7 +1,11 @@
 //! What a realm is called, and what of that is unwise.
 
-use crate::document::{Document, Located};
+use crate::document::{Document, Located, items_of};
+use crate::peer_names::lower;
 use crate::place::TableKind;
+use indexmap::IndexSet;
+use std::alloc::{AllocError, Global};
+use std::hash::{BuildHasherDefault, FoldHasher};
 use toml::Value;
 
 /// Whether one of the items is this text, without case.
@@ -33,48 +37,6 @@ pub(crate) fn has_default(at: Located<'_>, key: &str) -> bool {
     }
 }
 
-/// Whether the name ends in the other one, without case, and what stands before it is nothing or ends in a dot.
-fn ends_in(name: &str, ending: &str) -> bool {
-    let (name, ending) = (name.as_bytes(), ending.as_bytes());
-    if name.len() < ending.len() {
-        return false;
-    }
-    let (front, back) = name.split_at(name.len() - ending.len());
-    let is_whole_label = match front.last() {
-        Some(octet) => *octet == b'.',
-        None => true,
-    };
-    is_whole_label && back.eq_ignore_ascii_case(ending)
-}
-
-/// Whether one of the patterns takes all names below the name.
-fn take_below(items: &[Value], name: &str) -> bool {
-    for item in items {
-        if let Value::String(pattern) = item {
-            if let Some(ending) = pattern.as_str().strip_prefix("*.") {
-                if ends_in(name, ending) {
-                    return true;
-                }
-            }
-        }
-    }
-    false
-}
-
-/// Whether some realm takes all names below the name.
-fn is_taken_below(document: &Document<'_>, name: &str) -> bool {
-    for at in document.tables.as_slice() {
-        if at.place.kind == TableKind::Realm {
-            if let Some(items) = at.keys.array("also") {
-                if take_below(items.as_slice(), name) {
-                    return true;
-                }
-            }
-        }
-    }
-    false
-}
-
 /// Whether a name has to be well formed to fit a pattern.
 pub(crate) fn are_well_formed(document: &Document<'_>) -> bool {
     match document.top() {
@@ -83,22 +45,95 @@ pub(crate) fn are_well_formed(document: &Document<'_>) -> bool {
     }
 }
 
-/// Whether some realm takes any name.
-fn takes_any(document: &Document<'_>) -> bool {
-    for at in document.tables.as_slice() {
-        if at.place.kind == TableKind::Realm && has_pattern(*at, "*") {
-            return true;
-        }
-    }
-    false
+/// What the patterns of all realms take together.
+#[derive(Drop)]
+pub(crate) struct Patterns {
+    /// Whether some realm takes any name.
+    take_any: bool,
+    /// What stands behind each `*.`, in lower case.
+    endings: IndexSet<String, BuildHasherDefault<FoldHasher>, Global>,
+    /// The counts of the realms whose names would go to the realm of `*` with a label in front.
+    open_below: IndexSet<u32, BuildHasherDefault<FoldHasher>, Global>,
 }
 
-/// Whether names below a realm's go to another realm, which takes any.
-pub(crate) fn is_open_below(document: &Document<'_>, at: Located<'_>) -> bool {
-    match at.keys.text("name") {
-        Some(name) => {
-            !has_pattern(at, "*") && takes_any(document) && !is_taken_below(document, name)
+impl Patterns {
+    /// Returns what the patterns of a document's realms take.
+    pub(crate) fn new(document: &Document<'_>) -> Result<Patterns, AllocError> {
+        let alloc = document.alloc;
+        let mut patterns = Patterns {
+            take_any: false,
+            endings: IndexSet::new(alloc),
+            open_below: IndexSet::new(alloc),
+        };
+        for at in document.tables.as_slice() {
+            if at.place.kind == TableKind::Realm {
+                patterns.note_all(alloc, items_of(at.keys, "also"))?;
+            }
         }
-        None => false,
+        patterns.note_open(document)?;
+        Ok(patterns)
+    }
+
+    /// Notes the patterns of a realm.
+    fn note_all(&mut self, alloc: Global, items: &[Value]) -> Result<(), AllocError> {
+        for item in items {
+            if let Value::String(pattern) = item {
+                self.note(alloc, pattern.as_str())?;
+            }
+        }
+        Ok(())
+    }
+
+    /// Notes a pattern.
+    fn note(&mut self, alloc: Global, pattern: &str) -> Result<(), AllocError> {
+        self.take_any |= pattern == "*";
+        if let Some(ending) = pattern.strip_prefix("*.") {
+            self.endings.insert(lower(alloc, ending)?)?;
+        }
+        Ok(())
+    }
+
+    /// Notes the realms whose names are open below.
+    fn note_open(&mut self, document: &Document<'_>) -> Result<(), AllocError> {
+        if !self.take_any {
+            return Ok(());
+        }
+        for at in document.tables.as_slice() {
+            if at.place.kind == TableKind::Realm && self.leave_open(document.alloc, *at)? {
+                self.open_below.insert(at.place.index)?;
+            }
+        }
+        Ok(())
+    }
+
+    /// Returns whether no pattern but `*` of another realm takes the names below a realm's.
+    fn leave_open(&self, alloc: Global, at: Located<'_>) -> Result<bool, AllocError> {
+        match at.keys.text("name") {
+            Some(name) if !has_pattern(at, "*") => {
+                let lowered = lower(alloc, name)?;
+                Ok(!self.take_below(lowered.as_str()))
+            }
+            _ => Ok(false),
+        }
+    }
+
+    /// Returns whether a pattern takes all names below the name, which is in lower case.
+    fn take_below(&self, name: &str) -> bool {
+        let mut rest = name;
+        for _ in 0..name.len().saturating_add(1) {
+            if self.endings.contains(rest) {
+                return true;
+            }
+            match rest.split_once('.') {
+                Some((_, behind)) => rest = behind,
+                None => return false,
+            }
+        }
+        false
+    }
+
+    /// Returns whether names below a realm's go to another realm, which takes any.
+    pub(crate) fn are_open_below(&self, at: Located<'_>) -> bool {
+        self.open_below.contains(&at.place.index)
     }
 }

@@ -27,10 +27,15 @@ fn say_characters(text: &str, lines: &mut Lines) -> &'static str {
     "\""
 }
 
+/// Says the rest of a text in quotation marks, which were opened, and what stands behind it.
+pub(crate) fn quote_rest(text: &str, behind: &str, lines: &mut Lines) {
+    let end = say_characters(text, lines);
+    lines.put(end, behind, "");
+}
+
 /// Says a text in quotation marks, between two others. What isn't printable in ASCII is escaped, and what is long is
 /// cut.
 pub(crate) fn quote(before: &str, text: &str, behind: &str, lines: &mut Lines) {
     lines.put(before, '"', "");
-    let end = say_characters(text, lines);
-    lines.put(end, behind, "");
+    quote_rest(text, behind, lines);
 }

@@ -2,8 +2,11 @@
 
 use crate::document::{Document, Located};
 use crate::keys::Keys;
-use crate::place::TableKind;
+use crate::place::{TableKind, TablePlace};
+use indexmap::{IndexMap, IndexSet};
 use roam_conf::{Address, Endpoint};
+use std::alloc::{AllocError, Global};
+use std::hash::{BuildHasherDefault, FoldHasher};
 use toml::Value;
 
 /// The endpoint that stands under the key, if one does.
@@ -41,84 +44,145 @@ pub(crate) fn nth_under(keys: Keys<'_>, key: &str, nth: usize) -> Option<Endpoin
     }
 }
 
-/// Whether the endpoint stands under the key, alone or in an array.
-fn is_under(at: Located<'_>, key: &str, endpoint: Endpoint) -> bool {
-    for nth in 0..count_under(at.keys, key) {
-        if nth_under(at.keys, key, nth) == Some(endpoint) {
-            return true;
+/// Endpoints, each once.
+pub(crate) type Endpoints = IndexSet<Endpoint, BuildHasherDefault<FoldHasher>, Global>;
+
+/// Adds the endpoints that stand under the key.
+fn add_under(endpoints: &mut Endpoints, keys: Keys<'_>, key: &str) -> Result<(), AllocError> {
+    for nth in 0..count_under(keys, key) {
+        if let Some(endpoint) = nth_under(keys, key, nth) {
+            endpoints.insert(endpoint)?;
         }
     }
-    false
+    Ok(())
 }
 
-/// Whether the endpoint is one of the broker's own that a table states.
-fn is_own_in(at: Located<'_>, endpoint: Endpoint) -> bool {
+/// Adds the broker's own endpoints that a table states.
+fn add_own(endpoints: &mut Endpoints, at: Located<'_>) -> Result<(), AllocError> {
     match at.place.kind {
-        TableKind::Top => is_under(at, "auth", endpoint) || is_under(at, "acct", endpoint),
-        TableKind::Realm => is_under(at, "out", endpoint) || is_under(at, "reverse", endpoint),
-        _ => false,
+        TableKind::Top => {
+            add_under(endpoints, at.keys, "auth")?;
+            add_under(endpoints, at.keys, "acct")
+        }
+        TableKind::Realm => {
+            add_under(endpoints, at.keys, "out")?;
+            add_under(endpoints, at.keys, "reverse")
+        }
+        _ => Ok(()),
     }
 }
 
-/// Whether a server's endpoint under the key is one of the broker's own.
-pub(crate) fn is_own(document: &Document<'_>, server: Located<'_>, key: &str) -> bool {
-    let Some(endpoint) = endpoint_under(server.keys, key) else {
-        return false;
+/// Returns the broker's own endpoints.
+pub(crate) fn own_endpoints(document: &Document<'_>) -> Result<Endpoints, AllocError> {
+    let mut endpoints = IndexSet::new(document.alloc);
+    for at in document.tables.as_slice() {
+        add_own(&mut endpoints, *at)?;
+    }
+    Ok(endpoints)
+}
+
+/// Returns whether a server's endpoint under the key is one of the broker's own.
+pub(crate) fn is_own(own: &Endpoints, server: Located<'_>, key: &str) -> bool {
+    match endpoint_under(server.keys, key) {
+        Some(endpoint) => own.contains(&endpoint),
+        None => false,
+    }
+}
+
+/// What a server and the broker know each other by.
+#[derive(Clone, Copy, PartialEq, Eq, Hash)]
+pub(crate) struct Way {
+    /// Where the server takes Access-Requests.
+    auth: Endpoint,
+    /// The address that the broker asks it from.
+    out: Address,
+}
+
+/// The tables of servers that have one way.
+#[derive(Clone, Copy)]
+pub(crate) struct Known<'a> {
+    first: Located<'a>,
+    /// The first one that has another secret.
+    other: Option<Located<'a>>,
+}
+
+/// The servers of all realms, by their ways.
+pub(crate) type KnownServers<'a> = IndexMap<Way, Known<'a>, BuildHasherDefault<FoldHasher>, Global>;
+
+/// Returns the way to a server from the endpoint of a place of those under `out`.
+fn nth_way(server: Located<'_>, nth: usize) -> Option<Way> {
+    let auth = endpoint_under(server.keys, "auth")?;
+    let out = nth_under(server.named, "out", nth)?;
+    Some(Way { auth, out: out.ip })
+}
+
+/// Returns what is known of a way once a server that has it was met.
+fn with_server<'a>(known: Option<Known<'a>>, server: Located<'a>) -> Known<'a> {
+    let Some(known) = known else {
+        return Known {
+            first: server,
+            other: None,
+        };
     };
+    match known.other {
+        None if !server.keys.has_secret_of(known.first.keys) => Known {
+            first: known.first,
+            other: Some(server),
+        },
+        _ => known,
+    }
+}
+
+/// Notes a server, by each of its ways.
+fn note_server<'a>(servers: &mut KnownServers<'a>, server: Located<'a>) -> Result<(), AllocError> {
+    for nth in 0..count_under(server.named, "out") {
+        if let Some(way) = nth_way(server, nth) {
+            let known = with_server(servers.get(&way).copied(), server);
+            servers.insert(way, known)?;
+        }
+    }
+    Ok(())
+}
+
+/// Returns the servers of all realms.
+pub(crate) fn known_servers<'a>(document: &Document<'a>) -> Result<KnownServers<'a>, AllocError> {
+    let mut servers = IndexMap::new(document.alloc);
     for at in document.tables.as_slice() {
-        if is_own_in(*at, endpoint) {
-            return true;
+        if at.place.kind == TableKind::Server {
+            note_server(&mut servers, *at)?;
         }
     }
-    false
+    Ok(servers)
 }
 
-/// Whether one of the endpoints under `out` has the address.
-fn is_out_ip(keys: Keys<'_>, ip: Address) -> bool {
-    for nth in 0..count_under(keys, "out") {
-        if let Some(out) = nth_under(keys, "out", nth) {
-            if out.ip == ip {
-                return true;
+/// Returns whether a server's table stands before another one's.
+fn is_before(server: TablePlace, other: TablePlace) -> bool {
+    server.index < other.index || (server.index == other.index && server.server < other.server)
+}
+
+/// Returns whether an earlier one of the tables has another secret than the server's.
+fn has_other(known: Known<'_>, server: Located<'_>) -> bool {
+    if known.first.place == server.place {
+        return false;
+    }
+    if !server.keys.has_secret_of(known.first.keys) {
+        return true;
+    }
+    match known.other {
+        Some(other) => is_before(other.place, server.place),
+        None => false,
+    }
+}
+
+/// Returns whether an earlier table is of the same server, asked from the same address, with another secret.
+pub(crate) fn has_other_secret(servers: &KnownServers<'_>, server: Located<'_>) -> bool {
+    for nth in 0..count_under(server.named, "out") {
+        if let Some(way) = nth_way(server, nth) {
+            if let Some(known) = servers.get(&way) {
+                if has_other(*known, server) {
+                    return true;
+                }
             }
-        }
-    }
-    false
-}
-
-/// Whether two tables have an address in common under `out`.
-fn share_out_ip(keys: Keys<'_>, other: Keys<'_>) -> bool {
-    for nth in 0..count_under(keys, "out") {
-        if let Some(out) = nth_under(keys, "out", nth) {
-            if is_out_ip(other, out.ip) {
-                return true;
-            }
-        }
-    }
-    false
-}
-
-/// Whether the broker asks two servers from one address, and finds them at one endpoint.
-fn are_one(server: Located<'_>, other: Located<'_>) -> bool {
-    match (
-        endpoint_under(server.keys, "auth"),
-        endpoint_under(other.keys, "auth"),
-    ) {
-        (Some(here), Some(there)) => here == there && share_out_ip(server.named, other.named),
-        _ => false,
-    }
-}
-
-/// Whether an earlier table is of the same server, with another secret.
-pub(crate) fn has_other_secret(document: &Document<'_>, server: Located<'_>) -> bool {
-    for at in document.tables.as_slice() {
-        if at.place == server.place {
-            return false;
-        }
-        if at.place.kind == TableKind::Server
-            && are_one(server, *at)
-            && !server.keys.has_secret_of(at.keys)
-        {
-            return true;
         }
     }
     false

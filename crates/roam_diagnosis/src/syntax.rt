@@ -1,5 +1,6 @@
 //! Why a text is no TOML document.
 
+use crate::foreign::remedy_of_foreign;
 use crate::form_words::say_wanted;
 use crate::lines::Lines;
 use crate::rules::form_of;
@@ -41,9 +42,26 @@ fn is_single_header(header: &str) -> bool {
     }
 }
 
+/// Returns whether a table within a realm stands before the line of this number.
+fn has_header_below(text: &str, number: u32) -> bool {
+    let mut count = 0u32;
+    for line in text.lines() {
+        count = count.saturating_add(1);
+        if count < number && line.trim_start().starts_with("[[realm.") {
+            return true;
+        }
+    }
+    false
+}
+
 /// Says what belongs in the line, where that is known.
-fn say_remedy(statement: &str, message: &str, lines: &mut Lines) {
+fn say_remedy(text: &str, number: u32, message: &str, lines: &mut Lines) {
+    let statement = line_of(text, number);
     let header = statement.trim();
+    if header == "[[realm]]" && message == "duplicate key" && has_header_below(text, number) {
+        lines.say(": a [[realm.server]] or [[realm.coa_client]] stands before the first [[realm]]");
+        return;
+    }
     if is_single_header(header) {
         lines.put(": write [", header, "]");
         return;
@@ -71,6 +89,10 @@ pub(crate) fn say_syntax(path: &str, text: &str, error: &Error, lines: &mut Line
     lines.put("", number, ":");
     lines.put("", column, ": ");
     lines.say(message);
-    say_remedy(line_of(text, number), message, lines);
+    let remedy = remedy_of_foreign(text);
+    if remedy.is_empty() {
+        say_remedy(text, number, message, lines);
+    }
+    lines.say(remedy);
     lines.end_line();
 }
