@@ -115,14 +115,16 @@ def want_balance(ask, may_lose=(), seconds=5):
 class Server:
     """A program that serves; its file, its log and its control socket lie in a folder, under its name."""
 
-    def __init__(self, program, folder, text, *words, name="roam", options=(), control=True, **how):
-        """`text` is the file without `control`, `words` stand behind its path and `options` before it; `how` is for Popen."""
+    def __init__(self, program, folder, text, *words, name="roam", options=(), control=True, starts=True, **how):
+        """`text` is the file without `control`, `words` stand behind its path and `options` before it; `how` is for Popen. It starts at
+        once, unless that is told otherwise."""
         self.program, self.folder, self.words, self.options, self.how = program, folder, words, options, how
         self.conf, self.log, self.path = (os.path.join(folder, f"{name}.{it}") for it in ("conf", "log", "control"))
         self.path = control if isinstance(control, str) else self.path
         self.control, self.may_lose, self.process = bool(control), set(), None
         self.write(text)
-        self.start()
+        if starts:
+            self.start()
         atexit.register(self.__exit__)
 
     def write(self, text):

@@ -38,9 +38,9 @@ RUN = os.path.join(os.path.dirname(os.path.abspath(__file__)), '..', 'installed'
 
 
 class Server(servers.Server):
-    def __init__(self, program, work):
+    def __init__(self, program, work, starts=True):
         self.state, self.peers, self.realms, self.own = os.path.join(work, 'sessions'), list(PEERS), list(REALMS), False
-        super().__init__(program, work, '')
+        super().__init__(program, work, '', starts=starts)
 
     def text(self):
         peers = [peer(name, ip, secret.decode(), coa=f'{ip}:{coa}', nas_id=name) for name, ip, secret, coa in self.peers]
@@ -125,11 +125,11 @@ def try_stop(server):
     server.stop()
     sessions.end()
     want(os.stat(server.state).st_mode & 0o777 == 0o600, 'the file is for its owner alone')
-    want(not os.path.exists(server.state + '.new'), 'and none is left beside it')
+    want(not os.path.exists(server.state + '.new'), 'and none is left beside it but its lock')
     server.peers.reverse()
     server.realms.reverse()
     server.start()
-    want('sessions read from ' + server.state in server.said(), 'it says what it reads')
+    want('sessions taken up from ' + server.state in server.said(), 'it says what it takes up')
     sessions.are_disconnected('after a stop, with all tables turned about')
 
 
@@ -185,8 +185,7 @@ def try_faulty(server):
 def try_unwritable(server):
     state, server.state = server.state, os.path.join(server.folder, 'no', 'sessions')
     server.start()
-    time.sleep(.5)
-    want(f"sessions aren't kept in {server.state} (errno 2)" in server.said(), 'where it cannot be written that is said')
+    want(server.tells(f"sessions aren't kept in {server.state}: No such file or directory"), 'where it cannot be written that is said')
     sessions = Sessions()
     sessions.some(4)
     sessions.are_disconnected('and all else goes on')

@@ -4,6 +4,7 @@
 //! alone.
 #![tactic(auto)]
 
+use roam_keeping::{Keeper, keep_on};
 use roam_outlet::{LogReader, Outlet, OutletWriter, ToOutlet, log_reader, write_on};
 use roam_program::command;
 use roam_words::Fault;
@@ -28,28 +29,35 @@ fn ask_to_serve(words: &[String]) -> bool {
     }
 }
 
-/// An outlet, once more for the thread that writes what it has, and room for what that takes at once.
+/// An outlet and a keeper of files, each once more for the thread that writes what it has, and room for what the
+/// outlet's takes at once.
 #[derive(Drop)]
 struct Apart {
     outlet: Arc<Outlet, Global>,
-    theirs: Arc<Outlet, Global>,
+    keeper: Arc<Keeper, Global>,
+    their_outlet: Arc<Outlet, Global>,
+    their_keeper: Arc<Keeper, Global>,
     room: Vec<u8>,
 }
 
 /// Makes them; nothing where memory is wanting.
 fn make_apart(alloc: Global, reader: LogReader) -> Option<Apart> {
     let outlet = Arc::new(alloc, Outlet::new(alloc, reader).ok()?).ok()?;
-    let theirs = Arc::try_clone(&outlet).ok()?;
+    let keeper = Arc::new(alloc, Keeper::new()).ok()?;
+    let their_outlet = Arc::try_clone(&outlet).ok()?;
+    let their_keeper = Arc::try_clone(&keeper).ok()?;
     Some(Apart {
         outlet,
-        theirs,
+        keeper,
+        their_outlet,
+        their_keeper,
         room: Outlet::room(alloc).ok()?,
     })
 }
 
-/// Does what the words ask for. What a server tells goes to standard error by a thread of its own, which nobody waits
-/// for, but for a second at the end. What isn't a server tells nothing by the outlet, and has one so that all of it is
-/// made once, of one runtime.
+/// Does what the words ask for. What a server tells goes to standard error by a thread of its own, and what it keeps in
+/// a file by another one: nobody waits for these, but for a second, and for ten, at the end. What isn't a server tells
+/// nothing by the outlet, and has one so that all of it is made once, of one runtime.
 fn main(rt: HostRuntime) -> ExitCode {
     let mut err = rt.stderr();
     let words = match words(&rt) {
@@ -63,18 +71,21 @@ fn main(rt: HostRuntime) -> ExitCode {
     let Some(
         Apart {
             outlet,
-            theirs,
+            keeper,
+            their_outlet,
+            their_keeper,
             room,
         },
     ) = make_apart(rt.alloc(), log_reader(&rt))
     else {
         return ExitCode::from(Fault::Memory.tell(&mut err).status);
     };
-    let runtime = ToOutlet { rt, outlet };
+    let runtime = ToOutlet { rt, outlet, keeper };
     if !ask_to_serve(words) {
         return ExitCode::from(command(&runtime, words, &mut out, &mut err));
     }
-    if thread::spawn(&rt, move || write_on(&rt, &theirs, err, room)).is_err() {
+    let writes = thread::spawn(&rt, move || write_on(&rt, &their_outlet, err, room)).is_ok();
+    if !writes || thread::spawn(&rt, move || keep_on(&rt, &their_keeper)).is_err() {
         return ExitCode::from(Fault::Thread.tell(&mut err).status);
     }
     let mut told = OutletWriter {

@@ -1,26 +1,26 @@
 //! What the server's own thread does while the others serve: it answers what it is asked for.
 
-ghost use Rattle.std.specs.Prelude.{IfOk, IfSome};
+ghost use Rattle.std.specs.Prelude.{◌≡◌, IfOk, IfSome};
 ghost use Rattle.roam_conf.specs.Shown.{shown};
 ghost use Rattle.roam_reload.specs.Reload.{MayFollow};
 
 use crate::configured::Configured;
-use crate::losing::{objection, tell_what_goes};
+use crate::keeping::Dues;
+use crate::losing::objection;
 use crate::manner::StateFile;
 use crate::next::{Next, following_of, prepare_next};
 use crate::overview::Overview;
 use crate::source::{Following, Source};
 use log::Log;
-use roam_calls::{HubFault, Opened, Seat};
+use roam_calls::{Opened, Seat};
 use roam_counters::Process;
 use roam_counting::ThreadCounts;
-use roam_desk::{Course, Desk, Handed, Order, Reply, done, grace, plain_reply, script_of};
+use roam_desk::{Course, Desk, FileOrder, Order, Reply, done, grace, plain_reply};
 use roam_metrics::page;
 use roam_notices::ReloadEnd;
 use roam_sockets::{BoundSocket, now};
 use roam_status::{StatusForm, status};
 use roam_telling::tell_reload;
-use roam_trace::Step;
 use roam_workers::{HubCalls, Shared};
 use std::alloc::{AllocError, Global};
 use std::net::Net;
@@ -40,7 +40,9 @@ pub struct Attendant<'s, 'c, R, H, N: Opened> {
     pub now: u64,
     /// Where ledgers of sessions outlast the server, if anywhere, and at which moment they are kept there next.
     pub state: Option<&'s StateFile>,
-    pub due: u64,
+    pub dues: Dues,
+    /// Where the file has each realm; none where that is by the server's own numbers.
+    pub order: Option<&'s FileOrder>,
 }
 
 impl<'s, 'c, R, H, N: Opened> Attendant<'s, 'c, R, H, N> {
@@ -58,13 +60,14 @@ impl<'s, 'c, R, H, N: Opened> Attendant<'s, 'c, R, H, N> {
             seat,
             now: 0,
             state: configured.manner.state.as_ref(),
-            due: 0,
+            dues: Dues::at_once(),
+            order: configured.manner.order.as_ref(),
         }
     }
 }
 
 /// An answer with nothing in it.
-fn bare(alloc: Global, course: Course) -> Reply {
+pub(crate) fn bare(alloc: Global, course: Course) -> Reply {
     plain_reply(course, Vec::new(alloc))
 }
 
@@ -141,47 +144,11 @@ impl<R: Threads + Wait + Clock + Net + Log + Sync, H: HubCalls<N>, N: Opened> At
     }
 
     /// Counts that so many stored steps of a shard were let go of.
-    fn count_gone(&self, shard: u16, steps: usize) {
+    pub(crate) fn count_gone(&self, shard: u16, steps: usize) {
         if let Some(counts) = self.counts() {
             counts.history_is(shard, 0);
             counts.process(Process::TimeLetGo, 1);
             counts.process(Process::StepLetGo, steps as u64);
-        }
-    }
-
-    /// The answer that has these steps of a shard as a script, behind how many are missing before them. Those of a
-    /// script for which there is no memory are missing from then on.
-    fn trace_of(&self, shard: u16, steps: &[Step<Global>]) -> Result<Reply, AllocError> {
-        let missing = &self.shared.office.missing;
-        let before = missing.take(shard);
-        let handed = Handed {
-            shard,
-            steps: before.saturating_add(steps.len() as u64),
-        };
-        match script_of(self.shared.alloc, before, steps) {
-            Ok(body) => Ok(Reply {
-                course: Course::Done,
-                body,
-                handed: Some(handed),
-            }),
-            Err(error) => {
-                missing.add(handed);
-                Err(error)
-            }
-        }
-    }
-
-    /// The stored steps of a shard as a script. They are let go of by that.
-    fn trace(&mut self, shard: u16) -> Result<Reply, AllocError> {
-        match self.shared.hub.let_go(self.rt, &mut self.seat, shard) {
-            Ok(steps) => {
-                self.count_gone(shard, steps.len());
-                let answer = self.trace_of(shard, steps.as_slice());
-                self.shared.old_history.hand_over(self.rt, steps);
-                answer
-            }
-            Err(HubFault::NoShard) => Ok(bare(self.shared.alloc, Course::Unknown)),
-            Err(_) => Ok(bare(self.shared.alloc, Course::Unavailable)),
         }
     }
 
@@ -211,22 +178,22 @@ impl<R: Threads + Wait + Clock + Net + Log + Sync, H: HubCalls<N>, N: Opened> At
         }
     }
 
-    /// The same, with all that the server needs for it.
+    /// The same, with all that the server needs for it, and whether it was agreed to.
     fn next_of<S: Source>(&self, source: &mut S, is_agreed: bool) -> Result<Next, Reply>
-        ensures { IfOk result (λ next. MayFollow N.opening.config (shown next.configured.config)) }
+        ensures may { IfOk result (λ next. MayFollow N.opening.config (shown next.configured.config)) }
+        ensures agreed { IfOk result (λ next. next.is_agreed ≡ is_agreed) }
     {
         let following = self.agreed_of(source, is_agreed)?;
-        let next = prepare_next(self.rt, self.shared, self.sockets, source, following)?;
-        if is_agreed {
-            tell_what_goes(self.rt, self.shared, &self.seat, &next.configured.config);
-        }
+        let mut next = prepare_next(self.rt, self.shared, self.sockets, source, following)?;
+        next.is_agreed = is_agreed;
         Ok(next)
     }
 
     /// Answers an order, unless a configuration comes by it that is to follow.
     fn attend_to<S: Source>(&mut self, desk: &Desk, order: Order, source: &mut S) -> Option<Next>
-        ensures { IfSome result (λ next.
+        ensures may { IfSome result (λ next.
             MayFollow N.opening.config (shown next.configured.config)) }
+        ensures agreed { IfSome result (λ next. order ≡ Order.Reload next.is_agreed) }
     {
         self.now = now(self.rt, self.shared.start, self.now);
         let reply = match order {
@@ -292,8 +259,7 @@ impl<R: Threads + Wait + Clock + Net + Log + Sync, H: HubCalls<N>, N: Opened> At
             if let Some(next) = self.attend_both(source) {
                 return Some(next);
             }
-            self.keep_if_due(source);
-            self.rest();
+            self.keep_and_rest(source);
         }
         unreachable!()
     }

@@ -1,4 +1,4 @@
-//! What a change takes of each realm: told where it is made; and why it isn't made, where nobody agreed to lose that.
+//! What a change takes of each realm: told where it was made; and why it isn't made, where nobody agreed to lose that.
 
 ghost use Rattle.std.specs.Prelude.{IfOk};
 ghost use Rattle.roam_conf.specs.Shown.{shown};
@@ -12,6 +12,7 @@ use roam_carry::{Loss, changed_peers};
 use roam_conf::Config;
 use roam_desk::{Course, Reply, plain_reply};
 use roam_notices::{DropCause, DroppedText};
+use roam_realm::Gauges;
 use roam_telling::tell_dropped;
 use roam_workers::{HubCalls, Shared};
 use std::alloc::{AllocError, Global};
@@ -87,24 +88,28 @@ fn push_line(text: &mut Vec<u8>, name: &str, loss: &Loss) -> bool {
     .is_ok()
 }
 
-/// The lines of what would go; none where nothing would.
-fn why_not(alloc: Global, config: &Config, losses: &[Loss]) -> Option<Vec<u8>> {
+/// The lines of what would go of the realms of a configuration, by their indexes, and how one agrees to that, as far as
+/// there is memory.
+fn why_not(alloc: Global, config: &Config, losses: &[Loss]) -> Vec<u8> {
     let mut text = Vec::new(alloc);
     for (realm, loss) in config.realms.iter().zip(losses.iter()) {
         if !is_nothing(loss) {
             let _is_said = push_line(&mut text, realm.name.as_str(), loss);
         }
     }
-    if text.is_empty() {
-        return None;
-    }
     let words = b"declined: who agrees to lose that says reload --lose\n";
     let _is_said = text.extend_from_slice(words.as_slice()).is_ok();
-    Some(text)
+    text
 }
 
-/// Tells what goes of each realm.
-fn tell_losses<R: Log>(rt: &R, config: &Config, losses: &[Loss]) {
+/// Returns what is answered to who asked for a configuration by which so much would be lost of the realms of the one
+/// that is served, by their indexes, and to which nobody agreed.
+pub fn declined_for(alloc: Global, config: &Config, losses: &[Loss]) -> Reply {
+    plain_reply(Course::Declined, why_not(alloc, config, losses))
+}
+
+/// Tells what went of each realm of a configuration, by their indexes, where another one followed it.
+pub fn tell_what_went<R: Log>(rt: &R, config: &Config, losses: &[Loss]) {
     for (realm, loss) in config.realms.iter().zip(losses.iter()) {
         if loss.waiting > 0 || loss.sessions > 0 {
             tell_dropped(
@@ -120,7 +125,8 @@ fn tell_losses<R: Log>(rt: &R, config: &Config, losses: &[Loss]) {
     }
 }
 
-/// Why a configuration isn't followed to which nobody agreed: something would be lost by it.
+/// Why a configuration isn't followed to which nobody agreed: something would be lost by it as the realms stand now.
+/// The workers serve meanwhile, so it is looked again when they have ended.
 pub fn objection<R: Wait, H: HubCalls<N>, N: Opened>(
     rt: &R,
     shared: &Shared<'_, '_, H, N>,
@@ -130,49 +136,55 @@ pub fn objection<R: Wait, H: HubCalls<N>, N: Opened>(
     let Ok(losses) = all_losses(rt, shared, seat, next) else {
         return Some(out_of_memory(shared.alloc));
     };
-    match why_not(shared.alloc, shared.config, losses.as_slice()) {
-        Some(text) => Some(plain_reply(Course::Declined, text)),
-        None => None,
+    if losses.iter().all(|loss| is_nothing(loss)) {
+        return None;
     }
-}
-
-/// Tells what goes by a change that was agreed to, where there is memory for that.
-pub fn tell_what_goes<R: Wait + Log, H: HubCalls<N>, N: Opened>(
-    rt: &R,
-    shared: &Shared<'_, '_, H, N>,
-    seat: &Seat<Global, N>,
-    next: &Config,
-) {
-    if let Ok(losses) = all_losses(rt, shared, seat, next) {
-        tell_losses(rt, shared.config, losses.as_slice());
-    }
+    Some(declined_for(shared.alloc, shared.config, losses.as_slice()))
 }
 
 impl<R: Wait + Log, H: HubCalls<N>, N: Opened> Attendant<'_, '_, R, H, N> {
-    /// Tells what of the realm of an index is dropped for this cause.
-    fn tell_dropped_of(&self, index: u16, cause: DropCause) {
+    /// How a realm stands that is here, by its index.
+    fn standing_of(&self, index: u16) -> Option<Gauges> {
         let shared = self.shared;
-        let Some(realm) = shared.config.realms.get(usize::from(index)) else {
-            return;
-        };
-        if realm.gone {
-            return;
+        match shared.config.realms.get(usize::from(index)) {
+            Some(realm) if !realm.gone => shared.hub.look(self.rt, &self.seat, index),
+            _ => None,
         }
-        if let Some(gauges) = shared.hub.look(self.rt, &self.seat, index) {
+    }
+
+    /// Tells what the realm of an index drops, since the server ends.
+    fn tell_end_of(&self, index: u16, waiting: u64, sessions: u64) {
+        if let Some(realm) = self.shared.config.realms.get(usize::from(index)) {
             let dropped = DroppedText {
-                cause,
+                cause: DropCause::End,
                 realm: realm.name.as_str(),
-                waiting: gauges.in_use as u64,
-                sessions: gauges.sessions as u64,
+                waiting,
+                sessions,
             };
             tell_dropped(self.rt, dropped);
         }
     }
 
-    /// Tells what all realms drop, since the server ends.
+    /// Tells what all realms drop, since the server ends: the requests that wait, and the sessions where no file is to
+    /// keep them.
     pub fn tell_dropped_at_end(&self) {
         for index in 0..self.shared.config.realms.len() {
-            self.tell_dropped_of(index as u16, DropCause::End);
+            if let Some(gauges) = self.standing_of(index as u16) {
+                let sessions = match self.state {
+                    Some(_) => 0,
+                    None => gauges.sessions as u64,
+                };
+                self.tell_end_of(index as u16, gauges.in_use as u64, sessions);
+            }
+        }
+    }
+
+    /// Tells of how many sessions of all realms no file has that were to be kept in one at the end.
+    pub fn tell_unkept_at_end(&self) {
+        for index in 0..self.shared.config.realms.len() {
+            if let Some(gauges) = self.standing_of(index as u16) {
+                self.tell_end_of(index as u16, 0, gauges.sessions as u64);
+            }
         }
     }
 }

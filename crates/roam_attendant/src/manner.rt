@@ -1,6 +1,7 @@
 //! How a configuration is served, beside what the broker does by it.
 
 use roam_conf::ExchangeLines;
+use roam_desk::FileOrder;
 use roam_stations::StationForm;
 
 /// The file by which ledgers of sessions outlast a server.
@@ -19,6 +20,8 @@ pub struct Manner {
     pub stations: StationForm,
     /// Where ledgers of sessions outlast the server, if anywhere.
     pub state: Option<StateFile>,
+    /// Where its file has each realm; none where that is by the numbers that the server has for them.
+    pub order: Option<FileOrder>,
 }
 
 // By hand, so that a proof sees one call wherever it ends, and not each of its parts.
@@ -28,7 +31,9 @@ impl Drop for Manner {
             told_exchanges: _,
             stations: _,
             state,
+            order,
         } = self;
         drop(state);
+        drop(order);
     }
 }

@@ -35,6 +35,8 @@ pub struct Next {
     pub kits: Kits,
     pub rests: Rests,
     pub blanks: Blanks<Global>,
+    /// Whether it was agreed to lose by it what waits, is held or is open. Else it follows only where nothing is lost.
+    pub is_agreed: bool,
     /// Memory that is given back before the threads start again, for what they are made of then.
     pub spare: Vec<u8>,
     ghost one_for_each: { count_of blanks ≡ configured.config.shards },
@@ -177,6 +179,7 @@ fn make_next<R: Threads + Wait + Net + Log + Sync, H: HubCalls<N>, N: Opened>(
         kits,
         rests,
         blanks,
+        is_agreed: false,
         spare,
     })
 }
@@ -201,7 +204,8 @@ pub fn following_of<H, N: Opened, S: Source>(
     }
 }
 
-/// Makes all that the server needs for a configuration that follows the one that is served. Nothing changes yet.
+/// Makes all that the server needs for a configuration that follows the one that is served, to which nobody agreed yet.
+/// Nothing changes yet.
 ///
 /// # Errors
 ///

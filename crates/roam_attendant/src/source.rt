@@ -6,7 +6,7 @@ ghost use Rattle.roam_reload.specs.Reload.{MayFollow};
 
 use crate::manner::Manner;
 use roam_conf::Config;
-use roam_sockets::{Reason, ServeFault};
+use roam_sockets::ServeFault;
 use std::alloc::Global;
 
 /// A configuration that is to follow the one that is served.
@@ -16,6 +16,28 @@ pub struct Following {
     pub manner: Manner,
     /// What is answered to who asked for it, once it is served.
     pub report: Vec<u8>,
+}
+
+/// What becomes of octets that are to be kept.
+#[derive(Clone, Copy, Debug, PartialEq, Eq)]
+pub enum Keeping {
+    /// They are being written.
+    Begun,
+    /// They aren't written, since the writing before is still under way.
+    Busy,
+    /// They aren't written: the file stays as it was at the start, which was told then.
+    Spared,
+    /// They aren't written, for this reason.
+    Declined(&'static str),
+}
+
+/// How a writing ended.
+#[derive(Drop)]
+pub struct KeepEnd {
+    /// The path of the file.
+    pub path: String,
+    /// Why the file is as it was; none where it holds what was to be kept.
+    pub fault: Option<&'static str>,
 }
 
 /// Where the configuration comes from that follows one while it is served, and what is said where none does; and where
@@ -29,14 +51,26 @@ pub trait Source {
     /// What is said of a fault for which the server can't go on with a configuration.
     fn words_of(&mut self, fault: ServeFault) -> Vec<u8>;
 
-    /// The octets that the file of a path holds; none where there is no such file.
-    fn kept(&mut self, path: &str) -> Result<Option<Vec<u8>>, Reason>;
+    /// Returns the octets that the file of a path holds; none where there is no such file; or why it can't be read.
+    fn kept(&mut self, path: &str) -> Result<Option<Vec<u8>>, &'static str>;
 
-    /// Keeps octets in the file of a path, in place of what it held, which it holds on where that fails.
-    fn keep(&mut self, path: &str, octets: &[u8]) -> Result<(), Reason>;
+    /// Has octets be kept in the file of a path, in place of what it held, which it holds on where that fails. Waits
+    /// for no disk. Returns what becomes of them.
+    fn keep(&mut self, path: &str, octets: Vec<u8>) -> Keeping;
 
-    /// Gives the file of a path another name, under which it stays. Answers whether that could be.
+    /// Returns whether octets are being kept.
+    fn is_keeping(&mut self) -> bool;
+
+    /// Takes how the writing ended that was begun last, where that wasn't taken yet.
+    fn keep_end(&mut self) -> Option<KeepEnd>;
+
+    /// Gives the file of a path another name, under which it stays. Where that can't be, nothing is kept at the path
+    /// for as long as the server runs. Returns whether it could be.
     fn put_aside(&mut self, path: &str) -> bool;
+
+    /// Gives the file of a path a second name, under which it stays when others are kept at the path. Where that can't
+    /// be, nothing is kept there for as long as the server runs. Returns whether it could be.
+    fn keep_old(&mut self, path: &str) -> bool;
 }
 
 /// No other configuration ever follows, and nothing outlasts the server.
@@ -54,15 +88,27 @@ impl Source for NoSource {
         Vec::new(self.alloc)
     }
 
-    fn kept(&mut self, _path: &str) -> Result<Option<Vec<u8>>, Reason> {
+    fn kept(&mut self, _path: &str) -> Result<Option<Vec<u8>>, &'static str> {
         Ok(None)
     }
 
-    fn keep(&mut self, _path: &str, _octets: &[u8]) -> Result<(), Reason> {
-        Ok(())
+    fn keep(&mut self, _path: &str, _octets: Vec<u8>) -> Keeping {
+        Keeping::Spared
+    }
+
+    fn is_keeping(&mut self) -> bool {
+        false
+    }
+
+    fn keep_end(&mut self) -> Option<KeepEnd> {
+        None
     }
 
     fn put_aside(&mut self, _path: &str) -> bool {
+        true
+    }
+
+    fn keep_old(&mut self, _path: &str) -> bool {
         true
     }
 }

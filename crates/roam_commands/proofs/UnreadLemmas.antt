@@ -36,6 +36,8 @@ unread-says words asked path out (fault.NotText given line) named worded unread 
 unread-says words asked path out (fault.MayNotFollow given) named worded unread = absurd unread
 unread-says words asked path out (fault.Misstated given) named worded unread = absurd unread
 unread-says words asked path out (fault.Unanswered given) named worded unread = absurd unread
+unread-says words asked path out (fault.Late given seconds) named worded unread = absurd unread
+unread-says words asked path out (fault.StillServes given seconds) named worded unread = absurd unread
 unread-says words asked path out (fault.Cut given) named worded unread = absurd unread
 unread-says words asked path out (fault.Declined given) named worded unread = absurd unread
 unread-says words asked path out (fault.Refused given because) named worded unread = absurd unread
@@ -47,6 +49,7 @@ unread-says words asked path out fault.Clock named worded unread = absurd unread
 unread-says words asked path out fault.Seed named worded unread = absurd unread
 unread-says words asked path out (fault.Bind endpoint reason) named worded unread = absurd unread
 unread-says words asked path out (fault.Control socket reason) named worded unread = absurd unread
+unread-says words asked path out (fault.State socket why) named worded unread = absurd unread
 unread-says words asked path out (fault.Descriptors wanted) named worded unread = absurd unread
 unread-says words asked path out (fault.Wait reason) named worded unread = absurd unread
 unread-says words asked path out fault.Thread named worded unread = absurd unread

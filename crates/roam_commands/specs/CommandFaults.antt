@@ -70,6 +70,8 @@ CheckFails file old new (fault.NotText path line) = ⊥
 CheckFails file old new (fault.MayNotFollow path) = ⊥
 CheckFails file old new (fault.Misstated path) = ⊥
 CheckFails file old new (fault.Unanswered path) = ⊥
+CheckFails file old new (fault.Late path seconds) = ⊥
+CheckFails file old new (fault.StillServes path seconds) = ⊥
 CheckFails file old new (fault.Cut path) = ⊥
 CheckFails file old new (fault.Declined path) = ⊥
 CheckFails file old new (fault.Refused path why) = IsRefused file path.now why × Keeps old new
@@ -80,6 +82,7 @@ CheckFails file old new fault.Clock = ⊥
 CheckFails file old new fault.Seed = ⊥
 CheckFails file old new (fault.Bind endpoint reason) = ⊥
 CheckFails file old new (fault.Control path reason) = ⊥
+CheckFails file old new (fault.State path why) = ⊥
 CheckFails file old new (fault.Descriptors wanted) = ⊥
 CheckFails file old new (fault.Wait reason) = ⊥
 CheckFails file old new fault.Thread = ⊥
@@ -102,6 +105,8 @@ RunFails configuration script old new (fault.NotText path line) = ⊥
 RunFails configuration script old new (fault.MayNotFollow path) = ⊥
 RunFails configuration script old new (fault.Misstated path) = ⊥
 RunFails configuration script old new (fault.Unanswered path) = ⊥
+RunFails configuration script old new (fault.Late path seconds) = ⊥
+RunFails configuration script old new (fault.StillServes path seconds) = ⊥
 RunFails configuration script old new (fault.Cut path) = ⊥
 RunFails configuration script old new (fault.Declined path) = ⊥
 RunFails configuration script old new (fault.Refused path why) =
@@ -116,6 +121,7 @@ RunFails configuration script old new fault.Clock = ⊥
 RunFails configuration script old new fault.Seed = ⊥
 RunFails configuration script old new (fault.Bind endpoint reason) = ⊥
 RunFails configuration script old new (fault.Control path reason) = ⊥
+RunFails configuration script old new (fault.State path why) = ⊥
 RunFails configuration script old new (fault.Descriptors wanted) = ⊥
 RunFails configuration script old new (fault.Wait reason) = ⊥
 RunFails configuration script old new fault.Thread = ⊥
@@ -140,6 +146,8 @@ ServeFails file (fault.NotText path line) = ⊥
 ServeFails file (fault.MayNotFollow path) = ⊥
 ServeFails file (fault.Misstated path) = ⊥
 ServeFails file (fault.Unanswered path) = ⊥
+ServeFails file (fault.Late path seconds) = ⊥
+ServeFails file (fault.StillServes path seconds) = ⊥
 ServeFails file (fault.Cut path) = ⊥
 ServeFails file (fault.Declined path) = ⊥
 ServeFails file (fault.Refused path why) = IsRefused file path.now why
@@ -149,6 +157,7 @@ ServeFails file fault.Memory = Unit {0}
 ServeFails file fault.Clock = IsAccepted (text_in file)
 ServeFails file fault.Seed = IsAccepted (text_in file)
 ServeFails file (fault.Control path reason) = IsAccepted (text_in file)
+ServeFails file (fault.State path why) = IsAccepted (text_in file)
 ServeFails file (fault.Descriptors wanted) = IsAccepted (text_in file)
 ServeFails file (fault.Wait reason) = IsAccepted (text_in file)
 ServeFails file fault.Thread = IsAccepted (text_in file)
@@ -157,10 +166,13 @@ ServeFails file (fault.Bind endpoint reason) =
 ServeFails file fault.Receive = IsAccepted (text_in file)
 ServeFails file fault.Audit = IsAccepted (text_in file)
 
--- the faults of a question to a server: no answer came through the socket of this path; or one that was cut, and what
--- came is printed; or it was declined, and why is printed; a write was refused, or memory is wanting
+-- the faults of a question to a server: no answer came through the socket of this path, or none in time, or its end
+-- didn't where it is asked to stop; or an answer that was cut, and what came is printed; or it was declined, and why is
+-- printed; a write was refused, or memory is wanting
 abbrev pub AskFails : List ℕ → Option (List ℕ) → Option (List ℕ) → Fault → Type 0
 AskFails path old new (fault.Unanswered named) = (named.now ≡ path) × Keeps old new
+AskFails path old new (fault.Late named seconds) = (named.now ≡ path) × Keeps old new
+AskFails path old new (fault.StillServes named seconds) = (named.now ≡ path) × Keeps old new
 AskFails path old new (fault.Cut named) = (named.now ≡ path) × IsPrinted old new
 AskFails path old new (fault.Declined named) = (named.now ≡ path) × IsPrinted old new
 AskFails path old new fault.Write = Unit {0}

@@ -1,2 +1,3 @@
 pub mod CommandFaults
 pub mod Outcomes
+pub mod Waits

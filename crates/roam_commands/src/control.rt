@@ -5,57 +5,25 @@ ghost use Rattle.roam_commands.specs.CommandFaults.{AskFails};
 ghost use Rattle.roam_printing.specs.Printed.{IsPrinted};
 
 use crate::looking::next_octet;
+use crate::questions::{ask_for_trace, changes, question, seconds_of};
 use roam_conf::decimal;
 use roam_words::{ControlOrder, Fault, finish, shown};
-use std::io::{Read, Write};
+use std::io::{ErrorKind, Read, Write};
 use std::net::Net;
 use std::os::unix::net::UnixStream;
 use std::time::{Clock, Duration};
 use std::{io, str, thread};
 
-/// How long it waits for an answer, in seconds.
-const PATIENCE: u64 = 10;
+/// How long it waits for the end of a server that is asked to stop, in seconds: longer than a server may take to end.
+const UNTIL_END: u64 = 45;
 
-/// How often it looks whether a server has ended that was asked to stop, and how long it waits before each look, in
-/// milliseconds: 45 seconds in all.
+/// How often it looks in that time whether it has ended, and how long it waits before each look, in milliseconds.
 const LOOKS: u32 = 450;
 
 const BETWEEN_LOOKS: u64 = 100;
 
 /// How many octets the head of an answer may have.
 const HEAD: u32 = 16_384;
-
-/// Asks for the stored steps of a shard.
-fn ask_for_trace<W: Write>(stream: &mut W, shard: u16) -> io::Result<()> {
-    write!(
-        stream,
-        "GET /trace?shard={shard} HTTP/1.1\r\nHost: roam\r\nConnection: close\r\n\r\n"
-    )
-}
-
-/// What is sent, where it is always the same.
-fn question(order: ControlOrder) -> &'static [u8] {
-    match order {
-        ControlOrder::Trace(_) => b"",
-        ControlOrder::Status | ControlOrder::Watch => {
-            b"GET /status HTTP/1.1\r\nHost: roam\r\nConnection: close\r\n\r\n"
-        }
-        ControlOrder::StatusAsJson => {
-            b"GET /status.json HTTP/1.1\r\nHost: roam\r\nConnection: close\r\n\r\n"
-        }
-        ControlOrder::Metrics =>
-            b"GET /metrics HTTP/1.1\r\nHost: roam\r\nConnection: close\r\n\r\n",
-        ControlOrder::Stop => {
-            b"POST /stop HTTP/1.1\r\nHost: roam\r\nContent-Length: 0\r\nConnection: close\r\n\r\n"
-        }
-        ControlOrder::Reload => {
-            b"POST /reload HTTP/1.1\r\nHost: roam\r\nContent-Length: 0\r\nConnection: close\r\n\r\n"
-        }
-        ControlOrder::ReloadAndLose => {
-            b"POST /reload?lose HTTP/1.1\r\nHost: roam\r\nContent-Length: 0\r\nConnection: close\r\n\r\n"
-        }
-    }
-}
 
 /// Reads the head of an answer, an octet at a time: nothing behind it is taken.
 fn read_head(stream: &mut UnixStream, answer: &mut Vec<u8>) -> io::Result<()> {
@@ -96,8 +64,9 @@ pub fn answer<R: AllocGlobal + Net>(
     order: ControlOrder,
 ) -> io::Result<(UnixStream, Vec<u8>)> {
     let mut stream = UnixStream::connect(rt, path)?;
-    stream.set_read_timeout(Some(Duration::from_secs(PATIENCE)))?;
-    stream.set_write_timeout(Some(Duration::from_secs(PATIENCE)))?;
+    let patience = Duration::from_secs(seconds_of(order));
+    stream.set_read_timeout(Some(patience))?;
+    stream.set_write_timeout(Some(patience))?;
     match order {
         ControlOrder::Trace(shard) => ask_for_trace(&mut stream, shard)?,
         _ => stream.write_all(question(order))?,
@@ -225,11 +194,20 @@ fn print_answer<'a, R: AllocGlobal + Net + Clock, W: Write>(
         Err(print_cut(path, shown, out))
     } else if is_declined(answer) {
         Err(print_declined(path, shown, out))
-    } else if is_done(answer) && (order != ControlOrder::Stop || has_ended(rt, path)) {
-        print(shown, out)
-    } else {
+    } else if !is_done(answer) {
         Err(Fault::Unanswered { path })
+    } else if order == ControlOrder::Stop && !has_ended(rt, path) {
+        let seconds = UNTIL_END;
+        Err(Fault::StillServes { path, seconds })
+    } else {
+        print(shown, out)
     }
+}
+
+/// Returns whether an order may still be carried out to which no answer came for this error: it changes something, and
+/// time ran out. Where nobody takes a connection it isn't.
+fn may_be_done(order: ControlOrder, error: &io::Error) -> bool {
+    changes(order) && error.kind() == ErrorKind::WouldBlock
 }
 
 /// Asks a server something through the control socket of this path, and prints what it answers; one that is asked to
@@ -237,9 +215,9 @@ fn print_answer<'a, R: AllocGlobal + Net + Clock, W: Write>(
 ///
 /// # Errors
 ///
-/// `Unanswered`, where no answer comes, or none that tells success, or a server that is asked to stop doesn't end;
-/// `Cut`, where not all of it comes, and what came is printed; `Declined`, where the answer says why it was not done,
-/// and is printed; `Memory`; `Write`.
+/// `Unanswered`, where no answer comes, or none that tells success; `Late`, where time ran out and the order may still
+/// be carried out; `StillServes`, where a server that is asked to stop doesn't end; `Cut`, where not all of it comes,
+/// and what came is printed; `Declined`, where the answer says why it was not done, and is printed; `Memory`; `Write`.
 pub fn ask_once<'a, R: AllocGlobal + Net + Clock, W: Write>(
     rt: &R,
     path: &'a str,
@@ -254,6 +232,10 @@ pub fn ask_once<'a, R: AllocGlobal + Net + Clock, W: Write>(
             print_answer(rt, path, order, answer.as_slice(), out)?;
             take_last(stream);
             Ok(())
+        }
+        Err(error) if may_be_done(order, &error) => {
+            let seconds = seconds_of(order);
+            Err(Fault::Late { path, seconds })
         }
         Err(error) => Err(Fault::Unanswered { path }.unless_memory(&error)),
     }

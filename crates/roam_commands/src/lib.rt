@@ -10,6 +10,7 @@
 //!   `ok`; `state_anew`, `compare`: `ok`, `may`
 //! - of two accepted configurations the second may not follow the first only where something hinders it. What is
 //!   printed of why is tested | `compare`: `err`
+//! - an order that changes something is waited for as long as the longest time that a server has to end | `seconds_of`
 //! - where it fails, the fault says what it leaves of the output, but for a refused write | `check_file`,
 //!   `compare_files`, `simulate_files`, `state_file`, `ask`: `err`
 #![tactic(auto)]
@@ -18,6 +19,7 @@ mod check;
 mod compare;
 mod control;
 mod looking;
+mod questions;
 mod restating;
 mod simulation;
 mod watch;

@@ -3,8 +3,9 @@
 use bytes::{BufMut, Bytes};
 use http::{HeaderValue, Method, Request, StatusCode, header};
 use http_server::{Response, Service};
+use log::{Log, warn};
 use roam_conf::decimal;
-use roam_desk::{Course, Desk, Handed, Office, Order, Reply};
+use roam_desk::{Asked, Caller, Course, Desk, Handed, NoReply, Office, Order, Reply};
 use roam_status::StatusForm;
 use std::alloc::AllocError;
 use std::fmt;
@@ -35,6 +36,8 @@ pub struct Asker<'d, R> {
     pub rt: &'d R,
     pub office: &'d Office,
     pub door: Door,
+    /// Over which connection it is asked now.
+    pub caller: Caller,
     /// The stored steps that the last answer has, until that is asked for.
     pub handed: Option<Handed>,
 }
@@ -113,6 +116,17 @@ fn order_of(asked: ControlRequest, query: Option<&str>) -> Option<Order> {
     }
 }
 
+/// Returns the word by which an order is asked for, where it changes something.
+fn word_of(order: Order) -> &'static str {
+    match order {
+        Order::Metrics => "metrics",
+        Order::Status(_) => "status",
+        Order::Stop => "stop",
+        Order::Reload(_) => "reload",
+        Order::Trace(_) => "trace",
+    }
+}
+
 /// In which form the body of an answer is.
 fn kind_of(asked: ControlRequest) -> HeaderValue {
     match asked {
@@ -144,14 +158,25 @@ fn write_reply(
     response.body.put_slice(reply.body.as_slice())
 }
 
-impl<R> Asker<'_, R> {
+impl<'d, R> Asker<'d, R> {
+    /// Returns the one who answers at a door. Nobody asks yet.
+    pub fn new(rt: &'d R, office: &'d Office, door: Door) -> Asker<'d, R> {
+        Asker {
+            rt,
+            office,
+            door,
+            caller: Caller::none(),
+            handed: None,
+        }
+    }
+
     /// The stored steps that the answer has which was given since this was asked last.
     pub fn take_handed(&mut self) -> Option<Handed> {
         self.handed.take()
     }
 }
 
-impl<R: Wait> Asker<'_, R> {
+impl<R: Wait + Log> Asker<'_, R> {
     /// The desk of its door.
     fn desk(&self) -> &Desk {
         match self.door {
@@ -178,24 +203,34 @@ impl<R: Wait> Asker<'_, R> {
         }
     }
 
+    /// Tells that an order isn't carried out, since whoever asked for it had closed the connection.
+    fn tell_withdrawn(&self, order: Order, no_reply: NoReply) {
+        if no_reply == NoReply::Withdrawn {
+            warn!(self.rt; "{} not carried out: whoever asked for it closed the connection before", word_of(order));
+        }
+    }
+
     /// Has an order be answered. Answers which stored steps the answer has.
     fn answer(
         &self,
-        asked: ControlRequest,
+        asked_for: ControlRequest,
         query: Option<&str>,
         response: &mut Response,
     ) -> Result<Option<Handed>, AllocError> {
-        let Some(order) = order_of(asked, query) else {
+        let Some(order) = order_of(asked_for, query) else {
             response.status = StatusCode::NOT_FOUND;
             return Ok(None);
         };
         let office = self.office;
+        let caller = self.caller;
+        let asked = Asked { order, caller };
         match self
             .desk()
-            .ask(self.rt, &office.attendant, &office.is_over, order)
+            .ask(self.rt, &office.attendant, &office.is_over, asked)
         {
-            Some(reply) => self.write(asked, &reply, response),
-            None => {
+            Ok(reply) => self.write(asked_for, &reply, response),
+            Err(no_reply) => {
+                self.tell_withdrawn(order, no_reply);
                 response.status = StatusCode::SERVICE_UNAVAILABLE;
                 Ok(None)
             }
@@ -203,7 +238,7 @@ impl<R: Wait> Asker<'_, R> {
     }
 }
 
-impl<R: Wait> Service for Asker<'_, R> {
+impl<R: Wait + Log> Service for Asker<'_, R> {
     ghost answers = { λ old request response new. Unit {0} };
 
     fn call(

@@ -6,6 +6,7 @@
 use crate::asker::Asker;
 use crate::open_connection::{OpenConnection, Turn, step};
 use crate::pause::Pause;
+use crate::spare::{Spare, is_want_of_descriptors};
 use http_server::{Config as Limits, Connection};
 use libc::net::{POLLIN, POLLOUT, poll};
 use libc::types::pollfd;
@@ -17,7 +18,7 @@ use std::alloc::Global;
 use std::hash::RandomState;
 use std::io::{ErrorKind, Read, Write};
 use std::net::{TcpListener, TcpStream};
-use std::os::fd::AsRawFd;
+use std::os::fd::{AsFd, AsRawFd};
 use std::random::RandomSource;
 use std::sync::Wait;
 use std::sync::atomic::Ordering;
@@ -41,7 +42,7 @@ const TIME_OF_STEPS: u64 = 60_000;
 const WAIT: i32 = 100;
 
 /// A socket that takes connections, and doesn't wait for them.
-pub trait Listener: AsRawFd {
+pub trait Listener: AsFd + AsRawFd {
     /// What they are. It doesn't wait either.
     type Stream: Read + Write + AsRawFd + Drop;
 
@@ -65,6 +66,29 @@ impl Listener for UnixListener {
     fn next(&self) -> io::Result<UnixStream> {
         let (stream, _) = self.accept()?;
         Ok(stream)
+    }
+}
+
+/// Where connections are taken, and the descriptor in hand.
+#[derive(Drop)]
+struct Entrance<'l, L> {
+    listener: &'l L,
+    spare: Spare,
+}
+
+impl<L: Listener> Entrance<'_, L> {
+    /// Takes the next connection: with the descriptor in hand, where there is no further one.
+    fn next(&mut self) -> io::Result<L::Stream> {
+        match self.listener.next() {
+            Ok(stream) => Ok(stream),
+            Err(error) => {
+                if is_want_of_descriptors(&error) && self.spare.give_up() {
+                    self.listener.next()
+                } else {
+                    Err(error)
+                }
+            }
+        }
     }
 }
 
@@ -104,18 +128,18 @@ fn hindrance(error: io::Error) -> Option<io::Error> {
     }
 }
 
-/// Takes connections that wait; each closes the quietest where there are too many. Answers
-/// why none can be taken, where that is so.
+/// Takes connections that wait; each closes the quietest where there are too many, and none is taken behind one that
+/// took the descriptor in hand. Answers why none can be taken, where that is so.
 fn accept_all<R: RandomSource, L: Listener>(
     rt: &R,
     alloc: Global,
-    listener: &L,
+    entrance: &mut Entrance<'_, L>,
     open: &mut Vec<OpenConnection<L::Stream>>,
     office: &Office,
     now: u64,
 ) -> Option<io::Error> {
     for _ in 0..TAKEN_AT_ONCE {
-        let stream = match listener.next() {
+        let stream = match entrance.next() {
             Ok(stream) => stream,
             Err(error) => return hindrance(error),
         };
@@ -136,6 +160,9 @@ fn accept_all<R: RandomSource, L: Listener>(
                 is_written: false,
             })
             .is_ok();
+        if !entrance.spare.is_held() {
+            return None;
+        }
     }
     None
 }
@@ -150,7 +177,7 @@ fn time_of<T>(open: &OpenConnection<T>, now: u64) -> u64 {
 }
 
 /// Goes on with each connection, and closes those that are done or whose time is over.
-fn step_all<R: Wait + Clock, T: Read + Write + AsRawFd + Drop>(
+fn step_all<R: Wait + Clock + Log, T: Read + Write + AsRawFd + Drop>(
     open: &mut Vec<OpenConnection<T>>,
     asker: &mut Asker<'_, R>,
     mut moment: u64,
@@ -207,8 +234,9 @@ fn wait<R: Clock, L: Listener>(
     }
 }
 
-/// Answers who asks, until the server ends. Where the system gives no further connection it takes none for a second,
-/// and says so once a minute.
+/// Answers who asks, until the server ends. Where the system gives no descriptor for a further connection, one is taken
+/// with the descriptor in hand, which is taken again once one is free; behind that none is taken for a second, and it
+/// says so once a minute.
 pub fn answer_on<R: Wait + Clock + RandomSource + Log, L: Listener>(
     alloc: Global,
     asker: Asker<'_, R>,
@@ -219,14 +247,17 @@ pub fn answer_on<R: Wait + Clock + RandomSource + Log, L: Listener>(
     let office = asker.office;
     let mut open = Vec::new(alloc);
     let mut pause = Pause::none();
+    let spare = Spare::none();
+    let mut entrance = Entrance { listener, spare };
     let mut moment = 0;
     for _ in rt.forever() {
         if office.is_over.load(Ordering::SeqCst) {
             return;
         }
+        entrance.spare.take(listener);
         moment = now(rt, office.start, moment);
         if pause.is_over(moment) {
-            if let Some(error) = accept_all(rt, alloc, listener, &mut open, office, moment) {
+            if let Some(error) = accept_all(rt, alloc, &mut entrance, &mut open, office, moment) {
                 if pause.begin(moment) {
                     warn!(rt; "no connection is taken at {}: {}", asker.door, error);
                 }

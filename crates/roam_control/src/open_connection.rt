@@ -3,7 +3,8 @@
 use crate::asker::Asker;
 use http_server::{Connection, Reason, State};
 use libc::net::shutdown;
-use roam_desk::Handed;
+use log::Log;
+use roam_desk::{Caller, Handed};
 use std::io;
 use std::io::{ErrorKind, Read, Write};
 use std::os::fd::AsRawFd;
@@ -98,11 +99,12 @@ fn after_error(error: &io::Error, has_moved: bool) -> Option<Turn> {
 }
 
 /// Reads, answers and writes as far as that goes without waiting.
-pub fn step<R: Wait, T: Read + Write + AsRawFd>(
+pub fn step<R: Wait + Log, T: Read + Write + AsRawFd>(
     open: &mut OpenConnection<T>,
     asker: &mut Asker<'_, R>,
 ) -> Turn {
     let mut has_moved = false;
+    asker.caller = Caller::at(open.stream.as_raw_fd());
     for _ in 0..TURNS {
         open.connection.advance(asker);
         open.handed = asker.take_handed().or(open.handed);

@@ -14,9 +14,9 @@ use Rattle.roam_counters.specs.declared.cell.Subject.TheVariants as subject
 use Rattle.roam_counters.specs.declared.event.CountedEvent.{CountedEvent}
 use Rattle.roam_counters.specs.declared.process.Process.{Process}
 
--- rows of ninety-eight
-pub ninety_eight-apart : (a b m n : ℕ) → m < 98 → n < 98 → 98 * a + m ≡ 98 * b + n → (a ≡ b) × (m ≡ n)
-ninety_eight-apart a b m n small_m small_n is =
+-- rows of one length
+pub rows-apart : (a b m n : ℕ) → m < 101 → n < 101 → 101 * a + m ≡ 101 * b + n → (a ≡ b) × (m ≡ n)
+rows-apart a b m n small_m small_n is =
     elim (cases_lt a b) [
       | inl less ↦ absurd (omega (arith, small_m, is, less))
       | inr not_less ↦ elim (cases_lt b a) [
@@ -39,7 +39,7 @@ pub processes-apart : (p q : Process) → process_place p ≡ process_place q �
 processes-apart p q same =
     same-at all_processes (process_place p) (process_place q) p q same (process-at_place p) (process-at_place q)
 
-pub event-below : (a : CountedEvent) → event_place a < 98
+pub event-below : (a : CountedEvent) → event_place a < 101
 event-below a = slice_get_within all_events (event_place a) a (event-at_place a)
 
 pub process-below : (p : Process) → process_place p < 19
@@ -79,7 +79,7 @@ subjects-apart (subject.Server r m) subject.All a b same is =
 subjects-apart (subject.Server r m) (subject.Realm q) a b same is =
     absurd (let small = event-below b in omega (arith, is, small))
 subjects-apart (subject.Server r m) (subject.Server q n) a b same is =
-    let both = ninety_eight-apart (m + 1) (n + 1) (event_place a) (event_place b) (event-below a) (event-below b)
+    let both = rows-apart (m + 1) (n + 1) (event_place a) (event_place b) (event-below a) (event-below b)
     (omega (arith, is)) in
     let server : m ≡ n = let one_more = both.0 in omega (arith, one_more) in (
       ap (λ (k : ℕ). subject.Server k m) (ap index_of same) ∙ ap (λ (k : ℕ). subject.Server q k) server,

@@ -52,7 +52,8 @@ all_events =
     event.AnswerWithin delay.Within30 ∷ event.AnswerWithin delay.Within100 ∷
     event.AnswerWithin delay.Within300 ∷ event.AnswerWithin delay.Within1000 ∷
     event.AnswerWithin delay.Within3000 ∷ event.AnswerWithin delay.Within10000 ∷
-    event.AnswerWithin delay.Longer ∷ event.AnswerTime ∷ []
+    event.AnswerWithin delay.Longer ∷ event.AnswerTime ∷ event.DroppedRequest ∷ event.DroppedReply ∷
+    event.DroppedSession ∷ []
 
 -- each stands at its place
 pub event-at_place : (event : CountedEvent) → slice_get all_events (event_place event) ≡ Some event
@@ -154,6 +155,9 @@ event-at_place (event.AnswerWithin delay.Within3000) = refl
 event-at_place (event.AnswerWithin delay.Within10000) = refl
 event-at_place (event.AnswerWithin delay.Longer) = refl
 event-at_place event.AnswerTime = refl
+event-at_place event.DroppedRequest = refl
+event-at_place event.DroppedReply = refl
+event-at_place event.DroppedSession = refl
 
 abbrev pub all_processes : List Process
 all_processes =

@@ -26,3 +26,6 @@ event_place event.LocalReject = 82
 event_place (event.Nak cause) = 83 + cause_place cause
 event_place (event.AnswerWithin delay) = 89 + delay_place delay
 event_place event.AnswerTime = 97
+event_place event.DroppedRequest = 98
+event_place event.DroppedReply = 99
+event_place event.DroppedSession = 100

@@ -31,16 +31,21 @@ use Rattle.roam_counters.specs.declared.turn.CountedTurn.{CountedTurn}
 -- realm, its link and who sent it, that it was replaced. Of a reply that it was returned, of who asked too, and of the
 -- home server how long it took. Of a tick: that a packet was sent again, of realm and link; that a request failed
 -- over, of its realm, its link and who sent it, and of the realm and the new link that it was taken over; that it was
--- given up, of the first three, and by which NAK.
+-- given up, of the first three, and by which NAK. Of a change of the configuration, of each realm: how many waiting
+-- requests, held replies and sessions it drops.
 -- Source: ours
 -- Rules out: a count that rises by what didn't happen, or of somebody else; a failover counted as a packet sent again
--- Stands in: `roam_counters` `Increments.antt`: `job_increments`, `due_increments`, `local_increments`; the functions
--- of these names
+-- Stands in: `roam_counters` `Increments.antt`: `job_increments`, `due_increments`, `local_increments`,
+-- `dropped_increments`; the functions of these names
 --
 -- one more of an event, where it is one
 abbrev pub one : Subject → Option CountedEvent → Option Increment
 one s None = None
 one s (Some e) = Some (record { subject = s; event = e; count = 1 })
+
+-- so many more of an event of a realm
+abbrev pub more_of_realm : ℕ → CountedEvent → ℕ → Option Increment
+more_of_realm realm e count = Some (record { subject = subject.Realm realm; event = e; count = count })
 
 -- who sent a request
 abbrev pub requester_of : ℕ → Requester → Subject
@@ -192,3 +197,9 @@ local_increments None code = none
 local_increments (Some who) code =
     one who (answered_event code) ∷ one who (if code == 3 then Some event.LocalReject else None)
     ∷ None ∷ None ∷ None ∷ None ∷ None ∷ []
+
+-- by what a change of the configuration drops of a realm: so many waiting requests, held replies and sessions
+abbrev pub dropped_increments : ℕ → ℕ → ℕ → ℕ → List (Option Increment)
+dropped_increments realm waiting held sessions =
+    more_of_realm realm event.DroppedRequest waiting ∷ more_of_realm realm event.DroppedReply held
+    ∷ more_of_realm realm event.DroppedSession sessions ∷ []

@@ -63,7 +63,7 @@ impl Subject {
     /// Where its events begin there.
     pub fn first_cell(self) -> usize
         ensures value { result ≡ spec.first_cell self }
-        ensures small { result ≤ 25186 }
+        ensures small { result ≤ 25957 }
     {
         match self {
             Subject::All => PROCESSES,

@@ -8,7 +8,7 @@ use crate::kinds::{NakCause, ReplyKind, RequestKind};
 use roam_wire::Refusal;
 
 /// How many events are told apart.
-pub const EVENTS: usize = 98;
+pub const EVENTS: usize = 101;
 
 /// What is counted of a realm, a home server or a peer.
 #[derive(Clone, Copy, PartialEq, Eq)]
@@ -50,13 +50,19 @@ pub enum CountedEvent {
     AnswerWithin(Delay),
     /// How long all these took together, in milliseconds.
     AnswerTime,
+    /// A request that waited was dropped where another configuration followed.
+    DroppedRequest,
+    /// A reply that was held for duplicates of its request was dropped there.
+    DroppedReply,
+    /// An open session was dropped there.
+    DroppedSession,
 }
 
 impl CountedEvent {
     /// Its place among all events.
     pub fn place(self) -> usize
         ensures value { result ≡ spec.event_place self }
-        ensures below { result < 98 }
+        ensures below { result < 101 }
     {
         match self {
             CountedEvent::Request(kind) => kind.place(),
@@ -77,6 +83,9 @@ impl CountedEvent {
             CountedEvent::Nak(cause) => 83 + cause.place(),
             CountedEvent::AnswerWithin(delay) => 89 + delay.place(),
             CountedEvent::AnswerTime => 97,
+            CountedEvent::DroppedRequest => 98,
+            CountedEvent::DroppedReply => 99,
+            CountedEvent::DroppedSession => 100,
         }
     }
 }

@@ -6,8 +6,8 @@
 //!
 //! - what an arrival is counted as, and of whom | `CountedTurn::arrival`, `sender`; `end_at`, `Process::received`
 //! - which counts rise by what happened, of whom and by how much: by a packet for a realm, by what became of each request
-//!   in a tick, by an answer of the broker's own, by an arrival and a refusal | `job_increments`, `due_increments`,
-//!   `local_increments`, `arrival_increments`, `failed_increments`, `refused_increments`, `refused_here_increments`
+//!   in a tick, by an answer of the broker's own, by an arrival and a refusal, by what a change of the configuration drops |
+//!   `job_increments`, `due_increments`, `dropped_increments`, `local_increments`, `arrival_increments`, `failed_increments`, `refused_increments`, `refused_here_increments`
 //! - each datagram that was received is one that was taken, answered, refused or dropped, or one that failed: so many
 //!   together as were received, also of several threads | `Datagrams`: `balanced`; `Datagrams::after`, `and`
 //! - two counts stand at one place of one list only where they are one: of the same realm, home server or peer and of
@@ -20,6 +20,7 @@ mod arrivals;
 mod cell;
 mod datagrams;
 mod delay;
+mod dropped;
 mod dues;
 mod end;
 mod event;
@@ -37,6 +38,7 @@ pub use arrivals::{
 pub use cell::{Holder, Subject};
 pub use datagrams::{DatagramCounts, Datagrams, Handling};
 pub use delay::Delay;
+pub use dropped::dropped_increments;
 pub use dues::due_increments;
 pub use end::{end_at, source_of, subject_of};
 pub use event::{CountedEvent, EVENTS};

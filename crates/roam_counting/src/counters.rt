@@ -3,7 +3,9 @@
 use crate::event_counts::EventCounts;
 use crate::sheet::{Sheet, zeros};
 use roam_conf::{Config, Realm};
-use roam_counters::{CountedEvent, EVENTS, Holder, Process, Subject};
+use roam_counters::{
+    CountedEvent, EVENTS, Holder, Increment, Process, Subject, dropped_increments,
+};
 use roam_metrics::{Counts, Gauge};
 use roam_port::Account;
 use roam_reload::{realm_difference, server_then};
@@ -116,6 +118,27 @@ impl Counters {
             if let Some(then) = server_then(before, after, place as u8) {
                 let from = Subject::Server(number, place as u8);
                 self.add_subject(Subject::Server(number, then), others, from);
+            }
+        }
+    }
+
+    /// Adds an increment to what the first thread counted, if there is such a count.
+    fn add_increment(&self, increment: &Increment) {
+        let Some(sheet) = self.threads.first() else {
+            return;
+        };
+        let subject = increment.subject;
+        if let Some(count) = sheet.count(subject.holder(), subject.cell(increment.event)) {
+            count.fetch_add(increment.count, Ordering::SeqCst);
+        }
+    }
+
+    /// Counts that a change of the configuration dropped so many waiting requests, held replies and sessions of a
+    /// realm: before any thread counts here. Of a realm that isn't here any more nothing is counted.
+    pub fn dropped(&self, realm: u16, waiting: u64, held: u64, sessions: u64) {
+        for increment in &dropped_increments(realm, waiting, held, sessions) {
+            if let Some(increment) = increment {
+                self.add_increment(increment);
             }
         }
     }

@@ -2,29 +2,22 @@
 //! answers.
 
 use crate::missing::{Handed, Missing};
+use crate::order::{Asked, Order};
 use crate::reloads::{Build, Tally};
 use roam_metrics::About;
-use roam_status::StatusForm;
 use std::alloc::{AllocError, Global};
 use std::sync::atomic::{AtomicBool, Ordering};
 use std::sync::{Mutex, Wait};
 use std::thread::Parker;
 use std::time::{Clock, Instant};
 
-/// What the server's own thread is asked for.
-#[derive(Clone, Copy)]
-pub enum Order {
-    /// The counts, as the page of metrics.
-    Metrics,
-    /// How the server stands.
-    Status(StatusForm),
-    /// To stop.
-    Stop,
-    /// The stored steps of a shard, as a script.
-    Trace(u16),
-    /// To read its configuration again, and to serve that one: also where something is lost by that, if that is
-    /// agreed to.
-    Reload(bool),
+/// Why there is no answer.
+#[derive(Clone, Copy, PartialEq, Eq)]
+pub enum NoReply {
+    /// The server ends.
+    Over,
+    /// Whoever asked had closed the connection before the order was taken. It isn't carried out.
+    Withdrawn,
 }
 
 /// How it went.
@@ -69,8 +62,9 @@ pub fn done(body: Vec<u8>) -> Reply {
 #[derive(Drop)]
 enum Slip {
     Nothing,
-    Asked(Order),
+    Asked(Asked),
     Answered(Reply),
+    Withdrawn,
 }
 
 /// A desk, at which one thread asks.
@@ -81,22 +75,23 @@ pub struct Desk {
     waiting: Parker,
 }
 
-/// The order that lies there and isn't answered yet.
-fn order_on(slip: &Slip) -> Option<Order> {
+/// Returns the order that lies there and isn't answered yet.
+fn asked_on(slip: &Slip) -> Option<Asked> {
     match slip {
-        Slip::Asked(order) => Some(*order),
-        Slip::Nothing | Slip::Answered(_) => None,
+        Slip::Asked(asked) => Some(*asked),
+        Slip::Nothing | Slip::Answered(_) | Slip::Withdrawn => None,
     }
 }
 
-/// Takes the answer away, where there is one.
-fn take_reply(slip: &mut Slip) -> Option<Reply> {
+/// Takes the answer away, where there is one, or that there is none.
+fn take_reply(slip: &mut Slip) -> Option<Result<Reply, NoReply>> {
     match slip {
-        Slip::Answered(_) => {}
+        Slip::Answered(_) | Slip::Withdrawn => {}
         Slip::Nothing | Slip::Asked(_) => return None,
     }
     match std::mem::replace(slip, Slip::Nothing) {
-        Slip::Answered(reply) => Some(reply),
+        Slip::Answered(reply) => Some(Ok(reply)),
+        Slip::Withdrawn => Some(Err(NoReply::Withdrawn)),
         Slip::Nothing | Slip::Asked(_) => None,
     }
 }
@@ -115,36 +110,57 @@ impl Desk {
         *self.slip.lock(rt) = slip;
     }
 
-    /// The answer, where there is one.
-    fn take<R: Wait>(&self, rt: &R) -> Option<Reply> {
+    /// Takes the answer, where there is one.
+    fn take<R: Wait>(&self, rt: &R) -> Option<Result<Reply, NoReply>> {
         take_reply(&mut self.slip.lock(rt))
     }
 
-    /// Asks, wakes the one who answers, and waits for the answer. None where the server ends before.
+    /// Asks, wakes the one who answers, and waits for the answer.
+    ///
+    /// # Errors
+    ///
+    /// `Over`, where the server ends before it is answered; `Withdrawn`, where the order changes something and whoever
+    /// asked has gone: before it lies there, or before it is taken.
     pub fn ask<R: Wait>(
         &self,
         rt: &R,
         attendant: &Parker,
         is_over: &AtomicBool,
-        order: Order,
-    ) -> Option<Reply> {
-        self.put(rt, Slip::Asked(order));
+        asked: Asked,
+    ) -> Result<Reply, NoReply> {
+        if asked.is_withdrawn() {
+            return Err(NoReply::Withdrawn);
+        }
+        self.put(rt, Slip::Asked(asked));
         attendant.unpark();
         for _ in rt.forever() {
             if let Some(reply) = self.take(rt) {
-                return Some(reply);
+                return reply;
             }
             if is_over.load(Ordering::SeqCst) {
-                return None;
+                return Err(NoReply::Over);
             }
             self.waiting.park(rt);
         }
         unreachable!()
     }
 
-    /// What is asked for, and isn't answered yet.
+    /// Returns what is asked for and isn't answered yet.
+    fn asked<R: Wait>(&self, rt: &R) -> Option<Asked> {
+        asked_on(&self.slip.lock(rt))
+    }
+
+    /// Takes the order that lies there, to carry it out. It lies there until it is answered, and nobody asks any more
+    /// whether its caller still waits. One that changes something is withdrawn where its caller has gone before.
     pub fn order<R: Wait>(&self, rt: &R) -> Option<Order> {
-        order_on(&self.slip.lock(rt))
+        let asked = self.asked(rt)?;
+        if asked.is_withdrawn() {
+            self.put(rt, Slip::Withdrawn);
+            self.waiting.unpark();
+            return None;
+        }
+        self.put(rt, Slip::Asked(asked.taken()));
+        Some(asked.order)
     }
 
     /// Answers.

@@ -16,7 +16,7 @@ use Rattle.roam_follow.specs.Paused.{ArePaused, IsPaused}
 use Rattle.roam_follow.specs.Following.{AreReady, HaveFollowed, StandAsBefore}
 
 -- what stands in a list with one more
-get-push : {X : Type 0} (xs : List X) (x y : X) (k : ℕ) → slice_get (xs ++ x ∷ []) k ≡ Some y →
+pub get-push : {X : Type 0} (xs : List X) (x y : X) (k : ℕ) → slice_get (xs ++ x ∷ []) k ≡ Some y →
     ((k ≡ length xs) × (x ≡ y)) ⊎ ((k < length xs) × (slice_get xs k ≡ Some y))
 get-push [] x y zero at = (let some : Some x ≡ Some y = at in let is : x ≡ y = cc in inl (refl, is))
 get-push [] x y (suc k) at = absurd (let bad : None ≡ Some y = at in cc)

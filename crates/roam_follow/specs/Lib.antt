@@ -1,2 +1,4 @@
 pub mod Paused
 pub mod Following
+pub mod Losing
+pub mod Private

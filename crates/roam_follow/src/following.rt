@@ -1,10 +1,14 @@
 //! All shards of a paused hub follow another configuration.
 
-ghost use Rattle.std.specs.Prelude.{◌≡◌, IfOk, OnErr, OnOk};
+ghost use Rattle.std.specs.Prelude.{◌≡◌, false, IfErr, IfOk, OnErr, OnOk};
 ghost use Rattle.roam_conf.specs.Shown.{shown};
 ghost use Rattle.roam_follow.specs.Following.{AreReady, HaveFollowed, StandAsBefore};
+ghost use Rattle.roam_follow.specs.Losing.{AreLosses, IsDeclined, NothingIsLost};
 ghost use Rattle.roam_follow.specs.Paused.{ArePaused};
 
+use crate::declined::Declined;
+use crate::losses::{all_losses, is_refused};
+use roam_carry::Loss;
 use roam_conf::Config;
 use roam_shard::{FreshNumbers, Paused};
 use roam_wire::NoMemory;
@@ -50,18 +54,21 @@ fn all_follow<A: Allocator + Copy>(
     }
 }
 
-/// All shards of a paused hub follow another configuration: in each shard the realms that are here in both go on in
-/// what is carried over of their states, and any other has nothing.
+/// Has all shards of a paused hub follow another configuration: in each shard the realms that are here in both go on in
+/// what is carried over of their states, and any other has nothing. Returns what each realm of the old one loses by
+/// that, by its index.
 ///
 /// # Errors
 ///
-/// `NoMemory` where a growth was refused: all memory is taken first, and then no shard follows. They stand as they did.
+/// `Losses` where something would be lost, and nobody agreed; `Memory` where a growth was refused: all memory is taken
+/// first. No shard follows then, and they stand as they did.
 pub fn follow<A: Allocator + Copy>(
     alloc: A,
     old: &Config,
     new: &Config,
     shards: &mut Vec<Paused<A>, A>,
-) -> Result<(), NoMemory>
+    is_agreed: bool,
+) -> Result<Vec<Loss, A>, Declined<A>>
     requires paused { ArePaused (shown old.now) shards.old.items }
     requires shards { new.now.shards ≡ old.now.shards }
     requires seed { new.now.seed ≡ old.now.seed }
@@ -69,8 +76,22 @@ pub fn follow<A: Allocator + Copy>(
         (HaveFollowed (shown old.now) (shown new.now) shards.old.items shards.new.items) }
     ensures err { OnErr result
         (StandAsBefore (shown old.now) shards.old.items shards.new.items) }
+
+    // Where nobody agreed, it follows only where nothing is lost; and is declined for losses only where something is.
+    ensures guarded { OnOk result
+        (is_agreed ≡ false → NothingIsLost (shown old.now) (shown new.now) shards.old.items) }
+    ensures declined { IfErr result
+        (IsDeclined is_agreed (shown old.now) (shown new.now) shards.old.items) }
+
+    // What is lost of each realm is told.
+    ensures losses { IfOk result (λ losses.
+        AreLosses (shown old.now) (shown new.now) shards.old.items losses.items) }
 {
+    let losses = all_losses(alloc, old, new, shards)?;
+    if is_refused(is_agreed, losses.as_slice()) {
+        return Err(Declined::Losses(losses));
+    }
     let fresh = all_reserved(alloc, old, new, shards)?;
     all_follow(old, new, shards, fresh);
-    Ok(())
+    Ok(losses)
 }

@@ -86,7 +86,7 @@ pub use roam_calls::{
     Report, Seat, Ticked, split,
 };
 pub use roam_exchange::{Became, DueHappening, Happening, Waited};
-pub use roam_follow::follow;
+pub use roam_follow::{Declined, follow};
 pub use roam_pending::{Key, Requester};
 pub use roam_realm::{Gauges, Rest, SERVER_LINKS};
 pub use roam_shard::Paused;

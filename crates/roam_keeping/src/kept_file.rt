@@ -55,6 +55,18 @@ fn aside<R: AllocGlobal>(rt: &R, path: &str) -> io::Result<String>
     }
 }
 
+/// The number of the error of a system that has no memory left (ENOMEM).
+const NO_MEMORY: u32 = 12;
+
+/// Returns the number of the system's error, or 0 where it has none.
+pub fn number_of(error: &io::Error) -> u32 {
+    match error.raw_os_error() {
+        Some(number) => u32::try_from(number).unwrap_or(0),
+        None if error.kind() == ErrorKind::OutOfMemory => NO_MEMORY,
+        None => 0,
+    }
+}
+
 /// Nothing stands at a path any more.
 fn clear<R: Files>(rt: &R, path: &str) -> io::Result<()> {
     match fs::remove_file(rt, path) {
@@ -80,16 +92,36 @@ fn write_new<R: Files>(rt: &R, path: &str, octets: &[u8]) -> io::Result<()> {
     file.sync_all()
 }
 
-/// Keeps these octets in the file of a path, in place of what it held.
+/// Returns the path of the folder in which the file of a path stands.
+fn folder_of(path: &str) -> &str {
+    match path.rsplit_once('/') {
+        Some(("", _)) => "/",
+        Some((folder, _)) => folder,
+        None => ".",
+    }
+}
+
+/// Waits until the disk has the names of the folder in which the file of a path stands. A file system that syncs no
+/// folder has no fault.
+fn sync_folder<R: Files>(rt: &R, path: &str) -> io::Result<()> {
+    let folder = fs::open(rt, folder_of(path))?;
+    match folder.sync_all() {
+        Err(error) if error.kind() != ErrorKind::InvalidInput => Err(error),
+        _ => Ok(()),
+    }
+}
+
+/// Keeps these octets in the file of a path, in place of what it held, and waits until the disk has them there.
 ///
 /// # Errors
 ///
-/// The system's: the file then holds what it held.
+/// The system's: the file then holds what it held, or these octets where only the folder couldn't be synced.
 pub fn keep<R: Files + AllocGlobal>(rt: &R, path: &str, octets: &[u8]) -> io::Result<()> {
     let beside = beside(rt, path)?;
     clear(rt, beside.as_str())?;
     write_new(rt, beside.as_str(), octets)?;
-    fs::rename(rt, beside.as_str(), path)
+    fs::rename(rt, beside.as_str(), path)?;
+    sync_folder(rt, path)
 }
 
 /// The octets that the file of a path holds; none where no file is there.
@@ -118,4 +150,22 @@ pub fn kept<R: Files + AllocGlobal>(rt: &R, path: &str) -> io::Result<Option<Vec
 pub fn put_aside<R: Files + AllocGlobal>(rt: &R, path: &str) -> io::Result<()> {
     let aside = aside(rt, path)?;
     fs::rename(rt, path, aside.as_str())
+}
+
+/// Gives the file of a path a second name, with `.old` behind it, in place of what had that: it stays under that name
+/// when another file takes the place of the path. Where the system links no files, it is copied.
+///
+/// # Errors
+///
+/// The system's: the file has its name then, and perhaps no other one.
+pub fn keep_old<R: Files + AllocGlobal>(rt: &R, path: &str) -> io::Result<()> {
+    let aside = aside(rt, path)?;
+    clear(rt, aside.as_str())?;
+    match fs::hard_link(rt, path, aside.as_str()) {
+        Ok(()) => Ok(()),
+        Err(_) => {
+            fs::copy(rt, path, aside.as_str())?;
+            Ok(())
+        }
+    }
 }

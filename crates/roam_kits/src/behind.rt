@@ -34,12 +34,7 @@ fn start_metrics<'s, E, R: Wait + Clock + RandomSource + Log + Sync>(
         return true;
     };
     let office = behind.office;
-    let asker = Asker {
-        rt,
-        office,
-        door: Door::Metrics,
-        handed: None,
-    };
+    let asker = Asker::new(rt, office, Door::Metrics);
     scope
         .spawn(move || answer_on(alloc, asker, listener))
         .is_ok()
@@ -56,12 +51,7 @@ fn start_control<'s, E, R: Wait + Clock + RandomSource + Log + Sync>(
         return true;
     };
     let office = behind.office;
-    let asker = Asker {
-        rt,
-        office,
-        door: Door::Control,
-        handed: None,
-    };
+    let asker = Asker::new(rt, office, Door::Control);
     let listener = &socket.listener;
     scope
         .spawn(move || answer_on(alloc, asker, listener))

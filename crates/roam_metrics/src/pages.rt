@@ -12,8 +12,8 @@ use crate::named::{Named, all_named, push_count, push_named, push_standing};
 use crate::of_server::{OF_SERVER, OfServer};
 use crate::reply_families::{ANSWERED, ANSWERED_BY_TICK, NAKS, REFUSED, REPLIES, RETURNED};
 use crate::request_families::{
-    ANSWERED_AGAIN, CAME, FAILED_OVER, FORWARDED, GIVEN_UP, LOCAL_REJECTS, REPLACED, SENT_AGAIN,
-    TAKEN_OVER, WAITING,
+    ANSWERED_AGAIN, CAME, DROPPED, DROPPED_REPLIES, DROPPED_SESSIONS, FAILED_OVER, FORWARDED,
+    GIVEN_UP, LOCAL_REJECTS, REPLACED, SENT_AGAIN, TAKEN_OVER, WAITING,
 };
 use crate::samples::{Label, MetricKind, push_header, push_sample};
 use crate::times::push_times;
@@ -22,7 +22,7 @@ use roam_counters::Subject;
 use std::alloc::{AllocError, Global};
 
 /// What is told of realms, home servers and peers, in this order.
-static FAMILIES: [Family; 16] = [
+static FAMILIES: [Family; 19] = [
     CAME,
     FORWARDED,
     SENT_AGAIN,
@@ -32,6 +32,9 @@ static FAMILIES: [Family; 16] = [
     FAILED_OVER,
     GIVEN_UP,
     REPLACED,
+    DROPPED,
+    DROPPED_REPLIES,
+    DROPPED_SESSIONS,
     LOCAL_REJECTS,
     REPLIES,
     RETURNED,

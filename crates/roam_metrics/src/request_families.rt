@@ -137,6 +137,33 @@ pub(crate) const REPLACED: Family = Family {
     samples: &[("", CountedEvent::Replaced)],
 };
 
+pub(crate) const DROPPED: Family = Family {
+    realm: "roam_realm_dropped_total",
+    server: "roam_server_dropped_total",
+    peer: "roam_peer_dropped_total",
+    help: "Requests that waited, and that a reload with --lose dropped.",
+    label: None,
+    samples: &[("", CountedEvent::DroppedRequest)],
+};
+
+pub(crate) const DROPPED_REPLIES: Family = Family {
+    realm: "roam_realm_dropped_replies_total",
+    server: "roam_server_dropped_replies_total",
+    peer: "roam_peer_dropped_replies_total",
+    help: "Replies that were held for duplicates, and that a reload with --lose dropped.",
+    label: None,
+    samples: &[("", CountedEvent::DroppedReply)],
+};
+
+pub(crate) const DROPPED_SESSIONS: Family = Family {
+    realm: "roam_realm_dropped_sessions_total",
+    server: "roam_server_dropped_sessions_total",
+    peer: "roam_peer_dropped_sessions_total",
+    help: "Open sessions that a reload with --lose dropped.",
+    label: None,
+    samples: &[("", CountedEvent::DroppedSession)],
+};
+
 pub(crate) const LOCAL_REJECTS: Family = Family {
     realm: "roam_realm_local_rejects_total",
     server: "roam_server_local_rejects_total",

@@ -4,6 +4,7 @@ use crate::outlet::Outlet;
 use log::kv::Source;
 use log::span::Spans;
 use log::{LevelFilter, Log, Metadata, Record};
+use roam_keeping::{Keeper, KeepsFiles};
 use std::alloc::{Allocator, Global};
 use std::fmt::Display;
 use std::fs::OpenOptions;
@@ -19,11 +20,19 @@ use std::thread::Threads;
 use std::time::Duration;
 use std::{fs, io};
 
-/// A runtime whose log goes to an outlet: no line holds up whoever tells it.
+/// A runtime whose log goes to an outlet, and which has a thread that keeps files: neither a line nor a disk holds up
+/// whoever tells or keeps something.
 #[derive(Drop)]
 pub struct ToOutlet<R> {
     pub rt: R,
     pub outlet: Arc<Outlet, Global>,
+    pub keeper: Arc<Keeper, Global>,
+}
+
+impl<R> KeepsFiles for ToOutlet<R> {
+    fn keeper(&self) -> &Keeper {
+        &self.keeper
+    }
 }
 
 impl<R: Wait + Clock> Log for ToOutlet<R> {
@@ -167,6 +176,10 @@ impl<R: Files> Files for ToOutlet<R> {
 
     fn remove_dir_all<B: Allocator>(&self, alloc: B, path: &str) -> io::Result<()> {
         self.rt.remove_dir_all(alloc, path)
+    }
+
+    fn hard_link(&self, original: &str, link: &str) -> io::Result<()> {
+        self.rt.hard_link(original, link)
     }
 
     fn bind_unix(&self, socket: BorrowedFd<'_>, addr: &net::SocketAddr) -> io::Result<()> {

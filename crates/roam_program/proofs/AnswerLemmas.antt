@@ -41,6 +41,8 @@ serve-prevents words file milliseconds out (Err (fault.NotText path line)) asks 
 serve-prevents words file milliseconds out (Err (fault.MayNotFollow path)) asks kept fails = absurd fails
 serve-prevents words file milliseconds out (Err (fault.Misstated path)) asks kept fails = absurd fails
 serve-prevents words file milliseconds out (Err (fault.Unanswered path)) asks kept fails = absurd fails
+serve-prevents words file milliseconds out (Err (fault.Late path seconds)) asks kept fails = absurd fails
+serve-prevents words file milliseconds out (Err (fault.StillServes path seconds)) asks kept fails = absurd fails
 serve-prevents words file milliseconds out (Err (fault.Cut path)) asks kept fails = absurd fails
 serve-prevents words file milliseconds out (Err (fault.Declined path)) asks kept fails = absurd fails
 serve-prevents words file milliseconds out (Err (fault.Refused path why)) asks kept fails =
@@ -56,6 +58,8 @@ serve-prevents words file milliseconds out (Err fault.Seed) asks kept fails =
 serve-prevents words file milliseconds out (Err (fault.Bind endpoint reason)) asks kept fails =
     ((file.path.now, milliseconds, asks), kept)
 serve-prevents words file milliseconds out (Err (fault.Control socket reason)) asks kept fails =
+    ((file.path.now, milliseconds, asks), kept)
+serve-prevents words file milliseconds out (Err (fault.State socket why)) asks kept fails =
     ((file.path.now, milliseconds, asks), kept)
 serve-prevents words file milliseconds out (Err (fault.Descriptors wanted)) asks kept fails =
     ((file.path.now, milliseconds, asks), kept)
@@ -126,6 +130,10 @@ usage-status words old new (fault.Misstated path) status is prevents =
     (λ two. absurd (omega arith), λ nothing. absurd (nothing (to_check_all path.now) prevents.0))
 usage-status words old new (fault.Unanswered path) status is prevents =
     (λ two. absurd (omega arith), λ nothing. absurd (nothing (to_control path.now prevents.0.0) prevents.0.1))
+usage-status words old new (fault.Late path seconds) status is prevents =
+    (λ two. absurd (omega arith), λ nothing. absurd (nothing (to_control path.now prevents.0.0) prevents.0.1))
+usage-status words old new (fault.StillServes path seconds) status is prevents =
+    (λ two. absurd (omega arith), λ nothing. absurd (nothing (to_control path.now prevents.0.0) prevents.0.1))
 usage-status words old new (fault.Cut path) status is prevents =
     (λ two. absurd (omega arith), λ nothing. absurd (nothing (to_control path.now prevents.0.0) prevents.0.1))
 usage-status words old new (fault.Declined path) status is prevents =
@@ -145,6 +153,8 @@ usage-status words old new fault.Seed status is prevents =
 usage-status words old new (fault.Bind endpoint reason) status is prevents =
     serves words old new status (λ two. omega (arith, is, two)) prevents
 usage-status words old new (fault.Control socket reason) status is prevents =
+    serves words old new status (λ two. omega (arith, is, two)) prevents
+usage-status words old new (fault.State socket why) status is prevents =
     serves words old new status (λ two. omega (arith, is, two)) prevents
 usage-status words old new (fault.Descriptors wanted) status is prevents =
     serves words old new status (λ two. omega (arith, is, two)) prevents
@@ -167,6 +177,8 @@ usage-keeps words old new (fault.NotText path line) status is prevents two = abs
 usage-keeps words old new (fault.MayNotFollow path) status is prevents two = absurd (omega arith)
 usage-keeps words old new (fault.Misstated path) status is prevents two = absurd (omega arith)
 usage-keeps words old new (fault.Unanswered path) status is prevents two = absurd (omega arith)
+usage-keeps words old new (fault.Late path seconds) status is prevents two = absurd (omega arith)
+usage-keeps words old new (fault.StillServes path seconds) status is prevents two = absurd (omega arith)
 usage-keeps words old new (fault.Cut path) status is prevents two = absurd (omega arith)
 usage-keeps words old new (fault.Declined path) status is prevents two = absurd (omega arith)
 usage-keeps words old new (fault.Refused path why) status is prevents two = absurd (omega arith)
@@ -177,6 +189,7 @@ usage-keeps words old new fault.Clock status is prevents two = absurd (omega ari
 usage-keeps words old new fault.Seed status is prevents two = absurd (omega arith)
 usage-keeps words old new (fault.Bind endpoint reason) status is prevents two = absurd (omega arith)
 usage-keeps words old new (fault.Control socket reason) status is prevents two = absurd (omega arith)
+usage-keeps words old new (fault.State socket why) status is prevents two = absurd (omega arith)
 usage-keeps words old new (fault.Descriptors wanted) status is prevents two = absurd (omega arith)
 usage-keeps words old new (fault.Wait reason) status is prevents two = absurd (omega arith)
 usage-keeps words old new fault.Thread status is prevents two = absurd (omega arith)

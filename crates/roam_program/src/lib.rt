@@ -11,6 +11,7 @@
 //!   write; 2 comes exactly when nothing was asked for | `command`: `status`, `fault`, `usage`, `untouched`
 #![tactic(auto)]
 
+mod file_order;
 mod program;
 mod reload;
 mod serving;

@@ -10,6 +10,7 @@ use crate::serving::serve_file;
 use log::Log;
 use roam_commands::{ask, check_file, compare_files, simulate_files, state_file};
 use roam_diagnosis::Lines;
+use roam_keeping::KeepsFiles;
 use roam_words::{Command, Fault, ProgramEnd, tell_advice, tell_usage, tell_version, unknown_word};
 use std::convert::AsStr;
 use std::io::Write;
@@ -23,7 +24,7 @@ use std::time::Clock;
 /// Does what the words ask for. `lines` are then what is said of the configuration.
 fn run<
     'a,
-    R: Files + AllocGlobal + Threads + Wait + Clock + Net + RandomSource + Log + Sync,
+    R: Files + AllocGlobal + KeepsFiles + Threads + Wait + Clock + Net + RandomSource + Log + Sync,
     S: AsStr,
     W: Write,
 >(rt: &R, words: &'a [S], out: &mut W, lines: &mut Lines) -> Result<(), Fault<'a>>
@@ -71,7 +72,7 @@ fn run<
 
 /// Does what the words ask for, and tells the fault that prevents it, and what is said of the configuration.
 fn answer<
-    R: Files + AllocGlobal + Threads + Wait + Clock + Net + RandomSource + Log + Sync,
+    R: Files + AllocGlobal + KeepsFiles + Threads + Wait + Clock + Net + RandomSource + Log + Sync,
     S: AsStr,
     W: Write,
     E: Write,
@@ -103,7 +104,7 @@ fn answer<
 /// for the lines of a simulation that lost events for want of memory. A server leaves it as it was, and of what its
 /// sockets take and give nothing is said; without a number of milliseconds it ends by a fault alone.
 pub fn command<
-    R: Files + AllocGlobal + Threads + Wait + Clock + Net + RandomSource + Log + Sync,
+    R: Files + AllocGlobal + KeepsFiles + Threads + Wait + Clock + Net + RandomSource + Log + Sync,
     S: AsStr,
     W: Write,
     E: Write,

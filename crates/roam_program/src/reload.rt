@@ -5,27 +5,33 @@ ghost use Rattle.roam_conf.specs.Shown.{shown};
 ghost use Rattle.roam_reload.specs.Reload.{MayFollow};
 ghost use Rattle.roam_printing.specs.Printed.{IsPrinted};
 
-use crate::state_file::{is_put_aside, keep_at, kept_at, manner_of};
+use crate::file_order::{names_of, order_of, with_order};
+use crate::state_file::{StateFiles, manner_of, why_of};
 use crate::station_key::stations_of;
 use roam_conf::Config;
 use roam_conf_reader::{Settings, following_config, read_config, read_settings};
 use roam_diagnosis::{Lines, diagnose};
+use roam_keeping::{Job, Keeper, Written, keep_old, kept, number_of, put_aside};
 use roam_printing::{print_changes, print_hindrance, print_no_number};
 use roam_reload::{LayFault, hindrance_of};
-use roam_serve::{Following, Reason, ServeFault, Source, StationForm};
+use roam_serve::{FileOrder, Following, KeepEnd, Keeping, ServeFault, Source, StationForm};
 use roam_words::{Fault, TextFile};
 use std::alloc::Global;
 use std::io;
 use std::io::Write;
 use std::rt::Files;
+use std::sync::Wait;
 
-/// The file of a configuration that is served, which is read again.
+/// The file of a configuration that is served, which is read again; and the files of its ledgers.
 #[derive(Drop)]
 pub struct Reread<'a, R> {
     pub rt: &'a R,
     pub path: &'a str,
     /// Those that are served until a restart.
     pub settings: &'a Settings,
+    pub files: StateFiles,
+    /// What writes them.
+    pub keeper: &'a Keeper,
 }
 
 /// Prints a line where it is wanted.
@@ -103,13 +109,43 @@ fn laid_out(alloc: Global, old: &Config, new: Config) -> Result<Config, Vec<u8>>
     }
 }
 
+/// What a text states that is to be served next.
+struct Stated {
+    /// Its configuration, laid out by the one that is served.
+    config: Config,
+    /// Where it has each realm.
+    order: FileOrder,
+    settings: Settings,
+}
+
+/// Returns a configuration laid out by the one that is served, and where the file has each of its realms; or what is
+/// said of why it isn't.
+fn laid_out_with_order(
+    alloc: Global,
+    old: &Config,
+    new: Config,
+) -> Result<(Config, FileOrder), Vec<u8>> {
+    let Ok(names) = names_of(alloc, &new) else {
+        return Err(text_of(alloc, Fault::Memory, &Lines::new(alloc)));
+    };
+    let config = laid_out(alloc, old, new)?;
+    match order_of(alloc, names.as_slice(), &config) {
+        Ok(order) => Ok((config, order)),
+        Err(_) => Err(text_of(alloc, Fault::Memory, &Lines::new(alloc))),
+    }
+}
+
 /// The configuration of a text, laid out by the one that is served, and its settings.
-fn read(alloc: Global, file: &TextFile<'_>, old: &Config) -> Result<(Config, Settings), Vec<u8>> {
+fn read(alloc: Global, file: &TextFile<'_>, old: &Config) -> Result<Stated, Vec<u8>> {
     let text = file.text.as_str();
     match (read_config(alloc, text), read_settings(alloc, text)) {
         (Ok(config), Ok(settings)) => {
-            let config = laid_out(alloc, old, config)?;
-            Ok((config, settings))
+            let (config, order) = laid_out_with_order(alloc, old, config)?;
+            Ok(Stated {
+                config,
+                order,
+                settings,
+            })
         }
         (Err(fault), _) | (_, Err(fault)) => {
             let lines = diagnose(alloc, file.path, text, fault);
@@ -128,7 +164,11 @@ fn following<R: Files + AllocGlobal>(
     ensures { IfOk result (λ following. MayFollow (shown old.now) (shown following.config)) }
 {
     let alloc = rt.alloc();
-    let (config, settings) = read(alloc, file, old)?;
+    let Stated {
+        config,
+        order,
+        settings,
+    } = read(alloc, file, old)?;
     let mut report = Vec::new(alloc);
     let hindrance = hindrance_of(old, &config);
     if hindrance.is_some() {
@@ -144,19 +184,50 @@ fn following<R: Files + AllocGlobal>(
     match manner_of(alloc, &settings, stations) {
         Ok(manner) => Ok(Following {
             config,
-            manner,
+            manner: with_order(manner, order),
             report,
         }),
         Err(_) => Err(text_of(alloc, Fault::Memory, &Lines::new(alloc))),
     }
 }
 
-impl<R: Files + AllocGlobal> Source for Reread<'_, R> {
+impl<R: Files + AllocGlobal + Wait> Reread<'_, R> {
+    /// Hands octets over that are to be kept in the file of a path.
+    fn hand_over(&mut self, path: &str, octets: Vec<u8>) -> Keeping {
+        match String::from_str(self.rt.alloc(), path) {
+            Ok(path) => {
+                if self.keeper.hand_over(self.rt, Job { path, octets }) {
+                    Keeping::Begun
+                } else {
+                    Keeping::Busy
+                }
+            }
+            Err(_) => {
+                drop(octets);
+                Keeping::Declined("out of memory")
+            }
+        }
+    }
+
+    /// Notes that the file of a path stays as it is, unless it has another name now. Returns whether it has.
+    fn spare_unless(&mut self, path: &str, has_other_name: bool) -> bool {
+        if !has_other_name {
+            let _is_noted = self.files.spare(self.rt.alloc(), path);
+        }
+        has_other_name
+    }
+}
+
+impl<R: Files + AllocGlobal + Wait> Source for Reread<'_, R> {
     fn following(&mut self, old: &Config) -> Result<Following, Vec<u8>> {
         let alloc = self.rt.alloc();
-        match TextFile::read(self.rt, self.path) {
-            Ok(file) => following(self.rt, &file, old, self.settings),
-            Err(fault) => Err(text_of(alloc, fault, &Lines::new(alloc))),
+        let following = match TextFile::read(self.rt, self.path) {
+            Ok(file) => following(self.rt, &file, old, self.settings)?,
+            Err(fault) => return Err(text_of(alloc, fault, &Lines::new(alloc))),
+        };
+        match self.files.take_of(self.rt, &following.manner) {
+            Ok(()) => Ok(following),
+            Err(fault) => Err(text_of(alloc, Fault::of_server(fault), &Lines::new(alloc))),
         }
     }
 
@@ -165,15 +236,44 @@ impl<R: Files + AllocGlobal> Source for Reread<'_, R> {
         text_of(alloc, Fault::of_server(fault), &Lines::new(alloc))
     }
 
-    fn kept(&mut self, path: &str) -> Result<Option<Vec<u8>>, Reason> {
-        kept_at(self.rt, path)
+    fn kept(&mut self, path: &str) -> Result<Option<Vec<u8>>, &'static str> {
+        match kept(self.rt, path) {
+            Ok(octets) => Ok(octets),
+            Err(error) => Err(why_of(number_of(&error))),
+        }
     }
 
-    fn keep(&mut self, path: &str, octets: &[u8]) -> Result<(), Reason> {
-        keep_at(self.rt, path, octets)
+    fn keep(&mut self, path: &str, octets: Vec<u8>) -> Keeping {
+        if self.files.is_spared(path) {
+            return Keeping::Spared;
+        }
+        match self.files.take(self.rt.alloc(), path) {
+            Ok(()) => self.hand_over(path, octets),
+            Err(obstacle) => Keeping::Declined(obstacle.text()),
+        }
+    }
+
+    fn is_keeping(&mut self) -> bool {
+        self.keeper.is_writing(self.rt)
+    }
+
+    fn keep_end(&mut self) -> Option<KeepEnd> {
+        match self.keeper.take_end(self.rt) {
+            Some(Written { path, fault }) => Some(KeepEnd {
+                path,
+                fault: fault.map(why_of),
+            }),
+            None => None,
+        }
     }
 
     fn put_aside(&mut self, path: &str) -> bool {
-        is_put_aside(self.rt, path)
+        let is_aside = put_aside(self.rt, path).is_ok();
+        self.spare_unless(path, is_aside)
+    }
+
+    fn keep_old(&mut self, path: &str) -> bool {
+        let is_kept = keep_old(self.rt, path).is_ok();
+        self.spare_unless(path, is_kept)
     }
 }

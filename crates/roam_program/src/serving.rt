@@ -10,12 +10,13 @@ ghost use Rattle.roam_commands.specs.CommandFaults.{text_in, ServeFails};
 ghost use Rattle.roam_commands.specs.Outcomes.{Prevents};
 
 use crate::reload::Reread;
-use crate::state_file::manner_of;
+use crate::state_file::{StateFiles, manner_of};
 use crate::station_key::told_stations;
 use log::Log;
 use roam_conf::Config;
 use roam_conf_reader::{Settings, read_config, read_settings};
 use roam_diagnosis::{Lines, diagnose};
+use roam_keeping::KeepsFiles;
 use roam_serve::{
     Build, ControlSocket, Manner, Open, ServeFault, ServeOptions, SocketPath, Watch,
     descriptors_wanted, reason_of, serve, with_drawn_seed,
@@ -59,7 +60,9 @@ fn remove<R: Files>(rt: &R, socket: &Option<ControlSocket>, settings: &Settings)
 }
 
 /// Serves a configuration. What the server does is counted where somebody may ask for the counts.
-fn serve_watched<R: Files + AllocGlobal + Threads + Wait + Clock + Net + RandomSource + Log + Sync>(
+fn serve_watched<
+    R: Files + AllocGlobal + KeepsFiles + Threads + Wait + Clock + Net + RandomSource + Log + Sync,
+>(
     rt: &R,
     config: Config,
     watch: Option<Watch<'_>>,
@@ -79,7 +82,9 @@ fn serve_watched<R: Files + AllocGlobal + Threads + Wait + Clock + Net + RandomS
 }
 
 /// The same where somebody may ask, once there is the control socket that is wanted.
-fn serve_asked<R: Files + AllocGlobal + Threads + Wait + Clock + Net + RandomSource + Log + Sync>(
+fn serve_asked<
+    R: Files + AllocGlobal + KeepsFiles + Threads + Wait + Clock + Net + RandomSource + Log + Sync,
+>(
     rt: &R,
     config: Config,
     manner: Manner,
@@ -105,7 +110,9 @@ fn serve_asked<R: Files + AllocGlobal + Threads + Wait + Clock + Net + RandomSou
 }
 
 /// Serves the configuration of a path by its settings.
-fn serve_by<R: Files + AllocGlobal + Threads + Wait + Clock + Net + RandomSource + Log + Sync>(
+fn serve_by<
+    R: Files + AllocGlobal + KeepsFiles + Threads + Wait + Clock + Net + RandomSource + Log + Sync,
+>(
     rt: &R,
     path: &str,
     config: Config,
@@ -118,7 +125,16 @@ fn serve_by<R: Files + AllocGlobal + Threads + Wait + Clock + Net + RandomSource
     let Ok(manner) = manner_of(rt.alloc(), settings, stations) else {
         return Err(ServeFault::Memory);
     };
-    let mut source = Reread { rt, path, settings };
+    let mut source = Reread {
+        rt,
+        path,
+        settings,
+        files: StateFiles::new(rt.alloc()),
+        keeper: rt.keeper(),
+    };
+    if let Err(fault) = source.files.take_of(rt, &manner) {
+        return Err(fault);
+    }
     if settings.metrics.is_none() && settings.control.is_none() {
         serve_watched(rt, config, None, manner, milliseconds, &mut source)
     } else {
@@ -143,7 +159,9 @@ fn to_serve<R: RandomSource>(
 }
 
 /// Serves a configuration as its text states that it is served, with its own seed or with one that is drawn.
-fn serve_stated<R: Files + AllocGlobal + Threads + Wait + Clock + Net + RandomSource + Log + Sync>(
+fn serve_stated<
+    R: Files + AllocGlobal + KeepsFiles + Threads + Wait + Clock + Net + RandomSource + Log + Sync,
+>(
     rt: &R,
     file: &TextFile<'_>,
     config: Config,
@@ -171,7 +189,7 @@ fn serve_stated<R: Files + AllocGlobal + Threads + Wait + Clock + Net + RandomSo
 /// the configuration is accepted then, and the endpoint one of its own.
 fn serve_text<
     'a,
-    R: Files + AllocGlobal + Threads + Wait + Clock + Net + RandomSource + Log + Sync,
+    R: Files + AllocGlobal + KeepsFiles + Threads + Wait + Clock + Net + RandomSource + Log + Sync,
 >(
     rt: &R,
     configuration: &TextFile<'a>,
@@ -204,7 +222,7 @@ fn serve_text<
 /// Serves the configuration of a path. `lines` are then what is said of one that is refused.
 pub fn serve_file<
     'a,
-    R: Files + AllocGlobal + Threads + Wait + Clock + Net + RandomSource + Log + Sync,
+    R: Files + AllocGlobal + KeepsFiles + Threads + Wait + Clock + Net + RandomSource + Log + Sync,
 >(
     rt: &R,
     configuration: &'a str,

@@ -1,9 +1,15 @@
-//! The file by which ledgers of sessions outlast a server.
+//! The files by which ledgers of sessions outlast a server.
+
+ghost use Rattle.std.specs.Prelude.{IfErr};
+ghost use Rattle.roam_conf.specs.Config.{ConfigView};
+ghost use Rattle.roam_sockets.specs.Faults.{IsFaultOf};
 
 use roam_conf_reader::Settings;
-use roam_keeping::{keep, kept, put_aside};
-use roam_serve::{Manner, Reason, StateFile, StationForm, reason_of};
+use roam_keeping::{FileLock, Obstacle, obstacle_at};
+use roam_serve::{Manner, ServeFault, SocketPath, StateFile, StationForm};
+use roam_words::words_of;
 use std::alloc::{AllocError, Global};
+use std::io::ErrorKind;
 use std::rt::Files;
 
 /// The file of the settings, where there is one.
@@ -27,33 +33,110 @@ pub(crate) fn manner_of(
         told_exchanges: settings.log_exchanges,
         stations,
         state: state_of(alloc, settings)?,
+        order: None,
     })
 }
 
-/// The octets that the file of a path holds; none where there is no such file.
-pub(crate) fn kept_at<R: Files + AllocGlobal>(
-    rt: &R,
-    path: &str,
-) -> Result<Option<Vec<u8>>, Reason> {
-    match kept(rt, path) {
-        Ok(octets) => Ok(octets),
-        Err(error) => Err(reason_of(&error)),
-    }
+/// Returns what the system says of the error of a number.
+pub(crate) fn why_of(number: u32) -> &'static str {
+    words_of(number).unwrap_or("the system gave a reason that has no name here")
 }
 
-/// Keeps octets in the file of a path.
-pub(crate) fn keep_at<R: Files + AllocGlobal>(
-    rt: &R,
-    path: &str,
-    octets: &[u8],
-) -> Result<(), Reason> {
-    match keep(rt, path, octets) {
-        Ok(()) => Ok(()),
-        Err(error) => Err(reason_of(&error)),
-    }
+/// A file that this server alone may write, for as long as it runs.
+#[derive(Drop)]
+struct OwnFile {
+    path: String,
+    _lock: FileLock,
 }
 
-/// Gives the file of a path another name. Answers whether that could be.
-pub(crate) fn is_put_aside<R: Files + AllocGlobal>(rt: &R, path: &str) -> bool {
-    put_aside(rt, path).is_ok()
+/// The files that this server has, and those that it leaves as they were at its start.
+#[derive(Drop)]
+pub(crate) struct StateFiles {
+    own: Vec<OwnFile>,
+    spared: Vec<String>,
+}
+
+impl StateFiles {
+    /// It has none.
+    pub(crate) fn new(alloc: Global) -> StateFiles {
+        StateFiles {
+            own: Vec::new(alloc),
+            spared: Vec::new(alloc),
+        }
+    }
+
+    /// Returns whether this server has the file of a path.
+    fn has(&self, path: &str) -> bool {
+        self.own.iter().any(|own| own.path.as_str() == path)
+    }
+
+    /// Returns whether the file of a path stays as it was at the start.
+    pub(crate) fn is_spared(&self, path: &str) -> bool {
+        self.spared.iter().any(|spared| spared.as_str() == path)
+    }
+
+    /// Notes that the file of a path stays as it is. Returns whether there was memory for that.
+    pub(crate) fn spare(&mut self, alloc: Global, path: &str) -> bool {
+        match String::from_str(alloc, path) {
+            Ok(path) => self.spared.push(path).is_ok(),
+            Err(_) => false,
+        }
+    }
+
+    /// Has the file of a path be this server's until it ends. Where the system gives no lock there it isn't: nothing
+    /// can be written there then, and it is tried again before each writing.
+    ///
+    /// # Errors
+    ///
+    /// `Taken`, where another server has it.
+    pub(crate) fn take(&mut self, alloc: Global, path: &str) -> Result<(), Obstacle> {
+        if self.has(path) {
+            return Ok(());
+        }
+        match (FileLock::take(alloc, path), String::from_str(alloc, path)) {
+            (Ok(lock), Ok(path)) => {
+                let _is_kept = self.own.push(OwnFile { path, _lock: lock }).is_ok();
+                Ok(())
+            }
+            (Err(error), _) if error.kind() == ErrorKind::WouldBlock => Err(Obstacle::Taken),
+            _ => Ok(()),
+        }
+    }
+
+    /// The same, where a file of ledgers can stand at the path.
+    ///
+    /// # Errors
+    ///
+    /// What stands there, or that another server has it.
+    fn take_file<R: Files + AllocGlobal>(&mut self, rt: &R, path: &str) -> Result<(), Obstacle> {
+        if self.has(path) {
+            return Ok(());
+        }
+        match obstacle_at(rt, path) {
+            Some(obstacle) => Err(obstacle),
+            None => self.take(rt.alloc(), path),
+        }
+    }
+
+    /// Has the file in which sessions are to be kept be this server's, where there is one.
+    ///
+    /// # Errors
+    ///
+    /// `State`, where none can stand there or another server has it.
+    pub(crate) fn take_of<R: Files + AllocGlobal>(
+        &mut self,
+        rt: &R,
+        manner: &Manner,
+    ) -> Result<(), ServeFault>
+        ensures { (config : ConfigView) → IfErr result (IsFaultOf config) }
+    {
+        let Some(file) = &manner.state else {
+            return Ok(());
+        };
+        let path = file.path.as_str();
+        match self.take_file(rt, path) {
+            Ok(()) => Ok(()),
+            Err(obstacle) => Err(ServeFault::State(SocketPath::new(path), obstacle.text())),
+        }
+    }
 }

@@ -27,8 +27,8 @@ pub use parts::{Means, Served, ServerParts, Unserved};
 
 // What stands above takes these from here, and lists this crate alone of those that it goes over.
 pub use roam_attendant::{
-    Configured, Following, FreshMeans, Handover, HubEnd, Manner, Next, NoSource, Source, StateFile,
-    Watch, out_of_memory, stopping, widen_all,
+    Configured, Following, FreshMeans, Handover, HubEnd, KeepEnd, Keeping, Manner, Next, NoSource,
+    Source, StateFile, Watch, declined_for, out_of_memory, stopping, tell_what_went, widen_all,
 };
 pub use roam_counting::Counters;
 pub use roam_kits::{

@@ -30,6 +30,9 @@ pub struct ServerParts<'s, R, G, S> {
     pub office: &'s Office,
     pub stopping: &'s Stopping,
     pub start: Instant,
+    /// For how many milliseconds it serves; none where that has no end.
+    pub milliseconds: Option<u64>,
+    /// When that is over, in milliseconds since its start; none before it serves, or where that has no end.
     pub end: Option<u64>,
     /// Where the configuration comes from that follows.
     pub source: &'s mut S,

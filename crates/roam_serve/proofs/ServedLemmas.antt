@@ -1,5 +1,5 @@
 -- What a server has served, over one hub more and over a change.
-use Rattle.std.proofs.Common.{arith, ◌≡◌, ℕ, ◌<◌, ◌≤◌, List, [], ◌∷◌, ◌++◌, ◌∙◌, Option, Some, inl, inr, ap, subst, sym, refl, length, slice_get}
+use Rattle.std.proofs.Common.{arith, Bool, ◌≡◌, ℕ, ◌<◌, ◌≤◌, List, [], ◌∷◌, ◌++◌, ◌∙◌, Option, Some, inl, inr, ap, subst, sym, refl, length, slice_get}
 use Rattle.std.specs.Prelude.{get_or}
 use Rattle.std.proofs.lemmas.Option.{slice_get-get_or, slice_get_cases, slice_get_within}
 use Rattle.roam_conf.specs.Config.{ConfigView}
@@ -12,11 +12,16 @@ use Rattle.roam_calls.specs.Audit.{steps_of}
 use Rattle.roam_hub.specs.Changes.{AreSpans, FollowsOn, IsSpan, Span}
 use Rattle.roam_hub.specs.Following.{HaveFollowed, StandAsBefore}
 use Rattle.roam_hub.specs.Pausing.{ArePaused, opening_over, states_of_one}
+use Rattle.roam_follow.specs.Losing.{IsDeclined}
+use Rattle.roam_follow.specs.declared.declined.Declined.{Declined}
+use Rattle.roam_follow.specs.declared.declined.Declined.TheVariants as declined
 use Rattle.roam_shard.specs.Follow.{AllFollow}
 use Rattle.roam_shard.specs.Pausing.{states_under}
 use Rattle.roam_shard.specs.declared.paused.Paused.{Paused}
 use Rattle.roam_run.specs.Closed.{EndsOf}
 use Rattle.roam_serve.specs.Begins.{HaveBegun, opening_with}
+use Rattle.std.specs.declared.alloc.Global.{Global}
+use Rattle.roam_serve.specs.Ways.{IsWay, way_of}
 use Rattle.roam_serve.specs.Served.{GoOn, HasServed, HasServedAll, HaveServed, first_of}
 
 -- steps after steps
@@ -191,6 +196,12 @@ all-served config now items shards served paused same = record {
       let did = served k p.0 p.1 in
       record { spans = did.before; last = did.last; are = did.spans; first = did.first };
 }
+
+-- the way of a change that is declined
+pub way-declined : (is_agreed : Bool) (old new : ConfigView) (shards : List (Paused Global)) (why : Declined Global)
+    → IsDeclined is_agreed old new shards why → IsWay is_agreed old new shards (way_of why)
+way-declined is_agreed old new shards declined.Memory is = _
+way-declined is_agreed old new shards (declined.Losses losses) is = (is.disagreed, is.some)
 
 -- nothing was done
 pub on-nothing : {A : Type 0} (config : ConfigView) (shards : List (Paused A)) → GoOn config shards config shards

@@ -7,7 +7,7 @@ use Rattle.roam_shard.specs.Pausing.{states_under}
 use Rattle.roam_shard.specs.Restoring.{restored_states}
 use Rattle.roam_shard.specs.declared.paused.Paused.{Paused}
 use Rattle.roam_calls.specs.HubOpening.{HubOpening}
-use Rattle.roam_hub.specs.Pausing.{ArePaused}
+use Rattle.roam_follow.specs.Paused.{ArePaused, IsPaused}
 
 -- ## Begin of a server
 -- Each realm of a server begins at place 0 of its random words and ticket 0, with no entry, and with those sessions
@@ -15,7 +15,8 @@ use Rattle.roam_hub.specs.Pausing.{ArePaused}
 -- under another seed, and what waited or was held is lost.
 -- Source: ours
 -- Rules out: a server that begins in a state which no restart leaves; sessions from elsewhere than the file
--- Stands in: `roam_serve` `Begins.antt`: `opening_with`, `HaveBegun`; `Served.antt`: `HasServedAll`; `beginning`
+-- Stands in: `roam_serve` `Begins.antt`: `opening_with`, `HaveBegun`, `HasBegun`; `Served.antt`: `HasServedAll`;
+-- `beginning`
 --
 -- the opening of the first hub, with what a file of ledgers has
 abbrev pub opening_with : ConfigView → List SavedItem → HubOpening
@@ -23,14 +24,13 @@ opening_with config items =
     record { config = config; states = λ shard. restored_states config shard items (fresh config) }
 
 module _ {A : Type 0} where
+  -- the shard of a number stands so
+  pub record HasBegun (config : ConfigView) (items : List SavedItem) (number : ℕ) (p : Paused A) : Type 0 where
+    pub paused : IsPaused config number p
+    pub states : states_under config p ≡ restored_states config number items (fresh config)
+
   -- shards stand so, one for each number
   pub record HaveBegun (config : ConfigView) (items : List SavedItem) (shards : List (Paused A)) : Type 0 where
     pub paused : ArePaused config shards
     pub states : (k : ℕ) (p : Paused A) → slice_get shards k ≡ Some p
         → states_under config p ≡ restored_states config k items (fresh config)
-
-  -- each shard took up what a file of ledgers has of its own realms
-  pub record HaveTakenUp (config : ConfigView) (items : List SavedItem) (before after : List (Paused A)) : Type 0 where
-    pub paused : ArePaused config after
-    pub states : (k : ℕ) (p q : Paused A) → slice_get before k ≡ Some p → slice_get after k ≡ Some q
-        → states_under config q ≡ restored_states config k items (states_under config p)

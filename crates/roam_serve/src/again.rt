@@ -1,6 +1,6 @@
 //! What serves couldn't be started: what it needs is taken once more.
 
-ghost use Rattle.std.specs.Prelude.{◌≡◌, IfErr, IfOk};
+ghost use Rattle.std.specs.Prelude.{◌≡◌, ◌+◌, ◌-◌, ◌^◌, IfErr, IfOk, min, option_map};
 ghost use Rattle.roam_calls.specs.Books.{count_of};
 ghost use Rattle.roam_sockets.specs.Faults.{IsAfterBinding};
 
@@ -24,6 +24,22 @@ pub fn take_again<R: Net, G, S>(
     fill_outboxes(parts.alloc, config.shards, socket_numbers(config), outboxes)?;
     let wanted = descriptors_wanted(config, config);
     FreshMeans::new(parts.rt, parts.alloc, configured, wanted)
+}
+
+/// Returns when a server ends that serves for so many milliseconds from this moment on; none where that has no end.
+/// Moments are in milliseconds since its start.
+pub fn end_after(milliseconds: Option<u64>, now: u64) -> Option<u64>
+    ensures { result ≡ option_map (λ m. min (2 ^ 64 - 1) (now + m)) milliseconds }
+{
+    match milliseconds {
+        Some(milliseconds) => Some(now.saturating_add(milliseconds)),
+        None => None,
+    }
+}
+
+/// Has the server's time begin now, where it serves for some time alone.
+pub fn begin_time<R: Clock, G, S>(parts: &mut ServerParts<'_, R, G, S>) {
+    parts.end = end_after(parts.milliseconds, now(parts.rt, parts.start, 0));
 }
 
 /// Whether the server's time is over.

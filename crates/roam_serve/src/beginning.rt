@@ -1,127 +1,158 @@
 //! A server begins: each realm at its first start, with the sessions that a file of ledgers has of it.
 
-ghost use Rattle.std.specs.Prelude.{[], IfErr, IfOk, List, OnOk};
+ghost use Rattle.std.specs.Prelude.{◌≡◌, ◌<◌, [], IfErr, IfOk, List};
 ghost use Rattle.roam_conf.specs.Shown.{shown};
 ghost use Rattle.roam_ledgers.specs.Ledgers.{SavedItem};
 ghost use Rattle.roam_ledgers.specs.Shown.{shown_items};
-ghost use Rattle.roam_hub.specs.Pausing.{ArePaused};
-ghost use Rattle.roam_serve.specs.Begins.{HaveBegun, HaveTakenUp};
+ghost use Rattle.roam_core.specs.Openings.{fresh_starts};
+ghost use Rattle.roam_shard.specs.ShardView.{AreStarts};
+ghost use Rattle.roam_serve.specs.Begins.{HasBegun, HaveBegun};
 ghost use Rattle.roam_sockets.specs.Faults.{IsAfterBinding};
 
+use crate::again::begin_time;
+use crate::taken_up::{count_in, count_sessions};
 use log::Log;
 use roam_conf::Config;
 use roam_ledgers::{Item, ReadError, read};
+use roam_realm::Start;
 use roam_run::{Configured, ServerParts, Source};
 use roam_shard::{Paused, Shard, first_starts};
 use roam_sockets::ServeFault;
-use roam_telling::{tell_read, tell_refused_state, tell_unreadable};
+use roam_telling::{tell_left_out, tell_taken_up, tell_unread};
 use std::alloc::Global;
+use std::time::Clock;
 
-/// The shards of a server that begins, with no request pending and no session open.
-fn first_shards(alloc: Global, config: &Config) -> Result<Vec<Paused<Global>>, ServeFault>
-    ensures ok { IfOk result (λ shards. HaveBegun (shown config.now) [] shards.items) }
+/// The shard of a number begins, with no request pending and the sessions that a file of ledgers has of its realms; and
+/// how many these are.
+fn begin_one(
+    alloc: Global,
+    config: &Config,
+    shard: u16,
+    starts: &[Start],
+    items: &[Item<'_>],
+) -> Result<(Paused<Global>, u64), ServeFault>
+    requires number { shard < config.now.shards }
+    requires good { AreStarts (shown config.now) starts.now }
+    requires first { starts.now ≡ fresh_starts (shown config.now) }
+    ensures ok { IfOk result (λ begun. HasBegun (shown config.now) (shown_items items.now) shard begun.0) }
+    ensures err { IfErr result IsAfterBinding }
+{
+    let begun = Shard::new(alloc, config, shard, starts)?;
+    let mut paused = begun.pause();
+    paused.restore(config, items)?;
+    let standing = Shard::resume(config, paused);
+    let taken = count_in(config, shard, &standing);
+    Ok((standing.pause(), taken))
+}
+
+/// The shards of a server that begins, with no request pending and the sessions that a file of ledgers has; and how
+/// many these are.
+fn first_shards(
+    alloc: Global,
+    config: &Config,
+    items: &[Item<'_>],
+) -> Result<(Vec<Paused<Global>>, u64), ServeFault>
+    ensures ok { IfOk result (λ begun. HaveBegun (shown config.now) (shown_items items.now) begun.0.items) }
     ensures err { IfErr result IsAfterBinding }
 {
     let starts = first_starts(alloc, config)?;
     let mut shards = Vec::with_capacity(alloc, usize::from(config.shards))?;
+    let mut taken = 0u64;
     for shard in 0..config.shards {
-        let begun = Shard::new(alloc, config, shard, starts.as_slice())?;
-        shards.push(begun.pause())?;
+        let (begun, more) = begin_one(alloc, config, shard, starts.as_slice(), items)?;
+        shards.push(begun)?;
+        taken = taken.saturating_add(more);
     }
+    Ok((shards, taken))
+}
+
+/// The shards of a server that begins with no session.
+fn empty_shards(alloc: Global, config: &Config) -> Result<Vec<Paused<Global>>, ServeFault>
+    ensures ok { IfOk result (λ shards. HaveBegun (shown config.now) [] shards.items) }
+    ensures err { IfErr result IsAfterBinding }
+{
+    let (shards, _none) = first_shards(alloc, config, &[])?;
     Ok(shards)
 }
 
-/// Each shard takes up what a file of ledgers has of its own realms.
-fn take_up(
-    config: &Config,
-    items: &[Item<'_>],
-    shards: &mut Vec<Paused<Global>>,
-) -> Result<(), ServeFault>
-    requires { ArePaused (shown config.now) shards.old.items }
-    ensures ok { OnOk result
-        (HaveTakenUp (shown config.now) (shown_items items.now) shards.old.items shards.new.items) }
-    ensures err { IfErr result IsAfterBinding }
-{
-    for number in 0..shards.len() {
-        shards[number].restore(config, items)?;
-    }
-    Ok(())
+/// Puts the file of a path aside, and tells why nothing is read from it.
+fn leave<R: Log, G, S: Source>(parts: &mut ServerParts<'_, R, G, S>, path: &str, why: &str) {
+    let is_aside = parts.source.put_aside(path);
+    tell_unread(parts.rt, path, why, is_aside);
 }
 
-/// How many of the items are sessions.
-fn count_sessions(items: &[Item<'_>]) -> u64 {
-    let mut count = 0u64;
-    for item in items {
-        if let Item::Session(_) = item {
-            count = count.saturating_add(1);
-        }
-    }
-    count
-}
-
-/// The octets that the file of a path holds, where there are any. It is told where they can't be read.
+/// The octets that the file of a path holds, where there are any. Where they can't be read that is told, and the file
+/// is put aside.
 fn kept<R: Log, G, S: Source>(parts: &mut ServerParts<'_, R, G, S>, path: &str) -> Option<Vec<u8>> {
     match parts.source.kept(path) {
         Ok(octets) => octets,
-        Err(reason) => {
-            tell_unreadable(parts.rt, path, reason);
+        Err(why) => {
+            leave(parts, path, why);
             None
         }
     }
 }
 
-/// Each shard takes up what the file of a path has of its own realms, where it is a file of ledgers. Where it isn't,
-/// that is told, and it is put aside.
-fn restore<R: Log, G, S: Source>(
+/// Tells how many sessions of how many were taken up from the file of a path. Where some weren't, the file is kept as
+/// it is, under another name too.
+fn tell_taken<R: Log, G, S: Source>(
+    parts: &mut ServerParts<'_, R, G, S>,
+    path: &str,
+    taken: u64,
+    sessions: u64,
+) {
+    tell_taken_up(parts.rt, path, taken, sessions);
+    if taken < sessions {
+        let has_other_name = parts.source.keep_old(path);
+        tell_left_out(parts.rt, path, sessions - taken, has_other_name);
+    }
+}
+
+/// The shards that take up what the file of a path holds, where that are ledgers. Where they aren't, that is told, and
+/// it is put aside.
+fn begin_from<R: Log, G, S: Source>(
     parts: &mut ServerParts<'_, R, G, S>,
     config: &Config,
     path: &str,
     octets: &[u8],
-    shards: &mut Vec<Paused<Global>>,
-) -> Result<(), ServeFault>
-    requires { ArePaused (shown config.now) shards.old.items }
-    ensures ok { OnOk result ((items : List SavedItem)
-        × HaveTakenUp (shown config.now) items shards.old.items shards.new.items) }
+) -> Result<Vec<Paused<Global>>, ServeFault>
+    ensures ok { IfOk result (λ shards. (items : List SavedItem)
+        × HaveBegun (shown config.now) items shards.items) }
     ensures err { IfErr result IsAfterBinding }
 {
     match read(parts.alloc, octets) {
         Ok(items) => {
-            tell_read(parts.rt, path, count_sessions(items.as_slice()));
-            take_up(config, items.as_slice(), shards)
+            let (shards, taken) = first_shards(parts.alloc, config, items.as_slice())?;
+            tell_taken(parts, path, taken, count_sessions(items.as_slice()));
+            Ok(shards)
         }
         Err(ReadError::Memory) => Err(ServeFault::Memory),
         Err(ReadError::Fault(fault)) => {
-            let is_aside = parts.source.put_aside(path);
-            tell_refused_state(parts.rt, path, fault.text(), is_aside);
-            Ok(())
+            leave(parts, path, fault.text());
+            empty_shards(parts.alloc, config)
         }
     }
 }
 
-/// Shards that began, with the sessions that the file of a path has of their realms, where there is one.
-fn with_kept<R: Log, G, S: Source>(
+/// The shards that take up what the file of a path has of their realms, where there is one.
+fn begin_with<R: Log, G, S: Source>(
     parts: &mut ServerParts<'_, R, G, S>,
     config: &Config,
     path: &str,
-    mut shards: Vec<Paused<Global>>,
 ) -> Result<Vec<Paused<Global>>, ServeFault>
-    requires { HaveBegun (shown config.now) [] shards.items }
     ensures ok { IfOk result (λ shards. (items : List SavedItem)
         × HaveBegun (shown config.now) items shards.items) }
     ensures err { IfErr result IsAfterBinding }
 {
     match kept(parts, path) {
-        Some(octets) => {
-            restore(parts, config, path, octets.as_slice(), &mut shards)?;
-            Ok(shards)
-        }
-        None => Ok(shards),
+        Some(octets) => begin_from(parts, config, path, octets.as_slice()),
+        None => empty_shards(parts.alloc, config),
     }
 }
 
 /// The shards with which a server begins, by number: each realm is at its first start, and has the sessions that a file
 /// of ledgers has of it, where there is one.
-pub fn beginning<R: Log, G, S: Source>(
+fn beginning<R: Log, G, S: Source>(
     parts: &mut ServerParts<'_, R, G, S>,
     configured: &Configured,
 ) -> Result<Vec<Paused<Global>>, ServeFault>
@@ -130,9 +161,22 @@ pub fn beginning<R: Log, G, S: Source>(
     ensures err { IfErr result IsAfterBinding }
 {
     let config = &configured.config;
-    let shards = first_shards(parts.alloc, config)?;
     match &configured.manner.state {
-        Some(file) => with_kept(parts, config, file.path.as_str(), shards),
-        None => Ok(shards),
+        Some(file) => begin_with(parts, config, file.path.as_str()),
+        None => empty_shards(parts.alloc, config),
     }
+}
+
+/// Has a server begin: returns its shards, by number, and has its time begin when it has them.
+pub fn begin<R: Clock + Log, G, S: Source>(
+    parts: &mut ServerParts<'_, R, G, S>,
+    configured: &Configured,
+) -> Result<Vec<Paused<Global>>, ServeFault>
+    ensures ok { IfOk result (λ shards. (items : List SavedItem)
+        × HaveBegun (shown configured.now.config) items shards.items) }
+    ensures err { IfErr result IsAfterBinding }
+{
+    let shards = beginning(parts, configured)?;
+    begin_time(parts);
+    Ok(shards)
 }

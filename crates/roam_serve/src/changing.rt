@@ -7,11 +7,17 @@ ghost use Rattle.roam_calls.specs.Books.{count_of};
 ghost use Rattle.roam_hub.specs.Following.{HaveFollowed, StandAsBefore};
 ghost use Rattle.roam_hub.specs.Pausing.{ArePaused};
 ghost use Rattle.roam_serve.specs.Served.{GoOn};
+ghost use Rattle.roam_serve.specs.Ways.{IsWay, way_of};
 
+use log::Log;
+use roam_carry::Loss;
 use roam_conf::Config;
-use roam_desk::done;
-use roam_hub::{Blanks, follow};
-use roam_run::{Configured, Counters, Handover, Kits, Next, Rests, ServerParts, out_of_memory};
+use roam_desk::{Reply, done};
+use roam_hub::{Blanks, Declined, follow};
+use roam_run::{
+    Configured, Counters, Handover, Kits, Next, Rests, ServerParts, declined_for, out_of_memory,
+    tell_what_went,
+};
 use roam_shard::Paused;
 use std::alloc::Global;
 
@@ -34,6 +40,19 @@ fn go_on_telling(rests: &mut Rests, told: Option<Rests>, before: &Config, after:
     }
 }
 
+/// Counts what a change dropped of each realm of the configuration of before.
+fn count_losses(counters: &Option<Counters>, before: &Config, losses: &[Loss]) {
+    let Some(counters) = counters else {
+        return;
+    };
+    for realm in 0..before.realms.len() {
+        if let Some(loss) = losses.get(realm) {
+            let (waiting, held) = (loss.waiting as u64, loss.held as u64);
+            counters.dropped(realm as u16, waiting, held, loss.sessions as u64);
+        }
+    }
+}
+
 /// What the threads of a new configuration are made of.
 #[derive(Drop)]
 pub struct Ready {
@@ -43,18 +62,54 @@ pub struct Ready {
 
 /// Which way a change went.
 #[derive(Drop)]
+pub enum Way {
+    /// The configuration is served that was to follow.
+    Follows(Ready),
+    /// That of before goes on: something would be lost, and nobody agreed.
+    Declined,
+    /// That of before goes on: memory is wanting.
+    NoMemory,
+}
+
+/// What a change comes to.
+#[derive(Drop)]
 pub struct Changed {
-    /// None where the configuration of before goes on, whose sockets those threads don't hear.
-    pub ready: Option<Ready>,
+    pub way: Way,
     pub blanks: Blanks<Global>,
     /// What was told of servers, where the configuration of before goes on.
     pub told: Option<Rests>,
     pub handover: Handover,
 }
 
-/// Has the server go on with the configuration that is to follow, or where memory is wanting with the one of before, of
-/// which nothing changes then.
-pub fn change<R, G, S>(
+/// Returns which way a change went that was declined, and what is answered to who asked for it.
+fn declined(alloc: Global, config: &Config, why: Declined<Global>) -> (Way, Reply)
+    ensures { result.0 ≡ way_of why }
+{
+    match why {
+        Declined::Losses(losses) => {
+            (
+                Way::Declined,
+                declined_for(alloc, config, losses.as_slice()),
+            )
+        }
+        Declined::Memory => (Way::NoMemory, out_of_memory(alloc)),
+    }
+}
+
+/// Returns what is left of a change for when the threads run again: the answer, and the configuration that isn't
+/// served.
+fn handed_over(reply: Reply, other: Configured) -> Handover {
+    Handover {
+        reply: Some(reply),
+        before: Some(other),
+        is_awaited: true,
+    }
+}
+
+/// Has the server go on with the configuration that is to follow. Where something would be lost to which nobody agreed,
+/// as the realms stand now that nobody serves, or where memory is wanting, it goes on with the one of before, of which
+/// nothing changes then. What goes by it is counted and told.
+pub fn change<R: Log, G, S>(
     parts: &ServerParts<'_, R, G, S>,
     configured: &mut Configured,
     shards: &mut Vec<Paused<Global>>,
@@ -67,6 +122,8 @@ pub fn change<R, G, S>(
         shards.old.items shards.new.items
         ⊎ (StandAsBefore (shown configured.old.config) shards.old.items shards.new.items
         × (configured.new ≡ configured.old)) }
+    ensures way { IsWay next.is_agreed (shown configured.old.config) (shown next.configured.config) shards.old.items
+        result.way }
     ensures paused { ArePaused (shown configured.new.config) shards.new.items }
     ensures goes_on { GoOn (shown configured.old.config) shards.old.items
         (shown configured.new.config) shards.new.items }
@@ -79,36 +136,35 @@ pub fn change<R, G, S>(
         kits,
         rests,
         blanks,
+        is_agreed,
         spare,
     } = next;
     drop(spare);
     let mut rests = rests;
-    match follow(parts.alloc, &configured.config, &after.config, shards) {
-        Ok(()) => {
+    let alloc = parts.alloc;
+    match follow(alloc, &configured.config, &after.config, shards, is_agreed) {
+        Ok(losses) => {
             let (old, new) = (&mut configured.counters, &mut after.counters);
             go_on_counting(old, new, &configured.config, &after.config);
+            count_losses(&after.counters, &configured.config, losses.as_slice());
+            tell_what_went(parts.rt, &configured.config, losses.as_slice());
             go_on_telling(&mut rests, told, &configured.config, &after.config);
             let before = std::mem::replace(configured, after);
             Changed {
-                ready: Some(Ready { kits, rests }),
+                way: Way::Follows(Ready { kits, rests }),
                 blanks,
                 told: None,
-                handover: Handover {
-                    reply: Some(done(report)),
-                    before: Some(before),
-                    is_awaited: true,
-                },
+                handover: handed_over(done(report), before),
             }
         }
-        Err(_) => Changed {
-            ready: None,
-            blanks,
-            told,
-            handover: Handover {
-                reply: Some(out_of_memory(parts.alloc)),
-                before: Some(after),
-                is_awaited: true,
-            },
-        },
+        Err(why) => {
+            let (way, reply) = declined(alloc, &configured.config, why);
+            Changed {
+                way,
+                blanks,
+                told,
+                handover: handed_over(reply, after),
+            }
+        }
     }
 }

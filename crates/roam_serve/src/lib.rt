@@ -15,6 +15,8 @@
 //! - over all changes of the configuration these are spans each of which goes on where the one before it ended. Which
 //!   spans, nobody outside could compare: the clauses below it pin them, that what is handed on are the states in which the
 //!   audited histories end | `serve_all`: `ok`; `change`
+//! - a configuration follows to which nobody agreed only where no realm loses anything of the state in which it stands when
+//!   nobody serves any more; and it is declined for that only where one does | `change`: `way`
 //! - of a server's faults, an endpoint that can't be bound is one of its configuration | `serve`: `err`
 #![tactic(auto)]
 
@@ -23,11 +25,12 @@ mod beginning;
 mod changing;
 mod server;
 mod serving;
+mod taken_up;
 mod unserved;
 
-pub use roam_desk::Build;
+pub use roam_desk::{Build, FileOrder};
 pub use roam_hub::Open;
-pub use roam_run::{Following, Manner, NoSource, Source, StateFile, Watch};
+pub use roam_run::{Following, KeepEnd, Keeping, Manner, NoSource, Source, StateFile, Watch};
 pub use roam_sockets::{
     ControlSocket, Reason, ServeFault, SocketPath, descriptors_wanted, reason_of, with_drawn_seed,
 };

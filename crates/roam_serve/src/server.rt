@@ -31,7 +31,7 @@ pub struct ServeOptions<'s, G> {
     /// Where what its threads do is counted, and who may ask for that; none where nobody watches it.
     pub watch: Option<Watch<'s>>,
     pub manner: Manner,
-    /// For how long it serves; none where that has no end.
+    /// For how many milliseconds it serves, once it has sockets and ledgers; none where that has no end.
     pub milliseconds: Option<u64>,
     /// Called while a lock is held.
     pub gate: &'s G,
@@ -202,7 +202,7 @@ struct Serving<'s, G> {
     watch: Option<Watch<'s>>,
     gate: &'s G,
     start: Instant,
-    end: Option<u64>,
+    milliseconds: Option<u64>,
 }
 
 /// Serves a configuration whose sockets are bound, and each one that follows.
@@ -224,7 +224,7 @@ fn serve_bound<
         watch,
         gate,
         start,
-        end,
+        milliseconds,
     } = serving;
     let config = &configured.config;
     let listener = listener(rt, config, watch);
@@ -244,7 +244,8 @@ fn serve_bound<
         office: &office,
         stopping: &stopping,
         start,
-        end,
+        milliseconds,
+        end: None,
         source,
     };
     serve_with(&mut parts, listener.as_ref(), configured, means)
@@ -293,7 +294,7 @@ pub fn serve<
         watch,
         gate,
         start,
-        end: milliseconds,
+        milliseconds,
     };
     serve_bound(rt, alloc, configured, serving, source)
 }

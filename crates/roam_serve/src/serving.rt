@@ -10,8 +10,8 @@ ghost use Rattle.roam_serve.specs.Served.{HasServedAll, IsServedOn};
 ghost use Rattle.roam_sockets.specs.Faults.{IsAfterBinding};
 
 use crate::again::{is_time_over, take_again, told_or};
-use crate::beginning::beginning;
-use crate::changing::{Changed, Ready, change};
+use crate::beginning::begin;
+use crate::changing::{Changed, Ready, Way, change};
 use crate::unserved::is_stopped;
 use log::Log;
 use roam_hub::{Blanks, Gate};
@@ -195,7 +195,8 @@ fn serve_on<R: Threads + Wait + Clock + Net + RandomSource + Log + Sync, G: Gate
     }
 }
 
-/// Serves for the first time after a change, where it left what the threads are made of.
+/// Serves for the first time after a change: the configuration that follows; that of before, where the other was
+/// declined; where memory is wanting nothing yet.
 fn serve_changed<
     R: Threads + Wait + Clock + Net + RandomSource + Log + Sync,
     G: Gate + Sync,
@@ -213,13 +214,13 @@ fn serve_changed<
     ensures err { IfErr result IsAfterBinding }
 {
     let Changed {
-        ready,
+        way,
         blanks,
         told,
         handover,
     } = changed;
-    match ready {
-        Some(Ready { kits, rests }) => {
+    match way {
+        Way::Follows(Ready { kits, rests }) => {
             let means = Means {
                 kits,
                 outboxes,
@@ -228,7 +229,8 @@ fn serve_changed<
             };
             serve_once(parts, configured, shards, blanks, means)
         }
-        None => {
+        Way::Declined => serve_again(parts, configured, shards, outboxes, told, handover),
+        Way::NoMemory => {
             let fault = ServeFault::Memory;
             Ok(not_started(fault, shards, outboxes, told, handover))
         }
@@ -253,7 +255,7 @@ pub(crate) fn serve_all<
     ensures ok { IfOk result (λ steps. HasServedAll (shown configured.old.config)) }
     ensures err { IfErr result IsAfterBinding }
 {
-    let begun = beginning(parts, configured)?;
+    let begun = begin(parts, configured)?;
     let Ok(blanks) = Blanks::new(parts.alloc, configured.config.shards) else {
         return Err(ServeFault::Memory);
     };

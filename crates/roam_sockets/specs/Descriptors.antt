@@ -15,14 +15,15 @@ descriptors_of config =
 -- ## Descriptors wanted
 -- Of one configuration: a socket for each endpoint, of each `auth` and `acct` seven more, or where they are spread as
 -- many as make eight for each worker, and three for each worker and the timer. Wanted are those of the one that is
--- served and of the one that follows, and 38 beside them: the standard streams, two listeners, 32 connections, and the
--- file while it is read.
+-- served and of the one that follows, and 40 beside them: the standard streams, two listeners, one in hand for each of
+-- these, 32 connections, and the file while it is read.
 -- Source: ours
 -- Rules out: a server that stops in the middle of its start and doesn't say what it lacks
 -- Stands in: `roam_sockets` `Descriptors.antt`: `descriptors_wanted`
 --
 -- a server that changes from one configuration to another has those of both for a while; and the three standard
 -- streams,
--- two sockets at which connections are taken, 32 connections, and the file of the configuration that is read
+-- two sockets at which connections are taken, one in hand for each of these, 32 connections, and
+-- the file of the configuration that is read
 abbrev pub descriptors_wanted : ConfigView → ConfigView → ℕ
-descriptors_wanted old new = descriptors_of old + descriptors_of new + 38
+descriptors_wanted old new = descriptors_of old + descriptors_of new + 40

@@ -9,8 +9,9 @@ use roam_conf::Config;
 use roam_port::socket_count;
 
 /// How many descriptors a server has beside those of its configuration: the three standard streams, the two sockets at
-/// which connections are taken, 32 connections, and the file of its configuration while that is read.
-const BESIDE: u32 = 38;
+/// which connections are taken, one in hand for each of these, 32 connections, and the file of its configuration while
+/// that is read.
+const BESIDE: u32 = 40;
 
 /// Returns how many descriptors a configuration takes: its sockets, those that each `auth` and `acct` has beside its
 /// first, and two to wait with and one to be woken by for each worker and the timer.

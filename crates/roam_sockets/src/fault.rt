@@ -15,7 +15,7 @@ pub struct Reason(pub u32);
 /// How many octets the path of a UNIX socket has at most.
 const LONGEST_PATH: usize = 107;
 
-/// The path of a UNIX socket, as it is told.
+/// The path of a UNIX socket, as it is told; or the beginning of another path.
 #[derive(Clone, Copy, Debug, PartialEq, Eq)]
 pub struct SocketPath {
     octets: [u8; LONGEST_PATH],
@@ -55,6 +55,8 @@ pub enum ServeFault {
     Bind(Endpoint, Reason),
     /// No control socket can be had at this path.
     Control(SocketPath, Reason),
+    /// No sessions can be kept in the file of a path that begins so, and why.
+    State(SocketPath, &'static str),
     /// The process may not have as many descriptors as this, which the server wants in all.
     Descriptors(u32),
     /// The system gives nothing to wait with for sockets.

@@ -26,6 +26,4 @@ pub use exchanges::{Exchanges, queue_of_lines};
 pub use notice::{Notice, notices_in, serving, tell};
 pub use notices::{Notices, queue_of_notices};
 pub use reload_lines::{tell_dropped, tell_reload};
-pub use state_lines::{
-    tell_no_memory_to_keep, tell_not_kept, tell_read, tell_refused_state, tell_unreadable,
-};
+pub use state_lines::{tell_left_out, tell_not_kept, tell_taken_up, tell_unread};

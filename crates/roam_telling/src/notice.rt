@@ -156,7 +156,9 @@ pub fn notices_in(notice: Notice) -> u64
     }
 }
 
-/// What is served.
+/// Returns the notice of what is served: of how many realms and peers that are here.
 pub fn serving(config: &Config) -> Notice {
-    Notice::Serving(config.realms.len(), config.peers.len(), config.shards)
+    let realms = config.realms.iter().filter(|realm| !realm.gone).count();
+    let peers = config.peers.iter().filter(|peer| !peer.gone).count();
+    Notice::Serving(realms, peers, config.shards)
 }

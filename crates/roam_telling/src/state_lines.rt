@@ -1,35 +1,46 @@
 //! What is told of the file by which ledgers of sessions outlast a server.
 
 use log::{Log, info, warn};
-use roam_sockets::Reason;
 
-/// Tells that the file couldn't be written, for this reason: it is as it was.
-pub fn tell_not_kept<R: Log>(rt: &R, path: &str, reason: Reason) {
-    let number = reason.0;
-    warn!(rt; "sessions aren't kept in {} (errno {})", path, number);
+/// What follows where a file that isn't read, or not all of it, can have no other name.
+const NOTHING_WRITTEN: &str = "so nothing is written there until a restart: mend that, and restart";
+
+/// Tells that the file wasn't written, and why: it is as it was.
+pub fn tell_not_kept<R: Log>(rt: &R, path: &str, why: &str) {
+    warn!(rt; "sessions aren't kept in {}: {}", path, why);
 }
 
-/// Tells that memory was wanting for what was to be written into it.
-pub fn tell_no_memory_to_keep<R: Log>(rt: &R, path: &str) {
-    warn!(rt; "sessions aren't kept in {}: out of memory", path);
+/// Tells how many sessions were taken up of those that the file has that is read at the start.
+pub fn tell_taken_up<R: Log>(rt: &R, path: &str, taken: u64, sessions: u64) {
+    info!(rt; "{} of {} sessions taken up from {}", taken, sessions, path);
 }
 
-/// Tells how many sessions the file has that is read at the start.
-pub fn tell_read<R: Log>(rt: &R, path: &str, sessions: u64) {
-    info!(rt; "{} sessions read from {}", sessions, path);
-}
-
-/// Tells that it can't be read at the start, for this reason.
-pub fn tell_unreadable<R: Log>(rt: &R, path: &str, reason: Reason) {
-    let number = reason.0;
-    warn!(rt; "no session is read from {} (errno {})", path, number);
-}
-
-/// Tells that what it holds isn't read: it has this fault, and stands beside it from now on, if that could be.
-pub fn tell_refused_state<R: Log>(rt: &R, path: &str, fault: &str, is_aside: bool) {
-    if is_aside {
-        warn!(rt; "no session is read from {}: {}; it is {}.old now", path, fault, path);
+/// Tells that some weren't, and where the file stays as it was: under another name, or in its place, where nothing is
+/// written then.
+pub fn tell_left_out<R: Log>(rt: &R, path: &str, left: u64, has_other_name: bool) {
+    if has_other_name {
+        warn!(
+            rt;
+            "{} sessions of {} fit no realm or peer, or have no room: the file as it was is {}.old", left, path, path
+        );
     } else {
-        warn!(rt; "no session is read from {}: {}", path, fault);
+        warn!(
+            rt;
+            "{} sessions of {} fit no realm or peer, or have no room: it can't be kept as {}.old, {}",
+            left, path, path, NOTHING_WRITTEN
+        );
+    }
+}
+
+/// Tells that nothing is read from the file at the start, and why: it stands beside it from now on, if that could be;
+/// else it stays, and nothing is written there.
+pub fn tell_unread<R: Log>(rt: &R, path: &str, why: &str, is_aside: bool) {
+    if is_aside {
+        warn!(rt; "no session is read from {}: {}; it is {}.old now", path, why, path);
+    } else {
+        warn!(
+            rt;
+            "no session is read from {}: {}; it can't be renamed to {}.old, {}", path, why, path, NOTHING_WRITTEN
+        );
     }
 }

@@ -1,4 +1,5 @@
 pub mod CommandLine
+pub mod Escaped
 pub mod Report
 pub mod Shown
 pub mod Unread

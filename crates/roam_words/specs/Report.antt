@@ -7,10 +7,12 @@ use Rattle.roam_diagnosis.specs.Lines.{IsDiagnosis, printed}
 use Rattle.roam_address.specs.declared.endpoint.Endpoint.{Endpoint}
 use Rattle.roam_address.specs.Endpoints.{endpoint_text}
 use Rattle.roam_conf_reader.specs.FaultNames.{name_of}
+use Rattle.roam_conf_reader.specs.declared.fault.ConfFault.{ConfFault}
 use Rattle.roam_sockets.specs.declared.fault.SocketPath.{SocketPath}
 use Rattle.roam_sockets.specs.declared.fault.ServeFault.{ServeFault}
 use Rattle.roam_sockets.specs.declared.fault.ServeFault.TheVariants as serve
 use Rattle.roam_sockets.specs.Faults.{path_octets}
+use Rattle.roam_words.specs.Escaped.{escaped, named_text, about_text}
 use Rattle.roam_words.specs.declared.report.Fault.{Fault}
 use Rattle.roam_words.specs.declared.report.Fault.TheVariants as fault
 
@@ -23,26 +25,34 @@ usage_text =
 abbrev pub version_text : List ℕ
 version_text = codes "roam 1.0.0\nrattle-kit-13f logic dac8208d650f15bf\n"
 
--- what the system says of the errors that open, read, bind, socket, listen, epoll and eventfd give, by their numbers
+-- what the system says of the errors that open, read, fsync, bind, socket, listen, epoll and eventfd give, by their
+-- numbers
 -- (Linux)
 abbrev pub words_of : ℕ → Option (List ℕ)
 words_of number =
     if number == 1 then Some (codes "Operation not permitted")
     else (if number == 2 then Some (codes "No such file or directory")
+    else (if number == 5 then Some (codes "Input/output error")
     else (if number == 11 then Some (codes "Resource temporarily unavailable")
     else (if number == 12 then Some (codes "Cannot allocate memory")
     else (if number == 13 then Some (codes "Permission denied")
+    else (if number == 16 then Some (codes "Device or resource busy")
     else (if number == 20 then Some (codes "Not a directory")
     else (if number == 21 then Some (codes "Is a directory")
     else (if number == 23 then Some (codes "Too many open files in system")
     else (if number == 24 then Some (codes "Too many open files")
+    else (if number == 27 then Some (codes "File too large")
     else (if number == 28 then Some (codes "No space left on device")
     else (if number == 30 then Some (codes "Read-only file system")
+    else (if number == 36 then Some (codes "File name too long")
+    else (if number == 40 then Some (codes "Too many levels of symbolic links")
     else (if number == 97 then Some (codes "Address family not supported by protocol")
     else (if number == 98 then Some (codes "Address already in use")
     else (if number == 99 then Some (codes "Cannot assign requested address")
     else (if number == 105 then Some (codes "No buffer space available")
-    else None))))))))))))))
+    else (if number == 116 then Some (codes "Stale file handle")
+    else (if number == 122 then Some (codes "Disk quota exceeded")
+    else None)))))))))))))))))))))
 
 -- these words, or the number of the error
 abbrev pub words_or_number : Option (List ℕ) → ℕ → List ℕ
@@ -59,11 +69,15 @@ unbound_text endpoint = codes "roam: cannot bind " ++ endpoint_text endpoint
 
 -- what is printed where a server can't listen at the path of its control socket
 abbrev pub unheard_text : SocketPath → List ℕ
-unheard_text path = codes "roam: cannot listen at " ++ path_octets path
+unheard_text path = codes "roam: cannot listen at " ++ escaped (path_octets path)
 
--- what is printed where the system doesn't let the file of a path be read
-abbrev pub unread_text : List ℕ → List ℕ
-unread_text path = codes "roam: " ++ path
+-- what is printed where a server can't keep its sessions in the file of a path
+abbrev pub no_state_text : SocketPath → List ℕ
+no_state_text path = codes "roam: cannot keep sessions in " ++ escaped (path_octets path)
+
+-- why, behind that
+abbrev pub because_text : List ℕ → List ℕ
+because_text why = codes ": " ++ why ++ codes "\n"
 
 -- which line of that file isn't UTF-8, behind its path
 abbrev pub not_text_text : ℕ → List ℕ
@@ -71,7 +85,22 @@ not_text_text line = codes ":" ++ decimal line ++ codes ": isn't UTF-8\n"
 
 -- what is printed of a first word with which no command begins
 abbrev pub unknown_text : List ℕ → List ℕ
-unknown_text word = codes "roam: " ++ word ++ codes ": no such command\n"
+unknown_text word = about_text word (codes ": no such command\n")
+
+-- behind the path of a control socket: that no answer came in so many seconds; that a server which is asked to stop
+-- hasn't ended in so many
+abbrev pub late_text : ℕ → List ℕ
+late_text seconds = codes ": no answer within " ++ decimal seconds ++ codes " s: it may still be carried out\n"
+
+abbrev pub still_text : ℕ → List ℕ
+still_text seconds = codes ": asked to stop, and still there after " ++ decimal seconds ++ codes " s\n"
+
+-- behind the path of a file: by what name a configuration is refused; which line of a script is faulty
+abbrev pub refused_text : ConfFault → List ℕ
+refused_text why = codes ": " ++ name_of why ++ codes "\n"
+
+abbrev pub line_text : ℕ → List ℕ
+line_text number = codes ": line " ++ decimal number ++ codes "\n"
 
 -- the system's reason after it, with the line feed
 abbrev pub why_text : ℕ → List ℕ
@@ -90,22 +119,26 @@ why_text number = codes ": " ++ reason_text number ++ codes "\n"
 abbrev pub text_of : Fault → List ℕ
 text_of fault.Usage = usage_text
 text_of (fault.NoCommand word) = unknown_text word.now ++ usage_text
-text_of (fault.Unreadable path reason) = unread_text path.now ++ why_text reason
-text_of (fault.NotText path line) = unread_text path.now ++ not_text_text line
-text_of (fault.MayNotFollow path) = codes "roam: " ++ path.now ++ codes ": may not follow\n"
-text_of (fault.Misstated path) = codes "roam: " ++ path.now ++ codes ": misstated\n"
-text_of (fault.Unanswered path) = codes "roam: " ++ path.now ++ codes ": no answer\n"
-text_of (fault.Cut path) = codes "roam: " ++ path.now ++ codes ": answer cut\n"
-text_of (fault.Declined path) = codes "roam: " ++ path.now ++ codes ": declined\n"
-text_of (fault.Refused path why) = codes "roam: " ++ path.now ++ codes ": " ++ name_of why ++ codes "\n"
-text_of (fault.FaultyLine path number) =
-    codes "roam: " ++ path.now ++ codes ": line " ++ decimal number ++ codes "\n"
+text_of (fault.Unreadable path reason) = named_text path.now ++ why_text reason
+text_of (fault.NotText path line) = named_text path.now ++ not_text_text line
+text_of (fault.MayNotFollow path) = about_text path.now (codes ": may not follow\n")
+text_of (fault.Misstated path) = about_text path.now (codes ": misstated\n")
+text_of (fault.Unanswered path) = about_text path.now (codes ": no answer\n")
+text_of (fault.Late path seconds) =
+    named_text path.now ++ late_text seconds
+text_of (fault.StillServes path seconds) =
+    named_text path.now ++ still_text seconds
+text_of (fault.Cut path) = about_text path.now (codes ": answer cut\n")
+text_of (fault.Declined path) = about_text path.now (codes ": declined\n")
+text_of (fault.Refused path why) = named_text path.now ++ refused_text why
+text_of (fault.FaultyLine path number) = named_text path.now ++ line_text number
 text_of fault.Write = codes "roam: write failed\n"
 text_of fault.Memory = codes "roam: out of memory\n"
 text_of fault.Clock = codes "roam: no clock\n"
 text_of fault.Seed = codes "roam: no random seed\n"
 text_of (fault.Bind endpoint reason) = unbound_text endpoint ++ why_text reason
 text_of (fault.Control path reason) = unheard_text path ++ why_text reason
+text_of (fault.State path why) = no_state_text path ++ because_text why.now
 text_of (fault.Descriptors wanted) =
     codes "roam: too few file descriptors: " ++ decimal wanted ++ codes " wanted\n"
 text_of (fault.Wait reason) = codes "roam: cannot wait for sockets: " ++ reason_text reason ++ codes "\n"
@@ -122,6 +155,8 @@ status_of (fault.NotText path line) = 1
 status_of (fault.MayNotFollow path) = 1
 status_of (fault.Misstated path) = 1
 status_of (fault.Unanswered path) = 1
+status_of (fault.Late path seconds) = 1
+status_of (fault.StillServes path seconds) = 1
 status_of (fault.Cut path) = 1
 status_of (fault.Declined path) = 1
 status_of (fault.Refused path why) = 1
@@ -132,6 +167,7 @@ status_of fault.Clock = 1
 status_of fault.Seed = 1
 status_of (fault.Bind endpoint reason) = 1
 status_of (fault.Control path reason) = 1
+status_of (fault.State path why) = 1
 status_of (fault.Descriptors wanted) = 1
 status_of (fault.Wait reason) = 3
 status_of fault.Thread = 3
@@ -144,6 +180,7 @@ fault_of serve.Clock = fault.Clock
 fault_of serve.Seed = fault.Seed
 fault_of (serve.Bind endpoint reason) = fault.Bind endpoint reason.0
 fault_of (serve.Control path reason) = fault.Control path reason.0
+fault_of (serve.State path why) = fault.State path why
 fault_of (serve.Descriptors wanted) = fault.Descriptors wanted
 fault_of (serve.Wait reason) = fault.Wait reason.0
 fault_of serve.Thread = fault.Thread

@@ -4,7 +4,8 @@ ghost use Rattle.std.specs.Prelude.{◌≡◌, OnOk};
 ghost use Rattle.std.specs.Io.KnownBytes.{Appends};
 ghost use Rattle.roam_words.specs.Report as spec;
 
-use crate::reasons::{print_no_text, print_unread, print_why, words_of};
+use crate::escaped::{print_about, print_escaped, print_named};
+use crate::reasons::{print_no_text, print_why, words_of};
 use crate::report::{Fault, ProgramEnd};
 use crate::usage::print_usage;
 use roam_conf::Endpoint;
@@ -19,7 +20,7 @@ fn print_unknown<W: Write>(writer: &mut W, word: &str) -> io::Result<()>
     ensures { OnOk result
         (Appends (W.contents writer.old) (W.contents writer.new) (spec.unknown_text word.now)) }
 {
-    writeln!(writer, "roam: {word}: no such command")
+    print_about(writer, word, b": no such command\n")
 }
 
 /// Prints that no command begins with a word, and the usage.
@@ -54,7 +55,7 @@ fn print_unheard<W: Write>(writer: &mut W, path: SocketPath) -> io::Result<()>
         (Appends (W.contents writer.old) (W.contents writer.new) (spec.unheard_text path)) }
 {
     writer.write_all(b"roam: cannot listen at ")?;
-    writer.write_all(path.octets())
+    print_escaped(writer, path.octets())
 }
 
 /// Prints that a control socket can't be had at a path, and why.
@@ -64,6 +65,24 @@ fn print_control<W: Write>(writer: &mut W, path: SocketPath, reason: u32) -> io:
 {
     print_unheard(writer, path)?;
     print_why(writer, reason)
+}
+
+/// Prints that a server can't keep its sessions in a file.
+fn print_no_state<W: Write>(writer: &mut W, path: SocketPath) -> io::Result<()>
+    ensures { OnOk result
+        (Appends (W.contents writer.old) (W.contents writer.new) (spec.no_state_text path)) }
+{
+    writer.write_all(b"roam: cannot keep sessions in ")?;
+    print_escaped(writer, path.octets())
+}
+
+/// Prints that a server can't keep its sessions in a file, and why.
+fn print_state<W: Write>(writer: &mut W, path: SocketPath, why: &'static str) -> io::Result<()>
+    ensures { OnOk result
+        (Appends (W.contents writer.old) (W.contents writer.new) (spec.text_of (Fault.State path why.entry))) }
+{
+    print_no_state(writer, path)?;
+    writeln!(writer, ": {why}")
 }
 
 /// Prints that there is nothing to wait with for sockets, and why.
@@ -82,7 +101,7 @@ fn print_unreadable<W: Write>(writer: &mut W, path: &str, reason: u32) -> io::Re
     ensures { OnOk result
         (Appends (W.contents writer.old) (W.contents writer.new) (spec.text_of (Fault.Unreadable path.entry reason))) }
 {
-    print_unread(writer, path)?;
+    print_named(writer, path)?;
     print_why(writer, reason)
 }
 
@@ -91,7 +110,7 @@ fn print_not_text<W: Write>(writer: &mut W, path: &str, line: u64) -> io::Result
     ensures { OnOk result
         (Appends (W.contents writer.old) (W.contents writer.new) (spec.text_of (Fault.NotText path.entry line))) }
 {
-    print_unread(writer, path)?;
+    print_named(writer, path)?;
     print_no_text(writer, line)
 }
 
@@ -100,7 +119,8 @@ fn print_refused<W: Write>(writer: &mut W, path: &str, fault: ConfFault) -> io::
     ensures { OnOk result
         (Appends (W.contents writer.old) (W.contents writer.new) (spec.text_of (Fault.Refused path.entry fault))) }
 {
-    writeln!(writer, "roam: {path}: {fault}")
+    print_named(writer, path)?;
+    writeln!(writer, ": {fault}")
 }
 
 /// Prints which line of a script is faulty.
@@ -108,7 +128,30 @@ fn print_line<W: Write>(writer: &mut W, path: &str, number: u64) -> io::Result<(
     ensures { OnOk result
         (Appends (W.contents writer.old) (W.contents writer.new) (spec.text_of (Fault.FaultyLine path.entry number))) }
 {
-    writeln!(writer, "roam: {path}: line {number}")
+    print_named(writer, path)?;
+    writeln!(writer, ": line {number}")
+}
+
+/// Prints that no answer came in so many seconds.
+fn print_late<W: Write>(writer: &mut W, path: &str, seconds: u64) -> io::Result<()>
+    ensures { OnOk result
+        (Appends (W.contents writer.old) (W.contents writer.new) (spec.text_of (Fault.Late path.entry seconds))) }
+{
+    print_named(writer, path)?;
+    writeln!(
+        writer,
+        ": no answer within {seconds} s: it may still be carried out"
+    )
+}
+
+/// Prints that a server which is asked to stop hasn't ended in so many seconds.
+fn print_still<W: Write>(writer: &mut W, path: &str, seconds: u64) -> io::Result<()>
+    ensures { OnOk result
+        (Appends (W.contents writer.old) (W.contents writer.new)
+        (spec.text_of (Fault.StillServes path.entry seconds))) }
+{
+    print_named(writer, path)?;
+    writeln!(writer, ": asked to stop, and still there after {seconds} s")
 }
 
 /// Prints how many descriptors are wanted.
@@ -134,11 +177,13 @@ impl<'a> Fault<'a> {
             Fault::NoCommand { word } => print_no_command(writer, word),
             Fault::Unreadable { path, reason } => print_unreadable(writer, path, reason),
             Fault::NotText { path, line } => print_not_text(writer, path, line),
-            Fault::MayNotFollow { path } => writeln!(writer, "roam: {path}: may not follow"),
-            Fault::Misstated { path } => writeln!(writer, "roam: {path}: misstated"),
-            Fault::Unanswered { path } => writeln!(writer, "roam: {path}: no answer"),
-            Fault::Cut { path } => writeln!(writer, "roam: {path}: answer cut"),
-            Fault::Declined { path } => writeln!(writer, "roam: {path}: declined"),
+            Fault::MayNotFollow { path } => print_about(writer, path, b": may not follow\n"),
+            Fault::Misstated { path } => print_about(writer, path, b": misstated\n"),
+            Fault::Unanswered { path } => print_about(writer, path, b": no answer\n"),
+            Fault::Late { path, seconds } => print_late(writer, path, seconds),
+            Fault::StillServes { path, seconds } => print_still(writer, path, seconds),
+            Fault::Cut { path } => print_about(writer, path, b": answer cut\n"),
+            Fault::Declined { path } => print_about(writer, path, b": declined\n"),
             Fault::Refused { path, fault } => print_refused(writer, path, fault),
             Fault::FaultyLine { path, number } => print_line(writer, path, number),
             Fault::Write => writer.write_all(b"roam: write failed\n"),
@@ -147,6 +192,7 @@ impl<'a> Fault<'a> {
             Fault::Seed => writer.write_all(b"roam: no random seed\n"),
             Fault::Bind { endpoint, reason } => print_bind(writer, endpoint, reason),
             Fault::Control { path, reason } => print_control(writer, path, reason),
+            Fault::State { path, why } => print_state(writer, path, why),
             Fault::Descriptors { wanted } => print_descriptors(writer, wanted),
             Fault::Wait { reason } => print_wait(writer, reason),
             Fault::Thread => writer.write_all(b"roam: cannot start a thread\n"),

@@ -4,7 +4,8 @@
 //!
 //! - words ask for a command, or for nothing; a word of milliseconds is a decimal number from 1 to 86400000; a first
 //!   word with which no command begins is named | `Command::from_words`, `unknown_word`
-//! - each fault's text and status | `Fault::print`, `Fault::status`
+//! - each fault's text and status; paths and words of the command line stand in it escaped | `Fault::print`,
+//!   `Fault::status`
 //! - a file that isn't read is told by its path, or memory is wanting. That the reason is the system's, and the line
 //!   the first that isn't UTF-8, is tested | `TextFile::read`: `err`
 //! - a fault's text is printed, and the lines of a diagnosis behind it where a configuration is refused |
@@ -13,6 +14,7 @@
 
 mod command_line;
 mod control_words;
+mod escaped;
 mod fault_text;
 mod output;
 mod reasons;
@@ -25,6 +27,7 @@ mod usage;
 
 pub use command_line::{Command, ControlOrder};
 pub use output::finish;
+pub use reasons::words_of;
 pub use report::{Fault, ProgramEnd};
 pub use showing::shown;
 pub use telling::{tell_advice, tell_usage, tell_version};

@@ -14,19 +14,26 @@ pub fn words_of(reason: u32) -> Option<&'static str>
     match reason {
         1 => Some("Operation not permitted"),
         2 => Some("No such file or directory"),
+        5 => Some("Input/output error"),
         11 => Some("Resource temporarily unavailable"),
         12 => Some("Cannot allocate memory"),
         13 => Some("Permission denied"),
+        16 => Some("Device or resource busy"),
         20 => Some("Not a directory"),
         21 => Some("Is a directory"),
         23 => Some("Too many open files in system"),
         24 => Some("Too many open files"),
+        27 => Some("File too large"),
         28 => Some("No space left on device"),
         30 => Some("Read-only file system"),
+        36 => Some("File name too long"),
+        40 => Some("Too many levels of symbolic links"),
         97 => Some("Address family not supported by protocol"),
         98 => Some("Address already in use"),
         99 => Some("Cannot assign requested address"),
         105 => Some("No buffer space available"),
+        116 => Some("Stale file handle"),
+        122 => Some("Disk quota exceeded"),
         _ => None,
     }
 }
@@ -40,14 +47,6 @@ pub fn print_why<W: Write>(writer: &mut W, reason: u32) -> io::Result<()>
         Some(words) => writeln!(writer, ": {words}"),
         None => writeln!(writer, ": error {reason}"),
     }
-}
-
-/// Prints that a file can't be read.
-pub fn print_unread<W: Write>(writer: &mut W, path: &str) -> io::Result<()>
-    ensures { OnOk result
-        (Appends (W.contents writer.old) (W.contents writer.new) (spec.unread_text path.now)) }
-{
-    write!(writer, "roam: {path}")
 }
 
 /// Prints which line of that file isn't UTF-8, and ends the line.

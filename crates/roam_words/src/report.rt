@@ -48,6 +48,20 @@ pub enum Fault<'a> {
         /// The path of the socket.
         path: &'a str,
     },
+    /// A server doesn't answer in time what it is asked for through its control socket, and may still do it.
+    Late {
+        /// The path of the socket.
+        path: &'a str,
+        /// For how many seconds it was waited for.
+        seconds: u64,
+    },
+    /// A server that is asked to stop through its control socket hasn't ended in time.
+    StillServes {
+        /// The path of the socket.
+        path: &'a str,
+        /// For how many seconds its end was waited for.
+        seconds: u64,
+    },
     /// The answer of a server through its control socket was cut. What came of it is printed.
     Cut {
         /// The path of the socket.
@@ -93,6 +107,13 @@ pub enum Fault<'a> {
         path: SocketPath,
         /// The number of the system's error, or 0.
         reason: u32,
+    },
+    /// A server can't keep its sessions in a file.
+    State {
+        /// The path of the file, or its first 107 octets.
+        path: SocketPath,
+        /// Why not.
+        why: &'static str,
     },
     /// A server may not have as many descriptors as it wants.
     Descriptors {
@@ -142,6 +163,7 @@ impl<'a> Fault<'a> {
             ServeFault::Seed => Fault::Seed,
             ServeFault::Bind(endpoint, Reason(reason)) => Fault::Bind { endpoint, reason },
             ServeFault::Control(path, Reason(reason)) => Fault::Control { path, reason },
+            ServeFault::State(path, why) => Fault::State { path, why },
             ServeFault::Descriptors(wanted) => Fault::Descriptors { wanted },
             ServeFault::Wait(Reason(reason)) => Fault::Wait { reason },
             ServeFault::Thread => Fault::Thread,

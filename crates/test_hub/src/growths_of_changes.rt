@@ -49,7 +49,7 @@ fn follow_is_refused<'r, R: Abort + Wait>(
         let blanks = blanks(rt, over, old.shards);
         let mut shards = paused::<_, Brand, R>(rt, over, old, starts, blanks);
         over.refuse_nth(n);
-        if follow(over, old, new, &mut shards).is_ok() {
+        if follow(over, old, new, &mut shards, true).is_ok() {
             return !over.was_refused() && stands(rt, over, new, shards);
         }
         if !over.was_refused() || !stands(rt, over, old, shards) {

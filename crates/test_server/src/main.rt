@@ -31,6 +31,7 @@ fn options<'s, 't, R>(stage: &'s Stage<'t, R>, row: Row) -> ServeOptions<'s, Tur
             told_exchanges: ExchangeLines::OfAll,
             stations: StationForm::Clear,
             state: None,
+            order: None,
         },
         milliseconds: Some(row.milliseconds()),
         gate: &stage.turnstile,

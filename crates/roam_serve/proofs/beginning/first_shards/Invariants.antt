@@ -1,7 +1,8 @@
 use Rattle.roam_conf.specs.Shown.{shown}
+use Rattle.roam_ledgers.specs.Shown.{shown_items}
 use Rattle.roam_serve.proofs.BeginLemmas.{HaveBegunSoFar}
 use Rattle.roam_serve.proofs.beginning.first_shards.Given as goal
 
 -- so many shards began
 abbrev pub invariant-loop-shard : goal.invariant-loop-shard
-invariant-loop-shard l = HaveBegunSoFar (shown l.config) l.shards.items l.shard
+invariant-loop-shard l = HaveBegunSoFar (shown l.config) (shown_items l.items) l.shards.items l.shard

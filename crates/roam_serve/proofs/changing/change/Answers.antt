@@ -1,6 +1,7 @@
 -- The shards follow, or all is as it was.
 use Rattle.std.proofs.Common.{inl, inr, refl}
-use Rattle.roam_serve.proofs.ServedLemmas.{on-changed, on-still}
+use Rattle.roam_conf.specs.Shown.{shown}
+use Rattle.roam_serve.proofs.ServedLemmas.{on-changed, on-still, way-declined}
 use Rattle.roam_serve.proofs.changing.change.Goals as goal
 
 pub returns-in-Ok-clause-shards : goal.returns-in-Ok-clause-shards
@@ -21,3 +22,11 @@ returns-in-Ok-clause-goes_on g c =
 
 pub returns-in-Err-clause-goes_on : goal.returns-in-Err-clause-goes_on
 returns-in-Err-clause-goes_on g c = on-still _ _ _ c.requires.paused c.in-Err.ensures.err
+
+pub returns-in-Ok-clause-way : goal.returns-in-Ok-clause-way
+returns-in-Ok-clause-way g c = c.in-Ok.ensures.guarded
+
+pub returns-in-Err-clause-way : goal.returns-in-Err-clause-way
+returns-in-Err-clause-way g c =
+    rw c.declined-way.ensures (way-declined c.args.next.is_agreed (shown c.args.configured.now.config)
+    (shown c.args.next.configured.config) c.args.shards.now.items c.in-Err.why c.in-Err.ensures.declined)

@@ -2,5 +2,5 @@
 use Rattle.roam_conf.specs.Shown.{shown}
 use Rattle.roam_serve.proofs.serving.serve_changed.Goals as goal
 
-pub returns-in-None-clause-ok : goal.returns-in-None-clause-ok
-returns-in-None-clause-ok g c = c.not_started.ensures (shown c.args.configured.now.config) c.requires.paused
+pub returns-in-NoMemory-clause-ok : goal.returns-in-NoMemory-clause-ok
+returns-in-NoMemory-clause-ok g c = c.not_started.ensures (shown c.args.configured.now.config) c.requires.paused

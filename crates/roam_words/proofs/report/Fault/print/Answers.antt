@@ -10,6 +10,27 @@ returns-in-Unreadable g c = rw c.in-Unreadable.is c.print_unreadable.ensures
 pub returns-in-NotText : goal.returns-in-NotText
 returns-in-NotText g c = rw c.in-NotText.is c.print_not_text.ensures
 
+pub returns-in-MayNotFollow : goal.returns-in-MayNotFollow
+returns-in-MayNotFollow g c = rw c.in-MayNotFollow.is c.print_about.ensures
+
+pub returns-in-Misstated : goal.returns-in-Misstated
+returns-in-Misstated g c = rw c.in-Misstated.is c.print_about-in-Misstated.ensures
+
+pub returns-in-Unanswered : goal.returns-in-Unanswered
+returns-in-Unanswered g c = rw c.in-Unanswered.is c.print_about-in-Unanswered.ensures
+
+pub returns-in-Cut : goal.returns-in-Cut
+returns-in-Cut g c = rw c.in-Cut.is c.print_about-in-Cut.ensures
+
+pub returns-in-Declined : goal.returns-in-Declined
+returns-in-Declined g c = rw c.in-Declined.is c.print_about-in-Declined.ensures
+
+pub returns-in-Late : goal.returns-in-Late
+returns-in-Late g c = rw c.in-Late.is c.print_late.ensures
+
+pub returns-in-StillServes : goal.returns-in-StillServes
+returns-in-StillServes g c = rw c.in-StillServes.is c.print_still.ensures
+
 pub returns-in-Refused : goal.returns-in-Refused
 returns-in-Refused g c = rw c.in-Refused.is c.print_refused.ensures
 

@@ -1,0 +1,74 @@
+//! What a server is sent that is asked something, and for how long its answer is waited for.
+
+ghost use Rattle.std.specs.Prelude.{◌≡◌};
+ghost use Rattle.roam_commands.specs.Waits.{changes, seconds_of};
+
+use roam_words::ControlOrder;
+use std::io;
+use std::io::Write;
+
+/// How long it waits for an answer to what only looks, in seconds.
+const PATIENCE: u64 = 10;
+
+/// How long it waits for an answer to what changes something, in seconds: as long as a server may take to end. That it
+/// is asked to stop a server answers at once.
+const LONG_PATIENCE: u64 = 30;
+
+/// Returns whether what is asked for changes the server, or lets go of what it stores.
+pub fn changes(order: ControlOrder) -> bool
+    ensures { result ≡ changes order }
+{
+    match order {
+        ControlOrder::Status
+        | ControlOrder::StatusAsJson
+        | ControlOrder::Watch
+        | ControlOrder::Metrics => false,
+        ControlOrder::Stop
+        | ControlOrder::Reload
+        | ControlOrder::ReloadAndLose
+        | ControlOrder::Trace(_) => true,
+    }
+}
+
+/// Returns for how many seconds an answer is waited for.
+pub fn seconds_of(order: ControlOrder) -> u64
+    ensures { result ≡ seconds_of order }
+{
+    if changes(order) {
+        LONG_PATIENCE
+    } else {
+        PATIENCE
+    }
+}
+
+/// Asks for the stored steps of a shard.
+pub fn ask_for_trace<W: Write>(stream: &mut W, shard: u16) -> io::Result<()> {
+    write!(
+        stream,
+        "GET /trace?shard={shard} HTTP/1.1\r\nHost: roam\r\nConnection: close\r\n\r\n"
+    )
+}
+
+/// What is sent, where it is always the same.
+pub fn question(order: ControlOrder) -> &'static [u8] {
+    match order {
+        ControlOrder::Trace(_) => b"",
+        ControlOrder::Status | ControlOrder::Watch => {
+            b"GET /status HTTP/1.1\r\nHost: roam\r\nConnection: close\r\n\r\n"
+        }
+        ControlOrder::StatusAsJson => {
+            b"GET /status.json HTTP/1.1\r\nHost: roam\r\nConnection: close\r\n\r\n"
+        }
+        ControlOrder::Metrics =>
+            b"GET /metrics HTTP/1.1\r\nHost: roam\r\nConnection: close\r\n\r\n",
+        ControlOrder::Stop => {
+            b"POST /stop HTTP/1.1\r\nHost: roam\r\nContent-Length: 0\r\nConnection: close\r\n\r\n"
+        }
+        ControlOrder::Reload => {
+            b"POST /reload HTTP/1.1\r\nHost: roam\r\nContent-Length: 0\r\nConnection: close\r\n\r\n"
+        }
+        ControlOrder::ReloadAndLose => {
+            b"POST /reload?lose HTTP/1.1\r\nHost: roam\r\nContent-Length: 0\r\nConnection: close\r\n\r\n"
+        }
+    }
+}
