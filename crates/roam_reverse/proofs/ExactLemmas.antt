@@ -62,12 +62,11 @@ module _ (q : Asked) (there : is_some q.id ≡ true) where
   both-counted xs = parted-counted (agrees q) (exactly q) (agrees_grouped q) xs parted
 
 -- how many are found by all that they are
-pub exact-counted : (q : Asked) (F : ℕ → Option Session) (p : PlainGroups) → IsGrouped (whole_rows F) p
-    → count_of p (row_text q) ≡ length (filter (exactly q) (all_listed F))
+pub exact-listed : (q : Asked) (F : ℕ → Option Session)
+    → length (all_listed (in_group (whole_rows F) (row_text q))) ≡ length (filter (exactly q) (all_listed F))
 unfolding passing
-exact-counted q F p grouped =
-    count-is (whole_rows F) p (row_text q) grouped
-    ∙ listed-count (exactly q) F (in_group (whole_rows F) (row_text q)) 0 tickets_end same
+exact-listed q F =
+    listed-count (exactly q) F (in_group (whole_rows F) (row_text q)) 0 tickets_end same
   where
     same : (u : ℕ) → is_some (in_group (whole_rows F) (row_text q) u) ≡ passing (exactly q) (F u)
     same u = by (F u) refl
@@ -81,3 +80,7 @@ exact-counted q F p grouped =
               | inl is ↦ rw is refl
               | inr isnt ↦ rw isnt refl
             ]
+
+pub exact-counted : (q : Asked) (F : ℕ → Option Session) (p : PlainGroups) → IsGrouped (whole_rows F) p
+    → count_of p (row_text q) ≡ length (filter (exactly q) (all_listed F))
+exact-counted q F p grouped = count-is (whole_rows F) p (row_text q) grouped ∙ exact-listed q F

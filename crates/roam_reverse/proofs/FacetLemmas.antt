@@ -9,7 +9,7 @@ use Rattle.roam_reverse.specs.Maps.{groups_of}
 use Rattle.roam_reverse.specs.Private.Groups.{AreEndsOf, Comes, Goes, IsGrouped, PlainGroups, count_of, if_row, in_group, oldest_of}
 use Rattle.roam_reverse.specs.Private.Masks.{agrees_grouped, mask_of}
 use Rattle.roam_reverse.specs.Private.Row.{row_text, row_under}
-use Rattle.roam_reverse.specs.Private.Tickets.{IsOneOf, all_listed}
+use Rattle.roam_reverse.specs.Private.Tickets.{IsOneOf, NoneBefore, all_listed}
 use Rattle.roam_reverse.specs.Sessions.{Asked, Session}
 use Rattle.roam_reverse.specs.declared.asked.Mask.{Mask}
 use Rattle.roam_reverse.specs.declared.ends.Ends.{Ends}
@@ -163,3 +163,17 @@ module _ (q : Asked) (F : ℕ → Option Session) where
           | inr disagree ↦ disagree
         ])
         by (Some e) is ends = rw is (held-agrees e.oldest ends.oldest.held)
+
+    pub none-before : NoneBefore (agrees_grouped q) F (oldest_of p (row_text q))
+    none-before = by (p.ends (row_text q)) refl (grouped.ends (row_text q))
+      where
+        by : (o : Option Ends) → p.ends (row_text q) ≡ o → AreEndsOf (rows_under (mask_of q) F) (row_text q) o
+            → NoneBefore (agrees_grouped q) F (oldest_of p (row_text q))
+        by None is none = rw is tt
+        by (Some e) is ends = rw is (λ u x lt at. elim (cases_Bool (agrees_grouped q x)) [
+          | inl agree ↦ absurd (
+              let k = agrees-held u x at agree in
+              let l = ends.oldest.none_before u (omega arith) lt in
+              cc (k, l))
+          | inr disagree ↦ disagree
+        ])

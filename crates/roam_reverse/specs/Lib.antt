@@ -7,6 +7,7 @@ pub mod Parts
 pub mod Maps
 pub mod Facets
 pub mod Stands
+pub mod Ended
 pub mod Causes
 pub mod TargetLaws
 pub mod SessionLaws

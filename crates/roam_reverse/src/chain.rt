@@ -3,8 +3,8 @@
 ghost use Rattle.std.specs.Prelude.{◌≡◌, ◌≢◌, ℕ, ◌+◌, ◌-◌, ◌<◌, ◌≤◌, [], ◌∷◌, ◌++◌, false, true};
 ghost use Rattle.std.specs.Prelude.{None, Some, IsOk, IsSome, OnOk, OnErr, filter, is_some, length};
 ghost use Rattle.std.specs.Prelude.{option_map};
-ghost use Rattle.roam_reverse.specs.Private.Tickets.{IsTicketOf};
-ghost use Rattle.roam_reverse.specs.Sessions.{agrees, has_most, has_session, within, without_agreeing, without_first};
+ghost use Rattle.roam_reverse.specs.Private.Tickets.{IsOneOf, IsTicketOf, NoneBefore};
+ghost use Rattle.roam_reverse.specs.Sessions.{agrees, has_most, within, without_first};
 ghost use Rattle.roam_reverse.specs.Kept.{kept_session, shown_asked, shown_session};
 ghost use Rattle.roam_reverse.specs.Parts.{shown_parts};
 ghost use Rattle.roam_reverse.specs.Stands.{IsSound, session_at, session_count, sessions_of};
@@ -110,12 +110,11 @@ impl<A: Allocator + Copy> Chain<A> {
         self.whole.oldest(Row::of(session.asked()).as_slice())
     }
 
-    /// Whether a session is there that is to be opened: by the row that it has.
-    pub(crate) fn holds(&self, new: &NewSession<A>) -> bool
-        ensures { IsSound self.now
-            → result ≡ has_session (kept_session new.now.session) (sessions_of self.now) }
+    /// The ticket of a session that is to be opened, where it is there: by the row that it has.
+    pub(crate) fn find_new(&self, new: &NewSession<A>) -> Option<u64>
+        ensures { IsSound self.now → IsTicketOf (kept_session new.now.session) (session_at self.now) result }
     {
-        self.whole.oldest(new.whole.as_slice()).is_some()
+        self.whole.oldest(new.whole.as_slice())
     }
 
     /// How many sessions agree with what is asked, which names an id.
@@ -137,6 +136,8 @@ impl<A: Allocator + Copy> Chain<A> {
         ensures succeeds { 0 < self.old.spare → IsOk result }
         ensures err { OnErr result (self.new.spare ≡ self.old.spare) }
         ensures sessions { sessions_of self.new ≡ sessions_of self.old }
+        ensures rows { session_at self.new ≡ session_at self.old }
+        ensures next { self.new.next ≡ self.old.next }
         ensures count { session_count self.new ≡ session_count self.old }
     {
         if self.spare > 0 {
@@ -161,6 +162,9 @@ impl<A: Allocator + Copy> Chain<A> {
         ensures sound { IsSound self.new }
         ensures sessions { sessions_of self.new
             ≡ sessions_of self.old ++ kept_session new.session ∷ [] }
+        ensures puts { PutsAt (session_at self.old) (session_at self.new) self.old.next
+            (Some (kept_session new.session)) }
+        ensures next { self.new.next ≡ self.old.next + 1 }
         ensures count { session_count self.new ≡ session_count self.old + 1 }
     {
         let ticket = self.next;
@@ -178,6 +182,7 @@ impl<A: Allocator + Copy> Chain<A> {
         requires held { IsSome (session_at self.old ticket) }
         ensures sound { IsSound self.new }
         ensures sessions { PutsAt (session_at self.old) (session_at self.new) ticket None }
+        ensures next { self.new.next ≡ self.old.next }
         ensures count { session_count self.new + 1 ≡ session_count self.old }
         ensures room { self.new.spare ≡ self.old.spare }
     {
@@ -216,19 +221,14 @@ impl<A: Allocator + Copy> Chain<A> {
         }
     }
 
-    /// Takes all sessions out that agree with what is asked, which names no id. Looks at no other one.
-    pub(crate) fn remove_agreeing(&mut self, asked: AskedRef<'_>)
-        requires sound { IsSound self.old }
-        requires no_id { (shown_asked asked).id ≡ None }
-        ensures sound { IsSound self.new }
-        ensures sessions { sessions_of self.new
-            ≡ without_agreeing (shown_asked asked.entry) (sessions_of self.old) }
-        ensures count { session_count self.new ≤ session_count self.old }
-        ensures room { self.new.spare ≡ self.old.spare }
+    /// The ticket of the oldest session that agrees with what is asked, which names no id. Looks at no other one.
+    pub(crate) fn oldest(&self, asked: AskedRef<'_>) -> Option<u64>
+        ensures agrees { IsSound self.now → (shown_asked asked.entry).id ≡ None
+            → IsOneOf (agrees (shown_asked asked.entry)) (session_at self.now) result }
+        ensures first { IsSound self.now → (shown_asked asked.entry).id ≡ None
+            → NoneBefore (agrees (shown_asked asked.entry)) (session_at self.now) result }
     {
-        while let Some(ticket) = self.of_peer.oldest(asked) {
-            self.remove(ticket);
-        }
+        self.of_peer.oldest(asked)
     }
 
     /// How many sessions agree with what is asked, which names no id.
@@ -244,6 +244,16 @@ impl<A: Allocator + Copy> Chain<A> {
         match tickets.extend_from_slice(self.by_ticket.keys().as_slice()) {
             Ok(()) => Ok(()),
             Err(_) => Err(NoMemory),
+        }
+    }
+
+    /// The session of a ticket, where it lies.
+    pub(crate) fn session(&self, ticket: u64) -> Option<SessionRef<'_>>
+        ensures { option_map shown_session result ≡ session_at self.now ticket }
+    {
+        match self.by_ticket.get(&ticket) {
+            Some(session) => Some(session.lend()),
+            None => None,
         }
     }
 

@@ -5,7 +5,7 @@ ghost use Rattle.roam_reverse.specs.Facets.{AreFaceted, ComesIn, FacetsHaveRoom,
 ghost use Rattle.roam_reverse.specs.Private.Groups.{Goes, IsGrouped, IsLargest};
 ghost use Rattle.roam_reverse.specs.Private.Masks.{agrees_grouped};
 ghost use Rattle.roam_reverse.specs.Private.Row.{row_under};
-ghost use Rattle.roam_reverse.specs.Private.Tickets.{IsOneOf, all_listed};
+ghost use Rattle.roam_reverse.specs.Private.Tickets.{IsOneOf, NoneBefore, all_listed};
 ghost use Rattle.roam_reverse.specs.Sessions.{Session};
 ghost use Rattle.roam_reverse.specs.Kept.{shown_asked, shown_session};
 ghost use Rattle.roam_reverse.specs.Maps.{HasRoom, groups_of};
@@ -220,7 +220,7 @@ impl<A: Allocator + Copy> Facets<A> {
     }
 
     /// The groups in which sessions are found by the names that are asked for.
-    fn groups_for(&self, asked: AskedRef<'_>) -> &Groups<A>
+    pub(crate) fn groups_for(&self, asked: AskedRef<'_>) -> &Groups<A>
         ensures { result.now ≡ facet_of (shown_asked asked.entry) self.now }
     {
         match (asked.nas.address, asked.nas.identifier, asked.nas.ipv6) {
@@ -247,9 +247,12 @@ impl<A: Allocator + Copy> Facets<A> {
     /// The ticket of the oldest session of these groups that agrees with what is asked, which names an id just where
     /// the groups do.
     pub(crate) fn oldest(&self, asked: AskedRef<'_>) -> Option<u64>
-        ensures { (F : ℕ → Option Session) → AreFaceted F self.now
+        ensures agrees { (F : ℕ → Option Session) → AreFaceted F self.now
             → is_some (shown_asked asked.entry).id ≡ self.now.with_id
             → IsOneOf (agrees_grouped (shown_asked asked.entry)) F result }
+        ensures first { (F : ℕ → Option Session) → AreFaceted F self.now
+            → is_some (shown_asked asked.entry).id ≡ self.now.with_id
+            → NoneBefore (agrees_grouped (shown_asked asked.entry)) F result }
     {
         self.groups_for(asked).oldest(Row::of(asked).as_slice())
     }

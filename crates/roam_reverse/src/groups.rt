@@ -2,7 +2,7 @@
 //! than another, and whatever is asked of a group costs the same however many there are.
 
 ghost use Rattle.std.specs.Prelude.{◌≡◌, ℕ, ◌<◌, ◌+◌, List, Option, None, Some, IsOk, OnOk, option_map};
-ghost use Rattle.roam_reverse.specs.Private.Groups.{Comes, Goes, IsGrouped, IsLargest, count_of, oldest_of};
+ghost use Rattle.roam_reverse.specs.Private.Groups.{Comes, Goes, IsGrouped, IsLargest, count_of, newer_of, oldest_of};
 ghost use Rattle.roam_reverse.specs.Maps.{HasRoom, groups_of};
 
 use crate::ends::{Ends, GroupEnds, ends_behind, ends_left, ends_of, larger, newest_of, note, set};
@@ -56,6 +56,16 @@ impl<A: Allocator + Copy> Groups<A> {
         match ends_of(&self.ends, row) {
             None => None,
             Some(ends) => Some(ends.oldest),
+        }
+    }
+
+    /// The next newer number of the group of a number.
+    pub(crate) fn newer(&self, number: u64) -> Option<u64>
+        ensures { result ≡ newer_of (groups_of self.now) number }
+    {
+        match self.beside.get(&number) {
+            Some(beside) => beside.newer,
+            None => None,
         }
     }
 

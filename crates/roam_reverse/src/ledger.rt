@@ -9,10 +9,10 @@ ghost use Rattle.roam_reverse.specs.Shown.{HasRoomFor, IsClosing};
 
 use crate::accounting::{Said, said_by};
 use crate::asked::{AskedRef, SessionRef, counted_nas, no_nas};
-use crate::chain::Chain;
 use crate::open_session::NewSession;
 use crate::session::{Change, NasArray, PreparedChange, SessionArray};
 use crate::short_copies::first_short;
+use crate::table::Table;
 use roam_hash::HashKey;
 use roam_wire::attribute_type::ACCT_SESSION_ID;
 use roam_wire::{NoMemory, View};
@@ -25,7 +25,7 @@ pub struct Sessions<A: Allocator> {
     alloc: A,
     limit: u32,
     /// It lies by itself, so that a ledger is small where it is moved.
-    pub(crate) chain: Box<Chain<A>, A>,
+    pub(crate) table: Box<Table<A>, A>,
 }
 
 impl<A: Allocator> Drop for Sessions<A> {
@@ -33,9 +33,9 @@ impl<A: Allocator> Drop for Sessions<A> {
         let Self {
             alloc,
             limit: _,
-            chain,
+            table,
         } = self;
-        drop(chain);
+        drop(table);
         drop(alloc);
     }
 }
@@ -43,17 +43,18 @@ impl<A: Allocator> Drop for Sessions<A> {
 impl<A: Allocator> Model for Sessions<A> {
     ghost use Rattle.std.specs.Prelude.{◌≤◌};
     ghost use Rattle.roam_reverse.specs.Shown.{Ledger};
-    ghost use Rattle.roam_reverse.specs.Stands.{IsSound, session_count, sessions_of};
+    ghost use Rattle.roam_reverse.specs.Ended.{IsTable, open_sessions};
+    ghost use Rattle.roam_reverse.specs.Stands.{session_count};
 
     ghost Value = { Ledger };
 
     ghost view = { λ l. record {
       limit = l.limit;
-      sessions = sessions_of l.chain.value;
-      spare = l.chain.value.spare;
+      sessions = open_sessions l.table.value;
+      spare = l.table.value.chain.spare;
     } };
 
-    ghost invariant = { λ l. IsSound l.chain.value × (session_count l.chain.value ≤ l.limit) };
+    ghost invariant = { λ l. IsTable l.table.value × (session_count l.table.value.chain ≤ l.limit) };
 }
 
 impl<A: Allocator + Copy> Sessions<A> {
@@ -63,11 +64,11 @@ impl<A: Allocator + Copy> Sessions<A> {
         ensures limit { IfOk result (λ ledger. ledger.limit ≡ limit) }
         ensures sessions { IfOk result (λ ledger. ledger.sessions ≡ []) }
     {
-        match Box::new(alloc, Chain::new(alloc, key)) {
-            Ok(chain) => Ok(Sessions {
+        match Box::new(alloc, Table::new(alloc, key)) {
+            Ok(table) => Ok(Sessions {
                 alloc,
                 limit,
-                chain,
+                table,
             }),
             Err(_) => Err(NoMemory),
         }
@@ -78,7 +79,7 @@ impl<A: Allocator + Copy> Sessions<A> {
         ensures limit { self.new.limit ≡ limit }
         ensures sessions { self.new.sessions ≡ [] }
     {
-        *self.chain = Chain::new(self.alloc, key);
+        *self.table = Table::new(self.alloc, key);
         self.limit = limit;
     }
 
@@ -86,7 +87,7 @@ impl<A: Allocator + Copy> Sessions<A> {
     pub fn len(&self) -> usize
         ensures { result ≡ length self.now.sessions }
     {
-        self.chain.len()
+        self.table.len()
     }
 
     /// Whether a session is open. Takes no memory.
@@ -94,14 +95,14 @@ impl<A: Allocator + Copy> Sessions<A> {
         ensures found { result ≡ has_session (shown_session session.entry) self.now.sessions }
         ensures ledger { IsLedger self.now.limit self.now.sessions }
     {
-        self.chain.find(session).is_some()
+        self.table.find(session).is_some()
     }
 
     /// Whether a session is open that is to be opened. Takes no memory.
     fn holds(&self, new: &NewSession<A>) -> bool
         ensures { result ≡ has_session (kept_session new.now.session) self.now.sessions }
     {
-        self.chain.holds(new)
+        self.table.holds(new)
     }
 
     /// How many sessions agree with what is asked, which names an id. Takes no memory.
@@ -109,7 +110,7 @@ impl<A: Allocator + Copy> Sessions<A> {
         requires { is_some (shown_asked asked).id ≡ true }
         ensures { result ≡ length (filter (agrees (shown_asked asked.entry)) self.now.sessions) }
     {
-        self.chain.count(asked)
+        self.table.count(asked)
     }
 
     /// Makes all growth that the change by an Accounting-Request of a peer wants, where names of access servers
@@ -163,7 +164,7 @@ impl<A: Allocator + Copy> Sessions<A> {
             });
         }
         let new = NewSession::copy_of(self.alloc, session)?;
-        self.chain.reserve()?;
+        self.table.reserve()?;
         Ok(PreparedChange {
             change: Change::Opens(new),
         })
@@ -175,6 +176,7 @@ impl<A: Allocator + Copy> Sessions<A> {
         ensures limit { self.new.limit ≡ self.old.limit }
         ensures sessions { self.new.sessions ≡ changed self.old.limit prepared self.old.sessions }
     {
+        self.free_some();
         match prepared.change {
             Change::Opens(new) => self.open(new),
             Change::Closes(session) => self.close(session.lend()),
@@ -220,6 +222,13 @@ impl<A: Allocator + Copy> Sessions<A> {
         }
     }
 
+    /// Frees some of the sessions that an Accounting-On ended, which aren't open.
+    fn free_some(&mut self)
+        ensures { self.new ≡ self.old }
+    {
+        self.table.free_some();
+    }
+
     /// Adds a session where there is room, last: where there is then one more than may be, the oldest of the peer
     /// that has most goes.
     fn open(&mut self, new: NewSession<A>)
@@ -231,8 +240,7 @@ impl<A: Allocator + Copy> Sessions<A> {
         if self.holds(&new) || self.limit == 0 {
             return;
         }
-        self.chain.append(new);
-        self.chain.keep_within(self.limit as usize);
+        self.table.open(new, self.limit as usize);
     }
 
     /// Takes a session out.
@@ -241,8 +249,8 @@ impl<A: Allocator + Copy> Sessions<A> {
         ensures sessions { self.new.sessions
             ≡ without_session (shown_session session.entry) self.old.sessions }
     {
-        if let Some(ticket) = self.chain.find(session) {
-            self.chain.remove(ticket);
+        if let Some(ticket) = self.table.find(session) {
+            self.table.take(ticket);
         }
     }
 
@@ -253,7 +261,7 @@ impl<A: Allocator + Copy> Sessions<A> {
         ensures sessions { self.new.sessions
             ≡ without_agreeing (shown_asked asked.entry) self.old.sessions }
     {
-        self.chain.remove_agreeing(asked);
+        self.table.end_agreeing(asked);
     }
 
     /// Takes all sessions of a peer out, as one that went. Takes no memory.
@@ -275,7 +283,7 @@ impl<A: Allocator + Copy> Sessions<A> {
         // So where the limit is no less, none goes.
         ensures few { length self.old.sessions ≤ self.old.limit }
     {
-        self.chain.keep_newest(limit as usize);
+        self.table.keep_newest(limit as usize);
         self.limit = limit;
     }
 
@@ -283,10 +291,6 @@ impl<A: Allocator + Copy> Sessions<A> {
     pub fn count_of(&self, peer: u16) -> usize
         ensures { result ≡ count_of_peer peer self.now.sessions }
     {
-        self.chain.count_of_peer(AskedRef {
-            peer,
-            nas: no_nas(),
-            id: None,
-        })
+        self.table.count_of_peer(peer)
     }
 }

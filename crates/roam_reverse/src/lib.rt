@@ -5,6 +5,10 @@
 //! takes memory, and a change of it can be prepared: then all its growth is made before anything
 //! changes.
 //!
+//! The ledger is the list of the sessions that are open. Its rows (`chain`) may be more: those that an Accounting-On ended
+//! are marked by it (`ended`), aren't found any more (`table`), and are freed by the changes that follow, two by each
+//! (`freeing`). So an Accounting-On takes the time of one request, however many sessions it ends.
+//!
 //! # Proved
 //!
 //! - which access server a reverse request is for: the one that its Operator-Name names, else the one that its
@@ -23,9 +27,12 @@
 mod accounting;
 mod asked;
 mod chain;
+mod counting;
+mod ended;
 mod ends;
 pub mod error_cause;
 mod facets;
+mod freeing;
 mod groups;
 mod kept_row;
 mod laws;
@@ -39,6 +46,7 @@ mod row;
 mod session;
 mod short;
 mod short_copies;
+mod table;
 
 pub use error_cause::route_of;
 pub use laws::{

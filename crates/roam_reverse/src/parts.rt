@@ -117,13 +117,13 @@ impl<A: Allocator + Copy> Sessions<A> {
 
     /// Adds the tickets of the sessions that are open, which rise in the order in which these were opened.
     pub fn add_tickets(&self, tickets: &mut Vec<u64, A>) -> Result<(), NoMemory> {
-        self.chain.add_tickets(tickets)
+        self.table.add_tickets(tickets)
     }
 
     /// The session of a ticket, where that is still open. Takes no memory.
     pub fn parts_of(&self, ticket: u64) -> Option<SessionParts<'_>>
         ensures { IfSome result (λ parts. has_session (shown_parts parts) self.now.sessions ≡ true) }
     {
-        self.chain.parts_of(ticket)
+        self.table.parts_of(ticket)
     }
 }

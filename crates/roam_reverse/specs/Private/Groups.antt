@@ -1,5 +1,5 @@
 -- Numbers in groups, each group a chain of its numbers in rising order (ours).
-use Rattle.std.specs.Prelude.{◌≡◌, ◌⊎◌, ℕ, ◌+◌, ◌-◌, ◌^◌, ◌<◌, ◌≤◌, ◌==◌, ◌&&◌, min, nat_le, nat_lt, Bool, false, List, length, Option, Some, None, option_map, if◌then◌else◌}
+use Rattle.std.specs.Prelude.{◌≡◌, ◌⊎◌, ℕ, ◌+◌, ◌-◌, ◌^◌, ◌<◌, ◌≤◌, ◌==◌, ◌&&◌, min, nat_le, nat_lt, Bool, false, List, length, Option, Some, None, option_and_then, option_map, if◌then◌else◌}
 use Rattle.std.specs.Option.{option_map_or}
 use Rattle.std.specs.Str.{bytes_eq}
 use Rattle.roam_wire.specs.Numbered.{PutsAt, tickets_end}
@@ -99,6 +99,10 @@ ends_left beside ends = ends_between beside.older beside.newer ends
 -- the oldest number of a group, and how many it has
 abbrev pub oldest_of : PlainGroups → List ℕ → Option ℕ
 oldest_of groups row = option_map (λ (e : Ends). e.oldest) (groups.ends row)
+
+-- the next newer number of a number's group
+abbrev pub newer_of : PlainGroups → ℕ → Option ℕ
+newer_of groups t = option_and_then (λ (b : Beside). b.newer) (groups.beside t)
 
 abbrev pub count_of : PlainGroups → List ℕ → ℕ
 count_of groups row = option_map_or (λ (e : Ends). e.count) (groups.ends row) 0

@@ -1,6 +1,6 @@
 -- A session by some of its parts (ours).
-use Rattle.std.specs.Prelude.{◌&&◌, ◌||◌, not, Bool, Option, Some, None, is_some, is_none, if◌then◌else◌}
-use Rattle.roam_reverse.specs.Sessions.{Asked, Session, agrees}
+use Rattle.std.specs.Prelude.{ℕ, ◌==◌, ◌&&◌, ◌||◌, not, Bool, Option, Some, None, is_some, is_none, if◌then◌else◌}
+use Rattle.roam_reverse.specs.Sessions.{Asked, Nas, Session, agrees, agrees_in}
 use Rattle.roam_reverse.specs.declared.asked.Mask.{Mask}
 
 -- what is asked for a session by all that it is
@@ -52,3 +52,9 @@ mask_of q = record {
 -- a session agrees with what is asked, and is found by it in the groups by some of its parts
 abbrev pub agrees_grouped : Asked → Session → Bool
 agrees_grouped q s = not (is_some q.id && not (has_more (mask_of q) s)) && agrees q s
+
+-- an access server of a peer has the names that are asked for
+abbrev pub has_names : Asked → ℕ → Nas → Bool
+has_names q peer nas =
+    q.peer == peer && agrees_in q.nas.address nas.address && agrees_in q.nas.identifier nas.identifier
+    && agrees_in q.nas.ipv6 nas.ipv6

@@ -37,3 +37,8 @@ module _ {X : Type 0} where
   abbrev pub IsOneOf : (X → Bool) → (ℕ → Option X) → Option ℕ → Type 0
   IsOneOf test f None = (t : ℕ) (x : X) → f t ≡ Some x → test x ≡ false
   IsOneOf test f (Some t) = (x : X) × (f t ≡ Some x) × (test x ≡ true)
+
+  -- and none before that ticket does
+  abbrev pub NoneBefore : (X → Bool) → (ℕ → Option X) → Option ℕ → Type 0
+  NoneBefore test f None = Unit {0}
+  NoneBefore test f (Some t) = (u : ℕ) (x : X) → u < t → f u ≡ Some x → test x ≡ false

@@ -13,4 +13,4 @@ returns-clause-sessions g c =
 pub returns-clause-few : goal.returns-clause-few
 returns-clause-few g c =
     subst (λ (l : Ledger). length l.sessions ≤ l.limit) c.self.view_is
-    (omega (arith, c.self.invariant.0.count, c.self.invariant.1))
+    (omega (arith, c.self.invariant.0.left, c.self.invariant.1))

@@ -4,8 +4,10 @@ use Rattle.roam_reverse.specs.Parts.{shown_parts}
 use Rattle.roam_reverse.specs.Private.Tickets.{all_listed}
 use Rattle.roam_reverse.specs.Sessions.{Session, has_session}
 use Rattle.roam_reverse.specs.Shown.{Ledger}
-use Rattle.roam_reverse.specs.Stands.{AreTickets, session_at}
+use Rattle.roam_reverse.specs.Ended.{open_at}
+use Rattle.roam_reverse.specs.Stands.{AreTickets}
 use Rattle.roam_reverse.specs.declared.parts.SessionParts.{SessionParts}
+use Rattle.roam_reverse.proofs.MarkLemmas.{table-tickets}
 use Rattle.roam_reverse.proofs.SoundLemmas.{there}
 use Rattle.roam_reverse.proofs.ledger.Sessions.parts_of.Goals as goal
 
@@ -16,7 +18,8 @@ is-there F next t are (Some parts) is = sym (there F next are (shown_parts parts
 
 pub returns : goal.returns
 returns g c =
-    let chain = c.self.inside.chain.value in
+    let table = c.self.inside.table.value in
     subst (λ (l : Ledger). IfSome c.parts_of.result (λ parts. has_session (shown_parts parts) l.sessions ≡ true))
-    c.self.view_is (is-there (session_at chain) chain.next c.args.ticket c.self.invariant.0.tickets c.parts_of.result
+    c.self.view_is
+    (is-there (open_at table) table.chain.next c.args.ticket (table-tickets table c.self.invariant.0) c.parts_of.result
     (rw c.deref.ensures at c.parts_of.ensures))

@@ -4,17 +4,14 @@ use Rattle.roam_reverse.specs.Maps.{groups_of}
 use Rattle.roam_reverse.specs.Private.Groups.{oldest_of}
 use Rattle.roam_reverse.specs.Private.Tickets.{IsTicketOf}
 use Rattle.roam_reverse.specs.Stands.{session_at}
-use Rattle.roam_reverse.proofs.SoundLemmas.{there}
 use Rattle.roam_reverse.proofs.WholeLemmas.{found-whole}
-use Rattle.roam_reverse.proofs.chain.Chain.holds.Goals as goal
+use Rattle.roam_reverse.proofs.chain.Chain.find_new.Goals as goal
 
 pub returns : goal.returns
 returns g c = λ sound.
     let s = kept_session c.args.new.now.session in
     let F = session_at c.args.self.now in
     let row = c.as_slice.ensures.value ∙ c.args.new.now.whole_is in
-    c.is_some.ensures
-    ∙ there F c.args.self.now.next sound.tickets s c.oldest.result
-    (subst (λ (o : Option ℕ). IsTicketOf s F o)
+    subst (λ (o : Option ℕ). IsTicketOf s F o)
     (sym (c.oldest.ensures ∙ ap (oldest_of (groups_of c.args.self.now.whole)) row))
-    (found-whole F (groups_of c.args.self.now.whole) s sound.whole))
+    (found-whole F (groups_of c.args.self.now.whole) s sound.whole)
