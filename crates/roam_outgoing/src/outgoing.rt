@@ -1,8 +1,11 @@
 //! The packets of a thread on their way to the sockets.
 
-ghost use Rattle.std.specs.Prelude.{◌≡◌, ◌≤◌, min, true, false, IfOk};
+ghost use Rattle.std.specs.Prelude.{◌≡◌, ◌≤◌, [], ◌∷◌, min, true, false, IfOk};
 ghost use Rattle.std.specs.Vec.{vec_len};
+ghost use Rattle.roam_exchange.specs.Turn.{shown_outs};
+ghost use Rattle.roam_outgoing.specs.Sending.{PutsEach, outbox_in};
 ghost use Rattle.roam_port.specs.Outbox.{account_of, port_count, told_of};
+ghost use Rattle.roam_route.specs.Shown.{shown_out};
 
 use crate::losses::SharedLosses;
 use mio::unix::SourceFd;
@@ -97,7 +100,7 @@ fn outbox_for(
 impl<'s> Outgoing<'s> {
     /// The packets that still wait for room at a socket.
     pub fn into_outbox(self) -> Outbox<Global>
-        ensures { result ≡ self.entry.outbox }
+        ensures { result ≡ outbox_in self.entry }
     {
         let Self {
             outbox,
@@ -155,7 +158,9 @@ impl<'s> Outgoing<'s> {
     }
 
     /// Puts packets behind those that wait. Where there is no more room for one, what waits is sent first.
-    pub fn put_all(&mut self, outs: Outs<Global>) {
+    pub fn put_all(&mut self, outs: Outs<Global>)
+        ensures { PutsEach (shown_outs outs) (outbox_in self.old) (outbox_in self.new) }
+    {
         let (one, others) = outs.into_parts();
         if let Some(out) = one {
             self.put(out);
@@ -167,7 +172,9 @@ impl<'s> Outgoing<'s> {
 
     /// Puts a packet behind those that wait for its socket. Where there is no more room for it, what waits is sent
     /// first.
-    pub fn put(&mut self, out: Out<Global>) {
+    pub fn put(&mut self, out: Out<Global>)
+        ensures { PutsEach (shown_out out ∷ []) (outbox_in self.old) (outbox_in self.new) }
+    {
         let sent = self.outbox.put_sending(self.ports.as_mut_slice(), out);
         if sent != Sent::none() {
             self.settle(sent);
@@ -175,14 +182,17 @@ impl<'s> Outgoing<'s> {
     }
 
     /// Hands the packets that wait to their sockets, each once, but for those whose socket has no room: they wait on.
-    pub fn send(&mut self) {
+    pub fn send(&mut self)
+        ensures { PutsEach [] (outbox_in self.old) (outbox_in self.new) }
+    {
         let sent = self.outbox.send_all(self.ports.as_mut_slice());
         self.settle(sent);
     }
 
     /// Asks to be told when the sockets that have no room have some, and has counted what was counted of the packets.
     fn settle(&mut self, sent: Sent)
-        ensures { told_of self.new.outbox ≡ account_of self.new.outbox }
+        ensures told { told_of (outbox_in self.new) ≡ account_of (outbox_in self.new) }
+        ensures puts { PutsEach [] (outbox_in self.old) (outbox_in self.new) }
     {
         if sent.is_blocked {
             self.watch();
@@ -195,7 +205,9 @@ impl<'s> Outgoing<'s> {
     }
 
     /// Asks to be told when the sockets for which packets stand aside have room, where that wasn't asked yet.
-    fn watch(&mut self) {
+    fn watch(&mut self)
+        ensures { outbox_in self.new ≡ outbox_in self.old }
+    {
         for number in 0..self.ports.len() {
             if self.outbox.standing_of(number) == Some(Standing::Aside) {
                 self.watch_at(number);
@@ -205,7 +217,9 @@ impl<'s> Outgoing<'s> {
 
     /// Asks to be told when the socket of this number has room, where that wasn't asked yet. It is told at once where
     /// the socket has some by now.
-    fn watch_at(&mut self, number: usize) {
+    fn watch_at(&mut self, number: usize)
+        ensures { outbox_in self.new ≡ outbox_in self.old }
+    {
         let Some(port) = self.ports.get_mut(number) else {
             return;
         };
@@ -224,7 +238,9 @@ impl<'s> Outgoing<'s> {
     }
 
     /// The socket of this number may have room again: what stands aside for it is sent next.
-    fn room_came(&mut self, number: usize) {
+    fn room_came(&mut self, number: usize)
+        ensures { PutsEach [] (outbox_in self.old) (outbox_in self.new) }
+    {
         let Some(port) = self.ports.get_mut(number) else {
             return;
         };
@@ -240,7 +256,9 @@ impl<'s> Outgoing<'s> {
 
     /// Asks which sockets have room again, up to `ROOM_EVENTS`. Answers whether there were so many that there may be
     /// more.
-    fn ask_for_room(&mut self) -> bool {
+    fn ask_for_room(&mut self) -> bool
+        ensures { PutsEach [] (outbox_in self.old) (outbox_in self.new) }
+    {
         let RoomEvents { poll, events } = &mut self.room;
         if poll.poll(events, Some(Duration::ZERO)).is_err() {
             return false;
@@ -260,7 +278,9 @@ impl<'s> Outgoing<'s> {
     }
 
     /// Tries the sockets again that had no room and can't be watched.
-    fn try_unwatched(&mut self) {
+    fn try_unwatched(&mut self)
+        ensures { PutsEach [] (outbox_in self.old) (outbox_in self.new) }
+    {
         self.is_unwatched = false;
         for number in 0..self.ports.len() {
             if self
@@ -274,7 +294,9 @@ impl<'s> Outgoing<'s> {
     }
 
     /// Sends to the sockets that have room again.
-    pub fn send_again(&mut self) {
+    pub fn send_again(&mut self)
+        ensures { PutsEach [] (outbox_in self.old) (outbox_in self.new) }
+    {
         if !self.is_blocked() {
             return;
         }

@@ -144,6 +144,7 @@ impl<'s, 'c, H, N: Opened> Builder<'s, 'c, H, N> {
             datagrams: Datagrams::none(),
             now: 0,
             seconds: None,
+            free_again_at: 0,
         };
         Ok(Equipped {
             context,

@@ -27,6 +27,9 @@
 //! - from its start to its end a thread does nothing to its seat and to these counts but that, one datagram, job or
 //!   tick after the other: so each count is what it was and the sum of the increments of all that the thread did |
 //!   `receive_on`, `tick_on`: `HasWorkedTo`; law `work_is_counted`
+//! - and it puts into its outbox the packets of the answers that it was given, and the broker's own answers, in order,
+//!   each once, and no other; what waits there at its end it gives back | `WorkerContext::finish`: `sends`;
+//!   `receive_on`, `tick_on`: `HasWorkedTo`; law `work_is_sent`
 //! - which remedy there is for a call that a hub doesn't record: where the history is full it is let go of, each time;
 //!   out of memory it is, once; else the call is refused. That the same event is handed in again is the loop's code |
 //!   `remedy_for`
@@ -55,7 +58,7 @@ pub use asked::AskedAt;
 pub use context::{Remedy, WorkerContext, remedy_for};
 pub use ending::{Ended, Ending, WorkerEnd, has_given_up_after};
 pub use hub_calls::{HubCalls, SESSIONS_AT_ONCE};
-pub use laws::work_is_counted;
+pub use laws::{work_is_counted, work_is_sent};
 pub use rest::TimerRest;
 pub use rests::Rests;
 pub use shared::Shared;

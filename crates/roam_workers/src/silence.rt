@@ -37,7 +37,8 @@ fn tell_realm<R: Wait, H: HubCalls<N>, N: Opened>(
     realm: &Realm,
 )
     ensures kept { (context.new.seat ≡ context.old.seat)
-        × (counts_in context.new.counting ≡ counts_in context.old.counting) }
+        × (counts_in context.new.counting ≡ counts_in context.old.counting)
+            × (context.new.outgoing ≡ context.old.outgoing) }
 {
     if realm.rest == 0 || realm.gone {
         return;
@@ -66,7 +67,8 @@ pub fn tell_rests<R: Wait, H: HubCalls<N>, N: Opened>(
     rests: &mut Rests,
 )
     ensures kept { (context.new.seat ≡ context.old.seat)
-        × (counts_in context.new.counting ≡ counts_in context.old.counting) }
+        × (counts_in context.new.counting ≡ counts_in context.old.counting)
+            × (context.new.outgoing ≡ context.old.outgoing) }
 {
     let now = context.now;
     if now < rests.next {
