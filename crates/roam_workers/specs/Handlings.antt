@@ -137,7 +137,7 @@ pub record HasFailed (o : HubOpening) (d : Arrival) (old new : AtWork) : Type 0 
 -- gives an
 -- answer of the broker's own, or is refused, each by admission alone, and the seat has seen nothing; or it failed,
 -- where
--- admission passes it, and the seat counts nothing; or it is a request, by its code, and the server was asked to stop.
+-- admission passes it, and the seat counts nothing; or it is a request, by its code, and is dropped.
 -- The worker's own counts of events rise by just what that is: by what happens by the call's event where the steps
 -- before it end, by the answer, or by the refusal. The packets of the call's answer, or the broker's own answer, are
 -- given to be sent, in order, each once, and else nothing is.

@@ -70,7 +70,7 @@ impl<H: HubCalls<N>, N: Opened> WorkerContext<'_, '_, H, N> {
     }
 
     /// Takes a datagram, and answers what became of it, unless its job is handed on. A server that is asked to stop
-    /// takes no request.
+    /// takes no request, nor is one taken whose sender is passed over.
     fn handle<R: Wait>(
         &mut self,
         rt: &R,
@@ -88,7 +88,10 @@ impl<H: HubCalls<N>, N: Opened> WorkerContext<'_, '_, H, N> {
             ≡ at_work self.old.seat self.old.counting self.old.outgoing)) }
         ensures kept { self.new.datagrams ≡ self.old.datagrams }
     {
-        if self.shared.stopping.is_asked() && is_request(datagram.octets.as_slice()) {
+        if is_request(datagram.octets.as_slice())
+            && (self.shared.stopping.is_asked()
+                || self.junk.passes_over(datagram.from.ip, self.now))
+        {
             return Some(Handling::Dropped);
         }
         match prepare(alloc, self.shared.config, datagram) {
@@ -105,6 +108,7 @@ impl<H: HubCalls<N>, N: Opened> WorkerContext<'_, '_, H, N> {
                 let config = self.shared.config;
                 self.counting
                     .refused(config, refusal, datagram.at, datagram.from);
+                self.junk.note(datagram.from.ip, refusal, self.now);
                 self.refuse(refusal, Origin::Datagram(datagram.at, datagram.from));
                 Some(refused_as(refusal))
             }

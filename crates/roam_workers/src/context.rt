@@ -14,6 +14,7 @@ ghost use Rattle.roam_workers.specs.Ticks.{HasNotTicked, Ticks};
 use crate::asked::AskedAt;
 use crate::ending::{Ending, WorkerEnd};
 use crate::hub_calls::HubCalls;
+use crate::junk::Junk;
 use crate::shared::Shared;
 use roam_calls::{Answered, HubFault, Opened, Seat, Ticked};
 use roam_counters::Datagrams;
@@ -47,6 +48,8 @@ pub struct WorkerContext<'s, 'c, H, N: Opened> {
     pub seconds: Option<u64>,
     /// From when on stored steps are freed again for want of memory, in milliseconds since the server's start.
     pub free_again_at: u64,
+    /// Whose datagrams are looked at less.
+    pub junk: Junk,
 }
 
 // By hand, so that a proof sees one call wherever it ends, and the crates above prove nothing of it.
@@ -63,6 +66,7 @@ impl<'s, 'c, H, N: Opened> Drop for WorkerContext<'s, 'c, H, N> {
             now: _,
             seconds: _,
             free_again_at: _,
+            junk: _,
         } = self;
         drop(seat);
         drop(outgoing);
@@ -310,6 +314,7 @@ impl<H: HubCalls<N>, N: Opened> WorkerContext<'_, '_, H, N> {
             now: _,
             seconds: _,
             free_again_at: _,
+            junk: _,
         } = self;
         let end = WorkerEnd {
             ending,
