@@ -4,13 +4,15 @@ use Rattle.std.proofs.lemmas.List.{map-append}
 use Rattle.std.specs.declared.alloc.Global.{Global}
 use Rattle.roam_exchange.specs.Turn.{shown_outs}
 use Rattle.roam_port.specs.Outbox.{IsTriedAgain, PutsSending, SendsAll, account_of}
+use Rattle.roam_port.specs.Queues.{AreMore}
+use Rattle.roam_port.specs.Sharing.{share_of}
 use Rattle.roam_port.specs.declared.outbox.Outbox.{Outbox}
 use Rattle.roam_port.specs.declared.sent.Sent.{Sent}
 use Rattle.roam_route.specs.Admission.{PlainOut}
 use Rattle.roam_route.specs.Shown.{shown_out}
 use Rattle.roam_route.specs.declared.datagram.Out.{Out}
 use Rattle.roam_sockets.specs.declared.place_sockets.PlaceSockets.{PlaceSockets}
-use Rattle.roam_outgoing.specs.Sending.{DoesAll, PutsEach, Step, all_put, counts, hands, no_account, put_by, puts, tries}
+use Rattle.roam_outgoing.specs.Sending.{DoesAll, PutsEach, Step, all_put, counts, grows, hands, no_account, put_by, puts, tries}
 
 -- nothing is done
 pub puts_none : (o : Outbox Global) → PutsEach [] o o
@@ -74,6 +76,12 @@ hands_over before after sent old new did =
 pub tried_again : (socket : ℕ) (old new : Outbox Global) → IsTriedAgain socket old new → PutsEach [] old new
 tried_again socket old new did =
     record { steps = tries socket ∷ []; done = (new, did, refl); these = refl }
+
+-- there are further sockets
+pub grown : (sockets : ℕ) (old new : Outbox Global) → AreMore (share_of sockets) old.queues.items new.queues.items
+    → account_of new ≡ account_of old → PutsEach [] old new
+grown sockets old new more account =
+    record { steps = grows sockets ∷ []; done = (new, (more, account), refl); these = refl }
 
 -- the losses are counted
 pub counted : (old new : Outbox Global) → new.queues ≡ old.queues → account_of new ≡ account_of old

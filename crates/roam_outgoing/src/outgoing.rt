@@ -83,7 +83,8 @@ fn outbox_for(
     before: Outbox<Global>,
     ports: usize,
 ) -> Result<Outbox<Global>, NoMemory>
-    ensures { IfOk result (λ o. port_count o ≤ ports) }
+    ensures ports { IfOk result (λ o. port_count o ≤ ports) }
+    ensures waits { IfOk result (λ o. port_count before ≤ ports → PutsEach [] before o) }
 {
     // No configuration that may follow has fewer sockets.
     if before.port_count() > ports {
@@ -116,7 +117,8 @@ impl<'s> Outgoing<'s> {
         outbox
     }
 
-    /// The packets that wait in an outbox that another thread left, and those to come. What can be sent is sent.
+    /// The packets that wait in an outbox that another thread left, and those to come. What can be sent is sent. There
+    /// have to be as many ports as the outbox has, or what waits is lost.
     pub fn new(
         alloc: Global,
         before: Outbox<Global>,
@@ -124,7 +126,9 @@ impl<'s> Outgoing<'s> {
         losses: &'s SharedLosses,
         counts: Option<ThreadCounts<'s>>,
         room: RoomEvents,
-    ) -> Result<Outgoing<'s>, NoMemory> {
+    ) -> Result<Outgoing<'s>, NoMemory>
+        ensures { IfOk result (λ o. port_count before ≤ vec_len ports → PutsEach [] before (outbox_in o)) }
+    {
         let outbox = outbox_for(alloc, before, ports.len())?;
         let mut outgoing = Outgoing {
             outbox,
