@@ -2,7 +2,7 @@
 use Rattle.std.proofs.Common.{◌≡◌, ◌∙◌, ℕ, List, [], ◌∷◌, ◌++◌, Option, ap, refl, sym, inl, inr}
 use Rattle.std.specs.declared.alloc.Global.{Global}
 use Rattle.std.proofs.lemmas.List.Sums.{fold-append}
-use Rattle.roam_route.specs.Admission.{Arrival, PlainJob, PlainOut}
+use Rattle.roam_route.specs.Admission.{Arrival, PlainJob}
 use Rattle.roam_conf.specs.declared.exchange_lines.ExchangeLines.{ExchangeLines}
 use Rattle.roam_exchange.specs.HappeningsShown.{shown_happening}
 use Rattle.roam_calls.specs.HubOpening.{HubOpening}
@@ -18,7 +18,7 @@ use Rattle.roam_counting.specs.Counting.{wait_of}
 use Rattle.roam_counting.specs.Packets.{turn_of}
 use Rattle.roam_workers.specs.Handlings.{AtWork, FailedCounts, IsHandled, IsJobHandled, IsJobTaken}
 use Rattle.roam_workers.specs.Ticks.{HasNotTicked, Ticks}
-use Rattle.roam_outgoing.proofs.SendingLemmas.{puts_both, puts_none, puts_same}
+use Rattle.roam_outgoing.proofs.SendingLemmas.{puts_both, puts_same}
 use Rattle.roam_outgoing.specs.Sending.{PutsEach}
 use Rattle.roam_port.specs.declared.outbox.Outbox.{Outbox}
 use Rattle.roam_workers.specs.Work.{DoesOne, HasWorked, WorkIsCounted, WorkIsSent, WorkedBy, all_by, all_sent, failed_by, handled_by, job_by, one_by, sent_handled, sent_job, sent_one, sent_tick, taken_by, ticked_by}

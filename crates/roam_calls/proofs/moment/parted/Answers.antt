@@ -1,5 +1,5 @@
 -- The two moments come closer until nothing is between them.
-use Rattle.std.proofs.Common.{◌≡◌, ◌≤◌, ◌+◌, ◌-◌, ℕ, true, false, inl, inr, arith, subst}
+use Rattle.std.proofs.Common.{◌≡◌, ◌≤◌, ◌-◌, ℕ, true, false, inl, inr, arith, subst}
 use Rattle.roam_shard.specs.Turns.{NothingDue}
 use Rattle.roam_shard.specs.DueCount.{due_count}
 use Rattle.roam_calls.proofs.moment.parted.Goals as goal
