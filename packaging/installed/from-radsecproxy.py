@@ -196,11 +196,12 @@ class Conversion:
             out.put("# No line tells of an exchange, for it would have the user.", "log_exchanges = \"none\"")
             if (top.get("fticksreporting") or "none").lower() != "none":
                 out.change('F-Ticks are made of the lines of exchanges, and those are off: `log_exchanges = "final"` has them')
-        elif hides_stations:
+        if hides_users or hides_stations:
             out.put("# Stations are logged by their hash alone, with the key in station.key beside this file.", 'log_station = "hmac"')
+        if hides_stations and not hides_users:
             out.change('each exchange that ends is logged with its user, and with the hash of its station: its key (LogKey) belongs into'
                        ' station.key beside the configuration, 16 octets or more; without it no station is told')
-        else:
+        elif not hides_users:
             out.change('each exchange that ends is logged with its user and station: `log_exchanges = "none"` ends that')
 
     # Clients

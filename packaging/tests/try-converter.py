@@ -491,7 +491,7 @@ def main():
     read_addresses()
     look_over("five-hundred.conf", five_hundred(), 100, 500, [], [], roam)
     private = look_over("private.conf", "LogFullUsername off\n" + five_hundred(), 100, 500, [], [], roam)
-    want(private["log_exchanges"] == "none")
+    want((private["log_exchanges"], private["log_station"]) == ("none", "hmac"))
     hashed = look_over("hashed.conf", "LogMAC VendorKeyHashed\nLogKey salt\n" + five_hundred(), 100, 500, [], [], roam)
     want("log_exchanges" not in hashed and hashed["log_station"] == "hmac")
     named = changed(five_hundred(), "host 192.0.2.100", "host localhost")
