@@ -46,7 +46,7 @@ class Conversion:
         # Where FreeRADIUS speaks to itself, of the EAP that it opens.
         self.inner = [it for server in root.of("server") if "inner" in server.name for it in server.of("listen")]
         self.used, self.addresses, self.names = set(), set(), set()
-        self.lost_tables, self.rejects, self.reject_at, self.realms, self.taken = [], [], 0, 0, []
+        self.lost_parts, self.lost_tables, self.rejects, self.reject_at, self.realms, self.taken = [], [], [], 0, 0, []
 
     def run(self):
         self.write_top()
@@ -262,11 +262,12 @@ class Conversion:
             out.lose(f"realm {section.name}: it has no pool, and is handled there; here its names get an Access-Reject")
             self.lost_tables.append(f"realm {section.name}")
             return
-        homes = []
+        homes, lost = [], []
         for home in self.members(section, "auth_pool"):
             fault = self.fault_of_home(home) or (f"roam takes {SERVERS}" if len(homes) == SERVERS else None)
             if fault:
                 out.lose(f"realm {section.name}: home_server {home.name}: {fault}")
+                lost.append(f"home_server {home.name} of realm {section.name}")
             else:
                 homes.append(home)
         if not homes or len(reached) > ALSO or self.realms == TABLES:
@@ -275,6 +276,7 @@ class Conversion:
             return
         for note in notes:
             out.change(f"realm {section.name}: {note}")
+        self.lost_parts += lost
         self.write_table(section, reached, homes)
 
     def write_table(self, section, items, homes):
@@ -361,7 +363,7 @@ def main():
         conversion.run()
     except (Unreadable, ValueError) as error:
         sys.exit(f"from-freeradius.py: {error}")
-    closed("from-freeradius.py", conversion.out, len(conversion.addresses), conversion.realms, conversion.lost_tables)
+    closed("from-freeradius.py", conversion.out, len(conversion.addresses), conversion.realms, conversion)
 
 
 if __name__ == "__main__":

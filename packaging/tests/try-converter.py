@@ -211,7 +211,7 @@ EXPRESSIONS = [
 
 
 # What of it is lost as a whole.
-LOST = ["client of-six", "client named", "client long", "realm seven.example",
+LOST = ["the accounting of realm /\\.home\\.example$/", "client of-six", "client named", "client long", "realm seven.example",
         r"realm /^[a-k].*@half\.example$/"]
 
 
@@ -232,7 +232,7 @@ def run(words):
 
 
 def converted(path, lost):
-    """What is written and counted. Where whole clients or realms are lost, the last line names them, and the status isn't 0."""
+    """What is written and counted. Where clients, realms or parts of them are lost, lines behind it name them; where whole ones, the status isn't 0."""
     done = run([sys.executable, CONVERTER, path])
     want(done.returncode == (1 if lost else 0), done.stderr)
     counted, _, named = done.stderr.partition("\n")

@@ -137,7 +137,8 @@ home_server closing { virtual_server = inner-tunnel }
 home_server_pool second { type = keyed-balance; home_server = home-2; home_server = home-3; fallback = closing }
 home_server_pool upper { type = fail-over; home_server = upper }
 home_server_pool six { type = fail-over; home_server = of-six }
-home_server_pool both { type = fail-over; home_server = home-1; home_server = of-six }
+home_server named { type = auth; ipaddr = localhost; port = 1812; secret = of-named }
+home_server_pool both { type = fail-over; home_server = home-1; home_server = of-six; home_server = named }
 realm a.example { auth_pool = home; acct_pool = home-acct; nostrip }
 realm "~^(.*\.)*b\.example$" { pool = second }
 realm "~.*\.c\.b\.example$" { pool = second }
@@ -157,7 +158,7 @@ TOLD = [("Not carried over", what) for what in (
 TOLD += [("Changed", what) for what in (
     "client undecided: limit_proxy_state auto", "client one: a Disconnect names it by NAS-IP-Address 192.0.2.1", "its pool is of type keyed-balance",
     "FreeRADIUS strips the realm", "of IPv6: write it in place of ::1", "no Status-Server and no test user", "FreeRADIUS handles its accounting itself")]
-LOST = ["client six", "realm here.example"]
+LOST = ["client six", "realm here.example", "home_server named of realm both.example"]
 
 
 def judged_by_freeradius(directory):
