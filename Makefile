@@ -66,6 +66,7 @@ trials: scripts
 	packaging/tests/try-serve.py $(ROAM)
 	packaging/tests/try-prefixes.py $(ROAM)
 	packaging/tests/try-places.py $(ROAM)
+	packaging/tests/try-streams.py $(ROAM)
 	packaging/tests/try-control.py $(ROAM)
 	packaging/tests/try-reload.py $(ROAM)
 	packaging/tests/try-restart.py $(ROAM)

@@ -251,7 +251,7 @@ def by_program(program, name, played):
 def main():
     if len(sys.argv) > 2:
         sys.exit(__doc__)
-    names = sorted(it.removesuffix(".conf") for it in os.listdir(SAMPLES))
+    names = sorted(it.removesuffix(".conf") for it in os.listdir(SAMPLES) if it.endswith(".conf"))
     played, faults = {name: Played(name) for name in names}, []
     for number, (sample, *case) in enumerate(CASES, 1):
         wrong = played[sample].play(number, *case)
