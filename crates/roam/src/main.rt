@@ -5,7 +5,7 @@
 #![tactic(auto)]
 
 use log::Log;
-use roam_keeping::{Keeper, keep_on};
+use roam_keeping::{Keeper, KeepsFiles, keep_on};
 use roam_outlet::{LogReader, Outlet, OutletWriter, ToOutlet, log_reader, write_on};
 use roam_program::command;
 use roam_stream_program::{ask_for_streams, stream_command};
@@ -37,7 +37,7 @@ fn ask_to_serve(words: &[String]) -> bool {
 
 /// Does what the words ask for, and answers the status with which the program ends.
 fn obey<
-    R: Files + AllocGlobal + Threads + Wait + Clock + Net + RandomSource + Log + Sync,
+    R: Files + AllocGlobal + KeepsFiles + Threads + Wait + Clock + Net + RandomSource + Log + Sync,
     W: Write,
     E: Write,
 >(rt: &R, words: &[String], out: &mut W, err: &mut E) -> u8 {
