@@ -168,6 +168,7 @@ def options_of(about, conf):
     parser.add_argument("--resolve", action="store_true", help="look names of clients and servers up, now")
     parser.add_argument("--out", type=int, default=20001, help="port of the first realm's `out`")
     parser.add_argument("--reverse", type=int, help="port of the first realm's `reverse`, where there are to be any")
+    parser.add_argument("--front", metavar="FOLDER", help="where haproxy.cfg, names.map and streams.conf are written, where TLS is spoken")
     parser.add_argument("--max-pending", type=int, help="of each realm")
     return parser.parse_args()
 

@@ -159,6 +159,35 @@ TOLD += [("Changed", what) for what in (
     "client undecided: limit_proxy_state auto", "client one: a Disconnect names it by NAS-IP-Address 192.0.2.1", "its pool is of type keyed-balance",
     "FreeRADIUS strips the realm", "of IPv6: write it in place of ::1", "no Status-Server and no test user", "FreeRADIUS handles its accounting itself")]
 LOST = ["client six", "realm here.example", "home_server named of realm both.example"]
+# A proxy by TLS: who listens with it, clients within its own list, and home servers.
+OVER_TLS = r"""listen {
+  type = auth+acct
+  ipaddr = *
+  port = 2083
+  proto = tcp
+  clients = radsec
+  tls { private_key_file = /etc/ssl/own.key; certificate_file = /etc/ssl/own.pem; ca_file = /etc/ssl/ca.pem; check_crl = yes }
+}
+clients radsec {
+  client uni-a { ipaddr = 192.0.2.1; proto = tls; secret = radsec }
+  client uni-b { ipaddr = 192.0.2.2; proto = tls; shortname = second }
+}
+home_server upper {
+  type = auth+acct
+  ipaddr = upper.example
+  port = 2083
+  proto = tcp
+  secret = radsec
+  tls { private_key_file = /etc/ssl/own.key; certificate_file = /etc/ssl/own.pem; ca_file = /etc/ssl/ca.pem }
+}
+home_server home { type = auth; ipaddr = 198.51.100.9; port = 2084; proto = tcp; tls { check_cert_cn = radius.home.example } }
+home_server home-acct { type = acct; ipaddr = 198.51.100.9; port = 2084; proto = tcp; tls { check_cert_cn = radius.home.example } }
+home_server_pool upper { home_server = upper }
+home_server_pool home { home_server = home }
+home_server_pool home-acct { home_server = home-acct }
+realm home.example { auth_pool = home; acct_pool = home-acct; nostrip }
+realm DEFAULT { pool = upper; nostrip }
+"""
 
 
 def judged_by_freeradius(directory):
@@ -195,7 +224,7 @@ def agree(realm_of):
     return told
 
 
-def look_over(name, texts, roam, lost):
+def look_over(name, texts, roam, lost, look=None):
     with tempfile.TemporaryDirectory() as directory:
         for file, text in texts.items():
             with open(os.path.join(directory, file), "w", encoding="utf-8") as opened:
@@ -215,6 +244,8 @@ def look_over(name, texts, roam, lost):
                 opened.write(written)
             judged = run(roam, "check", made)
             want(judged[0] == 0, f"{name}: roam accepts it: {judged[2]}")
+        if look:
+            look(directory, paths, written)
         print(f"{name}: {said.splitlines()[0]}" + ("; read by FreeRADIUS" if is_judged else ""))
     return conf, written
 
@@ -230,6 +261,23 @@ def look_at_stock(roam):
                 made.write(written)
                 made.flush()
                 want(not roam or run(roam, "check", made.name)[0] == 0, f"roam accepts what is made of {folder}")
+
+
+def over_tls(roam):
+    """Clients and home servers that speak TLS."""
+    texts = {}
+
+    def look(directory, paths, written):
+        texts.update(converter.look_at_front(directory, written, roam, CONVERTER, paths, True))
+    conf, written = look_over("over TLS", {"proxy.conf": over_lines(OVER_TLS)}, roam, [], look)
+    want([(it["name"], it["ip"], it["secret"]) for it in conf["peer"]] == [("uni-a", "127.1.0.1", "radsec"), ("second", "127.1.0.2", "radsec")])
+    home, every = conf["realm"]
+    want(conf["auth"] == "127.0.0.1:1812" and home["out"] == "127.0.0.1:20001")
+    want(home["server"] == [{"auth": "127.2.0.1:1812", "acct": "127.2.0.1:1813", "secret": "radsec"}], f"{home['server']}")
+    want(every["server"] == [{"auth": "127.2.0.2:1812", "acct": "127.2.0.2:1813", "secret": "radsec"}], f"{every['server']}")
+    want("verifyhost radius.home.example " in texts["haproxy.cfg"] and "server home upper.example:2083 ssl" in texts["haproxy.cfg"], texts["haproxy.cfg"])
+    want("bind :2083 ssl crt /etc/roam/tls/own.pem ca-file /etc/roam/tls/ca.pem crl-file" in texts["haproxy.cfg"], texts["haproxy.cfg"])
+    want("/etc/ssl/own.pem and /etc/ssl/own.key in one file" in written and "client second" not in texts["names.map"])
 
 
 def main():
@@ -258,6 +306,7 @@ def main():
     want(conf["log_station"] == "hmac" and "18120" not in str(conf["auth"]))
     want(b["conversations"] and "conversations" not in a and a["own_sessions"] and "own_sessions" not in x and conf["max_attributes"] == 150)
     print(f"{agree(converter.realms_in_roam(conf))} names mean the same realm")
+    over_tls(roam)
     with tempfile.NamedTemporaryFile("w", suffix=".conf") as file:
         file.write('client one {\n  secret = "never shown\n}\n')
         file.flush()

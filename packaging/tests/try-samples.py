@@ -291,7 +291,7 @@ def main():
     [program] = words(__doc__, 0, 1) or [None]
     go_on()
     be_quiet()
-    names = sorted(it.removesuffix(".conf") for it in os.listdir(SAMPLES))
+    names = sorted(it.removesuffix(".conf") for it in os.listdir(SAMPLES) if it.endswith(".conf"))
     played = {name: Played(name) for name in [*names, "README"]}
     look_at_homes(played["federation"].config)
     look_at_package()
