@@ -9,6 +9,7 @@ use crate::rests::Rests;
 use crate::shared::Shared;
 use roam_calls::{Opened, SERVER_LINKS, Seat};
 use roam_conf::{Link, Realm};
+use roam_telling::Answering;
 use std::alloc::Global;
 use std::sync::Wait;
 
@@ -26,6 +27,15 @@ fn link_at(servers: usize, place: usize) -> Option<Link> {
         return Some(Link::Acct(u8::try_from(behind).ok()?, 0));
     }
     None
+}
+
+/// Returns how a home server answers that keeps silent or not, and gave so many signs of life.
+fn answering_by(is_silent: bool, signs: u64) -> Answering {
+    match (is_silent, signs) {
+        (false, _) => Answering::Again,
+        (true, 0) => Answering::Never,
+        (true, _) => Answering::Stopped,
+    }
 }
 
 /// Tells which home servers of a realm keep silent now, or answer again, where one rests that keeps silent.
@@ -53,8 +63,10 @@ fn tell_realm<R: Wait, H: HubCalls<N>, N: Opened>(
         let Some(link) = link_at(realm.servers.len(), place) else {
             return;
         };
-        let is_silent = gauges.rests[place].until.is_some();
-        if is_silent != silent[place] && context.notices.rests(number, link, is_silent) {
+        let rest = gauges.rests[place];
+        let is_silent = rest.until.is_some();
+        let answering = answering_by(is_silent, rest.signs);
+        if is_silent != silent[place] && context.notices.rests(number, link, answering) {
             silent[place] = is_silent;
         }
     }
