@@ -14,6 +14,7 @@
 //!   | `Outgoing::wait_for_room`
 #![tactic(auto)]
 
+mod carried;
 mod losses;
 mod old_history;
 mod outgoing;

@@ -1,12 +1,10 @@
 //! The packets of a thread on their way to the sockets.
 
-ghost use Rattle.std.specs.Prelude.{◌≡◌, ◌≤◌, [], ◌∷◌, min, true, false, IfOk};
+ghost use Rattle.std.specs.Prelude.{◌≤◌};
 ghost use Rattle.std.specs.Vec.{vec_len};
-ghost use Rattle.roam_exchange.specs.Turn.{shown_outs};
-ghost use Rattle.roam_outgoing.specs.Sending.{PutsEach, outbox_in};
-ghost use Rattle.roam_port.specs.Outbox.{account_of, port_count, told_of};
-ghost use Rattle.roam_route.specs.Shown.{shown_out};
+ghost use Rattle.roam_port.specs.Outbox.{port_count};
 
+use crate::carried::outbox_for;
 use crate::losses::SharedLosses;
 use mio::unix::SourceFd;
 use mio::{Events, Interest, Poll, Token};
@@ -77,28 +75,13 @@ impl<'s> Drop for Outgoing<'s> {
     }
 }
 
-/// An outbox for so many ports, in which the packets wait that waited in another one: each port is tried again.
-fn outbox_for(
-    alloc: Global,
-    before: Outbox<Global>,
-    ports: usize,
-) -> Result<Outbox<Global>, NoMemory>
-    ensures ports { IfOk result (λ o. port_count o ≤ ports) }
-    ensures waits { IfOk result (λ o. port_count before ≤ ports → PutsEach [] before o) }
-{
-    // No configuration that may follow has fewer sockets.
-    if before.port_count() > ports {
-        return Outbox::new(alloc, ports);
-    }
-    let mut outbox = before;
-    outbox.add_ports(alloc, ports)?;
-    for socket in 0..ports {
-        outbox.try_again(socket);
-    }
-    Ok(outbox)
-}
-
 impl<'s> Outgoing<'s> {
+    ghost use Rattle.std.specs.Prelude.{◌≡◌, [], ◌∷◌, min, true, false, IfOk};
+    ghost use Rattle.roam_exchange.specs.Turn.{shown_outs};
+    ghost use Rattle.roam_outgoing.specs.Sending.{PutsEach, outbox_in};
+    ghost use Rattle.roam_port.specs.Outbox.{account_of, told_of};
+    ghost use Rattle.roam_route.specs.Shown.{shown_out};
+
     /// The packets that still wait for room at a socket.
     pub fn into_outbox(self) -> Outbox<Global>
         ensures { result ≡ outbox_in self.entry }
