@@ -1,5 +1,5 @@
 -- Packets that are put, one after the other.
-use Rattle.std.proofs.Common.{◌≡◌, ◌∙◌, ℕ, List, [], ◌∷◌, ◌++◌, ap, append-nil, append_assoc, refl, subst, sym}
+use Rattle.std.proofs.Common.{◌≡◌, ◌∙◌, ℕ, List, [], ◌∷◌, ◌++◌, ap, append-nil, append_assoc, arith, length, refl, subst, sym}
 use Rattle.std.proofs.lemmas.List.{map-append}
 use Rattle.std.specs.declared.alloc.Global.{Global}
 use Rattle.roam_exchange.specs.Turn.{shown_outs}
@@ -13,6 +13,11 @@ use Rattle.roam_route.specs.Shown.{shown_out}
 use Rattle.roam_route.specs.declared.datagram.Out.{Out}
 use Rattle.roam_sockets.specs.declared.place_sockets.PlaceSockets.{PlaceSockets}
 use Rattle.roam_outgoing.specs.Sending.{DoesAll, PutsEach, Step, all_put, counts, grows, hands, no_account, put_by, puts, tries}
+
+-- where none is left, all were seen
+pub all_seen : {X : Type 0} (seen rest all : List X) → length rest ≡ 0 → seen ++ rest ≡ all → seen ≡ all
+all_seen seen [] all none is = sym (append-nil seen) ∙ is
+all_seen seen (x ∷ rest) all none is = absurd (omega (arith, none))
 
 -- nothing is done
 pub puts_none : (o : Outbox Global) → PutsEach [] o o

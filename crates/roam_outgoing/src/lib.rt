@@ -18,6 +18,7 @@ mod carried;
 mod losses;
 mod old_history;
 mod outgoing;
+mod room;
 
 pub use losses::{CAUSES, SharedLosses};
 pub use old_history::{OldHistory, Steps};
