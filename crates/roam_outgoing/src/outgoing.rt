@@ -108,7 +108,7 @@ impl<'s> Outgoing<'s> {
         counts: Option<ThreadCounts<'s>>,
         room: RoomEvents,
     ) -> Result<Outgoing<'s>, NoMemory>
-        ensures { IfOk result (λ o. port_count before ≤ vec_len ports → PutsEach [] before (outbox_in o)) }
+        ensures { IfOk result (λ o. port_count before ≤ vec_len ports.entry → PutsEach [] before (outbox_in o)) }
     {
         let outbox = outbox_for(alloc, before, ports.len())?;
         let mut outgoing = Outgoing {

@@ -11,3 +11,6 @@ loop-preserved c = puts_on [] _ _ _ c.loop.invariant c.ask_for_room.ensures
 
 pub returns-then-not-ask_for_room : goal.returns-then-not-ask_for_room
 returns-then-not-ask_for_room c = puts_on [] _ _ _ c.loop.invariant c.ask_for_room.ensures
+
+pub returns-else-not-ask_for_room : goal.returns-else-not-ask_for_room
+returns-else-not-ask_for_room c = puts_on [] _ _ _ c.loop.invariant c.ask_for_room.ensures
