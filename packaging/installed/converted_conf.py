@@ -168,15 +168,18 @@ def options_of(about, conf):
     parser.add_argument("--resolve", action="store_true", help="look names of clients and servers up, now")
     parser.add_argument("--out", type=int, default=20001, help="port of the first realm's `out`")
     parser.add_argument("--reverse", type=int, help="port of the first realm's `reverse`, where there are to be any")
+    parser.add_argument("--front", metavar="FOLDER", help="where haproxy.cfg, names.map and streams.conf are written, where TLS is spoken")
     parser.add_argument("--max-pending", type=int, help="of each realm")
     return parser.parse_args()
 
 
-def closed(program, out, peers, realms, lost_tables):
+def closed(program, out, peers, realms, conversion):
     """Prints what was written, and says how much isn't carried over."""
     sys.stdout.write(tidy(out.lines))
     print(f"peers {peers}, realms {realms}, not carried over {out.lost}, changed {out.changed}", file=sys.stderr)
     if not peers or not realms:
         sys.exit(f"{program}: roam needs at least one peer and one realm")
-    if lost_tables:
-        sys.exit(f"{program}: not carried over as a whole: " + printable(", ".join(lost_tables)))
+    if conversion.lost_parts:
+        print(f"{program}: not carried over: " + printable(", ".join(conversion.lost_parts)), file=sys.stderr)
+    if conversion.lost_tables:
+        sys.exit(f"{program}: not carried over as a whole: " + printable(", ".join(conversion.lost_tables)))

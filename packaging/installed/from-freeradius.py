@@ -1,5 +1,6 @@
 #!/usr/bin/env python3
-"""Reads FreeRADIUS' proxy.conf, clients.conf and what else is named (3.2), and writes a configuration of roam on standard output.
+"""Reads FreeRADIUS' folder, or its proxy.conf, clients.conf and what else is named (3.2), and writes a configuration of roam on standard
+output. Each file is read once, also where another one includes it.
 
 What can't be said there stands in it as a comment, at its place: `# Not carried over: ..`. What is said in another way
 is a comment too: `# Changed: ..`. How many there are is said on standard error. Read them all, and then `roam check`.
@@ -12,6 +13,7 @@ import sys
 from converted_conf import (ALSO, HOPS, NAME, PLACES, REJECTS, REST_AFTER_OF_ALL, SERVERS, TABLES, Written, closed, endpoint_of, fault_of, kind_of,
                             network_of, network_text, options_of, peer_name, toml)
 from converted_conf import endpoint_text as written, endpoint_texts as written_all
+from converted_tls import FOLDER, LOOPBACK, Front, literal
 from freeradius_conf import Unreadable, read
 from radsecproxy_names import NotASuffix, covers, items_of
 
@@ -21,7 +23,13 @@ REASONS = {
     "home_server": {"virtual_server": "nothing is answered for a home server", "proto": "UDP alone", "max_outstanding": "256 for each endpoint",
                     "username": "no test users", "password": "no test users", "zombie_period": "a server rests at once"},
     "realm": {"virtual_server": "nothing is answered for a home server", "fallback": "none", "coa_pool": "a Disconnect goes to the peer that it names"},
+    "home_server_pool": {"fallback": "no other server is asked where all of these are silent", "virtual_server": "nothing is answered for a home server"},
+    "proxy": {"default_fallback": "a realm whose servers are all silent isn't answered by another realm", "dynamic": "home servers aren't discovered",
+              "directory": "home servers aren't discovered"},
 }
+# Sections within a home server, and why they have no key.
+INSIDE = {"coa": "`wait` and `tries` of the realm count for Disconnects too", "limit": "`max_pending`, `share` and `peer_share` of the realm bound what waits",
+          "tls": "UDP alone"}
 ADDRESSES = ("ipaddr", "ipv4addr", "ipv6addr")
 
 
@@ -30,21 +38,35 @@ def stated_address(section):
     return next((section.get(key) for key in ADDRESSES if section.get(key)), "")
 
 
+def is_tls(section):
+    """Whether a client or home server speaks TLS."""
+    return (section.get("proto") or "udp").lower() == "tls" or bool(section.own("tls"))
+
+
+def secret_of(section):
+    """Its secret as text, or why it can't be written. Within TLS everybody has the same one (RFC 6614, section 2.3)."""
+    return fault_of(section.get("secret") or ("radsec" if is_tls(section) else None))
+
+
 class Conversion:
     def __init__(self, root, missed, options):
         self.root, self.missed, self.options, self.out = root, missed, options, Written()
         self.homes = {it.name: it for it in root.own("home_server")}
         self.pools = {it.name: it for it in root.own("home_server_pool")}
         self.security = next(iter(root.own("security")), None)
-        self.used, self.addresses, self.names = set(), set(), set()
-        self.lost_tables, self.rejects, self.reject_at, self.realms, self.taken = [], [], 0, 0, []
+        # Where FreeRADIUS speaks to itself, of the EAP that it opens.
+        self.inner = [it for server in root.of("server") if "inner" in server.name for it in server.of("listen")]
+        self.clients = [*root.own("client"), *(it for group in root.own("clients") for it in group.own("client") if is_tls(it))]
+        self.used, self.addresses, self.names, self.front = set(), set(), set(), Front()
+        self.lost_parts, self.lost_tables, self.rejects, self.reject_at, self.realms, self.taken = [], [], [], 0, 0, []
 
     def run(self):
         self.write_top()
-        for section in self.root.own("client"):
+        for section in self.clients:
             self.out.put("")
             self.write_client(section)
-        if any(it.get("coa_server") for it in self.root.own("client")) and not self.listening(("coa",)) and not self.options.reverse:
+        self.tell_certificates()
+        if any(it.get("coa_server") for it in self.clients) and not self.listening(("coa",)) and not self.options.reverse:
             self.out.put("")
             self.out.lose("where Disconnects come: no listen of type coa is in these files (--reverse, or name the site too)")
         realms = [(section, self.items(section)) for section in self.root.own("realm") if section.name not in ("LOCAL", "NULL")]
@@ -52,7 +74,7 @@ class Conversion:
         for section, (items, notes) in realms:
             self.out.put("")
             self.write_realm(section, items, notes)
-        named = {it for pool in self.pools.values() for it in pool.all("home_server")} | {it.get("coa_server") for it in self.root.own("client")}
+        named = {it for pool in self.pools.values() for key in ("home_server", "fallback") for it in pool.all(key)} | {it.get("coa_server") for it in self.clients}
         for name in sorted(set(self.homes) - named):
             self.out.put("")
             self.out.lose(f"home_server {name}: no pool uses it")
@@ -60,17 +82,33 @@ class Conversion:
             self.out.lines[self.reject_at:self.reject_at] = [
                 "# Realms that FreeRADIUS handles itself: an Access-Reject, whichever realm has a wider pattern.",
                 "reject = [" + ", ".join(map(toml, self.rejects)) + "]"]
+        if self.front.is_used():
+            self.front.write(self.out, self.options.front, self.auths, self.accts)
 
     def lose_settings(self, section, known):
         for key, value in section.settings:
-            if key in REASONS[section.kind] and key not in known:
+            if key in REASONS[section.kind] and key not in known and (value or "").lower() not in ("no", "off"):
                 self.out.lose(f"{section.kind} {section.name}: {key} {value or ''}: {REASONS[section.kind][key]}")
+        for inside in section.sections if section.kind == "home_server" else []:
+            if inside.kind in INSIDE:
+                self.out.lose(f"home_server {section.name}: {inside.kind} {{..}}: {INSIDE[inside.kind]}")
+
+    def tell_certificates(self):
+        """Where haproxy has the certificates of those who listen with TLS."""
+        for section in (it for it in self.root.of("listen") if it.own("tls")):
+            tls, place = section.own("tls")[0], f"{stated_address(section) or '*'}:{section.get('port') or 2083}"
+            self.front.listen(place)
+            self.front.checks_revoked |= tls.says("check_crl") is True
+            files = [tls.get(it) or "-" for it in ("certificate_file", "private_key_file", "ca_file")]
+            self.out.change(f"listen {place}: haproxy has {FOLDER}/own.pem, which is {files[0]} and {files[1]} in one file, and {FOLDER}/ca.pem,"
+                            f" which is {files[2]}")
 
     # The top of the file
 
     def all_listening(self, kinds):
-        """The listen sections of such a type."""
-        return [it for it in self.root.of("listen") if (it.get("type") or "").lower() in kinds]
+        """The listen sections of such a type, but for those that haproxy has."""
+        return [it for it in self.root.of("listen")
+                if (it.get("type") or "").lower() in kinds and it not in self.inner and not it.own("tls")]
 
     def listening(self, kinds):
         """The first of them with its endpoint's parts."""
@@ -88,10 +126,16 @@ class Conversion:
                 "# docs/TUNING.md how each number is chosen. It has secrets: owner root, mode 0600.", "")
         for name in self.missed:
             out.lose(f"$INCLUDE {name}: name that file beside the others")
+        for listen in self.inner:
+            out.lose(f"listen {stated_address(listen)}:{listen.get('port') or 0} of an inner tunnel: no EAP is opened here")
+        for section in self.root.own("proxy"):
+            self.lose_settings(section, ())
         auth, acct = self.listening(("auth", "auth+acct")), self.listening(("acct", "auth+acct"))
         stated = [it.get(key) for it in (auth, acct, *self.homes.values()) if it for key in (*ADDRESSES, "src_ipaddr") if it.kind == "listen" or key == "src_ipaddr"]
         found = [it for text in stated if text for it in [endpoint_of(text, 1, self.options)] if it]
-        self.address = self.options.address or (found[0][0] if found else out.own_address([], "IPv4"))
+        by_tls = [is_tls(it) for it in self.clients]
+        is_alone = by_tls and all(by_tls) and not auth
+        self.address = self.options.address or (LOOPBACK if is_alone else found[0][0] if found else out.own_address([], "IPv4"))
         self.own = [self.address, *(it[0] for it in found)]
         places = self.endpoint_at(auth, 1812), self.endpoint_at(acct, 1813)
         auths, accts = [places[0]], [places[1]]
@@ -100,6 +144,9 @@ class Conversion:
                 if place not in these + others and len(these) < PLACES:
                     these.append(place)
         self.kinds = sorted({kind_of(it[0]) for it in auths})
+        if any(by_tls) and "IPv4" not in self.kinds:
+            auths, accts = [*auths, (LOOPBACK, 1812)], [*accts, (LOOPBACK, 1813)]
+        self.auths, self.accts = auths, accts
         self.used |= {*auths, *accts}
         out.put(f"auth = {written_all(auths)}", f"acct = {written_all(accts)}")
         if self.security is None or self.security.says("status_server") is not False:
@@ -113,17 +160,18 @@ class Conversion:
         if any(it.says("auth") for it in self.root.own("log")):
             out.change('each exchange that ends is logged with its user and station: `log_exchanges = "none"` ends that')
         else:
-            out.put("# No line tells of an exchange, for it would have the user and the station.", 'log_exchanges = "none"')
+            out.put("# No line tells of an exchange, for it would have the user.", 'log_exchanges = "none"',
+                    "# If they are to tell of them, then of stations by their hash alone, with the key in station.key beside this file.", 'log_station = "hmac"')
         self.reject_at = len(out.lines)
 
     # Clients
 
     def write_client(self, section):
         out, before = self.out, len(self.addresses)
-        secret, fault = fault_of(section.get("secret"))
-        if (section.get("proto") or "udp").lower() not in ("udp", "*"):
+        secret, fault = secret_of(section)
+        if (section.get("proto") or "udp").lower() not in ("udp", "*", "tls"):
             fault = f"no {section.get('proto').upper()}"
-        network = None if fault else self.network(section, stated_address(section) or section.name)
+        network = None if fault else self.network_of_tls(section) if is_tls(section) else self.network(section, stated_address(section) or section.name)
         if fault:
             out.lose(f"client {section.name}: {fault}")
         elif network in self.addresses:
@@ -134,6 +182,13 @@ class Conversion:
             self.write_peer(section, network, secret)
         if len(self.addresses) == before:
             self.lost_tables.append(f"client {section.name}")
+
+    def network_of_tls(self, section):
+        """The address that haproxy gives the connections of a client's certificate."""
+        name = peer_name(section.get("shortname") or section.name, set(self.names))
+        self.out.change(f"client {section.name}: haproxy has its TLS, and gives its connections this address, from wherever they come (docs/TLS.md):"
+                        " write the common name of its certificate into names.map")
+        return network_of(self.front.peer(name, []))
 
     def network(self, section, text):
         """The address or prefix of a client, if requests from there can come to `auth`."""
@@ -151,7 +206,7 @@ class Conversion:
         """Whether yes is said of a client: by itself, or else for all."""
         said = section.get(key) or self.security and self.security.get(key) or "no"
         if said.lower() == "auto":
-            self.out.change(f"client {section.name}: {key} auto: there is no auto, so it isn't wanted")
+            self.out.change(f"client {section.name}: {key} auto: there is no auto, so it isn't required")
         return said.lower() in ("yes", "on", "1")
 
     def coa_of(self, section, network):
@@ -165,6 +220,7 @@ class Conversion:
             self.out.lose(f"client {section.name}: coa_server {name}: a prefix has no NAS-IP-Address")
         elif place:
             key, attribute = ("nas_ip", "NAS-IP-Address") if network.version == 4 else ("nas_ipv6", "NAS-IPv6-Address")
+            self.lose_settings(coa, ("proto",))
             self.out.change(f"client {section.name}: a Disconnect names it by {attribute} {network_text(network)}; what stands behind it by `nas_ids`,"
                             " if you write them")
             return [f"coa = {written(place)}", f'{key} = "{network_text(network)}"']
@@ -206,16 +262,20 @@ class Conversion:
 
     def fault_of_home(self, home):
         """Why a home server can't be one of roam, or nothing."""
-        if (home.get("proto") or "udp").lower() != "udp":
+        if (home.get("proto") or "udp").lower() != "udp" and not is_tls(home):
             return f"no {home.get('proto').upper()}"
         if (home.get("type") or "auth").lower() not in ("auth", "acct", "auth+acct"):
             return f"it is of type {home.get('type')}"
         text = stated_address(home)
-        if not endpoint_of(text, 1, self.options):
+        if not endpoint_of(text, 1, self.options) and not (is_tls(home) and text):
             return f"{text or 'it'} is no address (names need --resolve)"
-        return fault_of(home.get("secret"))[1]
+        return secret_of(home)[1]
 
     def endpoint(self, home, port):
+        if is_tls(home):
+            host, tls = stated_address(home), home.own("tls")
+            stated = [literal(it) for one in tls for it in [one.get("check_cert_cn") or one.get("hostname")] if it]
+            return self.front.server(home.name, host, int(home.get("port") or 2083), (stated or [host])[0] or home.name), port
         return endpoint_of(stated_address(home), int(home.get("port") or port), self.options)
 
     def fallen(self, items, own=()):
@@ -244,11 +304,12 @@ class Conversion:
             out.lose(f"realm {section.name}: it has no pool, and is handled there; here its names get an Access-Reject")
             self.lost_tables.append(f"realm {section.name}")
             return
-        homes = []
+        homes, lost = [], []
         for home in self.members(section, "auth_pool"):
             fault = self.fault_of_home(home) or (f"roam takes {SERVERS}" if len(homes) == SERVERS else None)
             if fault:
                 out.lose(f"realm {section.name}: home_server {home.name}: {fault}")
+                lost.append(f"home_server {home.name} of realm {section.name}")
             else:
                 homes.append(home)
         if not homes or len(reached) > ALSO or self.realms == TABLES:
@@ -257,6 +318,7 @@ class Conversion:
             return
         for note in notes:
             out.change(f"realm {section.name}: {note}")
+        self.lost_parts += lost
         self.write_table(section, reached, homes)
 
     def write_table(self, section, items, homes):
@@ -267,6 +329,7 @@ class Conversion:
         if (pool.get("type") or "fail-over").lower() != "fail-over":
             out.change(f"realm {section.name}: its pool is of type {pool.get('type')}; roam asks its servers in order, and the next one where one is silent"
                        + ("; a login stays at the server that it began at (conversations)" if len(homes) > 1 else ""))
+        self.lose_settings(pool, ())
         if not any(key == "nostrip" for key, _ in section.settings):
             out.change(f"realm {section.name}: FreeRADIUS strips the realm of its names; roam never does")
         partners = [it for it in self.members(section, "acct_pool") if self.fault_of_home(it) is None and (it.get("type") or "auth") != "auth"]
@@ -274,15 +337,17 @@ class Conversion:
         index, self.realms = self.realms, self.realms + 1
         first = {kind_of(self.endpoint(it, 1812)[0]): it for it in reversed(homes)}
         stated = [it[0] for home in first.values() for it in [endpoint_of(home.get("src_ipaddr") or "", 1, self.options)] if it]
-        sources = out.own_addresses([*stated, *self.own], [self.endpoint(it, 1812) for it in homes])
+        ends = [self.endpoint(it, 1812) for it in homes]
+        sources = [LOOPBACK] if all(self.front.has(it[0]) for it in ends) else out.own_addresses([*stated, *self.own], ends)
         out.put(f"out = {written_all(self.free_port(it, self.options.out + index) for it in sources)}")
-        coa = self.listening(("coa",))
+        coa, self.reverse = self.listening(("coa",)), None
         if coa and coa.get("clients"):
             out.change(f"realm {section.name}: clients {coa.get('clients')} may send Disconnects; those that are no home servers are [[realm.coa_client]], if you write them")
         if coa or self.options.reverse:
             port = self.options.reverse or int(coa.get("port") or 3799)
             own = dict.fromkeys(self.endpoint_at(it, port)[0] for it in self.all_listening(("coa",)) or [None])
-            out.put(f"reverse = {written_all(self.free_port(it, port + index) for it in [*own][:PLACES])}")
+            self.reverse = [self.free_port(it, port + index) for it in [*own][:PLACES]]
+            out.put(f"reverse = {written_all(self.reverse)}")
         if not partners:
             out.change(f"realm {section.name}: FreeRADIUS handles its accounting itself; here it is answered, and kept nowhere")
             out.put('accounting = "answer"')
@@ -320,7 +385,7 @@ class Conversion:
             return
         acct = None
         if partners:
-            same = [it for it in partners if it.get("secret") == home.get("secret") and self.endpoint(it, 1813)[0] == auth[0]]
+            same = [it for it in partners if secret_of(it) == secret_of(home) and self.endpoint(it, 1813)[0] == auth[0]]
             partner = home if home in partners else (same or [None])[0]
             is_both = partner is not None and (partner.get("type") or "").lower() == "auth+acct"
             acct = (auth[0], auth[1] + 1) if is_both or partner is None else self.endpoint(partner, 1813)
@@ -330,8 +395,12 @@ class Conversion:
                 acct = self.free_port(*acct)
                 out.change("roam wants an endpoint for each purpose")
         taken |= {auth, acct}
+        if is_tls(home):
+            out.change(f"home_server {home.name}: haproxy opens its TLS, for what is sent to this address (docs/TLS.md)")
+        for it in (auth, acct):
+            self.front.use(it, self.reverse and self.reverse[0])
         out.put("[[realm.server]]", f"auth = {written(auth)}", *([f"acct = {written(acct)}"] if acct else []),
-                f"secret = {toml(fault_of(home.get('secret'))[0])}",
+                f"secret = {toml(secret_of(home)[0])}",
                 *(["require_seal = true"] if home.says("require_message_authenticator") else []))
 
 
@@ -342,7 +411,7 @@ def main():
         conversion.run()
     except (Unreadable, ValueError) as error:
         sys.exit(f"from-freeradius.py: {error}")
-    closed("from-freeradius.py", conversion.out, len(conversion.addresses), conversion.realms, conversion.lost_tables)
+    closed("from-freeradius.py", conversion.out, len(conversion.addresses), conversion.realms, conversion)
 
 
 if __name__ == "__main__":

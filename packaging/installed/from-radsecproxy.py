@@ -11,8 +11,9 @@ import re
 import sys
 
 from converted_conf import (ALSO, HOPS, NAME, PLACES, REJECTS, REST_AFTER_OF_ALL, SERVERS, TABLES, Written, closed, endpoint_of, fault_of, kind_of,
-                            network_of, network_text, options_of, peer_name, toml)
+                            network_of, network_text, options_of, parts_of, peer_name, toml)
 from converted_conf import endpoint_text as written, endpoint_texts as written_all
+from converted_tls import FOLDER, LOOPBACK, Front, literal
 from radsecproxy_conf import Block, Unreadable, blocks_of
 from radsecproxy_names import NotASuffix, covers, items_of
 from radsecproxy_rewrite import MOST, rewriting_of
@@ -29,8 +30,7 @@ REASONS = {
     "fticksprefix": FTICKS, "fticksviscountry": FTICKS, "fticksvisinst": FTICKS,
     "ttlattribute": "max_hops counts the proxies by their Proxy-States",
     "addttl": "max_hops counts the proxies by their Proxy-States",
-    "listentcp": "no TCP", "listentls": "no TLS", "listendtls": "no DTLS",
-    "sourcetcp": "no TCP", "sourcetls": "no TLS", "sourcedtls": "no DTLS",
+    "listentcp": "no TCP", "listendtls": "no DTLS", "sourcetcp": "no TCP", "sourcedtls": "no DTLS",
     "rewriteattribute": "a User-Name is carried as it stands",
     "dynamiclookupcommand": "home servers aren't discovered", "blockingstartup": "home servers aren't discovered",
     "replymessage": "an Access-Reject of the broker has no Reply-Message",
@@ -59,12 +59,29 @@ IDLE = {(key, value) for key in ("ipv4only", "ipv6only") for value in ("on", "of
 
 
 def secret_of(block):
-    """Its secret as text, or why it can't be written."""
-    return fault_of(block.get("secret"))
+    """Its secret as text, or why it can't be written. Within TLS everybody has the same one (RFC 6614, section 2.3)."""
+    return fault_of(block.get("secret") or ("radsec" if is_tls(block) else None))
 
 
 def is_udp(block):
     return (block.get("type") or "udp").lower() == "udp"
+
+
+def is_tls(block):
+    return (block.get("type") or "udp").lower() == "tls"
+
+
+OF_TLS = {"tls", "certificatenamecheck", "matchcertificateattribute", "tcpkeepalive"}
+
+
+def subjects_of(block):
+    """The names of its certificate, where the block says them."""
+    matched = [literal(it.rpartition(":")[2]) for it in block.all("matchcertificateattribute")]
+    if matched:
+        return [it for it in matched if it]
+    hosts = block.all("host") or [block.name]
+    checks_name = (block.get("certificatenamecheck") or "on").lower() == "on"
+    return [it for it in hosts if checks_name and NAME.match(it) and re.search("[A-Za-z]", it)]
 
 
 class Conversion:
@@ -74,22 +91,22 @@ class Conversion:
         self.servers = {block.name.lower(): block for block in self.of_kind("server")}
         self.rewrites = {block.name: block for block in self.of_kind("rewrite")}
         self.used, self.addresses, self.names = set(), {}, set()
-        self.lost_tables, self.rejects, self.reject_at = [], [], 0
-        self.realms, self.taken, self.forwarding = 0, [], []
+        self.lost_parts, self.lost_tables, self.rejects, self.reject_at = [], [], [], 0
+        self.realms, self.taken, self.forwarding, self.front = 0, [], [], Front()
 
     def run(self):
         self.write_top()
         for block in self.of_kind("client"):
             self.write_client(block)
-        for block in self.of_kind("tls"):
-            self.out.put("")
-            self.out.lose(f"the block tls {block.name}: no TLS")
+        self.tell_certificates()
         self.tell_rewrites()
         self.forwarding = self.forwarded_items()
         for block in self.of_kind("realm"):
             self.write_realm(block)
         self.write_unused_servers()
         self.write_rejects()
+        if self.front.is_used():
+            self.front.write(self.out, self.options.front, self.auths, self.accts)
 
     # The top of the file
 
@@ -101,8 +118,10 @@ class Conversion:
         listen = [endpoint_of(text, 1812, self.options) for text in udp]
         found = [endpoint for endpoint in listen if endpoint]
         homes = [it for text in top.all("sourceudp") for it in [endpoint_of(text, 1, self.options)] if it]
-        named = [self.options.address, *(it[0] for it in found + homes)]
-        first = next((it for it in named if it), None)
+        tls = [it for text in top.all("listentls") + top.all("sourcetls") for it in [endpoint_of(text, 1, self.options)] if it]
+        named = [self.options.address, *(it[0] for it in found + homes + tls)]
+        by_tls = [is_tls(it) for it in self.of_kind("client")]
+        first = LOOPBACK if by_tls and all(by_tls) and not udp else next((it for it in named if it), None)
         auth = found[0] if found else (first or out.own_address([], "IPv4"), 1812)
         others = [it for it in found[1:] if kind_of(it[0]) == kind_of(auth[0])]
         acct = others[0] if others else (auth[0], 1813 if auth[1] != 1813 else 1814)
@@ -125,7 +144,13 @@ class Conversion:
         if top.is_on("loopprevention"):
             out.change("loopprevention compares names; loop_prevention, in the realms that it is for, compares addresses, and an"
                        " Access-Request gets an Access-Reject")
-        out.lose_options(top, {"listenudp", "sourceudp", "loopprevention", "logfullusername", "logmac"})
+        for text in top.all("listentls"):
+            self.front.listen(text)
+        self.front.source = next((it for it in top.all("sourcetls") if endpoint_of(it, 1, self.options)), None)
+        if any(by_tls) and not any(kind_of(it[0]) == "IPv4" for it in auths):
+            auths, accts = [*auths, (LOOPBACK, 1812)], [*accts, (LOOPBACK, 1813)]
+        self.auths, self.accts = auths, accts
+        out.lose_options(top, {"listenudp", "sourceudp", "listentls", "sourcetls", "loopprevention", "logfullusername", "logmac"})
         self.kinds = sorted({kind_of(it[0]) for it in auths})
         self.used |= {*auths, *accts}
         out.put(f"auth = {written_all(auths)}", f"acct = {written_all(accts)}",
@@ -196,11 +221,12 @@ class Conversion:
             out.put("# No line tells of an exchange, for it would have the user.", "log_exchanges = \"none\"")
             if (top.get("fticksreporting") or "none").lower() != "none":
                 out.change('F-Ticks are made of the lines of exchanges, and those are off: `log_exchanges = "final"` has them')
-        elif hides_stations:
+        if hides_users or hides_stations:
             out.put("# Stations are logged by their hash alone, with the key in station.key beside this file.", 'log_station = "hmac"')
+        if hides_stations and not hides_users:
             out.change('each exchange that ends is logged with its user, and with the hash of its station: its key (LogKey) belongs into'
                        ' station.key beside the configuration, 16 octets or more; without it no station is told')
-        else:
+        elif not hides_users:
             out.change('each exchange that ends is logged with its user and station: `log_exchanges = "none"` ends that')
 
     # Clients
@@ -210,7 +236,10 @@ class Conversion:
         out.put("")
         hosts = block.all("host") or [block.name]
         secret, fault = secret_of(block)
-        if not is_udp(block):
+        if is_tls(block) and not fault:
+            self.write_tls_client(block, secret)
+            return
+        if not is_udp(block) and not is_tls(block):
             fault = f"no {block.get('type').upper()}; let a radsecproxy beside it speak that, with UDP to here"
         if fault:
             out.lose(f"client {block.name}: {fault}")
@@ -218,6 +247,34 @@ class Conversion:
             return
         if not any([self.write_peers(block, host, secret) for host in hosts]):
             self.lost_tables.append(f"client {block.name}")
+
+    def write_tls_client(self, block, secret):
+        """A client that is told by its certificate: haproxy gives its connections an address of their own."""
+        out, subjects = self.out, subjects_of(block)
+        known = next((self.front.subjects[it] for it in subjects if it in self.front.subjects), None)
+        if known:
+            out.change(f"client {block.name}: its certificate is peer {known}'s, before it: one peer, from whichever address it comes")
+            return
+        if len(self.addresses) == TABLES:
+            out.lose(f"client {block.name}: roam takes {TABLES} peers")
+            self.lost_tables.append(f"client {block.name}")
+            return
+        address = self.front.peer(peer_name(block.name, set(self.names)), subjects)
+        out.change(f"client {block.name}: haproxy has its TLS, and gives its connections this address, from wherever they come (docs/TLS.md)")
+        if subjects and block.all("matchcertificateattribute"):
+            out.change(f"client {block.name}: names.map has {', '.join(subjects)} as the common name of its certificate: see that it is so")
+        elif not subjects:
+            out.change(f"client {block.name}: write the common name of its certificate into names.map")
+        self.write_peer(block, network_of(address), secret)
+
+    def tell_certificates(self):
+        """Where haproxy has the certificates of the blocks of TLS."""
+        for block in self.of_kind("tls"):
+            self.out.put("")
+            files = [block.get(it) or "-" for it in ("certificatefile", "certificatekeyfile", "cacertificatefile")]
+            self.out.change(f"the block tls {block.name}: haproxy has {FOLDER}/own.pem, which is {files[0]} and {files[1]} in one file,"
+                            f" and {FOLDER}/ca.pem, which is {files[2]}")
+            self.front.checks_revoked |= block.is_on("crlcheck")
 
     def write_peers(self, block, host, secret):
         """Whether what it names is a peer, by this block or by one before it."""
@@ -289,7 +346,7 @@ class Conversion:
     def tell_client(self, block):
         """What of a client's options isn't said in a table."""
         known = {"host", "type", "secret", "duplicateinterval", "requiremessageauthenticator", "requiremessageauthenticatorproxy"}
-        self.out.lose_options(block, known | set(REWRITES))
+        self.out.lose_options(block, known | set(REWRITES) | (OF_TLS if is_tls(block) else set()))
         self.tell_missing(block)
         request = self.rewriting(block, "request")
         if request and request.asks_cui:
@@ -392,10 +449,12 @@ class Conversion:
         if also:
             out.put("also = [" + ", ".join(map(toml, also)) + "]")
         index, self.realms = self.realms, self.realms + 1
-        sources = out.own_addresses(self.own, [self.endpoint(it) for pair in pairs for it in pair if it])
+        ends = [self.endpoint(it) for pair in pairs for it in pair if it]
+        sources = [LOOPBACK] if all(self.front.has(it[0]) for it in ends) else out.own_addresses(self.own, ends)
         out.put(f"out = {written_all(self.free_port(it, self.options.out + index) for it in sources)}")
         if self.options.reverse:
-            out.put(f"reverse = {written_all(self.free_port(it, self.options.reverse + index) for it in sources)}")
+            self.reverse = [self.free_port(it, self.options.reverse + index) for it in sources]
+            out.put(f"reverse = {written_all(self.reverse)}")
         if not is_forwarded:
             answered = block.is_on("accountingresponse")
             out.put(f'accounting = "{"answer" if answered else "drop"}"')
@@ -462,15 +521,24 @@ class Conversion:
             return Block("server", name), "there is no such server"
         if block.all("dynamiclookupcommand"):
             return block, "home servers aren't discovered"
-        if not is_udp(block):
+        if not is_udp(block) and not is_tls(block):
             return block, f"no {block.get('type').upper()}; let a radsecproxy beside it speak that"
-        if not self.endpoint(block):
+        if is_udp(block) and not self.endpoint(block):
             return block, f"it is {self.unresolved('no address (names need --resolve)')}"
         return block, secret_of(block)[1]
 
     def endpoint(self, block):
         host = (block.all("host") or [block.name])[0]
+        if is_tls(block):
+            name, port = parts_of(host)
+            subject = (subjects_of(block) or [block.name])[0]
+            return self.front.server(block.name, name, int(port or block.get("port", "2083")), subject, self.looping(block)), 1812
         return endpoint_of(host, int(block.get("port", "1812")), self.options)
+
+    def looping(self, block):
+        """The address of the client of a server's name, which the server has too where nothing is to go back to it."""
+        on = block.is_on("loopprevention") if block.get("loopprevention") else self.top.is_on("loopprevention")
+        return next((str(it.network_address) for it, name in self.addresses.items() if on and name == block.name and str(it).startswith("127.1.")), None)
 
     def pairs(self, block):
         """Each server of the realm, with the one for its accounting, if there is one."""
@@ -481,13 +549,14 @@ class Conversion:
                 self.out.lose(f"realm {block.name}: accountingserver {name}: {fault}")
             else:
                 accounting.append(server)
-        pairs = []
+        pairs, lost = [], []
         for name in block.all("server"):
             server, fault = self.server(name)
             if fault is None and len(pairs) == SERVERS:
                 fault = f"roam takes {SERVERS}"
             if fault:
                 self.out.lose(f"realm {block.name}: server {name}: {fault}")
+                lost.append(f"server {name} of realm {block.name}")
                 continue
             partner = self.partner(server, accounting)
             if partner:
@@ -498,6 +567,9 @@ class Conversion:
                           " secret, or each has one already")
         if pairs and block.all("accountingserver") and not any(partner for _, partner in pairs):
             self.out.change(f"realm {block.name}: its accounting goes to no server here")
+            lost.append(f"the accounting of realm {block.name}")
+        # Of a realm that isn't there at all no part is named.
+        self.lost_parts += lost if pairs else []
         return pairs
 
     def partner(self, server, accounting):
@@ -509,13 +581,16 @@ class Conversion:
     def write_server(self, server, partner, is_forwarded, taken):
         out, auth = self.out, self.endpoint(server)
         acct = self.endpoint(partner) if partner else None
+        acct = (acct[0], 1813) if acct and self.front.has(acct[0]) else acct
         out.put("")
         for host in server.all("host")[1:]:
             out.lose(f"server {server.name}: host {host}: a server has one address")
         known = {"host", "port", "type", "secret", "retrycount", "retryinterval", "source", "statusserver",
                  "requiremessageauthenticator", "loopprevention", *REWRITES}
-        out.lose_options(server, known)
+        out.lose_options(server, known | (OF_TLS if is_tls(server) else set()))
         self.tell_missing(server)
+        if self.front.has(auth[0]):
+            out.change(f"server {server.name}: haproxy opens its TLS, for what is sent to this address (docs/TLS.md)")
         if server.get("source"):
             out.change(f"server {server.name}: source {server.get('source')}: `out` of the realm is its source")
         if server.is_on("statusserver"):
@@ -534,6 +609,8 @@ class Conversion:
             else:
                 out.change(f"server {server.name} had no accounting of its own; roam wants an endpoint for it")
         taken.add(acct)
+        for it in (auth, acct):
+            self.front.use(it, self.options.reverse and self.reverse[0])
         out.put("[[realm.server]]", f"auth = {written(auth)}", *([f"acct = {written(acct)}"] if acct else []),
                 f"secret = {toml(secret_of(server)[0])}")
         if server.is_on("requiremessageauthenticator"):
@@ -554,7 +631,7 @@ def main():
         conversion.run()
     except (Unreadable, ValueError) as error:
         sys.exit(f"from-radsecproxy.py: {error}")
-    closed("from-radsecproxy.py", conversion.out, len(conversion.addresses), conversion.realms, conversion.lost_tables)
+    closed("from-radsecproxy.py", conversion.out, len(conversion.addresses), conversion.realms, conversion)
 
 
 if __name__ == "__main__":

@@ -10,6 +10,8 @@ usage: roam check CONF
        roam ctl PATH status [--json|--watch]
        roam ctl PATH metrics|stop|trace N
        roam ctl PATH reload [--lose]
+       roam streams CONF [MS]
+       roam check --streams CONF
        roam help
        roam version
 """

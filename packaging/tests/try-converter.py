@@ -163,6 +163,30 @@ server six { host [2001:db8:2::17]; type udp; secret of-home }
 server six-acct { host [2001:db8:2::17]; port 1813; type udp; secret of-home }
 realm a.example { server four; server six; accountingServer four-acct; accountingServer six-acct }
 """
+# A national proxy by TLS: clients that are told by their certificates, in each way in which that is said, and servers.
+OVER_TLS = r"""ListenTLS 203.0.113.10:2083
+ListenTLS [2001:db8:1::10]
+SourceTLS 203.0.113.10
+LoopPrevention on
+tls default { CACertificateFile /etc/ssl/eduroam.pem; CertificateFile /etc/ssl/own.pem; CertificateKeyFile /etc/ssl/own.key; CRLCheck on }
+client uni-a { host 192.0.2.1; type tls; tls default; certificateNameCheck off; matchCertificateAttribute SubjectAltName:DNS:/^radius\.uni-a\.example$/ }
+client upper { host upper.example; type tls; tls default; secret radsec }
+client upper-six { host upper.example; type tls; ipv6only on }
+client anybody { host 192.0.2.3; type tls; certificateNameCheck off; tcpKeepalive on; rewriteIn no-vlan }
+client wired { host 192.0.2.4; type udp; secret "the secret of wired" }
+client by-dtls { host 192.0.2.5; type dtls }
+rewrite no-vlan { removeAttribute 81 }
+server upper { host upper.example; type tls; tls default; secret radsec; statusServer on }
+server uni-a { host 192.0.2.1; port 2084; type tls; matchCertificateAttribute CN:/^radius\.uni-a\.example$/; loopPrevention off }
+server uni-b { host 198.51.100.5; type udp; secret "the secret of uni-b" }
+realm uni-a.example { server uni-a; accountingServer uni-a }
+realm uni-b.example { server uni-b; server uni-a }
+realm * { server upper; accountingServer upper }
+"""
+OVER_TLS_TOLD = [("Changed", what) for what in (
+    "client uni-a: haproxy has its TLS", "names.map has radius.uni-a.example as the common name", "client upper-six: its certificate is peer upper's",
+    "client anybody: write the common name of its certificate", "the block tls default: haproxy has /etc/roam/tls/own.pem, which is /etc/ssl/own.pem and /etc/ssl/own.key",
+    "server upper: haproxy opens its TLS")] + [("Not carried over", "client by-dtls: no DTLS")]
 # Options of radsecproxy 1.11, which an older one doesn't know.
 NEWER = """ListenUDP 203.0.113.10:1812
 client one { host 192.0.2.1; type udp; secret of-one; requireMessageAuthenticatorProxy on }
@@ -211,7 +235,7 @@ EXPRESSIONS = [
 
 
 # What of it is lost as a whole.
-LOST = ["client of-six", "client named", "client long", "realm seven.example",
+LOST = ["the accounting of realm /\\.home\\.example$/", "client of-six", "client named", "client long", "realm seven.example",
         r"realm /^[a-k].*@half\.example$/"]
 
 
@@ -232,7 +256,7 @@ def run(words):
 
 
 def converted(path, lost):
-    """What is written and counted. Where whole clients or realms are lost, the last line names them, and the status isn't 0."""
+    """What is written and counted. Where clients, realms or parts of them are lost, lines behind it name them; where whole ones, the status isn't 0."""
     done = run([sys.executable, CONVERTER, path])
     want(done.returncode == (1 if lost else 0), done.stderr)
     counted, _, named = done.stderr.partition("\n")
@@ -381,7 +405,7 @@ def with_origin(conf, blocks):
 NOT_CARRIED = {"lab.home.example", "seven.example", "/^[a-k].*@half\\.example$/"}
 
 
-def look_over(name, text, peers, realms, told, lost, roam, is_old=True):
+def look_over(name, text, peers, realms, told, lost, roam, is_old=True, look=None):
     with tempfile.TemporaryDirectory() as directory:
         path = os.path.join(directory, name)
         with open(path, "w") as file:
@@ -404,8 +428,68 @@ def look_over(name, text, peers, realms, told, lost, roam, is_old=True):
                 file.write(written)
             judged = run([roam, "check", made])
             want(judged.stdout == f"ok realms {realms} peers {peers} shards 1\n", judged.stdout + judged.stderr)
+        if look:
+            look(directory, written)
         print(f"{name}: {counted.strip()}; {names} names mean the same realm")
     return conf
+
+
+def look_at_front(directory, written, roam, converter, paths, take):
+    """What is written for haproxy and `roam streams`, once as files and once as comments: the two are the same. Returns the
+    lines of each file."""
+    texts, folder = {}, os.path.join(directory, "front")
+    os.mkdir(folder)
+    done = run([sys.executable, converter, *paths, "--front", folder])
+    want("--front" not in done.stdout and "--front" in written, done.stderr)
+    for name in ("haproxy.cfg", "names.map", "streams.conf"):
+        with open(os.path.join(folder, name), encoding="utf-8") as file:
+            texts[name] = file.read()
+        comments = written.split(f"# {name} (--front FOLDER writes it):\n")[1]
+        want(comments.startswith("".join(f"#   {line}".rstrip() + "\n" for line in texts[name].splitlines())), name)
+    streams, conf = tomllib.loads(texts["streams.conf"]), tomllib.loads(written)
+    if take:
+        want(streams["auth"] in all_of(conf, "auth") and streams["acct"] in all_of(conf, "acct"), f"{streams}")
+    asked = {server[key] for realm in conf["realm"] for server in realm["server"] for key in ("auth", "acct") if key in server and server[key].startswith("127.")}
+    at = [it for server in streams["server"] for it in server["at"]]
+    bound = re.findall(r"^    bind (127\.\S+)$", texts["haproxy.cfg"], re.M)
+    want(sorted(asked) == sorted(at) == sorted(bound), f"{asked} {at} {bound}")
+    addresses = re.findall(r"^    server (\S+) \S+ source (\S+) maxconn 16 weight 0$", texts["haproxy.cfg"], re.M)
+    want(addresses == [(it["name"], it["ip"]) for it in conf["peer"] if it["ip"].startswith("127.")], f"{addresses}")
+    want(all(f" {it} " in texts["haproxy.cfg"] for it in streams.get("take", [])), "haproxy hands on where connections are taken")
+    if roam:
+        judged = run([roam, "check", "--streams", os.path.join(folder, "streams.conf")])
+        want(judged.stdout == f"ok servers {len(streams['server'])}\n", judged.stdout + judged.stderr)
+    return texts
+
+
+def over_tls(roam):
+    """Clients and servers that speak TLS."""
+    texts = {}
+
+    def look(directory, written):
+        texts.update(look_at_front(directory, written, roam, CONVERTER, [os.path.join(directory, "over-tls.conf")], True))
+    conf = look_over("over-tls.conf", OVER_TLS, 4, 3, OVER_TLS_TOLD, ["client by-dtls"], roam, is_old=False, look=look)
+    want([(it["name"], it["ip"], it["secret"]) for it in conf["peer"]] == [
+        ("uni-a", "127.1.0.1", "radsec"), ("upper", "127.1.0.2", "radsec"), ("anybody", "127.1.0.3", "radsec"), ("wired", "192.0.2.4", "the secret of wired")])
+    want(conf["peer"][2]["request_without"] == ["81"] and conf["auth"] == "203.0.113.10:1812")
+    a, b, every = conf["realm"]
+    want(a["server"] == [{"auth": "127.2.0.1:1812", "acct": "127.2.0.1:1813", "secret": "radsec"}] and a["out"] == "127.0.0.1:20001")
+    want([it["auth"] for it in b["server"]] == ["198.51.100.5:1812", "127.2.0.1:1812"] and "loop_prevention" not in a)
+    # Addresses are compared: so where nothing is to go back to a client, the server of its name has its address.
+    want(every["loop_prevention"] and every["server"][0]["auth"] == "127.1.0.2:1812")
+    want(texts["names.map"] == "radius.uni-a.example uni-a\nupper.example upper\n# The common name of its certificate: .. anybody\n", texts["names.map"])
+    with tempfile.TemporaryDirectory() as directory:
+        path = os.path.join(directory, "all.conf")
+        with open(path, "w", encoding="utf-8") as file:
+            file.write(over_lines(changed(OVER_TLS, re.compile(r"^client (wired|by-dtls) .*\n", re.M), ""), 4))
+        alone = tomllib.loads(converted(path, [])[0])
+        want((alone["auth"], alone["acct"]) == ("127.0.0.1:1812", "127.0.0.1:1813"), "where all clients speak TLS nobody else asks it")
+    for line in ("    bind 203.0.113.10:2083 ssl crt /etc/roam/tls/own.pem ca-file /etc/roam/tls/ca.pem crl-file /etc/roam/tls/crl.pem verify required"
+                 " ssl-min-ver TLSv1.2", "    bind [2001:db8:1::10]:2083 ssl crt",
+                 "    server home 192.0.2.1:2084 ssl crt /etc/roam/tls/own.pem ca-file /etc/roam/tls/ca.pem crl-file /etc/roam/tls/crl.pem"
+                 " verify required verifyhost radius.uni-a.example init-addr last,libc,none source 203.0.113.10\n",
+                 "    server home upper.example:2083 ssl"):
+        want(line in texts["haproxy.cfg"], line)
 
 
 def read_expressions():
@@ -488,10 +572,11 @@ def main():
     newer = look_over("newer.conf", NEWER, 2, 1, [], [], roam, is_old=False)
     want([(peer.get("require_seal"), peer.get("limit_proxy_state")) for peer in newer["peer"]] == [(None, True), (True, None)])
     want(newer["realm"][0]["accounting"] == "drop" and newer["realm"][0]["server"][0]["require_seal"])
+    over_tls(roam)
     read_addresses()
     look_over("five-hundred.conf", five_hundred(), 100, 500, [], [], roam)
     private = look_over("private.conf", "LogFullUsername off\n" + five_hundred(), 100, 500, [], [], roam)
-    want(private["log_exchanges"] == "none")
+    want((private["log_exchanges"], private["log_station"]) == ("none", "hmac"))
     hashed = look_over("hashed.conf", "LogMAC VendorKeyHashed\nLogKey salt\n" + five_hundred(), 100, 500, [], [], roam)
     want("log_exchanges" not in hashed and hashed["log_station"] == "hmac")
     named = changed(five_hundred(), "host 192.0.2.100", "host localhost")

@@ -4,15 +4,21 @@
 //! alone.
 #![tactic(auto)]
 
-use roam_keeping::{Keeper, keep_on};
+use log::Log;
+use roam_keeping::{Keeper, KeepsFiles, keep_on};
 use roam_outlet::{LogReader, Outlet, OutletWriter, ToOutlet, log_reader, write_on};
 use roam_program::command;
+use roam_stream_program::{ask_for_streams, stream_command};
 use roam_words::Fault;
 use std::alloc::Global;
-use std::io::BufWriter;
+use std::io::{BufWriter, Write};
+use std::net::Net;
 use std::process::ExitCode;
-use std::rt::Env;
-use std::sync::Arc;
+use std::random::RandomSource;
+use std::rt::{Env, Files};
+use std::sync::{Arc, Wait};
+use std::thread::Threads;
+use std::time::Clock;
 use std::{env, thread};
 
 /// The words after the program's name.
@@ -21,11 +27,24 @@ fn words<R: Env + AllocGlobal>(rt: &R) -> Result<Vec<String>, Fault<'static>> {
     args.skip(1).collect(rt.alloc()).map_err(|_| Fault::Memory)
 }
 
-/// Whether words ask for a server.
+/// Whether words ask for a server, or for streams: what tells lines as long as it goes on.
 fn ask_to_serve(words: &[String]) -> bool {
     match words.first() {
-        Some(word) => word.as_str() == "serve",
+        Some(word) => word.as_str() == "serve" || word.as_str() == "streams",
         None => false,
+    }
+}
+
+/// Does what the words ask for, and answers the status with which the program ends.
+fn obey<
+    R: Files + AllocGlobal + KeepsFiles + Threads + Wait + Clock + Net + RandomSource + Log + Sync,
+    W: Write,
+    E: Write,
+>(rt: &R, words: &[String], out: &mut W, err: &mut E) -> u8 {
+    if ask_for_streams(words) {
+        stream_command(rt, words, out, err)
+    } else {
+        command(rt, words, out, err)
     }
 }
 
@@ -82,7 +101,7 @@ fn main(rt: HostRuntime) -> ExitCode {
     };
     let runtime = ToOutlet { rt, outlet, keeper };
     if !ask_to_serve(words) {
-        return ExitCode::from(command(&runtime, words, &mut out, &mut err));
+        return ExitCode::from(obey(&runtime, words, &mut out, &mut err));
     }
     let writes = thread::spawn(&rt, move || write_on(&rt, &their_outlet, err, room)).is_ok();
     if !writes || thread::spawn(&rt, move || keep_on(&rt, &their_keeper)).is_err() {
@@ -92,7 +111,7 @@ fn main(rt: HostRuntime) -> ExitCode {
         rt: &runtime.rt,
         outlet: &runtime.outlet,
     };
-    let status = command(&runtime, words, &mut out, &mut told);
+    let status = obey(&runtime, words, &mut out, &mut told);
     let _untold = runtime.outlet.finish(&runtime.rt);
     ExitCode::from(status)
 }

@@ -20,7 +20,7 @@ use Rattle.roam_words.specs.declared.report.Fault.TheVariants as fault
 -- the usage: a line for each command
 abbrev pub usage_text : List ℕ
 usage_text =
-    codes "usage: roam check CONF\n       roam check OLD NEW\n       roam check --all CONF (prints the secrets too)\n       roam sim CONF SCRIPT\n       roam serve [--seed-of-file] CONF [MS]\n       roam ctl PATH status [--json|--watch]\n       roam ctl PATH metrics|stop|trace N\n       roam ctl PATH reload [--lose]\n       roam help\n       roam version\n"
+    codes "usage: roam check CONF\n       roam check OLD NEW\n       roam check --all CONF (prints the secrets too)\n       roam sim CONF SCRIPT\n       roam serve [--seed-of-file] CONF [MS]\n       roam ctl PATH status [--json|--watch]\n       roam ctl PATH metrics|stop|trace N\n       roam ctl PATH reload [--lose]\n       roam streams CONF [MS]\n       roam check --streams CONF\n       roam help\n       roam version\n"
 
 -- which program this is, and the line of the toolchain that proved it
 abbrev pub version_text : List ℕ

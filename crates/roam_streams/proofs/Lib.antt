@@ -1,0 +1,4 @@
+pub mod CuttingLemmas
+pub mod RunLemmas
+pub mod WaitLemmas
+pub mod RequestLemmas

@@ -1,0 +1,336 @@
+#!/usr/bin/env python3
+"""try-streams.py PROGRAM
+
+Runs `roam streams` beside `roam serve` of the same program on loopback, with RADIUS clients and home servers over TCP, as a front
+would have them that takes and opens TLS (RFC 6613): requests that come in pieces and one behind the other, two connections of one
+peer, an Identifier that waits, one without a peer, wrong Lengths, a connection that reads nothing beside one that does, a packet
+that stays unfinished, connections toward a home server that are closed and dialed again, a request that is sent again and goes once
+on each connection, a Disconnect-Request of a home server, and the faults of the file. Where haproxy is installed, one login through
+TLS on both sides, with certificates made here.
+
+It needs no root. By hand it may run in a network of its own:
+
+    unshare -rn sh -c 'ip link set lo up; exec packaging/tests/try-streams.py PROGRAM'
+"""
+
+import random
+import shutil
+import socket
+import sys
+import tempfile
+import time
+
+sys.dont_write_bytecode = True
+from around import Around, packets
+from looks import end, want, words
+from server import run
+from stream_ends import SECRET, Home, accepted_by, access, accounting, answer, answers, answers_at_length, connected
+
+TAKE, AUTH, ACCT, REVERSE, COA = ("127.0.0.1", 29651), ("127.0.0.1", 29652), ("127.0.0.1", 29653), ("127.0.0.1", 29654), 29655
+HOME, HOME_ACCT, OUT_A, OUT_B = ("127.2.0.1", 29656), ("127.2.0.1", 29657), 29658, 29659
+BROKER = f"""shards = 1
+auth = "{AUTH[0]}:{AUTH[1]}"
+acct = "{ACCT[0]}:{ACCT[1]}"
+status_server = true
+
+[[peer]]
+name = "university"
+ip = "127.1.0.7"
+secret = "radsec"
+coa = "127.1.0.7:{COA}"
+nas_id = "nas"
+
+[[peer]]
+name = "college"
+ip = "127.1.0.9"
+secret = "radsec"
+
+[[realm]]
+name = "a.example"
+out = "127.0.0.1:{OUT_A}"
+reverse = "{REVERSE[0]}:{REVERSE[1]}"
+wait = 1000
+tries = 10
+rest_after = 50
+
+[[realm.server]]
+auth = "{HOME[0]}:{HOME[1]}"
+acct = "{HOME_ACCT[0]}:{HOME_ACCT[1]}"
+secret = "radsec"
+"""
+STREAMS = f"""take = ["{TAKE[0]}:{TAKE[1]}"]
+auth = "{AUTH[0]}:{AUTH[1]}"
+acct = "{ACCT[0]}:{ACCT[1]}"
+most_of_one = 8
+
+[[server]]
+at = ["{HOME[0]}:{HOME[1]}", "{HOME_ACCT[0]}:{HOME_ACCT[1]}"]
+reverse = "{REVERSE[0]}:{REVERSE[1]}"
+silence = 20000
+"""
+
+
+class Trial:
+    def __init__(self, around, program):
+        self.around, self.program = around, program
+        self.home, self.home_acct = Home(HOME), Home(HOME_ACCT)
+        self.home.clear(answers)
+        self.home_acct.clear(answers)
+
+    def start(self):
+        self.around.broker(self.program, BROKER, 90000)
+        self.around.start("streams", [self.program, "streams", self.around.write("streams.conf", STREAMS), "90000"])
+        for _ in range(100):
+            try:
+                connected(TAKE).close()
+                return
+            except OSError:
+                time.sleep(0.05)
+        want(False, "connections are taken")
+
+    def told(self, text, seconds=3.0, of="streams"):
+        """Whether a line of one of the two has this text, by then."""
+        until = time.monotonic() + seconds
+        while time.monotonic() < until:
+            if text in self.around.log(of):
+                return True
+            time.sleep(0.05)
+        return False
+
+    def pieces(self):
+        one = connected(TAKE)
+        request = access(7)
+        for piece in (request[:3], request[3:21], request[21:]):
+            one.send(piece)
+            time.sleep(0.05)
+        want(accepted_by(one, 7), "a request that comes in three pieces is answered on its connection")
+        one.send(accounting(1, b"s1") + access(8))
+        codes = sorted(packet.code for packet in (one.packet(), one.packet()) if packet)
+        want(codes == [packets.ACCESS_ACCEPT, packets.ACCOUNTING_RESPONSE], "two behind one another: one at acct, one at auth")
+        other = connected(TAKE)
+        one.send(access(9, b"one"))
+        other.send(access(9, b"one"))
+        want(accepted_by(one, 9) and accepted_by(other, 9), "the same request on two connections of a peer: each is answered on its own")
+        one.close()
+        other.close()
+
+    def random_pieces(self):
+        """100 requests on a connection, cut at random places, beside the same on another one, uncut."""
+        chance = random.Random(29)
+        requests = [access(number, b"piece", attributes=[(25, bytes(chance.randrange(254))) for _ in range(chance.randrange(8))])
+                    for number in range(100)]
+        octets, cut, whole = b"".join(requests), connected(TAKE), connected(TAKE)
+        whole.send(octets)
+        while octets:
+            size = chance.choice((1, 2, 3, 19, 20, chance.randrange(1, 700), chance.randrange(1, 3000)))
+            cut.send(octets[:size])
+            octets = octets[size:]
+        for one, how in ((cut, "cut at random places"), (whole, "in one")):
+            ids = sorted(packet.id for packet in (one.packet() for _ in requests) if packet)
+            want(ids == list(range(100)), f"100 requests {how}: each is answered once")
+            one.close()
+
+    def late(self):
+        """A reply that comes when its connection has ended meets no other one."""
+        self.home.clear(None)
+        one = connected(TAKE)
+        one.send(access(15, b"late"))
+        want(self.home.wait_for(1), "a request is forwarded")
+        one.close()
+        two = connected(TAKE)
+        _, number, packet = self.home.came[0]
+        self.home.streams[number].send(answer(packet))
+        want(two.packet(0.5) is None and not two.is_ended, "a late reply comes on no connection that was made since")
+        self.home.clear(answers)
+        two.close()
+
+    def waits(self):
+        self.home.clear(None)
+        one = connected(TAKE)
+        one.send(access(7, b"first") + access(7, b"second"))
+        want(self.home.wait_for(2), "both requests of one Identifier are forwarded")
+        apart = self.home.came[1][0] - self.home.came[0][0]
+        want(0.9 < apart < 1.5, f"the second waits a second for the first ({apart:.2f} s)")
+        for _, number, packet in self.home.came:
+            self.home.streams[number].send(answer(packet))
+        self.home.clear(answers)
+        one.close()
+        two = connected(TAKE)
+        two.send(access(7, b"third") + access(7, b"fourth"))
+        begin = time.monotonic()
+        want(accepted_by(two, 7) and accepted_by(two, 7) and time.monotonic() - begin < 0.8, "the second waits for the first one's answer alone")
+        two.close()
+
+    def strangers(self):
+        one = connected(TAKE, "127.1.0.8")
+        one.send(access(1))
+        want(one.packet(0.5) is None and not one.is_ended, "a request of no peer is refused by the broker, and its connection stays")
+        want(self.told("refused 4 UnknownSource at auth from 127.1.0.8", of="broker"), "the broker says so")
+        one.close()
+
+    def lengths(self):
+        for octets in (b"\x01\x07\x00\x13", b"\x01\x07\x10\x01", access(7) + b"\x01\x07\x00\x00"):
+            one = connected(TAKE)
+            one.send(octets)
+            want(one.ends(), f"a connection ends by a Length of {int.from_bytes(octets[-2:], 'big')}")
+        want(self.told("30 StreamLength"), "that is told")
+
+    def limits(self):
+        some = [connected(TAKE, "127.1.0.9") for _ in range(9)]
+        want(some[8].ends(), "one more connection of an address than may be isn't taken")
+        want(self.told("refused 31 StreamLimit"), "that is told")
+        some[0].send(access(3))
+        want(accepted_by(some[0], 3), "the others go on")
+        for one in some:
+            one.close()
+        time.sleep(0.2)
+        one = connected(TAKE, "127.1.0.9")
+        one.send(access(4))
+        want(accepted_by(one, 4), "where they ended one more is taken")
+        one.close()
+
+    def once(self):
+        self.home.clear(None)
+        one = connected(TAKE)
+        one.send(access(11))
+        want(self.home.wait_for(1), "a request goes to the home server")
+        want(not self.home.wait_for(2, 2.5), "what is sent again goes once on a connection")
+        first = self.home.came[0]
+        self.home.streams[first[1]].send(answer(first[2]))
+        want(accepted_by(one, 11), "it is answered")
+        one.send(access(12))
+        want(self.home.wait_for(2), "another one goes")
+        self.home.cut()
+        want(self.home.wait_for(3, 4), "it goes again on the next connection")
+        before, after = self.home.came[1], self.home.came[2]
+        want(before[2].octets == after[2].octets and before[1] != after[1], "the same octets, on another connection")
+        self.home.streams[after[1]].send(answer(after[2]))
+        want(accepted_by(one, 12), "it is answered on the connection that it came on")
+        self.home.clear(answers)
+        one.close()
+
+    def disconnects(self):
+        coa = socket.socket(socket.AF_INET, socket.SOCK_DGRAM)
+        coa.bind(("127.1.0.7", COA))
+        coa.settimeout(3)
+        one = connected(TAKE)
+        one.send(access(13) + accounting(14, b"s2"))
+        both = [one.packet(), one.packet()]
+        want(all(both), "there is a session, and a connection toward the home server")
+        self.home.clear(None)
+        attributes = [(32, b"nas"), (44, b"s2")]
+        number = self.home.streams.index([it for it in self.home.streams if not it.is_ended][-1])
+        self.home.streams[number].send(packets.signed(packets.DISCONNECT_REQUEST, 5, packets.ZEROS, attributes, SECRET))
+        octets, source = coa.recvfrom(4096)
+        asked = packets.Packet(octets)
+        coa.sendto(packets.signed(packets.DISCONNECT_ACK, asked.id, asked.authenticator, [(33, it) for it in asked.values(33)], SECRET), source)
+        want(self.home.wait_for(1), "a Disconnect-Request of the home server is answered on its connection")
+        want((self.home.came[0][2].code, self.home.came[0][2].id) == (packets.DISCONNECT_ACK, 5), "by the ACK")
+        self.home.clear(answers)
+        coa.close()
+        one.close()
+
+    def floods(self):
+        self.home.clear(answers_at_length)
+        idle, other = connected(TAKE, room=4096), connected(TAKE, "127.1.0.9")
+        idle.connection.settimeout(0.05)
+        answered, sent, rest, until = 0, 0, b"", time.monotonic() + 25
+        while "35 StreamFull" not in self.around.log("streams") and time.monotonic() < until:
+            try:
+                rest = rest or access(sent % 256, b"%d" % sent)
+                rest = rest[idle.connection.send(rest):]
+                sent += not rest
+            except TimeoutError:
+                pass
+            except OSError:
+                break
+            if sent % 4 == 0 and not rest:
+                other.send(access(answered % 256, b"other %d" % answered))
+                if not accepted_by(other, answered % 256):
+                    break
+                answered += 1
+        want(self.told("35 StreamFull"), f"a peer that reads nothing is ended ({sent} requests)")
+        want(answered > 1 and answered >= sent // 4, f"another peer's requests are answered meanwhile ({answered})")
+        self.home.clear(answers)
+        idle.close()
+        other.close()
+
+    def all(self):
+        self.start()
+        unfinished, begin = connected(TAKE), time.monotonic()
+        unfinished.send(access(7)[:20])
+        self.pieces()
+        self.random_pieces()
+        self.late()
+        self.waits()
+        self.strangers()
+        self.lengths()
+        self.limits()
+        self.once()
+        self.disconnects()
+        self.floods()
+        want(unfinished.ends(max(0.5, 12 - (time.monotonic() - begin))), "a packet that stays unfinished ends its connection")
+        want(self.told("36 StreamSilent"), "that is told")
+
+
+FILES = (
+    ("take and a server", STREAMS, "ok servers 1\n"),
+    ("nothing", "", "ok servers 0\n"),
+    ("a reverse in two tables", STREAMS + '[[server]]\nat = ["127.2.0.2:1812"]\nreverse = "%s:%d"\n' % REVERSE, "ok servers 2\n"),
+    ("no document", "take = [", "Syntax"),
+    ("no acct", STREAMS.replace("acct =", "# acct ="), "Missing"),
+    ("a server without at", "[[server]]\nsilence = 2000\n", "Missing"),
+    ("take that isn't local", STREAMS.replace(f'take = ["{TAKE[0]}', 'take = ["192.0.2.10'), "BadValue"),
+    ("most of 0", STREAMS.replace("most_of_one = 8", "most = 0"), "BadValue"),
+    ("an unknown key", STREAMS + 'name = "home"\n', "BadValue"),
+    ("IPv6", STREAMS.replace(f'"{AUTH[0]}:{AUTH[1]}"', '"[::1]:1812"'), "BadValue"),
+    ("one endpoint in two at", STREAMS + '[[server]]\nat = ["%s:%d"]\n' % HOME, "DuplicateEndpoint"),
+    ("a reverse that is an at", STREAMS + '[[server]]\nat = ["127.2.0.3:1812"]\nreverse = "%s:%d"\n' % HOME, "DuplicateEndpoint"),
+)
+
+
+def files(around, program):
+    for what, text, answer_of in FILES:
+        path = around.write("file.conf", text)
+        status, printed, told = run(program, "check", "--streams", path)
+        if answer_of.startswith("ok"):
+            want((status, printed, told) == (0, answer_of, ""), f"a file with {what}: {answer_of.strip()}")
+        else:
+            want((status, printed, told.splitlines()[0]) == (1, "", f"roam: {path}: {answer_of}"), f"a file with {what}: {answer_of}")
+    taken = socket.socket(socket.AF_INET, socket.SOCK_STREAM)
+    taken.bind(TAKE)
+    taken.listen()
+    status, _, told = run(program, "streams", around.write("file.conf", STREAMS), "1000")
+    want(status == 1 and f"roam: cannot bind {TAKE[0]}:{TAKE[1]}: Address already in use" in told, "an endpoint that is taken")
+    taken.close()
+    want(run(program, "streams")[0] == 2, "no file: the usage")
+
+
+def main():
+    [program] = words(__doc__)
+    with tempfile.TemporaryDirectory() as directory:
+        around = Around(directory)
+        files(around, program)
+        trial = Trial(around, program)
+        try:
+            trial.all()
+            ended = around.close()
+            want(not ended, f"nothing ended by itself {ended}")
+        except BaseException:
+            around.close()
+            around.tell(40)
+            raise
+        finally:
+            trial.home.close()
+            trial.home_acct.close()
+        if shutil.which("haproxy") or shutil.which("haproxy", path="/usr/sbin"):
+            import stream_tls
+
+            stream_tls.logs_in(directory, program)
+        else:
+            print("LEFT OUT: a login through TLS, since haproxy isn't here", flush=True)
+    return end()
+
+
+if __name__ == "__main__":
+    sys.exit(main())
