@@ -9,5 +9,5 @@ pub returns : goal.returns
 returns g c =
     then_more (g.W.Write.contents c.args.writer.now) (g.W.Write.contents c.print_no_state.new.writer)
     (g.W.Write.contents c.writeln.new.self) c.writeln.result (no_state_text c.args.path)
-    (because_text c.text.result.now) (because_text (obstacle_text c.args.why)) c.in_ok-print_no_state.ensures
-    c.writeln.ensures.bytes (ap because_text c.text.ensures)
+    (because_text c.text-said.result.now) (because_text (obstacle_text c.args.why)) c.in_ok-print_no_state.ensures
+    c.writeln.ensures.bytes (ap because_text c.text-said.ensures)
