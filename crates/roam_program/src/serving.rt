@@ -125,16 +125,17 @@ fn serve_by<
     let Ok(manner) = manner_of(rt.alloc(), settings, stations) else {
         return Err(ServeFault::Memory);
     };
+    let mut files = StateFiles::new(rt.alloc());
+    if let Err(fault) = files.take_of(rt, &manner) {
+        return Err(fault);
+    }
     let mut source = Reread {
         rt,
         path,
         settings,
-        files: StateFiles::new(rt.alloc()),
+        files,
         keeper: rt.keeper(),
     };
-    if let Err(fault) = source.files.take_of(rt, &manner) {
-        return Err(fault);
-    }
     if settings.metrics.is_none() && settings.control.is_none() {
         serve_watched(rt, config, None, manner, milliseconds, &mut source)
     } else {
