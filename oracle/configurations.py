@@ -441,6 +441,12 @@ RANDOM = {
         peers=(NAS1 + stated(nas_ids=["wlc-*", "wlc-7*"]),
                N2_COA + stated(operator_name="Inst.example", nas_ids=["wlc-7", "ap*", "*"], reply_without=["25"]), NAS4),
         seed="a7" * 32, fresh=10),
+    "own-ends": configuration(
+        realm("a", [*servers(1), client("198.51.100.9", "pc")], wait=10, hold=0, tries=1, max_pending=6, max_sessions=24,
+              own_sessions=True),
+        realm("b", [*servers(2), client("198.51.100.1", "zz")], wait=8, hold=0, max_pending=5, max_sessions=16),
+        peers=(NAS1 + stated(nas_ids=["wlc-*", "wlc-7*"]), N2_COA + stated(nas_ids=["wlc-7", "ap*"]), NAS4),
+        seed="c1" * 32),
     "own-by-several": with_own(configuration(
         with_places(realm("a", [*servers(1), MIXED, client("198.51.100.9", "pc")], wait=10, hold=20, tries=1, rest=30, rest_after=2,
                           max_pending=6, max_sessions=4, also=["*.a.b"], own_sessions=True),

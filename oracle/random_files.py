@@ -1,5 +1,6 @@
 """The files of random scripts."""
 from random_access import AccessScript, VendorScript
+from random_ends import EndsScript
 from random_federation import FederationScript, SilenceScript
 from random_logins import LoginScript
 from random_mutated import MutatedScript
@@ -30,6 +31,7 @@ FILES = {
     "own-in-two-shards": (OwnScript, "own-in-two-shards", 22001, 90),
     "own-of-both-kinds": (OwnScript, "own-of-both-kinds", 25001, 90),
     "own-by-several": (OwnPlaceScript, "own-by-several", 26001, 90),
+    "own-ends": (EndsScript, "own-ends", 28001, 24),
     "logins-by-several": (LoginPlaceScript, "logins-by-several", 27001, 90),
     "logins-and-shares": (LoginScript, "logins-and-shares", 23001, 80),
     "logins-in-two-shards": (LoginScript, "logins-in-two-shards", 24001, 80),

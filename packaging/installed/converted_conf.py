@@ -173,11 +173,13 @@ def options_of(about, conf):
     return parser.parse_args()
 
 
-def closed(program, out, peers, realms, lost_tables):
+def closed(program, out, peers, realms, conversion):
     """Prints what was written, and says how much isn't carried over."""
     sys.stdout.write(tidy(out.lines))
     print(f"peers {peers}, realms {realms}, not carried over {out.lost}, changed {out.changed}", file=sys.stderr)
     if not peers or not realms:
         sys.exit(f"{program}: roam needs at least one peer and one realm")
-    if lost_tables:
-        sys.exit(f"{program}: not carried over as a whole: " + printable(", ".join(lost_tables)))
+    if conversion.lost_parts:
+        print(f"{program}: not carried over: " + printable(", ".join(conversion.lost_parts)), file=sys.stderr)
+    if conversion.lost_tables:
+        sys.exit(f"{program}: not carried over as a whole: " + printable(", ".join(conversion.lost_tables)))

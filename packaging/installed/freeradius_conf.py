@@ -56,8 +56,8 @@ def words_of(line):
         at = word.end()
 
 
-def read_into(section, path, missed):
-    """Reads a file into a section; what it includes by a variable is noted as missed."""
+def read_into(section, path, missed, named=()):
+    """Reads a file into a section. What it includes by a variable is noted as missed, and what is named beside it is not read here."""
     try:
         with open(path, encoding="utf-8", errors="surrogateescape") as file:
             text = re.sub(r"\\\n", " ", file.read())
@@ -70,7 +70,7 @@ def read_into(section, path, missed):
         except Unreadable as error:
             raise Unreadable(f"{path}:{number}: {error}") from error
         if words and words[0] == ("$INCLUDE", False) or words and words[0] == ("$-INCLUDE", False):
-            include(opened[-1], path, words[1][0], missed)
+            include(opened[-1], path, words[1][0], missed, named)
             continue
         while words:
             words = take(opened, words, path)
@@ -98,17 +98,21 @@ def take(opened, words, path):
     return words[first:]
 
 
-def include(section, path, name, missed):
+def include(section, path, name, missed, named):
     inside = os.path.join(os.path.dirname(path), name)
     if "${" in name:
         missed.append(name)
     for one in sorted(glob.glob(os.path.join(inside, "*")) if name.endswith("/") else glob.glob(inside)):
-        read_into(section, one, missed)
+        if os.path.realpath(one) not in named:
+            read_into(section, one, missed, named)
 
 
 def read(paths):
-    """All that the files say, as one section, and what they include that wasn't found."""
+    """All that the files say, as one section, and what they include that wasn't found. Of a folder its radiusd.conf is read."""
     root, missed = Section("", ""), []
-    for path in paths:
-        read_into(root, path, missed)
+    files = [os.path.join(path, "radiusd.conf") if os.path.isdir(path) else path for path in paths]
+    named = {os.path.realpath(path): path for path in reversed(files)}
+    for path in files:
+        if named[os.path.realpath(path)] == path:
+            read_into(root, path, missed, named)
     return root, missed

@@ -1,5 +1,6 @@
 #!/usr/bin/env python3
-"""Reads FreeRADIUS' proxy.conf, clients.conf and what else is named (3.2), and writes a configuration of roam on standard output.
+"""Reads FreeRADIUS' folder, or its proxy.conf, clients.conf and what else is named (3.2), and writes a configuration of roam on standard
+output. Each file is read once, also where another one includes it.
 
 What can't be said there stands in it as a comment, at its place: `# Not carried over: ..`. What is said in another way
 is a comment too: `# Changed: ..`. How many there are is said on standard error. Read them all, and then `roam check`.
@@ -22,7 +23,13 @@ REASONS = {
     "home_server": {"virtual_server": "nothing is answered for a home server", "proto": "UDP alone", "max_outstanding": "256 for each endpoint",
                     "username": "no test users", "password": "no test users", "zombie_period": "a server rests at once"},
     "realm": {"virtual_server": "nothing is answered for a home server", "fallback": "none", "coa_pool": "a Disconnect goes to the peer that it names"},
+    "home_server_pool": {"fallback": "no other server is asked where all of these are silent", "virtual_server": "nothing is answered for a home server"},
+    "proxy": {"default_fallback": "a realm whose servers are all silent isn't answered by another realm", "dynamic": "home servers aren't discovered",
+              "directory": "home servers aren't discovered"},
 }
+# Sections within a home server, and why they have no key.
+INSIDE = {"coa": "`wait` and `tries` of the realm count for Disconnects too", "limit": "`max_pending`, `share` and `peer_share` of the realm bound what waits",
+          "tls": "UDP alone"}
 ADDRESSES = ("ipaddr", "ipv4addr", "ipv6addr")
 
 
@@ -47,9 +54,11 @@ class Conversion:
         self.homes = {it.name: it for it in root.own("home_server")}
         self.pools = {it.name: it for it in root.own("home_server_pool")}
         self.security = next(iter(root.own("security")), None)
+        # Where FreeRADIUS speaks to itself, of the EAP that it opens.
+        self.inner = [it for server in root.of("server") if "inner" in server.name for it in server.of("listen")]
         self.clients = [*root.own("client"), *(it for group in root.own("clients") for it in group.own("client") if is_tls(it))]
         self.used, self.addresses, self.names, self.front = set(), set(), set(), Front()
-        self.lost_tables, self.rejects, self.reject_at, self.realms, self.taken = [], [], 0, 0, []
+        self.lost_parts, self.lost_tables, self.rejects, self.reject_at, self.realms, self.taken = [], [], [], 0, 0, []
 
     def run(self):
         self.write_top()
@@ -65,7 +74,7 @@ class Conversion:
         for section, (items, notes) in realms:
             self.out.put("")
             self.write_realm(section, items, notes)
-        named = {it for pool in self.pools.values() for it in pool.all("home_server")} | {it.get("coa_server") for it in self.clients}
+        named = {it for pool in self.pools.values() for key in ("home_server", "fallback") for it in pool.all(key)} | {it.get("coa_server") for it in self.clients}
         for name in sorted(set(self.homes) - named):
             self.out.put("")
             self.out.lose(f"home_server {name}: no pool uses it")
@@ -78,8 +87,11 @@ class Conversion:
 
     def lose_settings(self, section, known):
         for key, value in section.settings:
-            if key in REASONS[section.kind] and key not in known:
+            if key in REASONS[section.kind] and key not in known and (value or "").lower() not in ("no", "off"):
                 self.out.lose(f"{section.kind} {section.name}: {key} {value or ''}: {REASONS[section.kind][key]}")
+        for inside in section.sections if section.kind == "home_server" else []:
+            if inside.kind in INSIDE:
+                self.out.lose(f"home_server {section.name}: {inside.kind} {{..}}: {INSIDE[inside.kind]}")
 
     def tell_certificates(self):
         """Where haproxy has the certificates of those who listen with TLS."""
@@ -95,7 +107,8 @@ class Conversion:
 
     def all_listening(self, kinds):
         """The listen sections of such a type, but for those that haproxy has."""
-        return [it for it in self.root.of("listen") if (it.get("type") or "").lower() in kinds and not it.own("tls")]
+        return [it for it in self.root.of("listen")
+                if (it.get("type") or "").lower() in kinds and it not in self.inner and not it.own("tls")]
 
     def listening(self, kinds):
         """The first of them with its endpoint's parts."""
@@ -113,6 +126,10 @@ class Conversion:
                 "# docs/TUNING.md how each number is chosen. It has secrets: owner root, mode 0600.", "")
         for name in self.missed:
             out.lose(f"$INCLUDE {name}: name that file beside the others")
+        for listen in self.inner:
+            out.lose(f"listen {stated_address(listen)}:{listen.get('port') or 0} of an inner tunnel: no EAP is opened here")
+        for section in self.root.own("proxy"):
+            self.lose_settings(section, ())
         auth, acct = self.listening(("auth", "auth+acct")), self.listening(("acct", "auth+acct"))
         stated = [it.get(key) for it in (auth, acct, *self.homes.values()) if it for key in (*ADDRESSES, "src_ipaddr") if it.kind == "listen" or key == "src_ipaddr"]
         found = [it for text in stated if text for it in [endpoint_of(text, 1, self.options)] if it]
@@ -143,7 +160,8 @@ class Conversion:
         if any(it.says("auth") for it in self.root.own("log")):
             out.change('each exchange that ends is logged with its user and station: `log_exchanges = "none"` ends that')
         else:
-            out.put("# No line tells of an exchange, for it would have the user and the station.", 'log_exchanges = "none"')
+            out.put("# No line tells of an exchange, for it would have the user.", 'log_exchanges = "none"',
+                    "# If they are to tell of them, then of stations by their hash alone, with the key in station.key beside this file.", 'log_station = "hmac"')
         self.reject_at = len(out.lines)
 
     # Clients
@@ -188,7 +206,7 @@ class Conversion:
         """Whether yes is said of a client: by itself, or else for all."""
         said = section.get(key) or self.security and self.security.get(key) or "no"
         if said.lower() == "auto":
-            self.out.change(f"client {section.name}: {key} auto: there is no auto, so it isn't wanted")
+            self.out.change(f"client {section.name}: {key} auto: there is no auto, so it isn't required")
         return said.lower() in ("yes", "on", "1")
 
     def coa_of(self, section, network):
@@ -202,6 +220,7 @@ class Conversion:
             self.out.lose(f"client {section.name}: coa_server {name}: a prefix has no NAS-IP-Address")
         elif place:
             key, attribute = ("nas_ip", "NAS-IP-Address") if network.version == 4 else ("nas_ipv6", "NAS-IPv6-Address")
+            self.lose_settings(coa, ("proto",))
             self.out.change(f"client {section.name}: a Disconnect names it by {attribute} {network_text(network)}; what stands behind it by `nas_ids`,"
                             " if you write them")
             return [f"coa = {written(place)}", f'{key} = "{network_text(network)}"']
@@ -285,11 +304,12 @@ class Conversion:
             out.lose(f"realm {section.name}: it has no pool, and is handled there; here its names get an Access-Reject")
             self.lost_tables.append(f"realm {section.name}")
             return
-        homes = []
+        homes, lost = [], []
         for home in self.members(section, "auth_pool"):
             fault = self.fault_of_home(home) or (f"roam takes {SERVERS}" if len(homes) == SERVERS else None)
             if fault:
                 out.lose(f"realm {section.name}: home_server {home.name}: {fault}")
+                lost.append(f"home_server {home.name} of realm {section.name}")
             else:
                 homes.append(home)
         if not homes or len(reached) > ALSO or self.realms == TABLES:
@@ -298,6 +318,7 @@ class Conversion:
             return
         for note in notes:
             out.change(f"realm {section.name}: {note}")
+        self.lost_parts += lost
         self.write_table(section, reached, homes)
 
     def write_table(self, section, items, homes):
@@ -308,6 +329,7 @@ class Conversion:
         if (pool.get("type") or "fail-over").lower() != "fail-over":
             out.change(f"realm {section.name}: its pool is of type {pool.get('type')}; roam asks its servers in order, and the next one where one is silent"
                        + ("; a login stays at the server that it began at (conversations)" if len(homes) > 1 else ""))
+        self.lose_settings(pool, ())
         if not any(key == "nostrip" for key, _ in section.settings):
             out.change(f"realm {section.name}: FreeRADIUS strips the realm of its names; roam never does")
         partners = [it for it in self.members(section, "acct_pool") if self.fault_of_home(it) is None and (it.get("type") or "auth") != "auth"]
@@ -389,7 +411,7 @@ def main():
         conversion.run()
     except (Unreadable, ValueError) as error:
         sys.exit(f"from-freeradius.py: {error}")
-    closed("from-freeradius.py", conversion.out, len(conversion.addresses), conversion.realms, conversion.lost_tables)
+    closed("from-freeradius.py", conversion.out, len(conversion.addresses), conversion.realms, conversion)
 
 
 if __name__ == "__main__":

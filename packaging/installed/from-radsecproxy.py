@@ -91,7 +91,7 @@ class Conversion:
         self.servers = {block.name.lower(): block for block in self.of_kind("server")}
         self.rewrites = {block.name: block for block in self.of_kind("rewrite")}
         self.used, self.addresses, self.names = set(), {}, set()
-        self.lost_tables, self.rejects, self.reject_at = [], [], 0
+        self.lost_parts, self.lost_tables, self.rejects, self.reject_at = [], [], [], 0
         self.realms, self.taken, self.forwarding, self.front = 0, [], [], Front()
 
     def run(self):
@@ -221,11 +221,12 @@ class Conversion:
             out.put("# No line tells of an exchange, for it would have the user.", "log_exchanges = \"none\"")
             if (top.get("fticksreporting") or "none").lower() != "none":
                 out.change('F-Ticks are made of the lines of exchanges, and those are off: `log_exchanges = "final"` has them')
-        elif hides_stations:
+        if hides_users or hides_stations:
             out.put("# Stations are logged by their hash alone, with the key in station.key beside this file.", 'log_station = "hmac"')
+        if hides_stations and not hides_users:
             out.change('each exchange that ends is logged with its user, and with the hash of its station: its key (LogKey) belongs into'
                        ' station.key beside the configuration, 16 octets or more; without it no station is told')
-        else:
+        elif not hides_users:
             out.change('each exchange that ends is logged with its user and station: `log_exchanges = "none"` ends that')
 
     # Clients
@@ -548,13 +549,14 @@ class Conversion:
                 self.out.lose(f"realm {block.name}: accountingserver {name}: {fault}")
             else:
                 accounting.append(server)
-        pairs = []
+        pairs, lost = [], []
         for name in block.all("server"):
             server, fault = self.server(name)
             if fault is None and len(pairs) == SERVERS:
                 fault = f"roam takes {SERVERS}"
             if fault:
                 self.out.lose(f"realm {block.name}: server {name}: {fault}")
+                lost.append(f"server {name} of realm {block.name}")
                 continue
             partner = self.partner(server, accounting)
             if partner:
@@ -565,6 +567,9 @@ class Conversion:
                           " secret, or each has one already")
         if pairs and block.all("accountingserver") and not any(partner for _, partner in pairs):
             self.out.change(f"realm {block.name}: its accounting goes to no server here")
+            lost.append(f"the accounting of realm {block.name}")
+        # Of a realm that isn't there at all no part is named.
+        self.lost_parts += lost if pairs else []
         return pairs
 
     def partner(self, server, accounting):
@@ -626,7 +631,7 @@ def main():
         conversion.run()
     except (Unreadable, ValueError) as error:
         sys.exit(f"from-radsecproxy.py: {error}")
-    closed("from-radsecproxy.py", conversion.out, len(conversion.addresses), conversion.realms, conversion.lost_tables)
+    closed("from-radsecproxy.py", conversion.out, len(conversion.addresses), conversion.realms, conversion)
 
 
 if __name__ == "__main__":

@@ -235,7 +235,7 @@ EXPRESSIONS = [
 
 
 # What of it is lost as a whole.
-LOST = ["client of-six", "client named", "client long", "realm seven.example",
+LOST = ["the accounting of realm /\\.home\\.example$/", "client of-six", "client named", "client long", "realm seven.example",
         r"realm /^[a-k].*@half\.example$/"]
 
 
@@ -256,7 +256,7 @@ def run(words):
 
 
 def converted(path, lost):
-    """What is written and counted. Where whole clients or realms are lost, the last line names them, and the status isn't 0."""
+    """What is written and counted. Where clients, realms or parts of them are lost, lines behind it name them; where whole ones, the status isn't 0."""
     done = run([sys.executable, CONVERTER, path])
     want(done.returncode == (1 if lost else 0), done.stderr)
     counted, _, named = done.stderr.partition("\n")
@@ -576,7 +576,7 @@ def main():
     read_addresses()
     look_over("five-hundred.conf", five_hundred(), 100, 500, [], [], roam)
     private = look_over("private.conf", "LogFullUsername off\n" + five_hundred(), 100, 500, [], [], roam)
-    want(private["log_exchanges"] == "none")
+    want((private["log_exchanges"], private["log_station"]) == ("none", "hmac"))
     hashed = look_over("hashed.conf", "LogMAC VendorKeyHashed\nLogKey salt\n" + five_hundred(), 100, 500, [], [], roam)
     want("log_exchanges" not in hashed and hashed["log_station"] == "hmac")
     named = changed(five_hundred(), "host 192.0.2.100", "host localhost")

@@ -128,7 +128,7 @@ def accepted_by(around, name):
 
 def said_of(around, endpoint):
     """How often the broker's log says of a home server that it keeps silent."""
-    return len(re.findall(rf"home server {re.escape(endpoint)}.* keeps silent", around.log("broker")))
+    return len(re.findall(rf"home server {re.escape(endpoint)}.* (?:stopped|never) answer(?:ing|ed)", around.log("broker")))
 
 
 def try_outage(around, seconds):

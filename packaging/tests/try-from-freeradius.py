@@ -78,6 +78,16 @@ server default {{
     }}
   }}
 }}
+server inner-tunnel {{
+  listen {{
+    type = auth
+    ipaddr = 127.0.0.1
+    port = 18120
+  }}
+  authorize {{
+    suffix
+  }}
+}}
 """
 CLIENTS = r"""# A secret with what has to be escaped, and a name of its own
 client one {
@@ -93,7 +103,7 @@ client dormitories { ipaddr = 10.20.0.0/16; secret = of-many }
 client six { ipv6addr = 2001:db8::1; secret = of-six }
 client undecided { ipaddr = 192.0.2.40; secret = of-undecided; limit_proxy_state = auto }
 """
-PROXY = r"""proxy server { default_fallback = no }
+PROXY = r"""proxy server { default_fallback = yes }
 home_server one-coa { type = coa; ipaddr = 192.0.2.1; port = 3799; secret = of-coa }
 home_server home-1 {
   type = auth
@@ -116,16 +126,19 @@ home_server home-2 {
   response_window = 6
   status_check = status-server
   check_interval = 30
+  coa { irt = 2; mrt = 16; mrc = 5; mrd = 30 }
 }
 home_server upper { type = auth; ipaddr = 198.51.100.65; port = 1812; secret = of-upper; response_window = 6 }
 home_server of-six { type = auth; ipv6addr = 2001:db8::2; port = 1812; secret = of-six }
 home_server_pool home { type = fail-over; home_server = home-1 }
 home_server_pool home-acct { type = fail-over; home_server = home-1-acct }
 home_server home-3 { type = auth+acct; ipaddr = 198.51.100.3; port = 1812; secret = of-home-3 }
-home_server_pool second { type = keyed-balance; home_server = home-2; home_server = home-3 }
+home_server closing { virtual_server = inner-tunnel }
+home_server_pool second { type = keyed-balance; home_server = home-2; home_server = home-3; fallback = closing }
 home_server_pool upper { type = fail-over; home_server = upper }
 home_server_pool six { type = fail-over; home_server = of-six }
-home_server_pool both { type = fail-over; home_server = home-1; home_server = of-six }
+home_server named { type = auth; ipaddr = localhost; port = 1812; secret = of-named }
+home_server_pool both { type = fail-over; home_server = home-1; home_server = of-six; home_server = named }
 realm a.example { auth_pool = home; acct_pool = home-acct; nostrip }
 realm "~^(.*\.)*b\.example$" { pool = second }
 realm "~.*\.c\.b\.example$" { pool = second }
@@ -140,11 +153,12 @@ realm DEFAULT { auth_pool = upper; nostrip }
 """
 TOLD = [("Not carried over", what) for what in (
     "client six: 2001:db8::1 is of IPv6, and `auth` of IPv4", "client wired: coa_server one-coa: a prefix", "realm ~.*\\.c\\.b\\.example$: *.c.b.example is never reached",
-    "realm here.example: it has no pool", "realm ~^[a-k]+\\.half\\.example$: neither")]
+    "realm here.example: it has no pool", "realm ~^[a-k]+\\.half\\.example$: neither", "proxy server: default_fallback yes",
+    "home_server_pool second: fallback closing", "home_server home-2: coa {..}", "listen 127.0.0.1:18120 of an inner tunnel")]
 TOLD += [("Changed", what) for what in (
     "client undecided: limit_proxy_state auto", "client one: a Disconnect names it by NAS-IP-Address 192.0.2.1", "its pool is of type keyed-balance",
     "FreeRADIUS strips the realm", "of IPv6: write it in place of ::1", "no Status-Server and no test user", "FreeRADIUS handles its accounting itself")]
-LOST = ["client six", "realm here.example"]
+LOST = ["client six", "realm here.example", "home_server named of realm both.example"]
 # A proxy by TLS: who listens with it, clients within its own list, and home servers.
 OVER_TLS = r"""listen {
   type = auth+acct
@@ -219,6 +233,9 @@ def look_over(name, texts, roam, lost, look=None):
         paths = [os.path.join(directory, it) for it in (["radiusd.conf"] if "radiusd.conf" in texts else texts)]
         status, written, said = run(sys.executable, CONVERTER, *paths)
         want(status == (1 if lost else 0) and all(it in said for it in lost), f"{name}: {status}, {said}")
+        # What is included is read once, also where it is named too; and the folder stands for its radiusd.conf.
+        for others in ([os.path.join(directory, it) for it in reversed(texts)], [directory]) if "radiusd.conf" in texts else ():
+            want(run(sys.executable, CONVERTER, *others) == (status, written, said), f"{name}: the same of {others}")
         conf = tomllib.loads(written)
         converter.keeps_the_rules(conf)
         if roam:
@@ -231,6 +248,19 @@ def look_over(name, texts, roam, lost, look=None):
             look(directory, paths, written)
         print(f"{name}: {said.splitlines()[0]}" + ("; read by FreeRADIUS" if is_judged else ""))
     return conf, written
+
+
+def look_at_stock(roam):
+    """FreeRADIUS' own folder, where it is installed, becomes a configuration that roam accepts."""
+    for folder in ("/etc/freeradius/3.0", "/etc/raddb"):
+        if os.access(os.path.join(folder, "proxy.conf"), os.R_OK):
+            _, written, said = run(sys.executable, CONVERTER, folder, os.path.join(folder, "clients.conf"), os.path.join(folder, "proxy.conf"))
+            conf = tomllib.loads(written)
+            want([it["name"] for it in conf["realm"]] == ["example.com"] and "18120" not in str(conf), said)
+            with tempfile.NamedTemporaryFile("w", suffix=".conf") as made:
+                made.write(written)
+                made.flush()
+                want(not roam or run(roam, "check", made.name)[0] == 0, f"roam accepts what is made of {folder}")
 
 
 def over_tls(roam):
@@ -273,6 +303,7 @@ def main():
     want(b["also"] == ["*.b.example"] and b["server"][0]["acct"] == "198.51.100.2:11813" and "rest" not in b and b["reverse"] != a["reverse"])
     want(x["accounting"] == every["accounting"] == "answer" and every["also"] == ["*"] and every["rest_after"] == 50)
     want(conf["reject"] == ["here.example"] and conf["log_exchanges"] == "none" and "status_server" not in conf)
+    want(conf["log_station"] == "hmac" and "18120" not in str(conf["auth"]))
     want(b["conversations"] and "conversations" not in a and a["own_sessions"] and "own_sessions" not in x and conf["max_attributes"] == 150)
     print(f"{agree(converter.realms_in_roam(conf))} names mean the same realm")
     over_tls(roam)
@@ -281,6 +312,7 @@ def main():
         file.flush()
         status, _, said = run(sys.executable, CONVERTER, file.name)
         want((status, said) == (1, f"from-freeradius.py: {file.name}:2: a quotation mark without its end\n"), said)
+    look_at_stock(roam)
     files = {it: open(os.path.join(ROOT, "examples", "migrating", it), encoding="utf-8").read() for it in ("clients.conf", "proxy.conf")}
     conf, _ = look_over("examples/migrating", files, roam, [])
     with open(os.path.join(ROOT, "docs", "MIGRATING.md"), encoding="utf-8") as file:

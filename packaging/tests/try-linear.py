@@ -22,7 +22,7 @@ ANY = ('[[realm]]\nname = "elsewhere.invalid"\nalso = ["*"]\nloop_prevention = t
        '[[realm.server]]\nauth = "198.51.100.1:1812"\nacct = "198.51.100.1:1813"\nsecret = "a secret for tests"\nrequire_seal = true\n')
 # What is counted: of so few realms, and of eight times as many; how many servers, `out` and `reverse` each has, and whether each has
 # a peer of its own beside.
-KINDS = [("4 servers and an out", 64, 4, 1, 0, False)]
+KINDS = [("4 servers and an out", 64, 4, 1, 0, False), ("8 servers, 16 out and 8 reverse, and a peer each", 32, 8, 16, 8, True)]
 MOST = 12
 
 

@@ -7,7 +7,9 @@ is given, `roam check` has to accept each sample, and `roam sim` to print the sa
 """
 
 import hashlib
+import ipaddress
 import os
+import re
 import sys
 import tempfile
 
@@ -17,7 +19,8 @@ from radius import packets, sealed_answer
 from server import run
 import broker
 
-SAMPLES = os.path.join(os.path.dirname(os.path.dirname(os.path.abspath(__file__))), "samples")
+ROOT = os.path.dirname(os.path.dirname(os.path.dirname(os.path.abspath(__file__))))
+SAMPLES = os.path.join(ROOT, "packaging", "samples")
 
 ACCESS, ACCOUNTING = packets.ACCESS_REQUEST, packets.ACCOUNTING_REQUEST
 CLASS = (25, b"of a class")
@@ -84,6 +87,7 @@ CASES = [
     ("hub", "airport", ACCESS, "0002@wlan.mnc002.mcc001.3gppnetwork.org", to("198.51.100.17:1812", (), (CALLED,))),
     ("hub", "trains", ACCESS, "u@operator.example", to("198.51.100.17:1812", named("trains.example"), (CALLED,)), [(OPERATOR, b"1another.example")]),
     ("hub", "airport", ACCESS, "u@operator.example", to("198.51.100.17:1812", [(OPERATOR, b"1another.example")]), [(OPERATOR, b"1another.example")]),
+    ("hub", "airport", ACCESS, "u@operator.example", to("198.51.100.17:1812", [(OPERATOR, b"4AIRPORT:US")]), [(OPERATOR, b"4AIRPORT:US")]),
     ("hub", "stadium", ACCESS, "0001@mnc001.mcc001.3gppnetwork.org", REJECT),
     ("hub", "stadium", ACCESS, "u@operator.example", to("198.51.100.17:1812", named("stadium.example"))),
     ("hub", "stadium", ACCOUNTING, "0001@mnc001.mcc001.3gppnetwork.org", refused(25)),
@@ -104,6 +108,7 @@ SESSIONS = [
     ("hub", "airport", "0001@mnc001.mcc001.3gppnetwork.org", b"airport-7", "198.51.100.9", "192.0.2.1:3799"),
     ("hub", "trains", "u@operator.example", b"train-2", "198.51.100.17", "192.0.2.17:3799"),
     ("visited-network", "visited-network", "u@university.example", b"ap-1", "198.51.100.2", "192.0.2.1:3799"),
+    ("README", "library", "u@university.example", b"library-wlc", "198.51.100.1", "192.0.2.21:3799"),
 ]
 
 
@@ -129,12 +134,19 @@ def reply(octets, secret, attributes):
     return sealed_answer(packets.ACCESS_ACCEPT, octets, secret, attributes)
 
 
+def text_of(name):
+    """The text of a sample, or the configuration that the README begins with."""
+    path = os.path.join(ROOT, "README.md") if name == "README" else os.path.join(SAMPLES, f"{name}.conf")
+    with open(path, encoding="utf-8") as file:
+        text = file.read()
+    return text.split("```toml\n")[1].split("```")[0] if name == "README" else text
+
+
 class Played:
     """A sample as it is played, with its script."""
 
     def __init__(self, name):
-        with open(os.path.join(SAMPLES, f"{name}.conf"), encoding="utf-8") as file:
-            self.config = broker.Config(file.read())
+        self.config = broker.Config(text_of(name))
         self.broker, self.script, self.sent, self.now = broker.Broker(self.config), [], [], 0
 
     def event(self, line):
@@ -254,12 +266,35 @@ def by_program(program, name, played):
     return [f"{name}: sim ends with {status} {said!r}, {len(printed.splitlines())} lines, not {len(played.sent)}: {wrong[:1]}"]
 
 
+def look_at_homes(config):
+    """An institution's home servers are its peer's too, where it asks: the federation's in 192.0.2.0/24."""
+    for realm in config.realms:
+        for server in realm["server"]:
+            if server["auth"].startswith("192.0.2."):
+                address = ipaddress.ip_address(server["auth"].rpartition(":")[0])
+                peers = [it["name"] for it in config.peers if address in it["prefix"]]
+                want(peers == [realm["name"].partition(".")[0]], f"{address} of {realm['name']} is of the peers {peers}")
+
+
+def look_at_package():
+    """The package's description has both kinds of addresses, and each alert has a severity."""
+    with open(os.path.join(ROOT, "packaging", "debian", "control"), encoding="utf-8") as file:
+        text = file.read()
+    want("IPv4 and IPv6" in text and not re.search(r"no [^.]*IPv6", text), "the description has IPv6")
+    with open(os.path.join(ROOT, "packaging", "installed", "roam.rules.yml"), encoding="utf-8") as file:
+        alerts = file.read().split("- alert: ")[1:]
+    for alert in alerts:
+        want("severity: " in alert, f"{alert.splitlines()[0]} has a severity")
+
+
 def main():
     [program] = words(__doc__, 0, 1) or [None]
     go_on()
     be_quiet()
     names = sorted(it.removesuffix(".conf") for it in os.listdir(SAMPLES) if it.endswith(".conf"))
-    played = {name: Played(name) for name in names}
+    played = {name: Played(name) for name in [*names, "README"]}
+    look_at_homes(played["federation"].config)
+    look_at_package()
     for number, (sample, *case) in enumerate(CASES, 1):
         wrong = played[sample].play(number, *case)
         want(not wrong, f"{sample}: {case[:3]}: {wrong}")

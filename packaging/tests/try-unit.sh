@@ -37,7 +37,9 @@ mount -t tmpfs -o mode=1777 tmpfs "$root/tmp"
 rm -rf "$root"/etc/systemd/system/* "$root/etc/fstab"
 : > "$root/etc/machine-id"
 install -D -m 755 "$program" "$root/usr/local/bin/roam"
-install -D -m 755 "$here/../installed/look-at-configuration" "$root/usr/local/lib/roam/look-at-configuration"
+for script in look-at-configuration wait-until-it-serves; do
+    install -D -m 755 "$here/../installed/$script" "$root/usr/local/lib/roam/$script"
+done
 install -D -m 600 "$conf" "$root/etc/roam/roam.conf"
 units=$root/etc/systemd/system
 install -m 644 "$here/../installed/roam.service" "$units"
@@ -76,8 +78,14 @@ is_untouched() { [ "$(stat -c '%a %U' /var/shadow)" = "600 root" ] && [ "$(cat /
 # Changes a file by a command of sed: one that changes nothing would try nothing.
 edit() { cp -p "$1" /var/unedited; sed -i "$2" "$1"; must "an edit changes ${1##*/}" eval "! cmp -s $1 /var/unedited"; }
 
-systemctl start roam
-must "it serves" within 20 serves
+python3 -c 'import socket, time; s = socket.socket(socket.AF_INET, socket.SOCK_DGRAM); s.bind(("127.0.0.1", 1812)); time.sleep(60)' &
+taker=$!
+sleep 1
+must "a start fails where a socket is taken" eval "! systemctl start roam 2> /dev/null"
+kill $taker
+systemctl stop roam
+must "and succeeds where it is free" systemctl start roam
+must "it serves" serves
 must "a user of its own" [ "$(status Uid)" != "Uid: 0 0 0 0" ]
 must "which isn't nobody" [ "$(status Uid | cut -d ' ' -f 2)" != "$(id -u nobody)" ]
 must "no capability" [ "$(status CapBnd)$(status CapEff)" = "CapBnd: 0000000000000000CapEff: 0000000000000000" ]

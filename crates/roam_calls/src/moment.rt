@@ -38,6 +38,7 @@ fn narrowed<A: Allocator + Copy>(
     requires earlier { middle < many }
     ensures moments { AreMoments shard.now.states result.0 result.1 }
     ensures within { result.1 ≤ many }
+    ensures from { few ≤ result.0 }
     ensures closer { result.1 - result.0 < many - few }
 {
     if shard.has_few_due(middle, MOST) {
@@ -52,6 +53,7 @@ fn parted<A: Allocator + Copy>(shard: &Shard<'_, A>, quiet: u64, now: u64) -> u6
     requires quiet { NothingDue quiet shard.now.states }
     requires due { NothingDue now shard.now.states → ⊥ }
     requires order { quiet < now }
+    requires soon { now ≤ quiet + 100 }
     ensures { IsTickMoment now shard.now.states result }
 {
     let mut few = quiet;

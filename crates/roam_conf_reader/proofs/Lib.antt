@@ -4,5 +4,6 @@ pub mod EndpointLemmas
 pub mod FaultLemmas
 pub mod ItemsLemmas
 pub mod ListLemmas
+pub mod PairLemmas
 pub mod RangeLemmas
 pub mod UniqueLemmas

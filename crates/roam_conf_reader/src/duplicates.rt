@@ -1,8 +1,8 @@
 //! What may not stand twice in a configuration.
 //!
-//! Names and patterns of realms, and NAS-Identifiers, which may be many, are found by an index. The other searches
-//! compare all pairs: of at most 1024 peers, 8 `coa_client`s of a realm, the sockets of the broker, 16 endpoints of
-//! one realm's servers, and of 1024 endpoints of peers with 16384 of servers.
+//! What may be many is found by an index: names and patterns of realms, NAS-Identifiers, the sockets of the broker, and
+//! the endpoints of peers among those of all servers. The other searches compare all pairs: of at most 1024 peers, 8
+//! `coa_client`s of a realm, and 16 endpoints of one realm's servers.
 
 ghost use Rattle.std.specs.Prelude.{◌≡◌, ◌≤◌, ◌+◌, ◌++◌, ◌||◌, Some, None, IfOk, OnOk, false, length, map, drop};
 ghost use Rattle.std.specs.List.{list_any};
@@ -17,6 +17,7 @@ ghost use Rattle.roam_conf_reader.specs.Faults.{first_duplicate};
 ghost use Rattle.roam_conf_reader.specs.Reading.{IsMemoryFault};
 
 use crate::ConfFault;
+use crate::endpoint_set::{EndpointSet, is_in, set_of};
 use crate::equal_peers::has_duplicate_peer;
 use roam_conf::{
     CoaClient, ConfigParts, Endpoint, Peer, Realm, Server, has_duplicate_realm, has_no_way_out,
@@ -123,30 +124,31 @@ fn coa_endpoints(alloc: Global, peers: &[Peer]) -> Result<Vec<Endpoint>, ConfFau
     Ok(endpoints)
 }
 
-/// Whether the server takes accounting at one of the endpoints.
-fn is_acct_among(endpoints: &[Endpoint], server: &Server) -> bool
-    ensures { result ≡ option_map_or (is_among endpoints.now) (shown_server server.now).acct false }
+/// Returns whether the server takes accounting at one of the endpoints.
+fn is_acct_among(endpoints: &EndpointSet, server: &Server) -> bool
+    ensures { result ≡ option_map_or (is_among endpoints.now.keys) (shown_server server.now).acct false }
 {
     match server.acct {
-        Some(acct) => is_among(endpoints, acct),
+        Some(acct) => is_in(endpoints, acct),
         None => false,
     }
 }
 
-/// Whether one of the servers is at one of the endpoints.
-fn some_server_at(endpoints: &[Endpoint], servers: &[Server]) -> bool
-    ensures { result ≡ some_server_at endpoints.now (map shown_server servers.now) }
+/// Returns whether one of the servers is at one of the endpoints.
+fn some_server_at(endpoints: &EndpointSet, servers: &[Server]) -> bool
+    ensures { result ≡ some_server_at endpoints.now.keys (map shown_server servers.now) }
 {
     for server in servers {
-        if is_among(endpoints, server.auth) || is_acct_among(endpoints, server) {
+        if is_in(endpoints, server.auth) || is_acct_among(endpoints, server) {
             return true;
         }
     }
     false
 }
 
-fn some_realm_at(endpoints: &[Endpoint], realms: &[Realm]) -> bool
-    ensures { result ≡ list_any (λ realm. some_server_at endpoints.now realm.servers)
+/// Returns whether one of the realms has a server at one of the endpoints.
+fn some_realm_at(endpoints: &EndpointSet, realms: &[Realm]) -> bool
+    ensures { result ≡ list_any (λ realm. some_server_at endpoints.now.keys realm.servers)
         (map shown_realm realms.now) }
 {
     for realm in realms {
@@ -157,7 +159,7 @@ fn some_realm_at(endpoints: &[Endpoint], realms: &[Realm]) -> bool
     false
 }
 
-/// Whether two of the broker's own sockets are at one endpoint.
+/// Returns whether two of the broker's own sockets are at one endpoint.
 #[tactic(auto, unfolding(roam_conf::specs::Duplicates::has_duplicate_endpoint))]
 fn has_duplicate_endpoint(
     alloc: Global,
@@ -169,7 +171,8 @@ fn has_duplicate_endpoint(
     ensures causes { IsMemoryFault result }
 {
     let endpoints = own_endpoints(alloc, auth, acct, realms)?;
-    Ok(has_equal_endpoints(endpoints.as_slice()))
+    let set = set_of(alloc, endpoints.as_slice())?;
+    Ok(set.is_none())
 }
 
 fn is_among_clients(client: &CoaClient, others: &[CoaClient]) -> bool
@@ -219,7 +222,7 @@ fn has_duplicate_server(alloc: Global, realms: &[Realm]) -> Result<bool, ConfFau
     Ok(false)
 }
 
-/// Whether two peers take reverse requests at one endpoint, or a peer at a server's.
+/// Returns whether two peers take reverse requests at one endpoint, or a peer at a server's.
 #[tactic(auto, unfolding(roam_conf::specs::Duplicates::has_duplicate_link))]
 fn has_duplicate_link(alloc: Global, peers: &[Peer], realms: &[Realm]) -> Result<bool, ConfFault>
     ensures ok { IfOk result
@@ -227,7 +230,10 @@ fn has_duplicate_link(alloc: Global, peers: &[Peer], realms: &[Realm]) -> Result
     ensures causes { IsMemoryFault result }
 {
     let coas = coa_endpoints(alloc, peers)?;
-    Ok(has_equal_endpoints(coas.as_slice()) || some_realm_at(coas.as_slice(), realms))
+    match set_of(alloc, coas.as_slice())? {
+        Some(set) => Ok(some_realm_at(&set, realms)),
+        None => Ok(true),
+    }
 }
 
 /// The first duplicate that is there, in the order of the faults, or else that a server is where its realm's `out`

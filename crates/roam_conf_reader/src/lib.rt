@@ -17,6 +17,7 @@ mod coa_client;
 mod config;
 mod document;
 mod duplicates;
+mod endpoint_set;
 mod endpoints;
 mod equal_peers;
 mod fault;

@@ -1,6 +1,7 @@
 //! What stands at a path where no file of ledgers can stand.
 
-ghost use Rattle.std.specs.Prelude.{◌↔◌, ◌<◌, IsTrue};
+ghost use Rattle.std.specs.Prelude.{◌≡◌, ◌↔◌, ◌<◌, IsTrue};
+ghost use Rattle.roam_keeping.specs.Obstacles.{obstacle_text};
 
 use std::fs;
 use std::fs::{Files, Metadata};
@@ -26,7 +27,9 @@ pub enum Obstacle {
 
 impl Obstacle {
     /// Returns what is said of it, behind the path.
-    pub fn text(self) -> &'static str {
+    pub fn text(self) -> &'static str
+        ensures { result.now ≡ obstacle_text self }
+    {
         match self {
             Obstacle::Link => "it is a symbolic link: name the file that it leads to",
             Obstacle::Folder => "it is a folder: name a file in it",

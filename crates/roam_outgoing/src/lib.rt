@@ -5,15 +5,20 @@
 //!
 //! - whenever packets were handed to their sockets, all that was counted of them was taken over, to be told
 //!   | `Outgoing::settle`
+//! - each packet that a thread is given to send is put behind those that wait for its socket, once, in order, and no
+//!   other one is; those that wait are handed to their sockets as `roam_port` says | `Outgoing::put`, `put_all`, `send`,
+//!   `send_again`: `PutsEach`
 //! - the packets that still wait at the end are given back | `Outgoing::into_outbox`
 //! - while a socket has no room and the system can't tell when it has some, a thread waits 10 ms at most before it tries
 //!   that socket again, and otherwise as long as it would. That it waits no longer is the loop's code
 //!   | `Outgoing::wait_for_room`
 #![tactic(auto)]
 
+mod carried;
 mod losses;
 mod old_history;
 mod outgoing;
+mod room;
 
 pub use losses::{CAUSES, SharedLosses};
 pub use old_history::{OldHistory, Steps};

@@ -1,20 +1,19 @@
 //! The packets of a thread on their way to the sockets.
 
-ghost use Rattle.std.specs.Prelude.{◌≡◌, ◌≤◌, min, true, false, IfOk};
+ghost use Rattle.std.specs.Prelude.{◌≤◌};
 ghost use Rattle.std.specs.Vec.{vec_len};
-ghost use Rattle.roam_port.specs.Outbox.{account_of, port_count, told_of};
+ghost use Rattle.roam_port.specs.Outbox.{port_count};
 
+use crate::carried::outbox_for;
 use crate::losses::SharedLosses;
-use mio::unix::SourceFd;
-use mio::{Events, Interest, Poll, Token};
+use mio::{Events, Poll};
 use roam_counting::ThreadCounts;
 use roam_exchange::Outs;
-use roam_port::{Outbox, Sent, Standing};
+use roam_port::{Account, Outbox, Sent};
 use roam_route::Out;
 use roam_sockets::{PlaceSockets, Polls};
 use roam_wire::NoMemory;
 use std::alloc::Global;
-use std::time::Duration;
 
 /// How many sockets that have room again are looked at in one go.
 pub const ROOM_EVENTS: usize = 64;
@@ -44,15 +43,15 @@ impl Drop for RoomEvents {
 pub struct Outgoing<'s> {
     pub(crate) outbox: Outbox<Global>,
     /// In the order of their numbers.
-    ports: Vec<PlaceSockets<'s>>,
+    pub(crate) ports: Vec<PlaceSockets<'s>>,
     losses: &'s SharedLosses,
     /// Where it is counted what was sent, where somebody reads it.
     counts: Option<ThreadCounts<'s>>,
-    room: RoomEvents,
+    pub(crate) room: RoomEvents,
     /// How many sockets had no room and are watched.
-    watched: usize,
+    pub(crate) watched: usize,
     /// Whether a socket had no room, and the system can't be asked to tell when it has some.
-    is_unwatched: bool,
+    pub(crate) is_unwatched: bool,
     ghost as_many: { port_count outbox ≤ vec_len ports },
 }
 
@@ -74,30 +73,16 @@ impl<'s> Drop for Outgoing<'s> {
     }
 }
 
-/// An outbox for so many ports, in which the packets wait that waited in another one: each port is tried again.
-fn outbox_for(
-    alloc: Global,
-    before: Outbox<Global>,
-    ports: usize,
-) -> Result<Outbox<Global>, NoMemory>
-    ensures { IfOk result (λ o. port_count o ≤ ports) }
-{
-    // No configuration that may follow has fewer sockets.
-    if before.port_count() > ports {
-        return Outbox::new(alloc, ports);
-    }
-    let mut outbox = before;
-    outbox.add_ports(alloc, ports)?;
-    for socket in 0..ports {
-        outbox.try_again(socket);
-    }
-    Ok(outbox)
-}
-
 impl<'s> Outgoing<'s> {
+    ghost use Rattle.std.specs.Prelude.{◌≡◌, [], ◌∷◌, min, true, false, option_to_list, IfOk};
+    ghost use Rattle.roam_exchange.specs.Turn.{shown_outs};
+    ghost use Rattle.roam_outgoing.specs.Sending.{PutsEach, outbox_in};
+    ghost use Rattle.roam_port.specs.Outbox.{account_of, told_of};
+    ghost use Rattle.roam_route.specs.Shown.{shown_out};
+
     /// The packets that still wait for room at a socket.
     pub fn into_outbox(self) -> Outbox<Global>
-        ensures { result ≡ self.entry.outbox }
+        ensures { result ≡ outbox_in self.entry }
     {
         let Self {
             outbox,
@@ -113,7 +98,8 @@ impl<'s> Outgoing<'s> {
         outbox
     }
 
-    /// The packets that wait in an outbox that another thread left, and those to come. What can be sent is sent.
+    /// The packets that wait in an outbox that another thread left, and those to come. What can be sent is sent. There
+    /// have to be as many ports as the outbox has, or what waits is lost.
     pub fn new(
         alloc: Global,
         before: Outbox<Global>,
@@ -121,7 +107,9 @@ impl<'s> Outgoing<'s> {
         losses: &'s SharedLosses,
         counts: Option<ThreadCounts<'s>>,
         room: RoomEvents,
-    ) -> Result<Outgoing<'s>, NoMemory> {
+    ) -> Result<Outgoing<'s>, NoMemory>
+        ensures { IfOk result (λ o. port_count before ≤ vec_len ports.entry → PutsEach [] before (outbox_in o)) }
+    {
         let outbox = outbox_for(alloc, before, ports.len())?;
         let mut outgoing = Outgoing {
             outbox,
@@ -154,138 +142,74 @@ impl<'s> Outgoing<'s> {
         }
     }
 
-    /// Puts packets behind those that wait. Where there is no more room for one, what waits is sent first.
-    pub fn put_all(&mut self, outs: Outs<Global>) {
-        let (one, others) = outs.into_parts();
+    /// Puts a packet behind those that wait, where there is one.
+    fn put_one(&mut self, one: Option<Out<Global>>)
+        ensures { PutsEach (shown_outs (option_to_list one)) (outbox_in self.old) (outbox_in self.new) }
+    {
         if let Some(out) = one {
             self.put(out);
         }
+    }
+
+    /// Puts further packets behind those that wait, in order.
+    fn put_others(&mut self, others: Vec<Out<Global>>)
+        ensures { PutsEach (shown_outs others.items) (outbox_in self.old) (outbox_in self.new) }
+    {
         for out in others {
             self.put(out);
         }
     }
 
+    /// Puts packets behind those that wait, in order. Where there is no more room for one, what waits is sent first.
+    pub fn put_all(&mut self, outs: Outs<Global>)
+        ensures { PutsEach (shown_outs outs) (outbox_in self.old) (outbox_in self.new) }
+    {
+        let (one, others) = outs.into_parts();
+        self.put_one(one);
+        self.put_others(others);
+    }
+
     /// Puts a packet behind those that wait for its socket. Where there is no more room for it, what waits is sent
     /// first.
-    pub fn put(&mut self, out: Out<Global>) {
+    pub fn put(&mut self, out: Out<Global>)
+        ensures { PutsEach (shown_out out ∷ []) (outbox_in self.old) (outbox_in self.new) }
+    {
         let sent = self.outbox.put_sending(self.ports.as_mut_slice(), out);
+        self.settle_any(sent);
+    }
+
+    /// The same as `settle`, where anything was sent.
+    fn settle_any(&mut self, sent: Sent)
+        ensures { PutsEach [] (outbox_in self.old) (outbox_in self.new) }
+    {
         if sent != Sent::none() {
             self.settle(sent);
         }
     }
 
     /// Hands the packets that wait to their sockets, each once, but for those whose socket has no room: they wait on.
-    pub fn send(&mut self) {
+    pub fn send(&mut self)
+        ensures { PutsEach [] (outbox_in self.old) (outbox_in self.new) }
+    {
         let sent = self.outbox.send_all(self.ports.as_mut_slice());
         self.settle(sent);
     }
 
     /// Asks to be told when the sockets that have no room have some, and has counted what was counted of the packets.
     fn settle(&mut self, sent: Sent)
-        ensures { told_of self.new.outbox ≡ account_of self.new.outbox }
+        ensures told { told_of (outbox_in self.new) ≡ account_of (outbox_in self.new) }
+        ensures puts { PutsEach [] (outbox_in self.old) (outbox_in self.new) }
     {
-        if sent.is_blocked {
-            self.watch();
-        }
+        self.watch(sent.is_blocked);
         let account = self.outbox.take_account();
         self.losses.add(account.losses);
+        self.count_sent(account);
+    }
+
+    /// Has it counted what became of packets, where somebody reads that.
+    fn count_sent(&self, account: Account) {
         if let Some(counts) = &self.counts {
             counts.sent(account);
         }
-    }
-
-    /// Asks to be told when the sockets for which packets stand aside have room, where that wasn't asked yet.
-    fn watch(&mut self) {
-        for number in 0..self.ports.len() {
-            if self.outbox.standing_of(number) == Some(Standing::Aside) {
-                self.watch_at(number);
-            }
-        }
-    }
-
-    /// Asks to be told when the socket of this number has room, where that wasn't asked yet. It is told at once where
-    /// the socket has some by now.
-    fn watch_at(&mut self, number: usize) {
-        let Some(port) = self.ports.get_mut(number) else {
-            return;
-        };
-        if port.is_watched() {
-            return;
-        }
-        let fd = port.descriptor();
-        let registry = self.room.poll.registry();
-        match registry.register(&mut SourceFd(&fd), Token(number), Interest::WRITABLE) {
-            Ok(()) => {
-                port.set_watched(true);
-                self.watched = self.watched.saturating_add(1);
-            }
-            Err(_) => self.is_unwatched = true,
-        }
-    }
-
-    /// The socket of this number may have room again: what stands aside for it is sent next.
-    fn room_came(&mut self, number: usize) {
-        let Some(port) = self.ports.get_mut(number) else {
-            return;
-        };
-        if port.is_watched() {
-            let fd = port.descriptor();
-            let registry = self.room.poll.registry();
-            let _is_forgotten = registry.deregister(&mut SourceFd(&fd)).is_ok();
-            port.set_watched(false);
-            self.watched = self.watched.saturating_sub(1);
-        }
-        self.outbox.try_again(number);
-    }
-
-    /// Asks which sockets have room again, up to `ROOM_EVENTS`. Answers whether there were so many that there may be
-    /// more.
-    fn ask_for_room(&mut self) -> bool {
-        let RoomEvents { poll, events } = &mut self.room;
-        if poll.poll(events, Some(Duration::ZERO)).is_err() {
-            return false;
-        }
-        let mut numbers = [None; ROOM_EVENTS];
-        for (place, event) in numbers.iter_mut().zip(self.room.events.iter()) {
-            let Token(number) = event.token();
-            *place = Some(number);
-        }
-        for number in numbers {
-            match number {
-                Some(number) => self.room_came(number),
-                None => return false,
-            }
-        }
-        true
-    }
-
-    /// Tries the sockets again that had no room and can't be watched.
-    fn try_unwatched(&mut self) {
-        self.is_unwatched = false;
-        for number in 0..self.ports.len() {
-            if self
-                .ports
-                .get(number)
-                .is_some_and(|port| !port.is_watched())
-            {
-                self.outbox.try_again(number);
-            }
-        }
-    }
-
-    /// Sends to the sockets that have room again.
-    pub fn send_again(&mut self) {
-        if !self.is_blocked() {
-            return;
-        }
-        for _ in 0..=self.ports.len() / ROOM_EVENTS {
-            if !self.ask_for_room() {
-                break;
-            }
-        }
-        if self.is_unwatched {
-            self.try_unwatched();
-        }
-        self.send();
     }
 }

@@ -136,7 +136,7 @@ impl StateFiles {
         let path = file.path.as_str();
         match self.take_file(rt, path) {
             Ok(()) => Ok(()),
-            Err(obstacle) => Err(ServeFault::State(SocketPath::new(path), obstacle.text())),
+            Err(obstacle) => Err(ServeFault::State(SocketPath::new(path), obstacle)),
         }
     }
 }

@@ -12,7 +12,7 @@ use Rattle.roam_reverse.specs.declared.ended.Ended.{Ended}
 use Rattle.roam_reverse.proofs.ListedLemmas.{length-gone, listed-last, listed-same}
 use Rattle.roam_reverse.proofs.SameLemmas.{other-number, same-number}
 use Rattle.roam_reverse.proofs.SoundLemmas.{given-out, there}
-use Rattle.roam_reverse.proofs.PairLemmas.{listed-fewer, listed-less, filter-listed, both-lengths, fails-alone}
+use Rattle.roam_reverse.proofs.PairLemmas.{listed-less, filter-listed, both-lengths, fails-alone}
 use Rattle.roam_reverse.proofs.EndedLemmas.{not-before, ended-of-peer}
 
 module _ (e : Ended) (F : ℕ → Option Session) where
@@ -57,9 +57,6 @@ module _ (e : Ended) (F : ℕ → Option Session) where
       by : (t : ℕ) (o : Option Session) → F t ≡ o → O t ≡ F t
       by t None at = none-open t at ∙ sym at
       by t (Some x) at = open-where t x at (none t x at) ∙ sym at
-
-  pub fewer-open : length (all_listed O) ≤ length (all_listed F)
-  fewer-open = listed-fewer F O 0 tickets_end open-or-not
 
   module _ (next : ℕ) (are : AreTickets F next) where
     pub open-tickets : AreTickets O next

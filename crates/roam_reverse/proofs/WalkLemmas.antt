@@ -1,26 +1,24 @@
 -- The open sessions of a group, one after the other.
-use Rattle.std.proofs.Common.{◌≡◌, ℕ, true, false, ◌+◌, ◌-◌, ◌<◌, ◌≤◌, List, [], length, length-append, Option, Some, None, refl, sym, ap, ◌∙◌, subst, inl, inr, arith}
+use Rattle.std.proofs.Common.{◌≡◌, ℕ, true, false, ◌+◌, ◌-◌, ◌<◌, ◌≤◌, List, [], length, length-append, Option, Some, None, refl, sym, ap, ◌∙◌, arith}
 use Rattle.std.specs.Prelude.{IsSome, filter, is_some, option_and_then}
 use Rattle.std.specs.List.{cons_option}
-use Rattle.std.proofs.lemmas.Bool.{cases_lt}
 use Rattle.roam_wire.specs.Numbered.{listed, tickets_end}
 use Rattle.roam_reverse.specs.Ended.{if_there, open_count, open_of, some_count, where_open}
 use Rattle.roam_reverse.specs.Facets.{rows_under}
 use Rattle.roam_reverse.specs.Private.Groups.{AreEndsOf, IsBesideOf, IsGrouped, PlainGroups, if_row, in_group, newer_of, oldest_of}
 use Rattle.roam_reverse.specs.Private.Masks.{agrees_grouped, mask_of}
-use Rattle.roam_reverse.specs.Private.Row.{row_text, row_under}
-use Rattle.roam_reverse.specs.Private.Tickets.{IsFirst, IsFirstFrom, all_listed}
+use Rattle.roam_reverse.specs.Private.Row.{row_text}
+use Rattle.roam_reverse.specs.Private.Tickets.{IsFirstFrom, all_listed}
 use Rattle.roam_reverse.specs.Sessions.{Asked, Session}
-use Rattle.roam_reverse.specs.Stands.{AreTickets, whole_rows}
+use Rattle.roam_reverse.specs.Stands.{whole_rows}
 use Rattle.roam_reverse.specs.declared.ended.Ended.{Ended}
 use Rattle.roam_reverse.specs.declared.ends.Ends.{Ends}
 use Rattle.roam_reverse.specs.declared.neighbours.Beside.{Beside}
 use Rattle.roam_reverse.proofs.ExactLemmas.{exact-listed}
 use Rattle.roam_reverse.proofs.FacetLemmas.{agreeing-counted}
 use Rattle.roam_reverse.proofs.GroupLemmas.{all-same, from-group, listed-bound}
-use Rattle.roam_reverse.proofs.NeighbourLemmas.{held-none, held-some}
 use Rattle.roam_reverse.proofs.NewestLemmas.{listed-empty, listed-parts}
-use Rattle.roam_reverse.proofs.OpenLemmas.{none-open, open-there}
+use Rattle.roam_reverse.proofs.OpenLemmas.{open-there}
 use Rattle.roam_reverse.proofs.RowLemmas.{exactly}
 
 module _ {X : Type 0} where

@@ -1,7 +1,7 @@
 -- Sessions by all that they are, and the one that makes way.
 use Rattle.std.proofs.Common.{◌≡◌, ℕ, ◌<◌, ◌≤◌, ◌==◌, Bool, true, false, List, [], ◌∷◌, length, Option, Some, None, refl, sym, ap, ◌∙◌, subst, inl, inr, arith}
 use Rattle.std.specs.Prelude.{◌&&◌, IsSome, filter, nat_le, not, option_and_then, option_map}
-use Rattle.std.proofs.lemmas.Bool.{cases_Bool, cases_eq, cases_lt, not_from_false, not_from_true}
+use Rattle.std.proofs.lemmas.Bool.{cases_Bool, cases_eq, cases_lt, not_from_false}
 use Rattle.std.proofs.lemmas.Bool.Decides.{nat_tests}
 use Rattle.roam_wire.specs.Numbered.{PutsAt, tickets_end}
 use Rattle.roam_reverse.specs.Facets.{ComesIn, masked, rows_under}
@@ -13,7 +13,7 @@ use Rattle.roam_reverse.specs.Stands.{whole_rows}
 use Rattle.roam_reverse.specs.declared.ends.Ends.{Ends}
 use Rattle.roam_reverse.proofs.FacetLemmas.{agreeing-counted, agrees-held}
 use Rattle.roam_reverse.proofs.GroupLemmas.{ends-there, from-group, in-own}
-use Rattle.roam_reverse.proofs.ListedTestLemmas.{all-pass, all-stay, each-passes, first-gone, passing-stay}
+use Rattle.roam_reverse.proofs.ListedTestLemmas.{all-pass, all-stay, each-passes, first-gone}
 use Rattle.roam_reverse.proofs.NeighbourLemmas.{held-some}
 use Rattle.roam_reverse.proofs.RowLemmas.{whole-is}
 use Rattle.roam_reverse.proofs.SameLemmas.{same-number}
@@ -255,14 +255,7 @@ module _ (F : ℕ → Option Session) (p : PlainGroups)
       by (Some s) at = absurd (let its = has-ends u s at in let k = none (row s.peer) in
           let l = its.there in cc (k, l))
 
--- those that agree go one after the other
-pub kept-rest : (q : Asked) (F G : ℕ → Option Session) (t : ℕ) (x : Session) → F t ≡ Some x → agrees q x ≡ true
-    → PutsAt F G t None → without_agreeing q (all_listed G) ≡ without_agreeing q (all_listed F)
-kept-rest q F G t x at agree goes =
-    passing-stay (λ (s : Session). not (agrees q s)) F G 0 tickets_end t x at (not_from_true (agrees q x) agree)
-    goes.changed goes.others
-
--- until there is none
+-- where none agrees all stay
 pub none-rest : (q : Asked) (F : ℕ → Option Session) → IsOneOf (agrees q) F None
     → without_agreeing q (all_listed F) ≡ all_listed F
 none-rest q F none =

@@ -7,13 +7,13 @@
 //! There are never more rows than a ledger may have sessions: where all are taken, a session that was ended goes before
 //! one is opened.
 
-ghost use Rattle.std.specs.Prelude.{◌≡◌, ◌≢◌, ℕ, ◌+◌, ◌-◌, ◌<◌, ◌≤◌, [], ◌∷◌, ◌++◌, false, true};
+ghost use Rattle.std.specs.Prelude.{◌≡◌, ◌+◌, ◌-◌, ◌<◌, [], false};
 ghost use Rattle.std.specs.Prelude.{None, Some, IsOk, IsSome, OnErr, OnOk, is_some, length, option_map};
 ghost use Rattle.roam_reverse.specs.Ended.{IsTable, open_at, open_sessions, some_count};
-ghost use Rattle.roam_reverse.specs.Kept.{kept_session, shown_asked, shown_session};
+ghost use Rattle.roam_reverse.specs.Kept.{kept_session, shown_session};
 ghost use Rattle.roam_reverse.specs.Parts.{shown_parts};
 ghost use Rattle.roam_reverse.specs.Private.Tickets.{IsTicketOf};
-ghost use Rattle.roam_reverse.specs.Sessions.{Session, agrees, count_of_peer, has_session, within, without_agreeing};
+ghost use Rattle.roam_reverse.specs.Sessions.{count_of_peer, has_session};
 ghost use Rattle.roam_reverse.specs.Stands.{session_at, session_count};
 ghost use Rattle.roam_wire.specs.Numbered.{PutsAt};
 

@@ -200,7 +200,7 @@ all-served config now items shards served paused same = record {
 -- the way of a change that is declined
 pub way-declined : (is_agreed : Bool) (old new : ConfigView) (shards : List (Paused Global)) (why : Declined Global)
     → IsDeclined is_agreed old new shards why → IsWay is_agreed old new shards (way_of why)
-way-declined is_agreed old new shards declined.Memory is = _
+way-declined is_agreed old new shards declined.Memory is = tt
 way-declined is_agreed old new shards (declined.Losses losses) is = (is.disagreed, is.some)
 
 -- nothing was done

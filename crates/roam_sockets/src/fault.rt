@@ -4,6 +4,7 @@ ghost use Rattle.std.specs.Prelude.{◌≡◌, ◌↔◌, IsTrue, take};
 ghost use Rattle.roam_sockets.specs.Faults.{path_octets};
 
 use roam_conf::Endpoint;
+use roam_keeping::Obstacle;
 use roam_wire::NoMemory;
 use std::alloc::{AllocError, AllocFailed};
 use std::io;
@@ -56,7 +57,7 @@ pub enum ServeFault {
     /// No control socket can be had at this path.
     Control(SocketPath, Reason),
     /// No sessions can be kept in the file of a path that begins so, and why.
-    State(SocketPath, &'static str),
+    State(SocketPath, Obstacle),
     /// The process may not have as many descriptors as this, which the server wants in all.
     Descriptors(u32),
     /// The system gives nothing to wait with for sockets.

@@ -24,6 +24,8 @@ pub struct Seen {
 /// How a home server's endpoint stands.
 #[derive(Clone, Copy, PartialEq, Eq)]
 pub enum Standing {
+    /// It was asked, so many requests were given up there, and it never answered.
+    NeverAnswered(u64),
     /// It kept silent, and no request goes there for so many seconds more where another server is left.
     Rests(u64),
     /// Replies came from there, and all were refused.
@@ -43,7 +45,9 @@ impl Seen {
     pub fn standing(self) -> Standing
         ensures { result ≡ spec.standing_of self }
     {
-        if self.rest > 0 {
+        if self.replied == 0 && self.unanswered > 0 {
+            Standing::NeverAnswered(self.unanswered)
+        } else if self.rest > 0 {
             Standing::Rests(self.rest / 1000 + u64::from(self.rest % 1000 > 0))
         } else if self.taken == 0 && self.replied > 0 {
             Standing::IsRefused
@@ -63,6 +67,7 @@ impl Standing {
     /// It as a word of JSON.
     pub fn word(self) -> &'static str {
         match self {
+            Standing::NeverAnswered(_) => "never_answered",
             Standing::Rests(_) => "rests",
             Standing::IsRefused => "is_refused",
             Standing::Unanswered(_) => "unanswered",
@@ -76,6 +81,7 @@ impl Standing {
 impl Display for Standing {
     fn fmt<W: Write>(&self, f: &mut Formatter<W>) -> fmt::Result {
         match self {
+            Standing::NeverAnswered(requests) => write!(f, "never answered ({requests})"),
             Standing::Rests(seconds) => write!(f, "rests {seconds} s more"),
             Standing::IsRefused => f.write_str("replies refused"),
             Standing::Unanswered(requests) => write!(f, "{requests} unanswered"),

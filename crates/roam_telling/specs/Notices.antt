@@ -1,5 +1,8 @@
 -- What is told on standard error. Ours.
 use Rattle.std.specs.Prelude.{ℕ, List, sum_by}
+use Rattle.roam_conf.specs.declared.place.Link.{Link}
+use Rattle.roam_telling.specs.declared.notice.Answering.{Answering}
+use Rattle.roam_telling.specs.declared.notice.Answering.TheVariants as answering
 use Rattle.roam_telling.specs.declared.notice.Notice.{Notice}
 use Rattle.roam_telling.specs.declared.notice.Notice.TheVariants as notice
 
@@ -20,3 +23,9 @@ notices_in _ = 1
 -- for how many some stand together
 abbrev pub notices_among : List Notice → ℕ
 notices_among told = sum_by notices_in told
+
+-- what is told of a home server of a realm, by how it answers
+abbrev pub rest_notice : ℕ → Link → Answering → Notice
+rest_notice realm link answering.Again = notice.Answers realm link
+rest_notice realm link answering.Stopped = notice.Stopped realm link
+rest_notice realm link answering.Never = notice.NeverAnswered realm link

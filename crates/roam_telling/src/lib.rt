@@ -8,7 +8,7 @@
 //! - each refused arrival or tick is counted in the thread's tallies, and logged a second after the first of
 //!   them: with that the notices that its queue was given and those that it dropped are as many more as were
 //!   tallied, up to 2^64 - 1, and nothing is left to log. A notice of lost packets, of dropped lines, of a
-//!   server that rests, answers or is refused, and of a stop is the one that the queue is given, or none is. That the loops
+//!   server that never answered, stopped answering, answers again or is refused, and of a stop is the one that the queue is given, or none is. That the loops
 //!   call it then, that what is logged is printed, when the logger is woken for lines of exchanges and which of
 //!   them it writes together, no contract says | `Notices::refused`, `tell_refused`, `tell_due`, `time_left`
 #![tactic(auto)]
@@ -23,7 +23,7 @@ mod state_lines;
 
 pub use ended::{local_reject_of, local_response_of, nak_of, origin_of};
 pub use exchanges::{Exchanges, queue_of_lines};
-pub use notice::{Notice, notices_in, serving, tell};
+pub use notice::{Answering, Notice, notices_in, serving, tell};
 pub use notices::{Notices, queue_of_notices};
 pub use reload_lines::{tell_dropped, tell_reload};
 pub use state_lines::{tell_left_out, tell_not_kept, tell_taken_up, tell_unread};

@@ -1,7 +1,7 @@
 //! What is told on standard error.
 
 ghost use Rattle.std.specs.Prelude.{◌≡◌};
-ghost use Rattle.roam_telling.specs.Notices.{notices_in};
+ghost use Rattle.roam_telling.specs.Notices.{notices_in, rest_notice};
 
 use log::{Log, info, warn};
 use roam_conf::{Address, Config, Endpoint, Link};
@@ -25,8 +25,10 @@ pub enum Notice {
     NoMetrics(Endpoint, Reason),
     /// So many lines of exchanges were dropped.
     LinesDropped(u64),
-    /// A home server of this realm keeps silent: this link to it rests.
-    Silent(u16, Link),
+    /// A home server of this realm stopped answering: this link to it rests.
+    Stopped(u16, Link),
+    /// A home server of this realm never answered: this link to it rests.
+    NeverAnswered(u16, Link),
     /// It answers again.
     Answers(u16, Link),
     /// It answers, and these replies are refused.
@@ -40,6 +42,28 @@ pub enum Notice {
     /// The server ended after so many steps, of which stored ones were let go of so many times. They passed the
     /// audit.
     Ended(u64, u64),
+}
+
+/// How a home server answers.
+#[derive(Clone, Copy, PartialEq, Eq)]
+pub enum Answering {
+    /// It answers again.
+    Again,
+    /// It answered before, and keeps silent now.
+    Stopped,
+    /// It has given no sign of life since its configuration counts.
+    Never,
+}
+
+/// Returns the notice that a home server of a realm answers so.
+pub(crate) fn rest_notice(realm: u16, link: Link, answering: Answering) -> Notice
+    ensures { result ≡ rest_notice realm link answering }
+{
+    match answering {
+        Answering::Again => Notice::Answers(realm, link),
+        Answering::Stopped => Notice::Stopped(realm, link),
+        Answering::Never => Notice::NeverAnswered(realm, link),
+    }
 }
 
 /// Why packets were lost, in words.
@@ -104,10 +128,19 @@ fn tell_no_metrics<R: Log>(rt: &R, at: Endpoint, reason: Reason) {
     warn!(rt; "no metrics at {} (errno {})", at, number);
 }
 
-/// Tells that a home server keeps silent.
-fn tell_silent<R: Log>(rt: &R, server: LinkText<'_>) {
+/// Tells that a home server answered, and keeps silent now.
+fn tell_stopped<R: Log>(rt: &R, server: LinkText<'_>) {
     let LinkText { at, realm } = server;
-    warn!(rt; "home server {} of {} keeps silent: it rests", at, realm);
+    warn!(rt; "home server {} of {} stopped answering: it rests", at, realm);
+}
+
+/// Tells that a home server never answered, and what is usually wrong then.
+fn tell_never_answered<R: Log>(rt: &R, server: LinkText<'_>) {
+    let LinkText { at, realm } = server;
+    warn!(
+        rt;
+        "home server {} of {} never answered: it rests. Wrong secret on either side, wrong port, or this proxy is not a client there", at, realm
+    );
 }
 
 /// Tells that a home server answers again.
@@ -135,7 +168,10 @@ pub fn tell<R: Log>(rt: &R, config: &Config, notice: Notice) {
         Notice::Narrow(at, octets) => tell_narrow(rt, at, octets),
         Notice::NoMetrics(at, reason) => tell_no_metrics(rt, at, reason),
         Notice::LinesDropped(count) => warn_count(rt, count, "lines of exchanges dropped"),
-        Notice::Silent(realm, link) => tell_silent(rt, link_text(config, realm, link)),
+        Notice::Stopped(realm, link) => tell_stopped(rt, link_text(config, realm, link)),
+        Notice::NeverAnswered(realm, link) => {
+            tell_never_answered(rt, link_text(config, realm, link));
+        }
         Notice::Answers(realm, link) => tell_answers(rt, link_text(config, realm, link)),
         Notice::TurnedAway(replies) => warn_text(rt, TurnedAwayText::new(config, replies)),
         Notice::Stopping => info!(rt; "asked to stop: no request is taken any more"),

@@ -10,9 +10,9 @@ ghost use Rattle.roam_telling.specs.SaidLately.{is_recent};
 ghost use Rattle.rtrb.specs.Ring.{sent};
 ghost use Rattle.roam_notices.specs.Repeats.{all_tallies, row_at, row_of};
 ghost use Rattle.roam_notices.specs.Tallies.{IsNoted, counted_in};
-ghost use Rattle.roam_telling.specs.Notices.{notices_in, notices_among};
+ghost use Rattle.roam_telling.specs.Notices.{notices_in, notices_among, rest_notice};
 
-use crate::notice::{Notice, notices_in};
+use crate::notice::{Answering, Notice, notices_in, rest_notice};
 use crate::said_lately::SaidLately;
 use roam_conf::Link;
 use roam_notices::{Origin, Repeats, replies_turned_away};
@@ -119,19 +119,13 @@ impl Notices {
         self.put(Notice::LinesDropped(count))
     }
 
-    /// Says that a home server keeps silent, or answers again. Never waits. Answers whether it will be told.
-    pub fn rests(&mut self, realm: u16, link: Link, is_silent: bool) -> bool
-        ensures silent { IsTrue result → IsTrue is_silent
-            → sent self.new.queue ≡ sent self.old.queue ++ Notice.Silent realm link ∷ [] }
-        ensures answers { IsTrue result → IsFalse is_silent
-            → sent self.new.queue ≡ sent self.old.queue ++ Notice.Answers realm link ∷ [] }
+    /// Says how a home server answers now. Never waits. Answers whether it will be told.
+    pub fn rests(&mut self, realm: u16, link: Link, answering: Answering) -> bool
+        ensures told { IsTrue result
+            → sent self.new.queue ≡ sent self.old.queue ++ rest_notice realm link answering ∷ [] }
         ensures full { IsFalse result → sent self.new.queue ≡ sent self.old.queue }
     {
-        if is_silent {
-            self.put(Notice::Silent(realm, link))
-        } else {
-            self.put(Notice::Answers(realm, link))
-        }
+        self.put(rest_notice(realm, link, answering))
     }
 
     /// Where a reply is refused by this that shows that its server is there, says so, once a minute of each server at

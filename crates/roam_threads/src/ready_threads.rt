@@ -15,7 +15,7 @@ use roam_outgoing::{Outgoing, RoomEvents};
 use roam_port::{Outbox, socket_numbers};
 use roam_sockets::{BoundSocket, ServeFault, ports, receivers};
 use roam_telling::Notice;
-use roam_workers::{IN_A_ROUND, Rests, Shared, Timer, Worker, WorkerContext};
+use roam_workers::{IN_A_ROUND, Junk, Rests, Shared, Timer, Worker, WorkerContext};
 use rtrb::Consumer;
 use std::alloc::{AllocError, Global};
 
@@ -144,6 +144,8 @@ impl<'s, 'c, H, N: Opened> Builder<'s, 'c, H, N> {
             datagrams: Datagrams::none(),
             now: 0,
             seconds: None,
+            free_again_at: 0,
+            junk: Junk::none(),
         };
         Ok(Equipped {
             context,

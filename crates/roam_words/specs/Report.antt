@@ -8,6 +8,7 @@ use Rattle.roam_address.specs.declared.endpoint.Endpoint.{Endpoint}
 use Rattle.roam_address.specs.Endpoints.{endpoint_text}
 use Rattle.roam_conf_reader.specs.FaultNames.{name_of}
 use Rattle.roam_conf_reader.specs.declared.fault.ConfFault.{ConfFault}
+use Rattle.roam_keeping.specs.Obstacles.{obstacle_text}
 use Rattle.roam_sockets.specs.declared.fault.SocketPath.{SocketPath}
 use Rattle.roam_sockets.specs.declared.fault.ServeFault.{ServeFault}
 use Rattle.roam_sockets.specs.declared.fault.ServeFault.TheVariants as serve
@@ -138,7 +139,7 @@ text_of fault.Clock = codes "roam: no clock\n"
 text_of fault.Seed = codes "roam: no random seed\n"
 text_of (fault.Bind endpoint reason) = unbound_text endpoint ++ why_text reason
 text_of (fault.Control path reason) = unheard_text path ++ why_text reason
-text_of (fault.State path why) = no_state_text path ++ because_text why.now
+text_of (fault.State path why) = no_state_text path ++ because_text (obstacle_text why)
 text_of (fault.Descriptors wanted) =
     codes "roam: too few file descriptors: " ++ decimal wanted ++ codes " wanted\n"
 text_of (fault.Wait reason) = codes "roam: cannot wait for sockets: " ++ reason_text reason ++ codes "\n"

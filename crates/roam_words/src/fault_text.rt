@@ -11,6 +11,7 @@ use crate::usage::print_usage;
 use roam_conf::Endpoint;
 use roam_conf_reader::ConfFault;
 use roam_diagnosis::Lines;
+use roam_keeping::Obstacle;
 use roam_sockets::SocketPath;
 use std::io;
 use std::io::Write;
@@ -77,12 +78,13 @@ fn print_no_state<W: Write>(writer: &mut W, path: SocketPath) -> io::Result<()>
 }
 
 /// Prints that a server can't keep its sessions in a file, and why.
-fn print_state<W: Write>(writer: &mut W, path: SocketPath, why: &'static str) -> io::Result<()>
+fn print_state<W: Write>(writer: &mut W, path: SocketPath, why: Obstacle) -> io::Result<()>
     ensures { OnOk result
-        (Appends (W.contents writer.old) (W.contents writer.new) (spec.text_of (Fault.State path why.entry))) }
+        (Appends (W.contents writer.old) (W.contents writer.new) (spec.text_of (Fault.State path why))) }
 {
     print_no_state(writer, path)?;
-    writeln!(writer, ": {why}")
+    let said = why.text();
+    writeln!(writer, ": {said}")
 }
 
 /// Prints that there is nothing to wait with for sockets, and why.

@@ -5,6 +5,7 @@ ghost use Rattle.roam_words.specs.Report as spec;
 
 use roam_conf::Endpoint;
 use roam_conf_reader::ConfFault;
+use roam_keeping::Obstacle;
 use roam_sockets::{Reason, ServeFault, SocketPath};
 use std::io;
 use std::io::ErrorKind;
@@ -113,7 +114,7 @@ pub enum Fault<'a> {
         /// The path of the file, or its first 107 octets.
         path: SocketPath,
         /// Why not.
-        why: &'static str,
+        why: Obstacle,
     },
     /// A server may not have as many descriptors as it wants.
     Descriptors {

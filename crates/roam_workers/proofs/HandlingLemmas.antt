@@ -103,15 +103,16 @@ as_refused refusal.Stale = inr refl
 -- where memory is wanting it failed
 wants : (o : HubOpening) (lines : ExchangeLines) (config : ConfigView) (now : ℕ) (d : Arrival) (why : Refusal)
     (old new : AtWork) → config ≡ o.config → (why ≡ refusal.NoMemory → WantsMemory (admission config d))
-    → new.seat ≡ old.seat → new.counts ≡ refused_counts o d why old.counts
+    → new.seat ≡ old.seat → new.counts ≡ refused_counts o d why old.counts → new.outbox ≡ old.outbox
     → why ≡ refusal.NoMemory → IsHandled o lines now d old new (refused_as why)
-wants o lines config now d why old new same memory kept counts none =
+wants o lines config now d why old new same memory kept counts outbox none =
     let wants_it : WantsMemory (admission o.config d) =
     subst (λ (x : ConfigView). WantsMemory (admission x d)) same (memory none) in
     let failed : HasFailed o d old new = record {
       wants = wants_it;
       tallies = ap (λ (s : SeatView). s.tallies) kept;
       counts = inl (counts ∙ ap (λ (w : Refusal). refused_counts o d w old.counts) none);
+      outbox = outbox;
     } in
     subst (λ (w : Refusal). IsHandled o lines now d old new (refused_as w)) (sym none) failed
 
@@ -119,19 +120,21 @@ wants o lines config now d why old new same memory kept counts none =
 pub refusal_is : (o : HubOpening) (lines : ExchangeLines) (config : ConfigView) (now : ℕ) (d : Arrival) (why : Refusal)
     (old new : AtWork) → config ≡ o.config → IsAdmission {A = Global} (Err why) (admission config d)
     → (why ≡ refusal.NoMemory → WantsMemory (admission config d)) → new.seat ≡ old.seat
-    → new.counts ≡ refused_counts o d why old.counts → IsHandled o lines now d old new (refused_as why)
+    → new.counts ≡ refused_counts o d why old.counts → new.outbox ≡ old.outbox
+    → IsHandled o lines now d old new (refused_as why)
 unfolding error_or
-refusal_is o lines config now d why old new same is memory kept counts = elim is [
+refusal_is o lines config now d why old new same is memory kept counts outbox = elim is [
   | inl none ↦
-      wants o lines config now d why old new same memory kept counts (ap (error_or refusal.NoMemory) none)
+      wants o lines config now d why old new same memory kept counts outbox (ap (error_or refusal.NoMemory) none)
   | inr found ↦ (elim (as_refused why) [
-    | inl none ↦ wants o lines config now d why old new same memory kept counts none
+    | inl none ↦ wants o lines config now d why old new same memory kept counts outbox none
     | inr other ↦
         let refused_so : IsRefused o d old new = record {
           why = why;
           admission_is = subst (λ (x : ConfigView). admission x d ≡ refused why) same (sym found);
           seat = kept;
           counts = counts;
+          outbox = outbox;
         } in
         subst (IsHandled o lines now d old new) (sym other) refused_so
   ])

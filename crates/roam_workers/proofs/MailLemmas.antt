@@ -16,6 +16,7 @@ use Rattle.roam_counters.specs.declared.datagrams.DatagramCounts.{DatagramCounts
 use Rattle.roam_counters.specs.declared.datagrams.Handling.{Handling}
 use Rattle.roam_counters.specs.declared.datagrams.Handling.TheVariants as handling
 use Rattle.roam_intake.specs.Letters.{HoldsNone, IsPutLast, jobs_of}
+use Rattle.roam_outgoing.proofs.SendingLemmas.{puts_same}
 use Rattle.roam_workers.specs.Handlings.{Arrives, AtWork, HasFailed, IsHandled, IsJobHandled, IsTaken}
 use Rattle.roam_workers.specs.Mail.{ArrivesHere, AtMail, IsHandedOn, TakesAll, TakesJob}
 use Rattle.roam_workers.specs.Work.{DoesOne, HasWorked}
@@ -36,6 +37,7 @@ job_handled o lines now d job old new handling.Failed is did =
       wants = subst WantsMemory (sym is) tt;
       tallies = did.tallies;
       counts = inr (job, did.why, is, did.counts);
+      outbox = did.outbox;
     } in
     failed
 job_handled o lines now d job old new handling.Dropped is none = absurd none
@@ -51,6 +53,7 @@ worked-all : (o : HubOpening) (jobs : List PlainJob) (start old new : AtWork) (b
     → HasWorked o start old → TakesAll o jobs old new before after → HasWorked o start new
 worked-all o [] start old new before after did took =
     worked_idle o start old new did (ap (λ (a : AtWork). a.seat.tallies) took.0) (ap (λ (a : AtWork). a.counts) took.0)
+    (puts_same old.outbox new.outbox (ap (λ (a : AtWork). a.outbox) took.0))
 worked-all o (job ∷ rest) start old new before after did took =
     worked-all o rest start took.0 new took.1 after
     (worked_more o start old took.0 did (did_job o job old took.0 before took.1 took.2)) took.3
@@ -90,6 +93,7 @@ worked_here o lines now d start old new jobs did (inl took) =
 worked_here o lines now d start old new jobs did (inr handed) =
     worked_idle o start old.work new.work did (ap (λ (a : AtWork). a.seat.tallies) handed.1)
     (ap (λ (a : AtWork). a.counts) handed.1)
+    (puts_same old.work.outbox new.work.outbox (ap (λ (a : AtWork). a.outbox) handed.1))
 
 -- or its job was handed on
 pub handed_on : {Q : Type 0} (o : HubOpening) (d : Arrival) (out after : List Q) (jobs : Q → List PlainJob)

@@ -9,6 +9,8 @@ use Rattle.roam_calls.specs.Seats.{SeatView}
 use Rattle.roam_calls.specs.Calls.{IsTick, IsTicked}
 use Rattle.roam_calls.specs.declared.answered.Ticked.{Ticked}
 use Rattle.roam_counters.specs.Arrivals.{tick_increments}
+use Rattle.roam_exchange.specs.Turn.{shown_outs}
+use Rattle.roam_outgoing.specs.Sending.{PutsEach}
 use Rattle.roam_workers.specs.Handlings.{AtWork}
 use Rattle.roam_workers.specs.Ticks.{HasTicked}
 
@@ -19,8 +21,9 @@ pub ticked_so :
     → found ≡ Some t → now ≡ now2 → before.tallies ≡ old.seat.tallies → IsTick o lines shard now before after found
     → new.seat.tallies ≡ after.tallies
     → new.counts ≡ raised_all old.counts (tick_increments (shown_happening t.answered.happening))
+    → PutsEach (shown_outs t.answered.answer.outs) old.outbox new.outbox
     → HasTicked o lines shard now2 old new
-ticked_so o lines shard now now2 old new before after found t some moment none tick none_after counts = record {
+ticked_so o lines shard now now2 old new before after found t some moment none tick none_after counts sends = record {
   before = before;
   none_before = none;
   after = after;
@@ -29,6 +32,7 @@ ticked_so o lines shard now now2 old new before after found t some moment none t
       (subst (IsTick o lines shard now before after) some tick);
   none_after = none_after;
   counts = counts;
+  sends = sends;
 }
 
 -- nothing was due

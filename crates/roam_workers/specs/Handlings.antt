@@ -1,5 +1,5 @@
 -- What becomes of a datagram that a worker takes. Ours.
-use Rattle.std.specs.Prelude.{◌≡◌, ◌⊎◌, ℕ, ◌%◌, true}
+use Rattle.std.specs.Prelude.{◌≡◌, ◌⊎◌, ℕ, ◌%◌, [], ◌∷◌, true}
 use Rattle.std.specs.declared.alloc.Global.{Global}
 use Rattle.roam_wire.specs.declared.refusal.Refusal.{Refusal}
 use Rattle.roam_wire.specs.declared.refusal.Refusal.TheVariants as refusal
@@ -26,6 +26,10 @@ use Rattle.roam_counters.specs.declared.datagrams.Handling.TheVariants as handli
 use Rattle.roam_counting.specs.Counting.{counts_in, wait_of}
 use Rattle.roam_counting.specs.Packets.{turn_of}
 use Rattle.roam_counting.specs.declared.counting.Counting.{Counting}
+use Rattle.roam_exchange.specs.Turn.{shown_outs}
+use Rattle.roam_outgoing.specs.Sending.{PutsEach, outbox_in}
+use Rattle.roam_outgoing.specs.declared.outgoing.Outgoing.{Outgoing}
+use Rattle.roam_port.specs.declared.outbox.Outbox.{Outbox}
 use Rattle.roam_workers.specs.Requests.{is_request}
 
 -- one that is refused before it comes to a realm: for want of memory it failed
@@ -33,13 +37,15 @@ abbrev pub refused_as : Refusal → Handling
 refused_as refusal.NoMemory = handling.Failed
 refused_as _ = handling.Refused
 
--- what a worker counts: by its seat, and its own counts, where somebody reads them
+-- what a worker counts, by its seat, and its own counts, where somebody reads them; and its packets on their way out
 pub record AtWork : Type 0 where
   pub seat : SeatView
   pub counts : CountsView
+  pub outbox : Outbox Global
 
-abbrev pub at_work : SeatView → Counting → AtWork
-at_work seat counting = record { seat = seat; counts = counts_in counting }
+abbrev pub at_work : SeatView → Counting → Outgoing → AtWork
+at_work seat counting outgoing =
+    record { seat = seat; counts = counts_in counting; outbox = outbox_in outgoing }
 
 -- a job was answered: the seat counts one call more, whose step stands in the history of the job's shard as the
 -- last one; and what happened by it is what that history says
@@ -58,7 +64,7 @@ abbrev pub came : CountsView → PlainJob → CountsView
 came counts job = raised_all counts (arrival_increments (turn_of job))
 
 -- a realm's rules took a job: it was answered, and the seat counts no other call. The counts rose by the job's arrival
--- and by what happened
+-- and by what happened, and the packets of the answer were given to be sent, each once
 pub record IsJobTaken (o : HubOpening) (lines : ExchangeLines) (now : ℕ) (job : PlainJob) (old new : AtWork)
     : Type 0 where
   pub after : SeatView
@@ -69,12 +75,15 @@ pub record IsJobTaken (o : HubOpening) (lines : ExchangeLines) (now : ℕ) (job 
       new.counts
       ≡ raised_all (came old.counts job)
       (job_increments (turn_of job) (shown_happening answered.happening) now (wait_of o.config job.realm))
+  pub sends : PutsEach (shown_outs answered.answer.outs) old.outbox new.outbox
 
--- the call for a job wasn't recorded: the seat counts none, and the counts rose by its arrival and by that
+-- the call for a job wasn't recorded: the seat counts none, the counts rose by its arrival and by that, and nothing is
+-- sent
 pub record HasJobFailed (job : PlainJob) (old new : AtWork) : Type 0 where
   pub why : Refusal
   pub tallies : new.seat.tallies ≡ old.seat.tallies
   pub counts : new.counts ≡ raised_all (came old.counts job) (failed_increments (turn_of job) why)
+  pub outbox : new.outbox ≡ old.outbox
 
 -- one of both becomes of a job that the hub is given
 abbrev pub IsJobHandled : HubOpening → ExchangeLines → ℕ → PlainJob → AtWork → AtWork → Handling → Type 0
@@ -89,13 +98,14 @@ pub record IsTaken (o : HubOpening) (lines : ExchangeLines) (now : ℕ) (d : Arr
   pub admitted_is : admission o.config d ≡ admitted job
   pub taken : IsJobTaken o lines now job old new
 
--- it gave an answer of the broker's own, by admission alone
+-- it gave an answer of the broker's own, by admission alone, and that is sent
 pub record IsAnsweredHere (o : HubOpening) (d : Arrival) (old new : AtWork) : Type 0 where
   pub what : LocalAnswer
   pub out : PlainOut
   pub admission_is : admission o.config d ≡ answered_here what out
   pub seat : new.seat ≡ old.seat
   pub counts : new.counts ≡ raised_all old.counts (local_increments (end_at o.config out.from out.to) (code_of what))
+  pub sends : PutsEach (out ∷ []) old.outbox new.outbox
 
 -- the counts where a datagram is refused before it comes to a realm
 abbrev pub refused_counts : HubOpening → Arrival → Refusal → CountsView → CountsView
@@ -107,6 +117,7 @@ pub record IsRefused (o : HubOpening) (d : Arrival) (old new : AtWork) : Type 0 
   pub admission_is : admission o.config d ≡ refused why
   pub seat : new.seat ≡ old.seat
   pub counts : new.counts ≡ refused_counts o d why old.counts
+  pub outbox : new.outbox ≡ old.outbox
 
 -- it failed: before it came to a realm, for want of memory, or since the call for it wasn't recorded
 abbrev pub FailedCounts : HubOpening → Arrival → CountsView → CountsView → Type 0
@@ -119,18 +130,20 @@ pub record HasFailed (o : HubOpening) (d : Arrival) (old new : AtWork) : Type 0 
   pub wants : WantsMemory (admission o.config d)
   pub tallies : new.seat.tallies ≡ old.seat.tallies
   pub counts : FailedCounts o d old.counts new.counts
+  pub outbox : new.outbox ≡ old.outbox
 
 -- ## What becomes of a datagram
 -- One of five: a realm's rules took it, by one call that the seat counts and whose step is the arrival's; or it
 -- gives an
 -- answer of the broker's own, or is refused, each by admission alone, and the seat has seen nothing; or it failed,
 -- where
--- admission passes it, and the seat counts nothing; or it is a request, by its code, and the server was asked to stop.
+-- admission passes it, and the seat counts nothing; or it is a request, by its code, and is dropped.
 -- The worker's own counts of events rise by just what that is: by what happens by the call's event where the steps
--- before it end, by the answer, or by the refusal.
+-- before it end, by the answer, or by the refusal. The packets of the call's answer, or the broker's own answer, are
+-- given to be sent, in order, each once, and else nothing is.
 -- Source: ours
 -- Rules out: a datagram that is dropped without a count; a job that admission doesn't give; a count that rises by what
--- no history has
+-- no history has; an answer whose packets aren't sent, or sent twice, or are others
 -- Stands in: `roam_workers` `Handlings.antt`: `IsHandled`, `IsTaken`; `WorkerContext::arrive`
 --
 abbrev pub IsHandled : HubOpening → ExchangeLines → ℕ → Arrival → AtWork → AtWork → Handling → Type 0

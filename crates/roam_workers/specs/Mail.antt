@@ -10,6 +10,7 @@ use Rattle.roam_counters.specs.declared.datagrams.Datagrams.{Datagrams}
 use Rattle.roam_counters.specs.declared.datagrams.Handling.{Handling}
 use Rattle.roam_counting.specs.declared.counting.Counting.{Counting}
 use Rattle.roam_intake.specs.Letters.{IsAdmitted, IsPutLast}
+use Rattle.roam_outgoing.specs.declared.outgoing.Outgoing.{Outgoing}
 use Rattle.roam_workers.specs.Handlings.{Arrives, AtWork, IsJobHandled, at_work}
 
 -- ## A job that is handed on
@@ -51,11 +52,11 @@ pub record AtMail (Q : Type 0) : Type 0 where
   pub counts : DatagramCounts
   pub outgoing : List Q
 
-abbrev pub at_mail : {Q : Type 0} → SeatView → Counting → Datagrams → List Q → AtMail Q
-at_mail seat counting datagrams outgoing = record {
-  work = at_work seat counting;
+abbrev pub at_mail : {Q : Type 0} → SeatView → Counting → Outgoing → Datagrams → List Q → AtMail Q
+at_mail seat counting outgoing datagrams handed = record {
+  work = at_work seat counting outgoing;
   counts = datagrams.counts;
-  outgoing = outgoing;
+  outgoing = handed;
 }
 
 -- a datagram arrived at a worker: it takes it; or it hands the job on, and counts nothing

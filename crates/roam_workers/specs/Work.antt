@@ -1,11 +1,13 @@
 -- What a thread did from its start to its end, and what it counted of that. Ours.
 use Rattle.std.specs.Prelude.{◌≡◌, ◌⊎◌, ℕ, ◌+◌, ◌%◌, ◌^◌, ◌<◌, List, [], ◌∷◌, ◌++◌, length, Option}
+use Rattle.std.specs.declared.alloc.Global.{Global}
 use mathlib.Core.Logic.{inl, inr}
-use Rattle.roam_route.specs.Admission.{Arrival, PlainJob}
+use Rattle.roam_route.specs.Admission.{Arrival, PlainJob, PlainOut}
 use Rattle.roam_route.specs.RejectCauses.{code_of}
 use Rattle.roam_wire.specs.declared.refusal.Refusal.TheVariants as refusal
 use Rattle.roam_conf.specs.declared.exchange_lines.ExchangeLines.{ExchangeLines}
 use Rattle.roam_exchange.specs.HappeningsShown.{shown_happening}
+use Rattle.roam_exchange.specs.Turn.{shown_outs}
 use Rattle.roam_calls.specs.HubOpening.{HubOpening}
 use Rattle.roam_calls.specs.Seats.{SeatView}
 use Rattle.roam_counters.specs.Arrivals.{arrival_increments, failed_increments, refused_here_increments, refused_increments, tick_increments}
@@ -22,6 +24,8 @@ use Rattle.roam_counters.specs.declared.increments.Increment.{Increment}
 use Rattle.roam_counting.specs.Counting.{wait_of}
 use Rattle.roam_counting.specs.Packets.{turn_of}
 use Rattle.roam_intake.specs.Letters.{IsAdmitted}
+use Rattle.roam_outgoing.specs.Sending.{PutsEach}
+use Rattle.roam_port.specs.declared.outbox.Outbox.{Outbox}
 use Rattle.roam_workers.specs.Handlings.{AtWork, FailedCounts, IsHandled, IsJobHandled, IsJobTaken}
 use Rattle.roam_workers.specs.Ticks.{HasNotTicked, Ticks}
 
@@ -62,9 +66,10 @@ pub record HasWorked (o : HubOpening) (start end : AtWork) : Type 0 where
   pub stands : List AtWork
   pub worked : WorkedBy o start stands end
 
--- to where its seat ends; its own counts are let go of there
-abbrev pub HasWorkedTo : HubOpening → AtWork → SeatView → Type 0
-HasWorkedTo o start seat = (counts : CountsView) × HasWorked o start (record { seat = seat; counts = counts })
+-- to where its seat ends, with the packets that wait then; its own counts are let go of there
+abbrev pub HasWorkedTo : HubOpening → AtWork → SeatView → Outbox Global → Type 0
+HasWorkedTo o start seat outbox =
+    (counts : CountsView) × HasWorked o start (record { seat = seat; counts = counts; outbox = outbox })
 
 -- by which increments that is counted, where the call for a datagram failed
 abbrev pub failed_by : (o : HubOpening) (d : Arrival) (old new : CountsView) → FailedCounts o d old new
@@ -133,3 +138,54 @@ WorkIsCounted =
     cell_of s e < length (list_of start.counts (holder_of s)) → count_of start.counts s e < 2 ^ 64 →
     count_of end.counts s e
     ≡ (count_of start.counts s e + of_event s e (all_by o start did.stands end did.worked)) % 2 ^ 64
+
+-- which packets are sent for a datagram, as what became of it
+abbrev pub sent_handled :
+    (o : HubOpening) (lines : ExchangeLines) (now : ℕ) (d : Arrival) (old new : AtWork) (handling : Handling)
+    → IsHandled o lines now d old new handling → List PlainOut
+sent_handled o lines now d old new handling.Taken is = shown_outs is.taken.answered.answer.outs
+sent_handled o lines now d old new handling.Answered here = here.out ∷ []
+sent_handled o lines now d old new handling.Refused is = []
+sent_handled o lines now d old new handling.Failed has = []
+sent_handled o lines now d old new handling.Dropped is = []
+
+-- for a job that the hub was given
+abbrev pub sent_job :
+    (o : HubOpening) (lines : ExchangeLines) (now : ℕ) (job : PlainJob) (old new : AtWork) (handling : Handling)
+    → IsJobHandled o lines now job old new handling → List PlainOut
+sent_job o lines now job old new handling.Taken taken = shown_outs taken.answered.answer.outs
+sent_job o lines now job old new handling.Answered none = []
+sent_job o lines now job old new handling.Refused none = []
+sent_job o lines now job old new handling.Failed has = []
+sent_job o lines now job old new handling.Dropped none = []
+
+-- by a tick
+abbrev pub sent_tick : (o : HubOpening) (lines : ExchangeLines) (shard now : ℕ) (old new : AtWork)
+    → Ticks o lines shard now old new → List PlainOut
+sent_tick o lines shard now old new (inl has) = shown_outs has.ticked.answered.answer.outs
+sent_tick o lines shard now old new (inr other) = []
+
+-- by one thing, and by all
+abbrev pub sent_one : (o : HubOpening) (old new : AtWork) → DoesOne o old new → List PlainOut
+sent_one o old new (inl took) = sent_handled o took.0 took.1 took.2 old new took.3 took.4
+sent_one o old new (inr (inl ticked)) = sent_tick o ticked.0 ticked.1 ticked.2 old new ticked.3
+sent_one o old new (inr (inr (inl none))) = []
+sent_one o old new (inr (inr (inr took))) = sent_job o took.2 took.3 took.0 old new took.4 took.5
+
+abbrev pub all_sent : (o : HubOpening) (start : AtWork) (stands : List AtWork) (end : AtWork)
+    → WorkedBy o start stands end → List PlainOut
+all_sent o start [] end none = []
+all_sent o start (before ∷ earlier) end did = all_sent o start earlier before did.0 ++ sent_one o before end did.1
+
+-- ## What a thread sent
+-- From its start to its end a thread puts just these packets into its outbox, in order, each once: those of the answers
+-- of the calls that its seat counts, which stand in the histories, and the broker's own answers. An outbox hands each of
+-- them to its socket, in order, or counts it as lost, or gives it back at the end.
+-- Source: ours
+-- Rules out: a packet of a recorded answer that isn't sent, or is sent twice; a packet that no answer has
+-- Stands in: `roam_workers` `Work.antt`: `WorkIsSent`; law `work_is_sent`
+--
+abbrev pub WorkIsSent : Type 0
+WorkIsSent =
+    (o : HubOpening) (start end : AtWork) (did : HasWorked o start end) →
+    PutsEach (all_sent o start did.stands end did.worked) start.outbox end.outbox

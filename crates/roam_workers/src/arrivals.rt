@@ -58,8 +58,8 @@ impl<H: HubCalls<N>, N: Opened> WorkerContext<'_, '_, H, N> {
         datagram: &Datagram<Global>,
     )
         ensures { ArrivesHere N.opening self.old.shared.now.told_exchanges self.old.now (shown_arrival datagram.now)
-            (at_mail self.old.seat self.old.counting self.old.datagrams mail.old.outgoing.items)
-            (at_mail self.new.seat self.new.counting self.new.datagrams mail.new.outgoing.items)
+            (at_mail self.old.seat self.old.counting self.old.outgoing self.old.datagrams mail.old.outgoing.items)
+            (at_mail self.new.seat self.new.counting self.new.outgoing self.new.datagrams mail.new.outgoing.items)
             (λ q. jobs_of q.items (λ l. l.job)) }
     {
         self.counting.received(datagram.at);
@@ -70,7 +70,7 @@ impl<H: HubCalls<N>, N: Opened> WorkerContext<'_, '_, H, N> {
     }
 
     /// Takes a datagram, and answers what became of it, unless its job is handed on. A server that is asked to stop
-    /// takes no request.
+    /// takes no request, nor is one taken whose sender is passed over.
     fn handle<R: Wait>(
         &mut self,
         rt: &R,
@@ -79,14 +79,19 @@ impl<H: HubCalls<N>, N: Opened> WorkerContext<'_, '_, H, N> {
         datagram: &Datagram<Global>,
     ) -> Option<Handling>
         ensures handled { IfSome result (λ handling. IsHandled N.opening self.old.shared.now.told_exchanges self.old.now
-            (shown_arrival datagram.now) (at_work self.old.seat self.old.counting)
-            (at_work self.new.seat self.new.counting) handling × (mail.new.outgoing.items ≡ mail.old.outgoing.items)) }
+            (shown_arrival datagram.now) (at_work self.old.seat self.old.counting self.old.outgoing)
+            (at_work self.new.seat self.new.counting self.new.outgoing)
+            handling × (mail.new.outgoing.items ≡ mail.old.outgoing.items)) }
         ensures handed { IfNone result (IsHandedOn N.opening (shown_arrival datagram.now) mail.old.outgoing.items
             mail.new.outgoing.items (λ q. jobs_of q.items (λ l. l.job))
-            × (at_work self.new.seat self.new.counting ≡ at_work self.old.seat self.old.counting)) }
+            × (at_work self.new.seat self.new.counting self.new.outgoing
+            ≡ at_work self.old.seat self.old.counting self.old.outgoing)) }
         ensures kept { self.new.datagrams ≡ self.old.datagrams }
     {
-        if self.shared.stopping.is_asked() && is_request(datagram.octets.as_slice()) {
+        if is_request(datagram.octets.as_slice())
+            && (self.shared.stopping.is_asked()
+                || self.junk.passes_over(datagram.from.ip, self.now))
+        {
             return Some(Handling::Dropped);
         }
         match prepare(alloc, self.shared.config, datagram) {
@@ -103,6 +108,7 @@ impl<H: HubCalls<N>, N: Opened> WorkerContext<'_, '_, H, N> {
                 let config = self.shared.config;
                 self.counting
                     .refused(config, refusal, datagram.at, datagram.from);
+                self.junk.note(datagram.from.ip, refusal, self.now);
                 self.refuse(refusal, Origin::Datagram(datagram.at, datagram.from));
                 Some(refused_as(refusal))
             }
@@ -122,11 +128,13 @@ impl<H: HubCalls<N>, N: Opened> WorkerContext<'_, '_, H, N> {
         requires admission { admission N.opening.config (shown_arrival datagram.now)
             ≡ admitted (shown_job job) }
         ensures handled { IfSome result (λ handling. IsHandled N.opening self.old.shared.now.told_exchanges self.old.now
-            (shown_arrival datagram.now) (at_work self.old.seat self.old.counting)
-            (at_work self.new.seat self.new.counting) handling × (mail.new.outgoing.items ≡ mail.old.outgoing.items)) }
+            (shown_arrival datagram.now) (at_work self.old.seat self.old.counting self.old.outgoing)
+            (at_work self.new.seat self.new.counting self.new.outgoing)
+            handling × (mail.new.outgoing.items ≡ mail.old.outgoing.items)) }
         ensures handed { IfNone result (IsHandedOn N.opening (shown_arrival datagram.now) mail.old.outgoing.items
             mail.new.outgoing.items (λ q. jobs_of q.items (λ l. l.job))
-            × (at_work self.new.seat self.new.counting ≡ at_work self.old.seat self.old.counting)) }
+            × (at_work self.new.seat self.new.counting self.new.outgoing
+            ≡ at_work self.old.seat self.old.counting self.old.outgoing)) }
         ensures kept { self.new.datagrams ≡ self.old.datagrams }
     {
         if !self.shared.is_anothers(mail.number, &job) {
@@ -150,7 +158,8 @@ impl<H: HubCalls<N>, N: Opened> WorkerContext<'_, '_, H, N> {
     ) -> Handling
         requires event { IsEvent N.opening.config (shown_job job) }
         ensures handled { IsJobHandled N.opening self.old.shared.now.told_exchanges self.old.now (shown_job job)
-            (at_work self.old.seat self.old.counting) (at_work self.new.seat self.new.counting) result }
+            (at_work self.old.seat self.old.counting self.old.outgoing)
+            (at_work self.new.seat self.new.counting self.new.outgoing) result }
         ensures kept { self.new.datagrams ≡ self.old.datagrams }
     {
         let config = self.shared.config;
@@ -183,7 +192,8 @@ impl<H: HubCalls<N>, N: Opened> WorkerContext<'_, '_, H, N> {
             (shown_job job) self.old.seat self.new.seat) }
         ensures failed { OnErr result (self.new.seat.tallies ≡ self.old.seat.tallies) }
         ensures kept { (self.new.datagrams ≡ self.old.datagrams) × (self.new.now ≡ self.old.now)
-            × (counts_in self.new.counting ≡ counts_in self.old.counting) }
+            × (counts_in self.new.counting ≡ counts_in self.old.counting)
+            × (self.new.outgoing ≡ self.old.outgoing) }
     {
         let shared = self.shared;
         let shard = shared.config.shard_of(job.realm);

@@ -1,17 +1,20 @@
 //! What a worker has: its seat at the hub, its packets on their way out, and its notices.
 
-ghost use Rattle.std.specs.Prelude.{◌≡◌};
+ghost use Rattle.std.specs.Prelude.{◌≡◌, []};
 ghost use Rattle.roam_counters.specs.OwnCounts.{raised_all};
 ghost use Rattle.roam_workers.specs.Remedies as remedies;
 ghost use Rattle.roam_exchange.specs.HappeningsShown.{shown_happening};
+ghost use Rattle.roam_exchange.specs.Turn.{shown_outs};
 ghost use Rattle.roam_counters.specs.Arrivals.{tick_increments};
 ghost use Rattle.roam_counting.specs.Counting.{counts_in};
+ghost use Rattle.roam_outgoing.specs.Sending.{PutsEach, outbox_in};
 ghost use Rattle.roam_workers.specs.Handlings.{at_work};
 ghost use Rattle.roam_workers.specs.Ticks.{HasNotTicked, Ticks};
 
 use crate::asked::AskedAt;
 use crate::ending::{Ending, WorkerEnd};
 use crate::hub_calls::HubCalls;
+use crate::junk::Junk;
 use crate::shared::Shared;
 use roam_calls::{Answered, HubFault, Opened, Seat, Ticked};
 use roam_counters::Datagrams;
@@ -24,6 +27,10 @@ use roam_wire::Refusal;
 use std::alloc::Global;
 use std::sync::Wait;
 use std::time::Clock;
+
+/// Where memory is wanting, stored steps are freed for it once in so many milliseconds by each thread: what was freed a
+/// moment ago can't help a second time.
+const FREE_AGAIN: u64 = 1000;
 
 /// What a worker or the timer has: its seat at the hub, its packets on their way out, and its notices.
 pub struct WorkerContext<'s, 'c, H, N: Opened> {
@@ -39,6 +46,10 @@ pub struct WorkerContext<'s, 'c, H, N: Opened> {
     pub now: u64,
     /// The wall clock's seconds since the beginning of 1970 at that moment, where the configuration has use for them.
     pub seconds: Option<u64>,
+    /// From when on stored steps are freed again for want of memory, in milliseconds since the server's start.
+    pub free_again_at: u64,
+    /// Whose datagrams are looked at less.
+    pub junk: Junk,
 }
 
 // By hand, so that a proof sees one call wherever it ends, and the crates above prove nothing of it.
@@ -54,6 +65,8 @@ impl<'s, 'c, H, N: Opened> Drop for WorkerContext<'s, 'c, H, N> {
             datagrams: _,
             now: _,
             seconds: _,
+            free_again_at: _,
+            junk: _,
         } = self;
         drop(seat);
         drop(outgoing);
@@ -89,7 +102,8 @@ pub fn remedy_for(fault: HubFault, is_second: bool) -> Remedy
 impl<H: HubCalls<N>, N: Opened> WorkerContext<'_, '_, H, N> {
     /// Looks at the clock, and at the wall clock where Event-Timestamps are looked at.
     pub fn look_at_clock<R: Clock>(&mut self, rt: &R)
-        ensures kept { (self.new.seat ≡ self.old.seat) × (counts_in self.new.counting ≡ counts_in self.old.counting) }
+        ensures kept { (self.new.seat ≡ self.old.seat) × (counts_in self.new.counting ≡ counts_in self.old.counting)
+            × (self.new.outgoing ≡ self.old.outgoing) }
     {
         self.now = now(rt, self.shared.start, self.now);
         self.seconds = match self.shared.config.fresh {
@@ -105,6 +119,8 @@ impl<H: HubCalls<N>, N: Opened> WorkerContext<'_, '_, H, N> {
             × (self.new.datagrams ≡ self.old.datagrams) × (self.new.now ≡ self.old.now) }
         ensures counts { counts_in self.new.counting ≡ raised_all (counts_in self.old.counting)
             (tick_increments (shown_happening ticked.answered.happening)) }
+        ensures sends { PutsEach (shown_outs ticked.answered.answer.outs)
+            (outbox_in self.old.outgoing) (outbox_in self.new.outgoing) }
     {
         let Ticked {
             answered,
@@ -122,7 +138,8 @@ impl<H: HubCalls<N>, N: Opened> WorkerContext<'_, '_, H, N> {
     /// the tick had a part of it.
     pub fn tick<R: Wait>(&mut self, rt: &R, shard: u16) -> bool
         ensures ticks { Ticks N.opening self.old.shared.now.told_exchanges shard self.old.now
-            (at_work self.old.seat self.old.counting) (at_work self.new.seat self.new.counting) }
+            (at_work self.old.seat self.old.counting self.old.outgoing)
+            (at_work self.new.seat self.new.counting self.new.outgoing) }
     {
         let shared = self.shared;
         let mut is_second = false;
@@ -151,8 +168,8 @@ impl<H: HubCalls<N>, N: Opened> WorkerContext<'_, '_, H, N> {
     /// Whether nothing is due within so many milliseconds in any shard, as they stand, and no packet waits for a
     /// socket.
     pub fn can_rest<R: Wait>(&mut self, rt: &R, milliseconds: u64) -> bool
-        ensures looks { HasNotTicked (at_work self.old.seat self.old.counting)
-            (at_work self.new.seat self.new.counting) }
+        ensures looks { HasNotTicked (at_work self.old.seat self.old.counting self.old.outgoing)
+            (at_work self.new.seat self.new.counting self.new.outgoing) }
     {
         let shared = self.shared;
         let until = self.now.saturating_add(milliseconds);
@@ -169,7 +186,8 @@ impl<H: HubCalls<N>, N: Opened> WorkerContext<'_, '_, H, N> {
     pub fn remedy<R: Wait>(&mut self, rt: &R, shard: u16, fault: HubFault, is_second: bool) -> bool
         ensures kept { (self.new.seat.tallies ≡ self.old.seat.tallies)
             × (self.new.datagrams ≡ self.old.datagrams) × (self.new.now ≡ self.old.now)
-            × (counts_in self.new.counting ≡ counts_in self.old.counting) }
+            × (counts_in self.new.counting ≡ counts_in self.old.counting)
+            × (self.new.outgoing ≡ self.old.outgoing) }
     {
         match remedy_for(fault, is_second) {
             Remedy::LetGo => self.let_go(rt, shard),
@@ -182,7 +200,8 @@ impl<H: HubCalls<N>, N: Opened> WorkerContext<'_, '_, H, N> {
     fn let_go<R: Wait>(&mut self, rt: &R, shard: u16) -> bool
         ensures kept { (self.new.seat.tallies ≡ self.old.seat.tallies)
             × (self.new.datagrams ≡ self.old.datagrams) × (self.new.now ≡ self.old.now)
-            × (counts_in self.new.counting ≡ counts_in self.old.counting) }
+            × (counts_in self.new.counting ≡ counts_in self.old.counting)
+            × (self.new.outgoing ≡ self.old.outgoing) }
     {
         let shared = self.shared;
         match shared.hub.let_go(rt, &mut self.seat, shard) {
@@ -195,14 +214,20 @@ impl<H: HubCalls<N>, N: Opened> WorkerContext<'_, '_, H, N> {
         }
     }
 
-    /// Lets go of the stored steps of a shard, and frees them here and now: their memory is wanted.
+    /// Lets go of the stored steps of a shard, and frees them here and now, since their memory is wanted: once in
+    /// `FREE_AGAIN` milliseconds at most. Answers whether that was done.
     fn free_history<R: Wait>(&mut self, rt: &R, shard: u16) -> bool
         ensures kept { (self.new.seat.tallies ≡ self.old.seat.tallies)
             × (self.new.datagrams ≡ self.old.datagrams) × (self.new.now ≡ self.old.now)
-            × (counts_in self.new.counting ≡ counts_in self.old.counting) }
+            × (counts_in self.new.counting ≡ counts_in self.old.counting)
+            × (self.new.outgoing ≡ self.old.outgoing) }
     {
+        if self.now < self.free_again_at {
+            return false;
+        }
         match self.shared.hub.let_go(rt, &mut self.seat, shard) {
             Ok(steps) => {
+                self.free_again_at = self.now.saturating_add(FREE_AGAIN);
                 self.counting.let_go(shard, steps.len());
                 self.shared.old_history.count();
                 drop(steps);
@@ -219,6 +244,8 @@ impl<H: HubCalls<N>, N: Opened> WorkerContext<'_, '_, H, N> {
         ensures kept { (self.new.seat.tallies ≡ self.old.seat.tallies)
             × (self.new.datagrams ≡ self.old.datagrams) × (self.new.now ≡ self.old.now)
             × (counts_in self.new.counting ≡ counts_in self.old.counting) }
+        ensures sends { PutsEach (shown_outs answered.answer.outs)
+            (outbox_in self.old.outgoing) (outbox_in self.new.outgoing) }
     {
         self.counting.stored(answered.shard, answered.octets);
         if let Some(refusal) = answered.answer.refusal {
@@ -235,7 +262,8 @@ impl<H: HubCalls<N>, N: Opened> WorkerContext<'_, '_, H, N> {
     pub fn refuse(&mut self, refusal: Refusal, origin: Origin)
         ensures kept { (self.new.seat ≡ self.old.seat) × (self.new.datagrams ≡ self.old.datagrams)
             × (self.new.now ≡ self.old.now)
-            × (counts_in self.new.counting ≡ counts_in self.old.counting) }
+            × (counts_in self.new.counting ≡ counts_in self.old.counting)
+            × (self.new.outgoing ≡ self.old.outgoing) }
     {
         self.notices.refused(refusal, origin, self.now);
         let _is_told = self.notices.turned_away(refusal, origin, self.now);
@@ -244,7 +272,8 @@ impl<H: HubCalls<N>, N: Opened> WorkerContext<'_, '_, H, N> {
     /// Hands what was refused, rejected or replaced to the logger, once a second, and wakes it where there is
     /// something for it: for lines of exchanges so many milliseconds after the first of them.
     pub fn wake_logger(&mut self, within: u64)
-        ensures kept { (self.new.seat ≡ self.old.seat) × (counts_in self.new.counting ≡ counts_in self.old.counting) }
+        ensures kept { (self.new.seat ≡ self.old.seat) × (counts_in self.new.counting ≡ counts_in self.old.counting)
+            × (self.new.outgoing ≡ self.old.outgoing) }
     {
         self.notices.tell_due(self.now);
         let dropped = self.exchanges.tell_due(self.now);
@@ -267,6 +296,7 @@ impl<H: HubCalls<N>, N: Opened> WorkerContext<'_, '_, H, N> {
         ensures ending { result.ending ≡ ending }
         ensures datagrams { result.datagrams ≡ self.entry.datagrams }
         ensures seat { result.seat ≡ self.entry.seat }
+        ensures sends { PutsEach [] (outbox_in self.entry.outgoing) result.outbox }
     {
         self.outgoing.send();
         let dropped = self.exchanges.tell_folded();
@@ -283,6 +313,8 @@ impl<H: HubCalls<N>, N: Opened> WorkerContext<'_, '_, H, N> {
             datagrams,
             now: _,
             seconds: _,
+            free_again_at: _,
+            junk: _,
         } = self;
         let end = WorkerEnd {
             ending,

@@ -25,7 +25,8 @@ impl<H: HubCalls<N>, N: Opened> WorkerContext<'_, '_, H, N> {
     fn tell(&mut self, exchange: Option<Exchange>)
         ensures kept { (self.new.seat ≡ self.old.seat) × (self.new.datagrams ≡ self.old.datagrams)
             × (self.new.now ≡ self.old.now)
-            × (counts_in self.new.counting ≡ counts_in self.old.counting) }
+            × (counts_in self.new.counting ≡ counts_in self.old.counting)
+            × (self.new.outgoing ≡ self.old.outgoing) }
     {
         let is_dropped = match exchange {
             Some(exchange) => self.exchanges.tell(exchange),
@@ -40,7 +41,8 @@ impl<H: HubCalls<N>, N: Opened> WorkerContext<'_, '_, H, N> {
     fn tell_local_response(&mut self, datagram: &Datagram<Global>)
         ensures kept { (self.new.seat ≡ self.old.seat) × (self.new.datagrams ≡ self.old.datagrams)
             × (self.new.now ≡ self.old.now)
-            × (counts_in self.new.counting ≡ counts_in self.old.counting) }
+            × (counts_in self.new.counting ≡ counts_in self.old.counting)
+            × (self.new.outgoing ≡ self.old.outgoing) }
     {
         if self.exchanges.are_told(ExchangeEnd::Response) {
             let exchange = local_response_of(self.shared.config, datagram);
@@ -52,7 +54,8 @@ impl<H: HubCalls<N>, N: Opened> WorkerContext<'_, '_, H, N> {
     fn tell_local_reject(&mut self, datagram: &Datagram<Global>, why: RejectCause)
         ensures kept { (self.new.seat ≡ self.old.seat) × (self.new.datagrams ≡ self.old.datagrams)
             × (self.new.now ≡ self.old.now)
-            × (counts_in self.new.counting ≡ counts_in self.old.counting) }
+            × (counts_in self.new.counting ≡ counts_in self.old.counting)
+            × (self.new.outgoing ≡ self.old.outgoing) }
     {
         if self.exchanges.are_told(ExchangeEnd::LocalReject) {
             let exchange = local_reject_of(self.shared.config, datagram, why);
@@ -64,7 +67,8 @@ impl<H: HubCalls<N>, N: Opened> WorkerContext<'_, '_, H, N> {
     pub fn tell_local(&mut self, datagram: &Datagram<Global>, what: LocalAnswer)
         ensures kept { (self.new.seat ≡ self.old.seat) × (self.new.datagrams ≡ self.old.datagrams)
             × (self.new.now ≡ self.old.now)
-            × (counts_in self.new.counting ≡ counts_in self.old.counting) }
+            × (counts_in self.new.counting ≡ counts_in self.old.counting)
+            × (self.new.outgoing ≡ self.old.outgoing) }
     {
         match what {
             LocalAnswer::Rejected(why) => self.tell_local_reject(datagram, why),
@@ -82,7 +86,8 @@ impl<H: HubCalls<N>, N: Opened> WorkerContext<'_, '_, H, N> {
     )
         ensures kept { (self.new.seat ≡ self.old.seat) × (self.new.datagrams ≡ self.old.datagrams)
             × (self.new.now ≡ self.old.now)
-            × (counts_in self.new.counting ≡ counts_in self.old.counting) }
+            × (counts_in self.new.counting ≡ counts_in self.old.counting)
+            × (self.new.outgoing ≡ self.old.outgoing) }
     {
         match &answered.happening {
             Happening::Returned { code, waited } => {
@@ -107,7 +112,8 @@ impl<H: HubCalls<N>, N: Opened> WorkerContext<'_, '_, H, N> {
     fn tell_replaced(&mut self, realm: u16, waited: &Waited<Global>)
         ensures kept { (self.new.seat ≡ self.old.seat) × (self.new.datagrams ≡ self.old.datagrams)
             × (self.new.now ≡ self.old.now)
-            × (counts_in self.new.counting ≡ counts_in self.old.counting) }
+            × (counts_in self.new.counting ≡ counts_in self.old.counting)
+            × (self.new.outgoing ≡ self.old.outgoing) }
     {
         let outcome = ExchangeEnd::Replaced;
         if !self.exchanges.are_told(outcome) {
@@ -136,7 +142,8 @@ impl<H: HubCalls<N>, N: Opened> WorkerContext<'_, '_, H, N> {
     )
         ensures kept { (self.new.seat ≡ self.old.seat) × (self.new.datagrams ≡ self.old.datagrams)
             × (self.new.now ≡ self.old.now)
-            × (counts_in self.new.counting ≡ counts_in self.old.counting) }
+            × (counts_in self.new.counting ≡ counts_in self.old.counting)
+            × (self.new.outgoing ≡ self.old.outgoing) }
     {
         if !self.exchanges.are_told(outcome) {
             return;
@@ -158,7 +165,8 @@ impl<H: HubCalls<N>, N: Opened> WorkerContext<'_, '_, H, N> {
     pub fn end_by_tick(&mut self, happening: &Happening<Global>)
         ensures kept { (self.new.seat ≡ self.old.seat) × (self.new.datagrams ≡ self.old.datagrams)
             × (self.new.now ≡ self.old.now)
-            × (counts_in self.new.counting ≡ counts_in self.old.counting) }
+            × (counts_in self.new.counting ≡ counts_in self.old.counting)
+            × (self.new.outgoing ≡ self.old.outgoing) }
     {
         let Happening::Ticked(dues) = happening else {
             return;

@@ -57,8 +57,9 @@ impl<H: HubCalls<N>, N: Opened> WorkerContext<'_, '_, H, N> {
     /// Gives a job to the hub that a worker received: hands its packets to the sockets, or tells why it is refused; and
     /// counts what became of its datagram.
     fn take_letter<R: Wait>(&mut self, rt: &R, letter: Letter<N>)
-        ensures { TakesJob N.opening (shown_job letter.job) (at_work self.old.seat self.old.counting)
-            (at_work self.new.seat self.new.counting) self.old.datagrams.counts self.new.datagrams.counts }
+        ensures { TakesJob N.opening (shown_job letter.job) (at_work self.old.seat self.old.counting self.old.outgoing)
+            (at_work self.new.seat self.new.counting self.new.outgoing)
+            self.old.datagrams.counts self.new.datagrams.counts }
     {
         let handling = self.take(rt, letter.into_job(), None);
         self.counting.handled(handling);
@@ -68,7 +69,8 @@ impl<H: HubCalls<N>, N: Opened> WorkerContext<'_, '_, H, N> {
     /// Gives these jobs to the hub, each once, in their order.
     fn take_letters<R: Wait>(&mut self, rt: &R, letters: &mut Letters<N>)
         ensures takes { TakesAll N.opening (jobs_of letters.old.items (λ l. l.job))
-            (at_work self.old.seat self.old.counting) (at_work self.new.seat self.new.counting)
+            (at_work self.old.seat self.old.counting self.old.outgoing)
+            (at_work self.new.seat self.new.counting self.new.outgoing)
             self.old.datagrams.counts self.new.datagrams.counts }
         ensures none_left { letters.new.items ≡ [] }
     {
@@ -79,8 +81,8 @@ impl<H: HubCalls<N>, N: Opened> WorkerContext<'_, '_, H, N> {
 
     /// Hands a worker these letters, all of them; or gives them to the hub here, where it doesn't take so many.
     fn hand_to<R: Wait>(&mut self, rt: &R, letters: &mut Letters<N>, worker: usize)
-        ensures worked { HasWorked N.opening (at_work self.old.seat self.old.counting)
-            (at_work self.new.seat self.new.counting) }
+        ensures worked { HasWorked N.opening (at_work self.old.seat self.old.counting self.old.outgoing)
+            (at_work self.new.seat self.new.counting self.new.outgoing) }
         ensures none_left { letters.new.items ≡ [] }
     {
         if letters.is_empty() {
@@ -94,8 +96,8 @@ impl<H: HubCalls<N>, N: Opened> WorkerContext<'_, '_, H, N> {
 
     /// Hands the others what is to be handed to them: nothing stays.
     pub(crate) fn hand_all<R: Wait>(&mut self, rt: &R, mail: &mut Mail<N>)
-        ensures worked { HasWorked N.opening (at_work self.old.seat self.old.counting)
-            (at_work self.new.seat self.new.counting) }
+        ensures worked { HasWorked N.opening (at_work self.old.seat self.old.counting self.old.outgoing)
+            (at_work self.new.seat self.new.counting self.new.outgoing) }
         ensures none_left { HoldsNone mail.new.outgoing.items (λ q. q.items) }
     {
         for worker in 0..mail.outgoing.len() {
@@ -106,8 +108,8 @@ impl<H: HubCalls<N>, N: Opened> WorkerContext<'_, '_, H, N> {
     /// Gives the hub what others received for the worker's shard, and sends what that gives. Others may hand it more
     /// from now on, or no more.
     pub(crate) fn take_mail<R: Wait>(&mut self, rt: &R, mail: &mut Mail<N>, goes_on: bool)
-        ensures worked { HasWorked N.opening (at_work self.old.seat self.old.counting)
-            (at_work self.new.seat self.new.counting) }
+        ensures worked { HasWorked N.opening (at_work self.old.seat self.old.counting self.old.outgoing)
+            (at_work self.new.seat self.new.counting self.new.outgoing) }
         ensures outgoing { mail.new.outgoing ≡ mail.old.outgoing }
     {
         let Some(mailbox) = self.shared.mailboxes.get(mail.number) else {
@@ -123,8 +125,8 @@ impl<H: HubCalls<N>, N: Opened> WorkerContext<'_, '_, H, N> {
     /// Hands on what is to be handed on, and gives the hub what others received for the worker's shard. Nobody hands it
     /// more: nothing stays.
     pub(crate) fn end_mail<R: Wait>(&mut self, rt: &R, mail: &mut Mail<N>)
-        ensures worked { HasWorked N.opening (at_work self.old.seat self.old.counting)
-            (at_work self.new.seat self.new.counting) }
+        ensures worked { HasWorked N.opening (at_work self.old.seat self.old.counting self.old.outgoing)
+            (at_work self.new.seat self.new.counting self.new.outgoing) }
         ensures none_left { HoldsNone mail.new.outgoing.items (λ q. q.items) }
     {
         self.hand_all(rt, mail);

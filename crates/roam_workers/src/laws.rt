@@ -1,8 +1,13 @@
-//! What a thread counted is of what it did.
+//! What a thread counted, and what it sent, is of what it did.
 
-ghost use Rattle.roam_workers.specs.Work.{WorkIsCounted};
+ghost use Rattle.roam_workers.specs.Work.{WorkIsCounted, WorkIsSent};
 
 /// Each of a thread's own counts is the sum of the increments of all that it did, above what it was at the start.
 pub fn work_is_counted()
     ensures { WorkIsCounted }
+{}
+
+/// The packets that a thread puts into its outbox are those of the answers that it was given, in order, each once.
+pub fn work_is_sent()
+    ensures { WorkIsSent }
 {}

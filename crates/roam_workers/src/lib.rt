@@ -12,9 +12,9 @@
 //!   `HubCalls::answer` requires
 //! - what becomes of a datagram is one of five, each as admission says: a realm's rules took it, by one call more that
 //!   the seat counts and whose step is the arrival's; the broker answered by itself, or it was refused, and nothing
-//!   was given to a realm; it failed, and the seat counts nothing; or it is a request and the server was asked to
-//!   stop. It is counted once, as that; what a worker counted is what it gives back | `WorkerContext::arrive`;
-//!   `WorkerContext::leave`: `datagrams`
+//!   was given to a realm; it failed, and the seat counts nothing; or it is a request and is dropped. It is counted
+//!   once, as that; what a worker counted is what it gives back | `WorkerContext::arrive`; `WorkerContext::leave`:
+//!   `datagrams`
 //! - a worker's own counts of events rise by just what becomes of each datagram and of each tick: by what happens by
 //!   the call's event where the steps before it end, as the history says it, by an answer of the broker's own, or by a
 //!   refusal. That what is left for others to read is these counts is code | `WorkerContext::arrive`;
@@ -27,10 +27,14 @@
 //! - from its start to its end a thread does nothing to its seat and to these counts but that, one datagram, job or
 //!   tick after the other: so each count is what it was and the sum of the increments of all that the thread did |
 //!   `receive_on`, `tick_on`: `HasWorkedTo`; law `work_is_counted`
+//! - and it puts into its outbox the packets of the answers that it was given, and the broker's own answers, in order,
+//!   each once, and no other; what waits there at its end it gives back | `WorkerContext::finish`: `sends`;
+//!   `receive_on`, `tick_on`: `HasWorkedTo`; law `work_is_sent`
 //! - which remedy there is for a call that a hub doesn't record: where the history is full it is let go of, each time;
 //!   out of memory it is, once; else the call is refused. That the same event is handed in again is the loop's code |
 //!   `remedy_for`
-//! - which datagrams are dropped where the server is asked to stop: requests, by their code | `is_request`
+//! - only requests are dropped, by their code. That this is done where the server is asked to stop, or for a sender of
+//!   whose datagrams many were just refused, is code | `is_request`; `WorkerContext::arrive`
 #![tactic(auto)]
 
 mod arrivals;
@@ -41,6 +45,7 @@ mod ending;
 mod exchange_ends;
 mod handed;
 mod hub_calls;
+mod junk;
 mod laws;
 mod rest;
 mod rests;
@@ -55,7 +60,8 @@ pub use asked::AskedAt;
 pub use context::{Remedy, WorkerContext, remedy_for};
 pub use ending::{Ended, Ending, WorkerEnd, has_given_up_after};
 pub use hub_calls::{HubCalls, SESSIONS_AT_ONCE};
-pub use laws::work_is_counted;
+pub use junk::Junk;
+pub use laws::{work_is_counted, work_is_sent};
 pub use rest::TimerRest;
 pub use rests::Rests;
 pub use shared::Shared;

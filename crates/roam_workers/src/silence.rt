@@ -9,6 +9,7 @@ use crate::rests::Rests;
 use crate::shared::Shared;
 use roam_calls::{Opened, SERVER_LINKS, Seat};
 use roam_conf::{Link, Realm};
+use roam_telling::Answering;
 use std::alloc::Global;
 use std::sync::Wait;
 
@@ -28,6 +29,15 @@ fn link_at(servers: usize, place: usize) -> Option<Link> {
     None
 }
 
+/// Returns how a home server answers that keeps silent or not, and gave so many signs of life.
+fn answering_by(is_silent: bool, signs: u64) -> Answering {
+    match (is_silent, signs) {
+        (false, _) => Answering::Again,
+        (true, 0) => Answering::Never,
+        (true, _) => Answering::Stopped,
+    }
+}
+
 /// Tells which home servers of a realm keep silent now, or answer again, where one rests that keeps silent.
 fn tell_realm<R: Wait, H: HubCalls<N>, N: Opened>(
     rt: &R,
@@ -37,7 +47,8 @@ fn tell_realm<R: Wait, H: HubCalls<N>, N: Opened>(
     realm: &Realm,
 )
     ensures kept { (context.new.seat ≡ context.old.seat)
-        × (counts_in context.new.counting ≡ counts_in context.old.counting) }
+        × (counts_in context.new.counting ≡ counts_in context.old.counting)
+            × (context.new.outgoing ≡ context.old.outgoing) }
 {
     if realm.rest == 0 || realm.gone {
         return;
@@ -52,8 +63,10 @@ fn tell_realm<R: Wait, H: HubCalls<N>, N: Opened>(
         let Some(link) = link_at(realm.servers.len(), place) else {
             return;
         };
-        let is_silent = gauges.rests[place].until.is_some();
-        if is_silent != silent[place] && context.notices.rests(number, link, is_silent) {
+        let rest = gauges.rests[place];
+        let is_silent = rest.until.is_some();
+        let answering = answering_by(is_silent, rest.signs);
+        if is_silent != silent[place] && context.notices.rests(number, link, answering) {
             silent[place] = is_silent;
         }
     }
@@ -66,7 +79,8 @@ pub fn tell_rests<R: Wait, H: HubCalls<N>, N: Opened>(
     rests: &mut Rests,
 )
     ensures kept { (context.new.seat ≡ context.old.seat)
-        × (counts_in context.new.counting ≡ counts_in context.old.counting) }
+        × (counts_in context.new.counting ≡ counts_in context.old.counting)
+            × (context.new.outgoing ≡ context.old.outgoing) }
 {
     let now = context.now;
     if now < rests.next {

@@ -18,8 +18,8 @@ pub const LEFT_TO_WORKER: u64 = 2 * TICK;
 impl<H: HubCalls<N>, N: Opened> WorkerContext<'_, '_, H, N> {
     /// Ticks a shard once, and sends what that gives. Answers whether it is to be ticked again.
     fn tick_once<R: Wait>(&mut self, rt: &R, shard: u16) -> bool
-        ensures { HasWorked N.opening (at_work self.old.seat self.old.counting)
-            (at_work self.new.seat self.new.counting) }
+        ensures { HasWorked N.opening (at_work self.old.seat self.old.counting self.old.outgoing)
+            (at_work self.new.seat self.new.counting self.new.outgoing) }
     {
         let is_more = self.tick(rt, shard);
         self.outgoing.send();
@@ -29,8 +29,8 @@ impl<H: HubCalls<N>, N: Opened> WorkerContext<'_, '_, H, N> {
     /// Ticks a shard until no more is due in it, and sends after each tick: between two others have its lock. Each has
     /// a later moment than the one before, and none is later than `LATE` milliseconds, so there are no more than that.
     fn tick_shard<R: Wait>(&mut self, rt: &R, shard: u16)
-        ensures { HasWorked N.opening (at_work self.old.seat self.old.counting)
-            (at_work self.new.seat self.new.counting) }
+        ensures { HasWorked N.opening (at_work self.old.seat self.old.counting self.old.outgoing)
+            (at_work self.new.seat self.new.counting self.new.outgoing) }
     {
         for _ in 0..LATE {
             if !self.tick_once(rt, shard) {
@@ -49,8 +49,8 @@ impl<H: HubCalls<N>, N: Opened> WorkerContext<'_, '_, H, N> {
 
     /// Ticks a shard, unless its worker does.
     pub(crate) fn tick_unless_left<R: Wait>(&mut self, rt: &R, shard: u16)
-        ensures { HasWorked N.opening (at_work self.old.seat self.old.counting)
-            (at_work self.new.seat self.new.counting) }
+        ensures { HasWorked N.opening (at_work self.old.seat self.old.counting self.old.outgoing)
+            (at_work self.new.seat self.new.counting self.new.outgoing) }
     {
         if !self.is_left_to_worker(shard) {
             self.tick_shard(rt, shard);
@@ -70,8 +70,8 @@ impl<H: HubCalls<N>, N: Opened> WorkerContext<'_, '_, H, N> {
 
     /// Ticks the shard of the worker of this number, where it didn't so for a while.
     pub(crate) fn tick_own<R: Wait>(&mut self, rt: &R, number: usize)
-        ensures { HasWorked N.opening (at_work self.old.seat self.old.counting)
-            (at_work self.new.seat self.new.counting) }
+        ensures { HasWorked N.opening (at_work self.old.seat self.old.counting self.old.outgoing)
+            (at_work self.new.seat self.new.counting self.new.outgoing) }
     {
         if let Ok(shard) = u16::try_from(number) {
             if self.is_own_due(shard) {

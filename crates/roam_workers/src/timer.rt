@@ -1,7 +1,8 @@
 //! The worker that ticks the shards, and tells what was lost.
 
-ghost use Rattle.std.specs.Prelude.{◌≡◌, ◌↔◌, ◌≤◌, ◌-◌, min, IsTrue, IsFalse, MatchOption};
+ghost use Rattle.std.specs.Prelude.{◌≡◌, [], ◌↔◌, ◌≤◌, ◌-◌, min, IsTrue, IsFalse, MatchOption};
 ghost use Rattle.roam_counting.specs.Counting.{counts_in};
+ghost use Rattle.roam_outgoing.specs.Sending.{PutsEach, outbox_in};
 ghost use Rattle.roam_workers.specs.Handlings.{at_work};
 ghost use Rattle.roam_workers.specs.Work.{HasWorked, HasWorkedTo};
 
@@ -81,7 +82,8 @@ fn end_of<H, N: Opened>(timer: &Timer<'_, '_, H, N>) -> Option<u64> {
 /// Tells once that the server is asked to stop.
 fn tell_stop<H, N: Opened>(timer: &mut Timer<'_, '_, H, N>)
     ensures kept { (timer.new.context.seat ≡ timer.old.context.seat)
-        × (counts_in timer.new.context.counting ≡ counts_in timer.old.context.counting) }
+        × (counts_in timer.new.context.counting ≡ counts_in timer.old.context.counting)
+            × (timer.new.context.outgoing ≡ timer.old.context.outgoing) }
 {
     if !timer.is_stop_told && timer.context.shared.stopping.is_asked() {
         timer.is_stop_told = timer.context.notices.stopping();
@@ -91,7 +93,8 @@ fn tell_stop<H, N: Opened>(timer: &mut Timer<'_, '_, H, N>)
 /// Whether all is done where the server is asked to stop: no request waits, nor did so a while ago.
 fn has_done_all<R: Wait, H: HubCalls<N>, N: Opened>(rt: &R, timer: &mut Timer<'_, '_, H, N>) -> bool
     ensures kept { (timer.new.context.seat ≡ timer.old.context.seat)
-        × (counts_in timer.new.context.counting ≡ counts_in timer.old.context.counting) }
+        × (counts_in timer.new.context.counting ≡ counts_in timer.old.context.counting)
+            × (timer.new.context.outgoing ≡ timer.old.context.outgoing) }
 {
     if !timer.context.shared.stopping.is_asked()
         || timer.context.shared.does_mail_wait(rt)
@@ -108,8 +111,8 @@ fn has_done_all<R: Wait, H: HubCalls<N>, N: Opened>(rt: &R, timer: &mut Timer<'_
 
 /// Ticks all shards but those that their workers tick, until all are to end.
 fn tick_all<R: Wait, H: HubCalls<N>, N: Opened>(rt: &R, timer: &mut Timer<'_, '_, H, N>)
-    ensures { HasWorked N.opening (at_work timer.old.context.seat timer.old.context.counting)
-        (at_work timer.new.context.seat timer.new.context.counting) }
+    ensures { HasWorked N.opening (at_work timer.old.context.seat timer.old.context.counting timer.old.context.outgoing)
+        (at_work timer.new.context.seat timer.new.context.counting timer.new.context.outgoing) }
 {
     for shard in 0..timer.context.shared.config.shards {
         if timer.context.shared.is_over() {
@@ -122,7 +125,8 @@ fn tick_all<R: Wait, H: HubCalls<N>, N: Opened>(rt: &R, timer: &mut Timer<'_, '_
 /// Tells what is to be told of losses and of home servers.
 fn tell_all<R: Wait, H: HubCalls<N>, N: Opened>(rt: &R, timer: &mut Timer<'_, '_, H, N>)
     ensures kept { (timer.new.context.seat ≡ timer.old.context.seat)
-        × (counts_in timer.new.context.counting ≡ counts_in timer.old.context.counting) }
+        × (counts_in timer.new.context.counting ≡ counts_in timer.old.context.counting)
+            × (timer.new.context.outgoing ≡ timer.old.context.outgoing) }
 {
     tell_losses(timer);
     tell_rests(rt, &mut timer.context, &mut timer.rests);
@@ -134,8 +138,8 @@ fn round<R: Wait + Clock, H: HubCalls<N>, N: Opened>(
     rt: &R,
     timer: &mut Timer<'_, '_, H, N>,
 ) -> Option<Ending>
-    ensures { HasWorked N.opening (at_work timer.old.context.seat timer.old.context.counting)
-        (at_work timer.new.context.seat timer.new.context.counting) }
+    ensures { HasWorked N.opening (at_work timer.old.context.seat timer.old.context.counting timer.old.context.outgoing)
+        (at_work timer.new.context.seat timer.new.context.counting timer.new.context.outgoing) }
 {
     if timer.context.shared.is_over() {
         return Some(Ending::Stopped);
@@ -170,7 +174,8 @@ fn until_end(wait: u64, now: u64, end: Option<u64>) -> u64
 /// Waits until the next round, or until it is woken: a short time, where the timer doesn't rest.
 fn wait<R: Clock, H, N: Opened>(rt: &R, timer: &mut Timer<'_, '_, H, N>, milliseconds: u64)
     ensures kept { (timer.new.context.seat ≡ timer.old.context.seat)
-        × (counts_in timer.new.context.counting ≡ counts_in timer.old.context.counting) }
+        × (counts_in timer.new.context.counting ≡ counts_in timer.old.context.counting)
+            × (timer.new.context.outgoing ≡ timer.old.context.outgoing) }
 {
     let wait = until_end(milliseconds, timer.context.now, end_of(timer));
     let timeout = Some(Duration::from_millis(wait));
@@ -182,8 +187,8 @@ fn wait<R: Clock, H, N: Opened>(rt: &R, timer: &mut Timer<'_, '_, H, N>, millise
 /// Waits until the next round. Before it rests it says so, and looks at the shards once more: a job that one was
 /// given before that look is seen there, and who gives one a job after it wakes the timer.
 fn rest<R: Wait + Clock, H: HubCalls<N>, N: Opened>(rt: &R, timer: &mut Timer<'_, '_, H, N>)
-    ensures { HasWorked N.opening (at_work timer.old.context.seat timer.old.context.counting)
-        (at_work timer.new.context.seat timer.new.context.counting) }
+    ensures { HasWorked N.opening (at_work timer.old.context.seat timer.old.context.counting timer.old.context.outgoing)
+        (at_work timer.new.context.seat timer.new.context.counting timer.new.context.outgoing) }
 {
     if timer.context.shared.stopping.is_asked() {
         return wait(rt, timer, TICK);
@@ -202,6 +207,7 @@ impl<H: HubCalls<N>, N: Opened> Timer<'_, '_, H, N> {
     /// Gives back what its context does, and which home servers keep silent, as it was told.
     fn leave(self, ending: Ending) -> WorkerEnd<N>
         ensures seat { result.seat ≡ self.entry.context.seat }
+        ensures sends { PutsEach [] (outbox_in self.entry.context.outgoing) result.outbox }
     {
         let Self {
             context,
@@ -225,7 +231,9 @@ pub fn tick_on<R: Wait + Clock, H: HubCalls<N>, N: Opened>(
     rt: &R,
     mut timer: Timer<'_, '_, H, N>,
 ) -> WorkerEnd<N>
-    ensures { HasWorkedTo N.opening (at_work timer.entry.context.seat timer.entry.context.counting) result.seat }
+    ensures { HasWorkedTo N.opening
+        (at_work timer.entry.context.seat timer.entry.context.counting timer.entry.context.outgoing)
+        result.seat result.outbox }
 {
     for _ in rt.forever() {
         if let Some(ending) = round(rt, &mut timer) {

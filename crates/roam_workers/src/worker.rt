@@ -1,8 +1,9 @@
 //! The worker that receives from sockets.
 
-ghost use Rattle.std.specs.Prelude.{◌≡◌};
+ghost use Rattle.std.specs.Prelude.{◌≡◌, []};
 ghost use Rattle.roam_counting.specs.Counting.{counts_in};
 ghost use Rattle.roam_intake.specs.Letters.{HoldsNone};
+ghost use Rattle.roam_outgoing.specs.Sending.{PutsEach, outbox_in};
 ghost use Rattle.roam_workers.specs.Handlings.{at_work};
 ghost use Rattle.roam_workers.specs.Work.{HasWorked, HasWorkedTo};
 
@@ -71,7 +72,8 @@ impl<'s, 'c, H, N: Opened> Drop for Worker<'s, 'c, H, N> {
 /// Where the wait itself fails, a short time goes by, and then all are marked.
 fn wait<R: Wait + Clock, H, N: Opened>(rt: &R, worker: &mut Worker<'_, '_, H, N>)
     ensures kept { (worker.new.context.seat ≡ worker.old.context.seat)
-        × (counts_in worker.new.context.counting ≡ counts_in worker.old.context.counting) }
+        × (counts_in worker.new.context.counting ≡ counts_in worker.old.context.counting)
+            × PutsEach [] (outbox_in worker.old.context.outgoing) (outbox_in worker.new.context.outgoing) }
 {
     let receivers = worker.receivers.as_slice();
     let now = worker.context.now;
@@ -115,8 +117,8 @@ fn take_portion<R: Wait + Clock, H: HubCalls<N>, N: Opened>(
     receiver: &mut Receiver<'_>,
     buffer: &mut Vec<u8>,
 ) -> Option<Ending>
-    ensures { HasWorked N.opening (at_work context.old.seat context.old.counting)
-        (at_work context.new.seat context.new.counting) }
+    ensures { HasWorked N.opening (at_work context.old.seat context.old.counting context.old.outgoing)
+        (at_work context.new.seat context.new.counting context.new.outgoing) }
 {
     for _ in 0..IN_A_ROUND {
         if context.shared.is_over() {
@@ -143,7 +145,8 @@ fn look_after_faults<R: Clock, H: HubCalls<N>, N: Opened>(
     faults: u32,
 )
     ensures kept { (context.new.seat ≡ context.old.seat)
-        × (counts_in context.new.counting ≡ counts_in context.old.counting) }
+        × (counts_in context.new.counting ≡ counts_in context.old.counting)
+            × (context.new.outgoing ≡ context.old.outgoing) }
 {
     if faults > 0 {
         context.look_at_clock(rt);
@@ -159,8 +162,8 @@ fn receive_portion<R: Wait + Clock, H: HubCalls<N>, N: Opened>(
     receiver: &mut Receiver<'_>,
     buffer: &mut Vec<u8>,
 ) -> Option<Ending>
-    ensures { HasWorked N.opening (at_work context.old.seat context.old.counting)
-        (at_work context.new.seat context.new.counting) }
+    ensures { HasWorked N.opening (at_work context.old.seat context.old.counting context.old.outgoing)
+        (at_work context.new.seat context.new.counting context.new.outgoing) }
 {
     let ending = take_portion(rt, alloc, context, mail, receiver, buffer);
     context.hand_all(rt, mail);
@@ -179,8 +182,9 @@ fn receive_at<R: Wait + Clock, H: HubCalls<N>, N: Opened>(
     worker: &mut Worker<'_, '_, H, N>,
     place: usize,
 ) -> Option<Ending>
-    ensures { HasWorked N.opening (at_work worker.old.context.seat worker.old.context.counting)
-        (at_work worker.new.context.seat worker.new.context.counting) }
+    ensures { HasWorked N.opening
+        (at_work worker.old.context.seat worker.old.context.counting worker.old.context.outgoing)
+        (at_work worker.new.context.seat worker.new.context.counting worker.new.context.outgoing) }
 {
     let Some(at) = worker.ready.get(place) else {
         return None;
@@ -208,8 +212,9 @@ fn receive_all<R: Wait + Clock, H: HubCalls<N>, N: Opened>(
     alloc: Global,
     worker: &mut Worker<'_, '_, H, N>,
 ) -> Option<Ending>
-    ensures { HasWorked N.opening (at_work worker.old.context.seat worker.old.context.counting)
-        (at_work worker.new.context.seat worker.new.context.counting) }
+    ensures { HasWorked N.opening
+        (at_work worker.old.context.seat worker.old.context.counting worker.old.context.outgoing)
+        (at_work worker.new.context.seat worker.new.context.counting worker.new.context.outgoing) }
 {
     for place in 0..worker.ready.len() {
         let ending = receive_at(rt, alloc, worker, place);
@@ -226,8 +231,9 @@ fn round<R: Wait + Clock, H: HubCalls<N>, N: Opened>(
     alloc: Global,
     worker: &mut Worker<'_, '_, H, N>,
 ) -> Option<Ending>
-    ensures { HasWorked N.opening (at_work worker.old.context.seat worker.old.context.counting)
-        (at_work worker.new.context.seat worker.new.context.counting) }
+    ensures { HasWorked N.opening
+        (at_work worker.old.context.seat worker.old.context.counting worker.old.context.outgoing)
+        (at_work worker.new.context.seat worker.new.context.counting worker.new.context.outgoing) }
 {
     wait(rt, worker);
     if worker.context.shared.is_over() {
@@ -244,8 +250,9 @@ fn round<R: Wait + Clock, H: HubCalls<N>, N: Opened>(
 
 /// Hands on and takes what is left of its mail.
 fn end_mail<R: Wait, H: HubCalls<N>, N: Opened>(rt: &R, worker: &mut Worker<'_, '_, H, N>)
-    ensures worked { HasWorked N.opening (at_work worker.old.context.seat worker.old.context.counting)
-        (at_work worker.new.context.seat worker.new.context.counting) }
+    ensures worked { HasWorked N.opening
+        (at_work worker.old.context.seat worker.old.context.counting worker.old.context.outgoing)
+        (at_work worker.new.context.seat worker.new.context.counting worker.new.context.outgoing) }
     ensures none_left { HoldsNone worker.new.mail.outgoing.items (λ q. q.items) }
 {
     worker.context.end_mail(rt, &mut worker.mail);
@@ -256,6 +263,7 @@ impl<H: HubCalls<N>, N: Opened> Worker<'_, '_, H, N> {
     fn leave(self, ending: Ending) -> WorkerEnd<N>
         requires { HoldsNone self.mail.outgoing.items (λ q. q.items) }
         ensures seat { result.seat ≡ self.entry.context.seat }
+        ensures sends { PutsEach [] (outbox_in self.entry.context.outgoing) result.outbox }
     {
         let Self {
             context,
@@ -283,7 +291,9 @@ pub fn receive_on<R: Wait + Clock, H: HubCalls<N>, N: Opened>(
     alloc: Global,
     mut worker: Worker<'_, '_, H, N>,
 ) -> WorkerEnd<N>
-    ensures { HasWorkedTo N.opening (at_work worker.entry.context.seat worker.entry.context.counting) result.seat }
+    ensures { HasWorkedTo N.opening
+        (at_work worker.entry.context.seat worker.entry.context.counting worker.entry.context.outgoing)
+        result.seat result.outbox }
 {
     for _ in rt.forever() {
         if let Some(ending) = round(rt, alloc, &mut worker) {

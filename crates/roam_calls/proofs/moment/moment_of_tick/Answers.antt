@@ -7,13 +7,14 @@ use Rattle.roam_calls.proofs.moment.moment_of_tick.Goals as goal
 pub returns-then-has_few_due : goal.returns-then-has_few_due
 returns-then-has_few_due g c =
     let yes : c.has_few_due.result ≡ true = cc in
-    record { before = omega arith; due = c.requires; portion = inl (c.has_few_due.ensures.few yes) }
+    record { before = omega arith; soon = omega arith; due = c.requires; portion = inl (c.has_few_due.ensures.few yes) }
 
 pub returns-then-is_due : goal.returns-then-is_due
 returns-then-is_due g c =
     let yes : c.is_due.result ≡ true = cc in
     record {
       before = omega arith;
+      soon = omega arith;
       due = c.requires;
       portion = inr (inr (
         refl,

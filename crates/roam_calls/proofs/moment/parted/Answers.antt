@@ -8,6 +8,7 @@ pub loop-middle-init : goal.loop-middle-init
 loop-middle-init g c = record {
   moments = record { few_are = inr c.requires.quiet; some_are = c.requires.due; order = c.requires.order };
   past = omega arith;
+  from = omega arith;
 }
 
 pub loop-middle-preserved : goal.loop-middle-preserved
@@ -15,6 +16,8 @@ loop-middle-preserved g c = record {
   moments = c.narrowed-before.ensures.moments;
   past = (let within = c.narrowed-before.ensures.within in let past = c.loop-middle.invariant.past in
       omega (arith, within, past));
+  from = (let closer = c.narrowed-before.ensures.from in let from = c.loop-middle.invariant.from in
+      omega (arith, closer, from));
 }
 
 pub returns-then-is_due : goal.returns-then-is_due
@@ -26,6 +29,7 @@ returns-then-is_due g c =
     c.is_due.ensures.1 none in cc) in
     record {
       before = (let past = inv.past in omega (arith, order, past));
+      soon = (let from = inv.from in let soon = c.requires.soon in omega (arith, from, soon));
       due = due;
       portion = inl (elim inv.moments.few_are as (λ _. due_count c.loop-middle.few c.args.shard.now.states ≤ 64) [
         | inl few ↦ few
@@ -42,6 +46,8 @@ returns g c =
     let is : c.loop-middle.few ≡ c.loop-middle.many - 1 = omega (arith, next) in
     record {
       before = inv.past;
+      soon = (let from = inv.from in let order = inv.moments.order in let soon = c.requires.soon in
+          omega (arith, from, order, soon));
       due = inv.moments.some_are;
       portion = inr (inl (subst (λ (m : ℕ). NothingDue m c.args.shard.now.states) is none));
     }

@@ -6,6 +6,7 @@ abbrev pub invariant-loop-middle : goal.invariant-loop-middle
 invariant-loop-middle g l = record {
   moments : AreMoments l.shard.states l.few l.many;
   past : l.many ≤ l.now;
+  from : l.quiet ≤ l.few;
 }
 
 abbrev pub decreases-loop-middle : goal.decreases-loop-middle

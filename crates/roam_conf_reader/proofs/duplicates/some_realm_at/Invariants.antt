@@ -6,5 +6,5 @@ use Rattle.roam_conf_reader.proofs.duplicates.some_realm_at.Given as goal
 
 abbrev pub invariant-loop-realm : goal.invariant-loop-realm
 invariant-loop-realm l =
-    list_any (λ realm. some_server_at l.endpoints realm.servers) (map shown_realm (drop l.realm-index l.realms))
-    ≡ list_any (λ realm. some_server_at l.fn.endpoints realm.servers) (map shown_realm l.fn.realms)
+    list_any (λ realm. some_server_at l.endpoints.keys realm.servers) (map shown_realm (drop l.realm-index l.realms))
+    ≡ list_any (λ realm. some_server_at l.fn.endpoints.keys realm.servers) (map shown_realm l.fn.realms)

@@ -5,5 +5,5 @@ use Rattle.roam_conf_reader.proofs.duplicates.some_server_at.Given as goal
 
 abbrev pub invariant-loop-server : goal.invariant-loop-server
 invariant-loop-server l =
-    some_server_at l.endpoints (map shown_server (drop l.server-index l.servers))
-    ≡ some_server_at l.fn.endpoints (map shown_server l.fn.servers)
+    some_server_at l.endpoints.keys (map shown_server (drop l.server-index l.servers))
+    ≡ some_server_at l.fn.endpoints.keys (map shown_server l.fn.servers)

@@ -6,8 +6,9 @@ use Rattle.roam_serve.specs.Begins.{HaveBegun}
 use Rattle.roam_serve.proofs.BeginLemmas.{by-some}
 use Rattle.roam_serve.proofs.beginning.begin_from.Goals as goal
 
-pub returns-in-Ok-clause-ok : goal.returns-in-Ok-clause-ok
-returns-in-Ok-clause-ok g c = (shown_items c.as_slice.result.now, c.in_ok-shards.ensures.ok)
+pub returns-in_ok-shards-in-Ok-clause-ok : goal.returns-in_ok-shards-in-Ok-clause-ok
+returns-in_ok-shards-in-Ok-clause-ok g c =
+    (shown_items c.as_slice.result.now, c.in_ok-shards-in-Ok.ensures.ok)
 
 pub returns-in-Err-Fault-clause-ok : goal.returns-in-Err-Fault-clause-ok
 returns-in-Err-Fault-clause-ok g c =

@@ -6,3 +6,4 @@ use Rattle.roam_workers.proofs.silence.tell_rests.Given as goal
 abbrev pub invariant-loop-number : goal.invariant-loop-number
 invariant-loop-number g l =
     (l.context.seat ≡ l.fn.context.seat) × (counts_in l.context.counting ≡ counts_in l.fn.context.counting)
+    × (l.context.outgoing ≡ l.fn.context.outgoing)

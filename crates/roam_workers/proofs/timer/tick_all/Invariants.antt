@@ -6,5 +6,5 @@ use Rattle.roam_workers.proofs.timer.tick_all.Given as goal
 abbrev pub invariant-loop-shard : goal.invariant-loop-shard
 invariant-loop-shard g l =
     HasWorked g.N.Opened.opening
-    (at_work l.fn.timer.context.seat l.fn.timer.context.counting)
-    (at_work l.timer.context.seat l.timer.context.counting)
+    (at_work l.fn.timer.context.seat l.fn.timer.context.counting l.fn.timer.context.outgoing)
+    (at_work l.timer.context.seat l.timer.context.counting l.timer.context.outgoing)

@@ -1,6 +1,6 @@
 -- One round after the other.
 use Rattle.std.proofs.Common.{refl}
-use Rattle.roam_workers.proofs.WorkLemmas.{kept_on, worked_after, worked_none}
+use Rattle.roam_workers.proofs.WorkLemmas.{sent_on, worked_after, worked_none}
 use Rattle.roam_workers.proofs.timer.tick_on.Goals as goal
 
 pub loop-init : goal.loop-init
@@ -14,4 +14,5 @@ loop-preserved g c =
 pub returns-in-Some-round : goal.returns-in-Some-round
 returns-in-Some-round g c =
     let o = g.N.Opened.opening in
-    (_, kept_on o _ _ _ _ _ (worked_after _ _ _ _ c.loop.invariant c.round.ensures) c.leave.ensures.seat refl)
+    (_, sent_on o _ _ _ _ _ _ _ (worked_after _ _ _ _ c.loop.invariant c.round.ensures) c.leave.ensures.seat refl
+    c.leave.ensures.sends)

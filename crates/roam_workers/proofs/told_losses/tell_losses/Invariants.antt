@@ -7,3 +7,4 @@ abbrev pub invariant-loop-at : goal.invariant-loop-at
 invariant-loop-at g l =
     (l.timer.context.seat ≡ l.fn.timer.context.seat)
     × (counts_in l.timer.context.counting ≡ counts_in l.fn.timer.context.counting)
+    × (l.timer.context.outgoing ≡ l.fn.timer.context.outgoing)

@@ -6,5 +6,5 @@ use Rattle.roam_workers.proofs.worker.receive_all.Given as goal
 abbrev pub invariant-loop-place : goal.invariant-loop-place
 invariant-loop-place g l =
     HasWorked g.N.Opened.opening
-    (at_work l.fn.worker.context.seat l.fn.worker.context.counting)
-    (at_work l.worker.context.seat l.worker.context.counting)
+    (at_work l.fn.worker.context.seat l.fn.worker.context.counting l.fn.worker.context.outgoing)
+    (at_work l.worker.context.seat l.worker.context.counting l.worker.context.outgoing)

@@ -12,5 +12,7 @@ pub loop-preserved : goal.loop-preserved
 loop-preserved g c =
     let old = c.loop.context in
     let new = c.arrive.new.self in
-    worked_here g.N.Opened.opening _ _ _ _ (at_mail old.seat old.counting old.datagrams c.loop.mail.outgoing.items)
-    (at_mail new.seat new.counting new.datagrams c.arrive.new.mail.outgoing.items) _ c.loop.invariant c.arrive.ensures
+    worked_here g.N.Opened.opening _ _ _ _ (at_mail old.seat old.counting old.outgoing old.datagrams
+        c.loop.mail.outgoing.items)
+    (at_mail new.seat new.counting new.outgoing new.datagrams c.arrive.new.mail.outgoing.items) _ c.loop.invariant
+    c.arrive.ensures

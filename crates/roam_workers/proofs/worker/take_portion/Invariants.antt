@@ -6,4 +6,5 @@ use Rattle.roam_workers.proofs.worker.take_portion.Given as goal
 abbrev pub invariant-loop : goal.invariant-loop
 invariant-loop g l =
     HasWorked g.N.Opened.opening
-    (at_work l.fn.context.seat l.fn.context.counting) (at_work l.context.seat l.context.counting)
+    (at_work l.fn.context.seat l.fn.context.counting l.fn.context.outgoing)
+    (at_work l.context.seat l.context.counting l.context.outgoing)

@@ -1,4 +1,4 @@
-use Rattle.std.proofs.Common.{List, [], ◌∷◌, ◌++◌, length, length-append, ap, ◌∙◌, arith}
+use Rattle.std.proofs.Common.{List, [], ◌∷◌, length, length-append, ap, arith}
 use Rattle.roam_reverse.specs.Ended.{open_sessions}
 use Rattle.roam_reverse.specs.Kept.{kept_session}
 use Rattle.roam_reverse.specs.Sessions.{Session}

@@ -1,8 +1,8 @@
-use Rattle.std.proofs.Common.{◌-◌, ◌≤◌, ℕ, List, Bool, Option, length, sym, ap, ◌∙◌, subst, arith}
-use Rattle.std.specs.Prelude.{filter, is_some}
+use Rattle.std.proofs.Common.{◌-◌, ◌≤◌, ℕ, List, length, sym, ap, ◌∙◌, subst, arith}
+use Rattle.std.specs.Prelude.{filter}
 use Rattle.roam_wire.specs.Numbered.{tickets_end}
 use Rattle.roam_reverse.specs.Ended.{open_at, open_sessions, where_open}
-use Rattle.roam_reverse.specs.Facets.{facet_of, rows_under}
+use Rattle.roam_reverse.specs.Facets.{rows_under}
 use Rattle.roam_reverse.specs.Kept.{shown_asked}
 use Rattle.roam_reverse.specs.Maps.{groups_of}
 use Rattle.roam_reverse.specs.Private.Groups.{IsGrouped, in_group}

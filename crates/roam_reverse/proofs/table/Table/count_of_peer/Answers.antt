@@ -1,7 +1,7 @@
 use Rattle.std.proofs.Common.{◌≡◌, None, length, refl, ap, sym, ◌∙◌, arith}
 use Rattle.std.specs.Prelude.{filter}
 use Rattle.roam_reverse.specs.Sessions.{Nas, agrees, count_of_peer}
-use Rattle.roam_reverse.specs.Stands.{IsSound, session_at, sessions_of}
+use Rattle.roam_reverse.specs.Stands.{session_at, sessions_of}
 use Rattle.roam_reverse.proofs.OpenLemmas.{others-counted, own-counted}
 use Rattle.roam_reverse.proofs.WholeLemmas.{peer-counted}
 use Rattle.roam_reverse.proofs.table.Table.count_of_peer.Goals as goal

@@ -31,9 +31,12 @@ loop-i-preserved g c = λ sound f grouped.
     (table-tickets c.args.self.now sound).given in
     let counted : l.count + open_count O l.at ≡ min (l.count + c.open_of.result) (2 ^ 64 - 1) =
     omega (arith, c.open_of.ensures, bound, sound.chain.tickets.within) in
-    subst (λ (o : Option ℕ). Walks O f p row grouped (l.i + 1) (min (l.count + c.open_of.result) (2 ^ 64 - 1)) o)
+    let added : min (l.count + c.open_of.result) (2 ^ 64 - 1) ≡ c.saturating_add-count.result =
+    omega (arith, c.saturating_add-count.ensures) in
+    subst (λ (n : ℕ). Walks O f p row grouped (l.i + 1) n c.newer-at.result) added
+    (subst (λ (o : Option ℕ). Walks O f p row grouped (l.i + 1) (min (l.count + c.open_of.result) (2 ^ 64 - 1)) o)
     (sym c.newer-at.ensures)
-    (subst (λ (n : ℕ). Walks O f p row grouped (l.i + 1) n (option_and_then (newer_of p) l.at)) counted goes)
+    (subst (λ (n : ℕ). Walks O f p row grouped (l.i + 1) n (option_and_then (newer_of p) l.at)) counted goes))
 
 pub returns : goal.returns
 returns g c = λ sound f grouped.

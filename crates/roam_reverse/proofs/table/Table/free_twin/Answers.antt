@@ -1,4 +1,4 @@
-use Rattle.std.proofs.Common.{◌≡◌, ◌≢◌, None, Some, false, ℕ, Option, sym, ap, ◌∙◌, subst, arith}
+use Rattle.std.proofs.Common.{◌≡◌, ◌≢◌, None, Some, false, ℕ, Option, ap, ◌∙◌, subst, arith}
 use Rattle.roam_wire.specs.Numbered.{PutsAt}
 use Rattle.roam_reverse.specs.Ended.{IsTable, open_at, open_sessions}
 use Rattle.roam_reverse.specs.Kept.{kept_session}

@@ -1,4 +1,4 @@
-use Rattle.std.proofs.Common.{List, Option, ℕ, ap, ◌∙◌, arith}
+use Rattle.std.proofs.Common.{List, Option, ℕ, ap, arith}
 use Rattle.std.specs.Prelude.{is_some}
 use Rattle.roam_reverse.specs.Kept.{shown_asked}
 use Rattle.roam_reverse.specs.Stands.{session_at}

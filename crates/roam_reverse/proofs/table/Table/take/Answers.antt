@@ -1,4 +1,4 @@
-use Rattle.std.proofs.Common.{Option, ℕ, ap, ◌∙◌, sym, arith}
+use Rattle.std.proofs.Common.{Option, ap, ◌∙◌, sym, arith}
 use Rattle.roam_reverse.specs.Ended.{open_of, some_count}
 use Rattle.roam_reverse.specs.Sessions.{Session}
 use Rattle.roam_reverse.specs.Stands.{session_at}

@@ -1,5 +1,4 @@
-use Rattle.std.proofs.Common.{ℕ, List, Option, None, refl, sym, ap, ◌∙◌, subst, arith}
-use Rattle.std.specs.Prelude.{is_some}
+use Rattle.std.proofs.Common.{ℕ, Option, refl, sym, ◌∙◌, subst, arith}
 use Rattle.roam_reverse.specs.Ended.{open_at}
 use Rattle.roam_reverse.specs.Kept.{shown_asked}
 use Rattle.roam_reverse.specs.Private.Tickets.{IsOneOf}

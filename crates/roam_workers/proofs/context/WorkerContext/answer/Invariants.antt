@@ -13,4 +13,5 @@ invariant-loop g l = record {
   datagrams : l.self.datagrams ≡ l.fn.self.datagrams;
   now : l.self.now ≡ l.fn.self.now;
   counts : counts_in l.self.counting ≡ counts_in l.fn.self.counting;
+  outgoing : l.self.outgoing ≡ l.fn.self.outgoing;
 }

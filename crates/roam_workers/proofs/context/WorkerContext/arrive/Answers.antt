@@ -13,8 +13,9 @@ returns-in-Some g c =
     let new = c.handle.new.self in
     let out = c.handle.new.mail.outgoing.items in
     arrived_here g.N.Opened.opening self.shared.now.told_exchanges self.now (shown_arrival c.args.datagram.now)
-    (at_mail self.seat self.counting self.datagrams c.args.mail.now.outgoing.items)
-    (at_mail new.seat new.counting c.after-self.result out) _ c.in-Some.handling c.in-Some.ensures.handled.0
+    (at_mail self.seat self.counting self.outgoing self.datagrams c.args.mail.now.outgoing.items)
+    (at_mail new.seat new.counting new.outgoing c.after-self.result out) _ c.in-Some.handling
+    c.in-Some.ensures.handled.0
     (c.after-self.ensures
     ∙ ap (λ (d : Datagrams). handled d.counts c.in-Some.handling) c.in-Some.ensures.kept)
     c.in-Some.ensures.handled.1

@@ -6,4 +6,4 @@ use Rattle.roam_workers.proofs.context.WorkerContext.end_by_tick.Given as goal
 abbrev pub invariant-loop-due : goal.invariant-loop-due
 invariant-loop-due g l =
     (l.self.seat ≡ l.fn.self.seat) × (l.self.datagrams ≡ l.fn.self.datagrams) × (l.self.now ≡ l.fn.self.now)
-    × (counts_in l.self.counting ≡ counts_in l.fn.self.counting)
+    × (counts_in l.self.counting ≡ counts_in l.fn.self.counting) × (l.self.outgoing ≡ l.fn.self.outgoing)

@@ -8,8 +8,8 @@ use Rattle.roam_workers.proofs.context.WorkerContext.hand_all.Given as goal
 -- what was done so far, and to whom nothing is to be handed any more
 abbrev pub invariant-loop-worker : goal.invariant-loop-worker
 invariant-loop-worker g l = record {
-  worked : HasWorked g.N.Opened.opening (at_work l.fn.self.seat l.fn.self.counting)
-      (at_work l.self.seat l.self.counting);
+  worked : HasWorked g.N.Opened.opening (at_work l.fn.self.seat l.fn.self.counting l.fn.self.outgoing)
+      (at_work l.self.seat l.self.counting l.self.outgoing);
   size : vec_len l.mail.outgoing ≡ vec_len l.fn.mail.outgoing;
   none : HoldsNoneBelow l.worker l.mail.outgoing.items (λ q. q.items);
 }

@@ -11,6 +11,8 @@ use Rattle.roam_route.specs.Admission.{admission}
 use Rattle.roam_route.specs.Shown.{IsAdmission, shown_arrival, shown_out}
 use Rattle.roam_route.specs.declared.job.Prepared.{Prepared}
 use Rattle.roam_counting.specs.Counting.{counts_in}
+use Rattle.roam_outgoing.proofs.SendingLemmas.{puts_from}
+use Rattle.roam_outgoing.specs.Sending.{outbox_in}
 use Rattle.roam_workers.specs.Handlings.{IsAnsweredHere, IsHandled, at_work}
 use Rattle.roam_workers.proofs.HandlingLemmas.{answer_is, job_is, refusal_is}
 use Rattle.roam_workers.proofs.context.WorkerContext.handle.Goals as goal
@@ -20,7 +22,8 @@ take_or_hand-requires-clause-admission g c =
     let d = shown_arrival c.args.datagram.now in
     let shared = c.args.self.now.shared.now in
     job_is _ _ d c.in-Ok-Job.job shared.same
-    (subst (λ (p : Prepared Global). IsAdmission (Ok p) (admission (shown shared.config.now) d)) c.in-Ok-Job.field-0-is
+    (subst (λ (p : Prepared Global). IsAdmission (Ok p) (admission (shown shared.config.now) d))
+    c.in-Ok-Job.field-0-is
     c.in-Ok-Job.ensures.answer)
 
 pub returns-in-Ok-Answered-clause-handled : goal.returns-in-Ok-Answered-clause-handled
@@ -29,8 +32,8 @@ returns-in-Ok-Answered-clause-handled g c =
     let self = c.args.self.now in
     let shared = self.shared.now in
     let out = c.in-Ok-Answered.out in
-    let here : IsAnsweredHere g.N.Opened.opening d (at_work self.seat self.counting)
-    (at_work c.tell_local.new.self.seat c.tell_local.new.self.counting) = record {
+    let here : IsAnsweredHere g.N.Opened.opening d (at_work self.seat self.counting self.outgoing)
+    (at_work c.tell_local.new.self.seat c.tell_local.new.self.counting c.put.new.self) = record {
       what = c.in-Ok-Answered.what;
       out = shown_out out;
       admission_is = answer_is _ _ d c.in-Ok-Answered.what out shared.same
@@ -40,6 +43,7 @@ returns-in-Ok-Answered-clause-handled g c =
       counts = c.tell_local.ensures.kept.3 ∙ c.answered.ensures
           ∙ (λ i. raised_all (counts_in self.counting)
           (local_increments (end_at (shared.same i) out.from out.to) (c.code.ensures i)));
+      sends = puts_from _ _ _ _ (ap outbox_in c.tell_local.ensures.kept.4) c.put.ensures;
     } in
     (here, refl)
 
@@ -49,15 +53,17 @@ returns-in-Err-clause-handled g c =
     let d = shown_arrival c.args.datagram.now in
     let self = c.args.self.now in
     let lines = self.shared.now.told_exchanges in
-    let new = at_work c.refuse.new.self.seat c.refuse.new.self.counting in (
-      subst (IsHandled o lines self.now d (at_work self.seat self.counting) new) (sym c.refused_as.ensures)
-          (refusal_is o lines _ self.now d c.in-Err.refusal (at_work self.seat self.counting) new self.shared.now.same
+    let new = at_work c.refuse.new.self.seat c.refuse.new.self.counting c.refuse.new.self.outgoing in (
+      subst (IsHandled o lines self.now d (at_work self.seat self.counting self.outgoing) new) (sym
+          c.refused_as.ensures)
+          (refusal_is o lines _ self.now d c.in-Err.refusal (at_work self.seat self.counting self.outgoing) new self.shared.now.same
           c.in-Err.ensures.answer
           (λ (none : c.in-Err.refusal ≡ refusal.NoMemory).
           c.in-Err.ensures.memory (ap Err none))
           c.refuse.ensures.kept.0
           (c.refuse.ensures.kept.3 ∙ c.refused.ensures
           ∙ (λ i. raised_all (counts_in self.counting)
-          (refused_increments d.at (end_at (self.shared.now.same i) d.at d.from) c.in-Err.refusal)))),
+          (refused_increments d.at (end_at (self.shared.now.same i) d.at d.from) c.in-Err.refusal)))
+          (ap outbox_in c.refuse.ensures.kept.4)),
       refl,
     )

@@ -7,6 +7,8 @@ use Rattle.roam_counters.specs.Increments.{job_increments}
 use Rattle.roam_route.specs.Shown.{shown_job}
 use Rattle.roam_calls.specs.Seats.{SeatView}
 use Rattle.roam_counting.specs.Counting.{counts_in, wait_of}
+use Rattle.roam_outgoing.proofs.SendingLemmas.{puts_from}
+use Rattle.roam_outgoing.specs.Sending.{outbox_in}
 use Rattle.roam_workers.proofs.HandlingLemmas.{came-so}
 use Rattle.roam_workers.proofs.context.WorkerContext.take.Goals as goal
 
@@ -27,6 +29,8 @@ returns-in-Ok-clause-handled g c =
           (job_increments (c.turn_of-turn.ensures i) (shown_happening c.in-Ok.answered.happening)
           (c.answer.ensures.kept.1 i)
           (wait_of (self.shared.now.same i) (c.turn_of-turn.ensures i).realm)));
+      sends = puts_from _ _ _ _ (ap outbox_in (c.end_by.ensures.kept.4 ∙ c.answer.ensures.kept.3))
+          c.finish.ensures.sends;
     }
 
 pub returns-in-Err-clause-handled : goal.returns-in-Err-clause-handled
@@ -41,4 +45,5 @@ returns-in-Err-clause-handled g c =
       tallies = ap (λ (s : SeatView). s.tallies) c.refuse.ensures.kept.0 ∙ c.in-Err.ensures.failed;
       counts = c.refuse.ensures.kept.3 ∙ c.failed.ensures
           ∙ (λ i. raised_all (there i) (failed_increments (c.turn_of-turn.ensures i) c.in-Err.refusal));
+      outbox = ap outbox_in (c.refuse.ensures.kept.4 ∙ c.answer.ensures.kept.3);
     }

@@ -9,10 +9,11 @@ use Rattle.roam_workers.proofs.context.WorkerContext.take_letters.Given as goal
 abbrev pub invariant-loop-letter : goal.invariant-loop-letter
 invariant-loop-letter g l =
     (new : AtWork) (after : DatagramCounts)
-    → TakesAll g.N.Opened.opening (jobs_of l.letters.items (λ x. x.job)) (at_work l.self.seat l.self.counting) new
+    → TakesAll g.N.Opened.opening (jobs_of l.letters.items (λ x. x.job))
+        (at_work l.self.seat l.self.counting l.self.outgoing) new
     l.self.datagrams.counts after
     → TakesAll g.N.Opened.opening (jobs_of l.fn.letters.items (λ x. x.job))
-    (at_work l.fn.self.seat l.fn.self.counting) new l.fn.self.datagrams.counts after
+    (at_work l.fn.self.seat l.fn.self.counting l.fn.self.outgoing) new l.fn.self.datagrams.counts after
 
 -- each turn takes one
 abbrev pub decreases-loop-letter : goal.decreases-loop-letter

@@ -8,4 +8,5 @@ invariant-loop g l = record {
   tallies : l.self.seat.tallies ≡ l.fn.self.seat.tallies;
   now : l.self.now ≡ l.fn.self.now;
   counts : counts_in l.self.counting ≡ counts_in l.fn.self.counting;
+  outgoing : l.self.outgoing ≡ l.fn.self.outgoing;
 }

@@ -6,5 +6,5 @@ use Rattle.roam_workers.proofs.context.WorkerContext.tick_shard.Given as goal
 abbrev pub invariant-loop : goal.invariant-loop
 invariant-loop g l =
     HasWorked g.N.Opened.opening
-    (at_work l.fn.self.seat l.fn.self.counting)
-    (at_work l.self.seat l.self.counting)
+    (at_work l.fn.self.seat l.fn.self.counting l.fn.self.outgoing)
+    (at_work l.self.seat l.self.counting l.self.outgoing)

@@ -1,0 +1,107 @@
+//! Which senders are looked at less, since their datagrams are refused for what they are.
+//!
+//! To find that a Message-Authenticator is wrong takes as long as half an exchange. A sender of whose datagrams many are
+//! refused so within a moment can't have others wait for that: most of its further ones are passed over unread, until
+//! the moment is over.
+
+ghost use Rattle.std.specs.Prelude.{◌<◌};
+
+use roam_conf::Address;
+use roam_wire::Refusal;
+
+/// How many binary digits of a time in milliseconds tell when in a moment it is: a moment is 64 milliseconds.
+const MOMENT: u32 = 6;
+
+/// So many datagrams of a sender are refused in a moment before others are passed over.
+const PATIENCE: u32 = 32;
+
+/// Of those one in so many is looked at all the same.
+const LOOKED_AT: u32 = 16;
+
+/// So many senders are told apart at once. One that is met behind another one in its place isn't passed over.
+const SENDERS: u128 = 61;
+
+/// A sender of whose datagrams some were refused in a moment.
+#[derive(Clone, Copy)]
+struct Sender {
+    address: Address,
+    moment: u64,
+    refused: u32,
+    /// How many came since so many were refused that others are passed over.
+    further: u32,
+}
+
+/// The senders of whose datagrams some were refused of late, at one thread.
+#[derive(Clone, Copy)]
+pub struct Junk {
+    senders: [Option<Sender>; 61],
+}
+
+/// Returns whether a refusal says that a datagram isn't what it should be, whoever sent it. A rule that refuses a right
+/// one, as for a name that is no realm's, is none.
+fn is_of_junk(refusal: Refusal) -> bool {
+    matches!(
+        refusal,
+        Refusal::Short
+            | Refusal::BadLength
+            | Refusal::BadAttribute
+            | Refusal::UnknownSource
+            | Refusal::WrongCode
+            | Refusal::BadAuthenticator
+            | Refusal::BadMessageAuthenticator
+            | Refusal::MissingMessageAuthenticator
+            | Refusal::TooManyAttributes
+    )
+}
+
+/// Returns the place of a sender among those that are told apart.
+fn place_of(address: Address) -> usize
+    ensures { result < 61 }
+{
+    (address.number() % SENDERS) as usize
+}
+
+impl Junk {
+    /// Returns that nothing was refused yet.
+    pub fn none() -> Junk {
+        Junk {
+            senders: [None; 61],
+        }
+    }
+
+    /// Notes that a datagram of a sender was refused, at a time in milliseconds.
+    pub(crate) fn note(&mut self, address: Address, refusal: Refusal, now: u64) {
+        if !is_of_junk(refusal) {
+            return;
+        }
+        let moment = now >> MOMENT;
+        let place = &mut self.senders[place_of(address)];
+        match place {
+            Some(sender) if sender.moment == moment => {
+                if sender.address == address {
+                    sender.refused = sender.refused.saturating_add(1);
+                }
+            }
+            _ => {
+                *place = Some(Sender {
+                    address,
+                    moment,
+                    refused: 1,
+                    further: 0,
+                });
+            }
+        }
+    }
+
+    /// Returns whether a datagram of a sender is passed over, at a time in milliseconds.
+    pub(crate) fn passes_over(&mut self, address: Address, now: u64) -> bool {
+        let Some(sender) = &mut self.senders[place_of(address)] else {
+            return false;
+        };
+        if sender.address != address || sender.moment != now >> MOMENT || sender.refused < PATIENCE {
+            return false;
+        }
+        sender.further = sender.further.wrapping_add(1);
+        sender.further % LOOKED_AT != 0
+    }
+}
