@@ -19,9 +19,9 @@ def access(number, salt=b"", user=b"u@a.example", attributes=()):
                         packets.sealed(packets.ACCESS_REQUEST, number, authenticator, attributes, SECRET))
 
 
-def accounting(number, session):
+def accounting(number, session, user=b"u@a.example"):
     """An Accounting-Request that opens a session."""
-    attributes = [(1, b"u@a.example"), (32, b"nas"), (40, bytes([0, 0, 0, 1])), (44, session)]
+    attributes = [(1, user), (32, b"nas"), (40, bytes([0, 0, 0, 1])), (44, session)]
     return packets.signed(packets.ACCOUNTING_REQUEST, number, packets.ZEROS, attributes, SECRET)
 
 
@@ -40,7 +40,7 @@ class Stream:
     """One end of a connection: packets are read of it."""
 
     def __init__(self, connection):
-        self.connection, self.rest, self.is_ended = connection, b"", False
+        self.connection, self.rest, self.is_ended, self.outbox = connection, b"", False, []
 
     def send(self, octets):
         self.connection.sendall(octets)
@@ -87,9 +87,11 @@ def connected(to, source="127.1.0.7", room=None):
 
 
 class Home:
-    """A home server behind a front: it takes connections, and does with each packet what its rule says."""
+    """A home server behind a front, or with TLS of its own by a context: it takes connections, and does with each packet what its
+    rule says."""
 
-    def __init__(self, at):
+    def __init__(self, at, context=None):
+        self.context = context
         self.listener = socket.socket(socket.AF_INET, socket.SOCK_STREAM)
         self.listener.setsockopt(socket.SOL_SOCKET, socket.SO_REUSEADDR, 1)
         self.listener.bind(at)
@@ -105,12 +107,19 @@ class Home:
             except OSError:
                 return
             connection.setsockopt(socket.IPPROTO_TCP, socket.TCP_NODELAY, 1)
+            try:
+                connection = self.context.wrap_socket(connection, server_side=True) if self.context else connection
+            except OSError:
+                continue
             self.streams.append(Stream(connection))
             threading.Thread(target=self.read, args=(len(self.streams) - 1,), daemon=True).start()
 
     def read(self, number):
         stream = self.streams[number]
         while not self.is_over and not stream.is_ended:
+            # What is to be sent besides goes from here: of a connection with TLS one thread reads and writes.
+            while stream.outbox:
+                stream.send(stream.outbox.pop(0))
             packet = stream.packet(0.2)
             if packet is not None:
                 self.came.append((time.monotonic(), number, packet))

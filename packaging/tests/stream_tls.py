@@ -6,13 +6,12 @@ import shutil
 import socket
 import ssl
 import subprocess
-import threading
 import time
 
 from around import Around
 from looks import changed, want
 from server import run
-from stream_ends import Stream, access, accepted_by, answers
+from stream_ends import Home, Stream, access, accepted_by, answers
 
 HERE = os.path.dirname(os.path.abspath(__file__))
 SAMPLES = os.path.join(os.path.dirname(HERE), "samples", "tls")
@@ -55,13 +54,13 @@ def openssl(directory, *words):
     subprocess.run(["openssl", *words], cwd=directory, check=True, stdout=subprocess.DEVNULL, stderr=subprocess.DEVNULL)
 
 
-def make_certificates(directory):
+def make_certificates(directory, names=NAMES, revoked=("proxy2.university.example",)):
     """An authority, a certificate for each name, each with its key in one file, and a list that revokes one of them."""
     for name, text in (("authority.cnf", AUTHORITY), ("index.txt", ""), ("serial", "1000\n")):
         with open(os.path.join(directory, name), "w", encoding="ascii") as file:
             file.write(text)
     openssl(directory, "req", "-x509", "-newkey", "rsa:2048", "-nodes", "-keyout", "ca.key", "-out", "ca.pem", "-days", "2", "-subj", "/CN=authority")
-    for name in NAMES:
+    for name in names:
         openssl(directory, "req", "-newkey", "rsa:2048", "-nodes", "-keyout", f"{name}.key", "-out", f"{name}.csr", "-subj", f"/CN={name}",
                 "-addext", f"subjectAltName=DNS:{name}")
         openssl(directory, "ca", "-batch", "-config", "authority.cnf", "-in", f"{name}.csr", "-out", f"{name}.crt", "-notext")
@@ -69,7 +68,8 @@ def make_certificates(directory):
             for part in (f"{name}.crt", f"{name}.key"):
                 with open(os.path.join(directory, part), encoding="ascii") as file:
                     pem.write(file.read())
-    openssl(directory, "ca", "-config", "authority.cnf", "-revoke", "proxy2.university.example.crt")
+    for name in revoked:
+        openssl(directory, "ca", "-config", "authority.cnf", "-revoke", f"{name}.crt")
     openssl(directory, "ca", "-config", "authority.cnf", "-gencrl", "-out", "crl.pem")
     shutil.copy(os.path.join(directory, "radius.roam.example.pem"), os.path.join(directory, "own.pem"))
 
@@ -83,43 +83,23 @@ def sample(name, directory):
     return text.replace("/etc/roam/tls/", directory + "/").replace("/run/haproxy/", directory + "/").replace("/run/roam/", directory + "/")
 
 
-def serve_home(directory):
-    """A home server with TLS, which wants the certificate of who comes."""
+def home_context(directory, name):
+    """What a home server with this certificate has for TLS: it wants the certificate of who comes."""
     context = ssl.SSLContext(ssl.PROTOCOL_TLS_SERVER)
-    context.load_cert_chain(os.path.join(directory, "radius.home.example.pem"))
+    context.load_cert_chain(os.path.join(directory, f"{name}.pem"))
     context.load_verify_locations(os.path.join(directory, "ca.pem"))
     context.verify_mode = ssl.CERT_REQUIRED
-    listener = socket.create_server(HOME)
-
-    def take():
-        while True:
-            try:
-                connection, _ = listener.accept()
-                stream = Stream(context.wrap_socket(connection, server_side=True))
-            except OSError:
-                if listener.fileno() < 0:
-                    return
-                continue
-            threading.Thread(target=read, args=(stream,), daemon=True).start()
-
-    def read(stream):
-        while not stream.is_ended:
-            packet = stream.packet(0.2)
-            if packet is not None:
-                answers(stream, packet)
-
-    threading.Thread(target=take, daemon=True).start()
-    return listener
+    return context
 
 
-def client(directory, name):
+def client(directory, name, to=FRONT):
     """A connection of a RADIUS client with this certificate, or without one; None where it isn't taken."""
     context = ssl.SSLContext(ssl.PROTOCOL_TLS_CLIENT)
     context.load_verify_locations(os.path.join(directory, "ca.pem"))
     if name:
         context.load_cert_chain(os.path.join(directory, f"{name}.pem"))
     try:
-        connection = socket.create_connection(FRONT, 3)
+        connection = socket.create_connection(to, 3)
         return Stream(context.wrap_socket(connection, server_hostname="radius.roam.example"))
     except OSError:
         return None
@@ -139,13 +119,17 @@ def is_answered(directory, name):
         stream.close()
 
 
-def wait_for_front(directory):
-    for _ in range(100):
+def wait_for_front(directory, at=FRONT, seconds=20):
+    """Whether haproxy takes connections, and has its socket for orders, within so many seconds."""
+    until = time.monotonic() + seconds
+    while time.monotonic() < until:
         try:
-            socket.create_connection(FRONT, 1).close()
-            return os.path.exists(os.path.join(directory, "admin.sock"))
+            socket.create_connection(at, 1).close()
+            if os.path.exists(os.path.join(directory, "admin.sock")):
+                return True
         except OSError:
-            time.sleep(0.05)
+            pass
+        time.sleep(0.05)
     return False
 
 
@@ -163,7 +147,8 @@ def logs_in(directory, program):
     directory = os.path.join(directory, "tls")
     os.mkdir(directory)
     make_certificates(directory)
-    around, home = Around(directory), serve_home(directory)
+    around, home = Around(directory), Home(HOME, home_context(directory, "radius.home.example"))
+    home.clear(answers)
     haproxy = shutil.which("haproxy") or "/usr/sbin/haproxy"
     try:
         names = sample("names.map", directory) + "stranger.example nobody\n"

@@ -7,6 +7,10 @@
 //! # Proved
 //!
 //! - of each kind at most eight lines are told in a second, and the others are counted | `LineBudget::may_tell`
+//! - a word of readiness is of the connection under whose mark the system has it | `SocketName::token`,
+//!   `SocketName::from_token`
+//! - the socket of a connection that ended stays for 60 s, so that a late reply finds no other connection |
+//!   `Staying::new`, `Staying::is_over`
 #![tactic(auto)]
 
 mod accepting;

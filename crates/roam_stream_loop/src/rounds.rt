@@ -13,9 +13,6 @@ use log::Log;
 use roam_streams::{Redial, StreamFault};
 use std::net::{Net, SocketAddr};
 
-/// How long the socket of a connection stays after its end, in milliseconds: a late reply finds no other connection.
-const STAYS: u64 = 60_000;
-
 impl StreamLoop {
     /// Goes on with what was listed first, once each.
     pub fn go_on<R: Net + Log>(&mut self, system: &System<'_, R>, names: &[SocketName]) {
@@ -65,13 +62,8 @@ impl StreamLoop {
         self.shared.counts.taken = self.shared.counts.taken.saturating_sub(1);
         let mut socket = Box::into_inner(taken).socket;
         let _is_quiet = system.registry.deregister(&mut socket).is_ok();
-        let _stays = self
-            .staying
-            .push_back(Staying {
-                socket,
-                until: self.shared.now.saturating_add(STAYS),
-            })
-            .is_ok();
+        let staying = Staying::new(socket, self.shared.now);
+        let _stays = self.staying.push_back(staying).is_ok();
     }
 
     /// Receives requests for a home server, as far as one round allows.

@@ -1,5 +1,8 @@
 //! All connections and sockets, and what is known of their readiness.
 
+ghost use Rattle.std.specs.Prelude.{◌≡◌, ◌≤◌, ◌↔◌, IsTrue};
+ghost use Rattle.roam_stream_loop.specs.Ends.{stays_until};
+
 use crate::accepting::Listening;
 use crate::at_socket::AtSocket;
 use crate::pair::Pair;
@@ -12,11 +15,33 @@ use mio::net::UdpSocket;
 use std::alloc::Global;
 use std::collections::VecDeque;
 
-/// The socket of a connection that ended: what comes there is dropped.
+/// How long the socket of a connection stays after its end, in milliseconds.
+const STAYS: u64 = 60_000;
+
+/// The socket of a connection that ended: what comes there is dropped, so a late reply finds no other connection.
 #[derive(Drop)]
 pub struct Staying {
-    pub socket: UdpSocket,
-    pub until: u64,
+    socket: UdpSocket,
+    until: u64,
+}
+
+impl Staying {
+    /// Keeps the socket of a connection that ends at this moment.
+    pub fn new(socket: UdpSocket, now: u64) -> Staying
+        ensures { result.until ≡ stays_until now }
+    {
+        Staying {
+            socket,
+            until: now.saturating_add(STAYS),
+        }
+    }
+
+    /// Returns whether it stayed long enough.
+    pub fn is_over(&self, now: u64) -> bool
+        ensures { IsTrue result ↔ (self.now.until ≤ now) }
+    {
+        self.until <= now
+    }
 }
 
 /// All connections and sockets.

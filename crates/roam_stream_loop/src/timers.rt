@@ -69,7 +69,7 @@ impl StreamLoop {
     fn close_staying(&mut self) {
         for _ in 0..self.staying.len() {
             match self.staying.front() {
-                Some(staying) if staying.until <= self.shared.now => {
+                Some(staying) if staying.is_over(self.shared.now) => {
                     drop(self.staying.pop_front());
                 }
                 _ => return,
