@@ -7,9 +7,9 @@ usage: roam check CONF
        roam check --all CONF (prints the secrets too)
        roam sim CONF SCRIPT
        roam serve [--seed-of-file] CONF [MS]
-       roam ctl PATH status [--json|--watch]
-       roam ctl PATH metrics|stop|trace N
-       roam ctl PATH reload [--lose]
+       roam ctl [PATH] status [--json|--watch|--problems|REALM[,REALM..]]
+       roam ctl [PATH] metrics|stop|trace N
+       roam ctl [PATH] reload [--lose] (without PATH: /run/roam/control)
        roam streams CONF [MS]
        roam check --streams CONF
        roam help
@@ -23,11 +23,12 @@ NO_COMMANDS = [
     ["serve", "a", "86400001"], ["serve", "a", "18446744073709551617"], ["serve", "a", "+5"], ["serve", "a", "-5"],
     ["serve", "a", "5 "], ["serve", "a", "5ms"], ["serve", "a", "5", "5"], ["serve", "--seed-of-file"],
     ["serve", "a", "--seed-of-file"], ["serve", "--seed-of-file", "a", "0"], ["serve", "--seed-of-file", "a", "5", "5"],
-    ["serve", "--seed-of-files", "a"], ["check", "--seed-of-file", "a", "b"], ["sim", "--seed-of-file", "a", "b"], ["ctl", "a"],
-    ["ctl", "a", "status", "json"], ["ctl", "a", "status", "--json", "--watch"], ["ctl", "a", "metrics", "--json"],
-    ["ctl", "a", "trace"], ["ctl", "a", "trace", "x"], ["ctl", "a", "trace", "65536"], ["ctl", "status", "a"],
+    ["serve", "--seed-of-files", "a"], ["check", "--seed-of-file", "a", "b"], ["sim", "--seed-of-file", "a", "b"], ["ctl"], ["ctl", "a"],
+    ["ctl", "a", "status", "--jsn"], ["ctl", "a", "status", "--json", "--watch"], ["ctl", "a", "metrics", "--json"],
+    ["ctl", "a", "trace"], ["ctl", "a", "trace", "x"], ["ctl", "a", "trace", "65536"], ["ctl", "status", "--problem"],
     ["ctl", "a", "stop", "0"], ["ctl", "a", "reload", "0"], ["ctl", "a", "reload", "--lose", "0"],
-    ["ctl", "reload", "a"], ["help", "a"], ["--version", "a"],
+    ["ctl", "reload", "a"], ["ctl", "trace"], ["ctl", "trace", "x"], ["ctl", "stop", "status"], ["ctl", "status", "status", "--json"],
+    ["ctl", "status", "a", "b"], ["help", "a"], ["--version", "a"],
 ]
 
 # Words with whose first one no command begins.
@@ -392,6 +393,10 @@ FAULTY = [
     ("an odd number of digits", "A 0 acct 192.0.2.1:5000 000"),
     ("a digit that is none", "A 0 acct 192.0.2.1:5000 0g"),
 ]
+
+# Why nobody answers at the path of a control socket.
+NO_PATH = "no such path: is roam running, and is this its `control`?"
+NOBODY = "nobody listens there: the server has ended, or this is no socket"
 
 # Octets of an answer, and what is shown of them: nothing steers a terminal.
 SHOWN = [

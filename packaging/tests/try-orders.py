@@ -89,7 +89,7 @@ def late_orders(program, work):
         orders = {'status': ('status',), 'reload': ('reload',), 'trace': ('trace', '0'), 'stop': ('stop',)}
         said = side_by_side({word: lambda order=order: timed(server, *order) for word, order in orders.items()})
         for word, (answer, took) in said.items():
-            seconds, words = (10, 'no answer') if word == 'status' else (30, 'no answer within 30 s: it may still be carried out')
+            seconds, words = (10, 'no answer in time, though somebody listens there') if word == 'status' else (30, 'no answer within 30 s: it may still be carried out')
             want(answer.returncode == 1 and answer.stderr == f'roam: {server.path}: {words}\n' and abs(took - seconds) < 4,
                  f'{word}: {answer.returncode} after {took:.1f} s: {answer.stderr.strip()}')
         server.process.send_signal(signal.SIGCONT)
@@ -237,7 +237,7 @@ def escaped_words(program, work):
     path = os.path.join(work, 'no\nERROR such\x1b[31m \xe4')
     shown = b'roam: ' + work.encode() + rb'/no\x0aERROR such\x1b[31m \xc3\xa4'
     wants(shown + b': No such file or directory\n', 'check', path)
-    wants(shown + b': no answer\n', 'ctl', path, 'status')
+    wants(shown + b': no such path: is roam running, and is this its `control`?\n', 'ctl', path, 'status')
     wants(rb'roam: no\x0aERROR\x5c: no such command' + b'\nusage: ', 'no\nERROR\\')
     with open(path, 'w', encoding='utf-8') as file:
         file.write('a')

@@ -133,9 +133,9 @@ def look_at_writes(trial):
 def look_at_answers(trial):
     """What is shown of a server's answer, and whether it is whole; where nobody listens there is none."""
     nobody = trial.file("no-socket", "")
-    for path in ("/nowhere/control", nobody):
+    for path, why in (("/nowhere/control", rows.NO_PATH), (nobody, rows.NOBODY)):
         for order in ("status", "metrics", "stop", "reload"):
-            trial.ends(["ctl", path, order], 1, "", f"roam: {path}: no answer\n")
+            trial.ends(["ctl", path, order], 1, "", f"roam: {path}: {why}\n")
     path = os.path.join(trial.folder, "control")
     with socket.socket(socket.AF_UNIX) as listener:
         listener.bind(path)

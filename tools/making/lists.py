@@ -121,7 +121,7 @@ def keys_of_the_reader() -> dict[str, set[str]]:
 def lost_texts() -> list[str]:
     """The program's texts that have no row, and the rows whose text the program doesn't have."""
     code = (ROOT / "crates" / "roam_words" / "src" / "fault_text.rt").read_text(encoding="utf-8")
-    stands_for = {"number": "N", "wanted": "N", "seconds": "S", "endpoint": "ENDPOINT", "fault": "NAME"}
+    stands_for = {"number": "N", "wanted": "N", "seconds": "S", "endpoint": "ENDPOINT", "fault": "NAME", "why": "WHY", "what": "WHAT"}
     # What begins with a colon stands behind a path, or behind the first word.
     code = re.sub(r'"(: [^"]*")', r'"roam: PATH\1', code).replace("PATH: no such command", "WORD: no such command")
     texts = {re.sub(r"\{(\w+)\}", lambda it: stands_for.get(it.group(1), "REASON"), it).replace("error REASON", "REASON")

@@ -37,11 +37,11 @@ run-prevents words configuration script old new (Err (fault.Unreadable path reas
 run-prevents words configuration script old new (Err (fault.NotText path line)) worded fails = absurd fails
 run-prevents words configuration script old new (Err (fault.MayNotFollow path)) worded fails = absurd fails
 run-prevents words configuration script old new (Err (fault.Misstated path)) worded fails = absurd fails
-run-prevents words configuration script old new (Err (fault.Unanswered path)) worded fails = absurd fails
+run-prevents words configuration script old new (Err (fault.Unanswered path reason)) worded fails = absurd fails
 run-prevents words configuration script old new (Err (fault.Late path seconds)) worded fails = absurd fails
 run-prevents words configuration script old new (Err (fault.StillServes path seconds)) worded fails = absurd fails
 run-prevents words configuration script old new (Err (fault.Cut path)) worded fails = absurd fails
-run-prevents words configuration script old new (Err (fault.Declined path)) worded fails = absurd fails
+run-prevents words configuration script old new (Err (fault.Declined path what)) worded fails = absurd fails
 run-prevents words configuration script old new (Err (fault.Refused path why)) worded fails =
     ((to_simulate configuration.path.now script.path.now, worded, sym fails.0.named), fails.1)
 run-prevents words configuration script old new (Err (fault.FaultyLine path number)) worded fails =
@@ -72,11 +72,11 @@ check-prevents words file old new (fault.Unreadable path reason) worded fails = 
 check-prevents words file old new (fault.NotText path line) worded fails = absurd fails
 check-prevents words file old new (fault.MayNotFollow path) worded fails = absurd fails
 check-prevents words file old new (fault.Misstated path) worded fails = absurd fails
-check-prevents words file old new (fault.Unanswered path) worded fails = absurd fails
+check-prevents words file old new (fault.Unanswered path reason) worded fails = absurd fails
 check-prevents words file old new (fault.Late path seconds) worded fails = absurd fails
 check-prevents words file old new (fault.StillServes path seconds) worded fails = absurd fails
 check-prevents words file old new (fault.Cut path) worded fails = absurd fails
-check-prevents words file old new (fault.Declined path) worded fails = absurd fails
+check-prevents words file old new (fault.Declined path what) worded fails = absurd fails
 check-prevents words file old new (fault.Refused path why) worded fails =
     ((to_check file.path.now, worded, sym fails.0.named), fails.1)
 check-prevents words file old new (fault.FaultyLine path number) worded fails = absurd fails
@@ -112,11 +112,11 @@ state-prevents words file old new (fault.NotText path line) worded fails = absur
 state-prevents words file old new (fault.MayNotFollow path) worded fails = absurd fails
 state-prevents words file old new (fault.Misstated path) worded fails =
     (subst (λ p. Asks words (to_check_all p)) (sym fails.0) worded, fails.2)
-state-prevents words file old new (fault.Unanswered path) worded fails = absurd fails
+state-prevents words file old new (fault.Unanswered path reason) worded fails = absurd fails
 state-prevents words file old new (fault.Late path seconds) worded fails = absurd fails
 state-prevents words file old new (fault.StillServes path seconds) worded fails = absurd fails
 state-prevents words file old new (fault.Cut path) worded fails = absurd fails
-state-prevents words file old new (fault.Declined path) worded fails = absurd fails
+state-prevents words file old new (fault.Declined path what) worded fails = absurd fails
 state-prevents words file old new (fault.Refused path why) worded fails =
     ((to_check_all file.path.now, worded, sym fails.0.named), fails.1)
 state-prevents words file old new (fault.FaultyLine path number) worded fails = absurd fails
@@ -166,11 +166,11 @@ compare_prevents words configuration next old new (Err (fault.NotText path line)
 compare_prevents words configuration next old new (Err (fault.MayNotFollow path)) worded fails =
     ((configuration.path.now, rw fails.0 worded), fails.2)
 compare_prevents words configuration next old new (Err (fault.Misstated path)) worded fails = absurd fails
-compare_prevents words configuration next old new (Err (fault.Unanswered path)) worded fails = absurd fails
+compare_prevents words configuration next old new (Err (fault.Unanswered path reason)) worded fails = absurd fails
 compare_prevents words configuration next old new (Err (fault.Late path seconds)) worded fails = absurd fails
 compare_prevents words configuration next old new (Err (fault.StillServes path seconds)) worded fails = absurd fails
 compare_prevents words configuration next old new (Err (fault.Cut path)) worded fails = absurd fails
-compare_prevents words configuration next old new (Err (fault.Declined path)) worded fails = absurd fails
+compare_prevents words configuration next old new (Err (fault.Declined path what)) worded fails = absurd fails
 compare_prevents words configuration next old new (Err (fault.Refused path why)) worded fails =
     elim fails.0 [
       | inl first ↦ ((to_compare configuration.path.now next.path.now, worded, inl (sym first.named)), fails.1)

@@ -35,11 +35,11 @@ unread-says words asked path out (fault.NotText given line) named worded unread 
     ((asked, worded, rw unread named), Keeps-refl out)
 unread-says words asked path out (fault.MayNotFollow given) named worded unread = absurd unread
 unread-says words asked path out (fault.Misstated given) named worded unread = absurd unread
-unread-says words asked path out (fault.Unanswered given) named worded unread = absurd unread
+unread-says words asked path out (fault.Unanswered given reason) named worded unread = absurd unread
 unread-says words asked path out (fault.Late given seconds) named worded unread = absurd unread
 unread-says words asked path out (fault.StillServes given seconds) named worded unread = absurd unread
 unread-says words asked path out (fault.Cut given) named worded unread = absurd unread
-unread-says words asked path out (fault.Declined given) named worded unread = absurd unread
+unread-says words asked path out (fault.Declined given what) named worded unread = absurd unread
 unread-says words asked path out (fault.Refused given because) named worded unread = absurd unread
 unread-says words asked path out (fault.FaultyLine given number) named worded unread = absurd unread
 unread-says words asked path out fault.Write named worded unread = absurd unread

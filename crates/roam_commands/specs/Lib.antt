@@ -1,3 +1,4 @@
 pub mod CommandFaults
 pub mod Outcomes
+pub mod Reaching
 pub mod Waits

@@ -6,6 +6,8 @@ use Rattle.roam_words.specs.declared.command_line.ControlOrder.TheVariants as or
 -- what is asked for changes the server, or lets go of what it stores
 abbrev pub changes : ControlOrder → Bool
 changes order.Status = false
+changes (order.StatusOf realms) = false
+changes order.Problems = false
 changes order.StatusAsJson = false
 changes order.Watch = false
 changes order.Metrics = false

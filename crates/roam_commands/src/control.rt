@@ -5,9 +5,11 @@ ghost use Rattle.roam_commands.specs.CommandFaults.{AskFails};
 ghost use Rattle.roam_printing.specs.Printed.{IsPrinted};
 
 use crate::looking::next_octet;
+use crate::narrowing::shown_for;
 use crate::questions::{ask_for_trace, changes, question, seconds_of};
+use crate::reaching::why_unreached;
 use roam_conf::decimal;
-use roam_words::{ControlOrder, Fault, finish, shown};
+use roam_words::{ControlOrder, Fault, finish};
 use std::io::{ErrorKind, Read, Write};
 use std::net::Net;
 use std::os::unix::net::UnixStream;
@@ -61,7 +63,7 @@ fn take_last(mut stream: UnixStream) {
 pub fn answer<R: AllocGlobal + Net>(
     rt: &R,
     path: &str,
-    order: ControlOrder,
+    order: ControlOrder<'_>,
 ) -> io::Result<(UnixStream, Vec<u8>)> {
     let mut stream = UnixStream::connect(rt, path)?;
     let patience = Duration::from_secs(seconds_of(order));
@@ -83,6 +85,16 @@ pub fn answer<R: AllocGlobal + Net>(
 /// Whether an answer tells success (RFC 9110, section 15.3).
 pub fn is_done(answer: &[u8]) -> bool {
     answer.starts_with(b"HTTP/1.1 2")
+}
+
+/// Returns why what was asked for was not done, where an answer doesn't tell success: perhaps there is no such shard
+/// (RFC 9110, section 15.5.5).
+fn why_not_done(order: ControlOrder<'_>, answer: &[u8]) -> &'static str {
+    if matches!(order, ControlOrder::Trace(_)) && answer.starts_with(b"HTTP/1.1 404") {
+        "no such shard: they are numbered from 0"
+    } else {
+        "no answer"
+    }
 }
 
 /// Whether an answer says why what was asked for was not done (RFC 9110, section 15.5.10).
@@ -140,12 +152,24 @@ pub fn print<'a, W: Write>(body: &[u8], out: &mut W) -> Result<(), Fault<'a>>
     finish(out)
 }
 
+/// Returns what can be done where a server did not do what it was asked for: that it would lose something its answer
+/// says.
+fn what_to_do(body: &[u8]) -> &'static str {
+    match str::from_utf8(body) {
+        Ok(text) if text.contains(" would lose ") => {
+            "roam check OLD NEW says by which change; to make it all the same: reload --lose"
+        }
+        _ => "roam check CONF says more of a file",
+    }
+}
+
 /// Prints why a server did not do what it was asked for.
 fn print_declined<'a, W: Write>(path: &'a str, body: &[u8], out: &mut W) -> Fault<'a>
     ensures { AskFails path.now (W.contents out.old) (W.contents out.new) result }
 {
+    let what = what_to_do(body);
     match print(body, out) {
-        Ok(()) => Fault::Declined { path },
+        Ok(()) => Fault::Declined { path, what },
         Err(_) => Fault::Write,
     }
 }
@@ -171,12 +195,21 @@ fn has_ended<R: Net + Clock>(rt: &R, path: &str) -> bool {
     false
 }
 
+/// Returns the order by which rows of an answer are chosen: of one that is cut, or doesn't tell success, all are shown.
+fn narrowed_by<'a>(order: ControlOrder<'a>, body: &Body<'_>, answer: &[u8]) -> ControlOrder<'a> {
+    if body.is_whole && is_done(answer) {
+        order
+    } else {
+        ControlOrder::Status
+    }
+}
+
 /// Prints an answer of the server of this path, of which nothing steers a terminal. Where one is asked to stop, when it
 /// has ended.
 fn print_answer<'a, R: AllocGlobal + Net + Clock, W: Write>(
     rt: &R,
     path: &'a str,
-    order: ControlOrder,
+    order: ControlOrder<'_>,
     answer: &[u8],
     out: &mut W,
 ) -> Result<(), Fault<'a>>
@@ -184,10 +217,16 @@ fn print_answer<'a, R: AllocGlobal + Net + Clock, W: Write>(
     ensures err { IfErr result (AskFails path.now (W.contents out.old) (W.contents out.new)) }
 {
     let Some(body) = body_of(answer) else {
-        return Err(Fault::Unanswered { path });
+        let why = "no answer";
+        return Err(Fault::Unanswered { path, why });
     };
-    let Ok(shown) = shown(rt.alloc(), body.octets) else {
-        return Err(Fault::Memory);
+    let shown = match shown_for(rt.alloc(), narrowed_by(order, &body, answer), body.octets) {
+        Ok(Some(shown)) => shown,
+        Ok(None) => {
+            let why = "no such realm is served";
+            return Err(Fault::Unanswered { path, why });
+        }
+        Err(_) => return Err(Fault::Memory),
     };
     let shown = shown.as_slice();
     if !body.is_whole {
@@ -195,8 +234,9 @@ fn print_answer<'a, R: AllocGlobal + Net + Clock, W: Write>(
     } else if is_declined(answer) {
         Err(print_declined(path, shown, out))
     } else if !is_done(answer) {
-        Err(Fault::Unanswered { path })
-    } else if order == ControlOrder::Stop && !has_ended(rt, path) {
+        let why = why_not_done(order, answer);
+        Err(Fault::Unanswered { path, why })
+    } else if matches!(order, ControlOrder::Stop) && !has_ended(rt, path) {
         let seconds = UNTIL_END;
         Err(Fault::StillServes { path, seconds })
     } else {
@@ -206,7 +246,7 @@ fn print_answer<'a, R: AllocGlobal + Net + Clock, W: Write>(
 
 /// Returns whether an order may still be carried out to which no answer came for this error: it changes something, and
 /// time ran out. Where nobody takes a connection it isn't.
-fn may_be_done(order: ControlOrder, error: &io::Error) -> bool {
+fn may_be_done(order: ControlOrder<'_>, error: &io::Error) -> bool {
     changes(order) && error.kind() == ErrorKind::WouldBlock
 }
 
@@ -215,13 +255,14 @@ fn may_be_done(order: ControlOrder, error: &io::Error) -> bool {
 ///
 /// # Errors
 ///
-/// `Unanswered`, where no answer comes, or none that tells success; `Late`, where time ran out and the order may still
-/// be carried out; `StillServes`, where a server that is asked to stop doesn't end; `Cut`, where not all of it comes,
-/// and what came is printed; `Declined`, where the answer says why it was not done, and is printed; `Memory`; `Write`.
+/// `Unanswered`, where nobody is reached, or no answer tells success, or no realm has the name; `Late`, where time ran
+/// out and the order may still be carried out; `StillServes`, where a server that is asked to stop doesn't end; `Cut`,
+/// where not all of it comes, and what came is printed; `Declined`, where the answer says why it was not done, and is
+/// printed; `Memory`; `Write`.
 pub fn ask_once<'a, R: AllocGlobal + Net + Clock, W: Write>(
     rt: &R,
     path: &'a str,
-    order: ControlOrder,
+    order: ControlOrder<'_>,
     out: &mut W,
 ) -> Result<(), Fault<'a>>
     ensures ok { OnOk result (IsPrinted (W.contents out.old) (W.contents out.new)) }
@@ -237,6 +278,9 @@ pub fn ask_once<'a, R: AllocGlobal + Net + Clock, W: Write>(
             let seconds = seconds_of(order);
             Err(Fault::Late { path, seconds })
         }
-        Err(error) => Err(Fault::Unanswered { path }.unless_memory(&error)),
+        Err(error) => {
+            let why = why_unreached(&error);
+            Err(Fault::Unanswered { path, why }.unless_memory(&error))
+        }
     }
 }

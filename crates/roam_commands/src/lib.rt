@@ -11,6 +11,7 @@
 //! - of two accepted configurations the second may not follow the first only where something hinders it. What is
 //!   printed of why is tested | `compare`: `err`
 //! - an order that changes something is waited for as long as the longest time that a server has to end | `seconds_of`
+//! - why no server is reached, by the number of the system's error | `words_for`
 //! - where it fails, the fault says what it leaves of the output, but for a refused write | `check_file`,
 //!   `compare_files`, `simulate_files`, `state_file`, `ask`: `err`
 #![tactic(auto)]
@@ -19,9 +20,12 @@ mod check;
 mod compare;
 mod control;
 mod looking;
+mod narrowing;
 mod questions;
+mod reaching;
 mod restating;
 mod simulation;
+mod unit_copy;
 mod watch;
 
 pub use check::check_file;

@@ -15,11 +15,13 @@ const PATIENCE: u64 = 10;
 const LONG_PATIENCE: u64 = 30;
 
 /// Returns whether what is asked for changes the server, or lets go of what it stores.
-pub fn changes(order: ControlOrder) -> bool
-    ensures { result ≡ changes order }
+pub fn changes(order: ControlOrder<'_>) -> bool
+    ensures { result ≡ changes order.entry }
 {
     match order {
         ControlOrder::Status
+        | ControlOrder::StatusOf(_)
+        | ControlOrder::Problems
         | ControlOrder::StatusAsJson
         | ControlOrder::Watch
         | ControlOrder::Metrics => false,
@@ -31,8 +33,8 @@ pub fn changes(order: ControlOrder) -> bool
 }
 
 /// Returns for how many seconds an answer is waited for.
-pub fn seconds_of(order: ControlOrder) -> u64
-    ensures { result ≡ seconds_of order }
+pub fn seconds_of(order: ControlOrder<'_>) -> u64
+    ensures { result ≡ seconds_of order.entry }
 {
     if changes(order) {
         LONG_PATIENCE
@@ -50,10 +52,13 @@ pub fn ask_for_trace<W: Write>(stream: &mut W, shard: u16) -> io::Result<()> {
 }
 
 /// What is sent, where it is always the same.
-pub fn question(order: ControlOrder) -> &'static [u8] {
+pub fn question(order: ControlOrder<'_>) -> &'static [u8] {
     match order {
         ControlOrder::Trace(_) => b"",
-        ControlOrder::Status | ControlOrder::Watch => {
+        ControlOrder::Status
+        | ControlOrder::StatusOf(_)
+        | ControlOrder::Problems
+        | ControlOrder::Watch => {
             b"GET /status HTTP/1.1\r\nHost: roam\r\nConnection: close\r\n\r\n"
         }
         ControlOrder::StatusAsJson => {

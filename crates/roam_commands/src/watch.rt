@@ -5,10 +5,12 @@ ghost use Rattle.roam_commands.specs.CommandFaults.{AskFails};
 ghost use Rattle.roam_printing.specs.Printed.{IsPrinted};
 
 use crate::control::{answer, ask_once, body_of, is_done, print};
+use crate::unit_copy::{NOT_READ, would_read_old_copy};
 use roam_words::{ControlOrder, Fault, shown};
 use std::alloc::{AllocError, Global};
 use std::io::Write;
 use std::net::Net;
+use std::rt::Files;
 use std::thread;
 use std::time::{Clock, Duration};
 
@@ -87,17 +89,21 @@ fn watch<'a, R: AllocGlobal + Net + Clock, W: Write>(
 ///
 /// # Errors
 ///
-/// Those of `ask_once`; of a server that is watched those of the first answer, and `Write`.
-pub fn ask<'a, R: AllocGlobal + Net + Clock, W: Write>(
+/// Those of `ask_once`; of a server that is watched those of the first answer, and `Write`; `Unanswered`, where the
+/// server would read an old copy of the file that an operator has changed.
+pub fn ask<'a, R: Files + AllocGlobal + Net + Clock, W: Write>(
     rt: &R,
     path: &'a str,
-    order: ControlOrder,
+    order: ControlOrder<'_>,
     out: &mut W,
 ) -> Result<(), Fault<'a>>
     ensures ok { OnOk result (IsPrinted (W.contents out.old) (W.contents out.new)) }
     ensures err { IfErr result (AskFails path.now (W.contents out.old) (W.contents out.new)) }
 {
-    if order == ControlOrder::Watch {
+    if would_read_old_copy(rt, path, order) {
+        let why = NOT_READ;
+        Err(Fault::Unanswered { path, why })
+    } else if matches!(order, ControlOrder::Watch) {
         watch(rt, path, out)
     } else {
         ask_once(rt, path, order, out)

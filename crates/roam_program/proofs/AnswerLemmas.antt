@@ -40,11 +40,11 @@ serve-prevents words file milliseconds out (Err (fault.Unreadable path reason)) 
 serve-prevents words file milliseconds out (Err (fault.NotText path line)) asks kept fails = absurd fails
 serve-prevents words file milliseconds out (Err (fault.MayNotFollow path)) asks kept fails = absurd fails
 serve-prevents words file milliseconds out (Err (fault.Misstated path)) asks kept fails = absurd fails
-serve-prevents words file milliseconds out (Err (fault.Unanswered path)) asks kept fails = absurd fails
+serve-prevents words file milliseconds out (Err (fault.Unanswered path reason)) asks kept fails = absurd fails
 serve-prevents words file milliseconds out (Err (fault.Late path seconds)) asks kept fails = absurd fails
 serve-prevents words file milliseconds out (Err (fault.StillServes path seconds)) asks kept fails = absurd fails
 serve-prevents words file milliseconds out (Err (fault.Cut path)) asks kept fails = absurd fails
-serve-prevents words file milliseconds out (Err (fault.Declined path)) asks kept fails = absurd fails
+serve-prevents words file milliseconds out (Err (fault.Declined path what)) asks kept fails = absurd fails
 serve-prevents words file milliseconds out (Err (fault.Refused path why)) asks kept fails =
     (names-it words path.now file.path.now milliseconds fails.named asks, kept)
 serve-prevents words file milliseconds out (Err (fault.FaultyLine path number)) asks kept fails = absurd fails
@@ -128,7 +128,7 @@ usage-status words old new (fault.MayNotFollow path) status is prevents =
     (λ two. absurd (omega arith), λ nothing. absurd (nothing (to_compare prevents.0.0 path.now) prevents.0.1))
 usage-status words old new (fault.Misstated path) status is prevents =
     (λ two. absurd (omega arith), λ nothing. absurd (nothing (to_check_all path.now) prevents.0))
-usage-status words old new (fault.Unanswered path) status is prevents =
+usage-status words old new (fault.Unanswered path reason) status is prevents =
     (λ two. absurd (omega arith), λ nothing. absurd (nothing (to_control path.now prevents.0.0) prevents.0.1))
 usage-status words old new (fault.Late path seconds) status is prevents =
     (λ two. absurd (omega arith), λ nothing. absurd (nothing (to_control path.now prevents.0.0) prevents.0.1))
@@ -136,7 +136,7 @@ usage-status words old new (fault.StillServes path seconds) status is prevents =
     (λ two. absurd (omega arith), λ nothing. absurd (nothing (to_control path.now prevents.0.0) prevents.0.1))
 usage-status words old new (fault.Cut path) status is prevents =
     (λ two. absurd (omega arith), λ nothing. absurd (nothing (to_control path.now prevents.0.0) prevents.0.1))
-usage-status words old new (fault.Declined path) status is prevents =
+usage-status words old new (fault.Declined path what) status is prevents =
     (λ two. absurd (omega arith), λ nothing. absurd (nothing (to_control path.now prevents.0.0) prevents.0.1))
 usage-status words old new (fault.Refused path why) status is prevents =
     (λ two. absurd (omega arith), λ nothing. absurd (nothing prevents.0.0 prevents.0.1))
@@ -176,11 +176,11 @@ usage-keeps words old new (fault.Unreadable path reason) status is prevents two 
 usage-keeps words old new (fault.NotText path line) status is prevents two = absurd (omega arith)
 usage-keeps words old new (fault.MayNotFollow path) status is prevents two = absurd (omega arith)
 usage-keeps words old new (fault.Misstated path) status is prevents two = absurd (omega arith)
-usage-keeps words old new (fault.Unanswered path) status is prevents two = absurd (omega arith)
+usage-keeps words old new (fault.Unanswered path reason) status is prevents two = absurd (omega arith)
 usage-keeps words old new (fault.Late path seconds) status is prevents two = absurd (omega arith)
 usage-keeps words old new (fault.StillServes path seconds) status is prevents two = absurd (omega arith)
 usage-keeps words old new (fault.Cut path) status is prevents two = absurd (omega arith)
-usage-keeps words old new (fault.Declined path) status is prevents two = absurd (omega arith)
+usage-keeps words old new (fault.Declined path what) status is prevents two = absurd (omega arith)
 usage-keeps words old new (fault.Refused path why) status is prevents two = absurd (omega arith)
 usage-keeps words old new (fault.FaultyLine path number) status is prevents two = absurd (omega arith)
 usage-keeps words old new fault.Write status is prevents two = absurd (omega arith)

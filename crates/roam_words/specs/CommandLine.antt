@@ -31,30 +31,57 @@ seed_of_file = codes "--seed-of-file"
 abbrev pub IsTime : List ℕ → ℕ → Type 0
 IsTime word milliseconds = decimal_in 1 86400000 word ≡ Some milliseconds
 
--- the words ask a server for it through the control socket of this path: for the trace of a shard by its number, a
--- decimal one without leading zeros
+-- the path of the control socket where none is given: that of the unit
+abbrev pub usual_path : List ℕ
+usual_path = codes "/run/roam/control"
+
+-- an order begins with the word, which is no path then: a socket of that name is `./status`
+abbrev pub IsOrderWord : List ℕ → Type 0
+IsOrderWord word =
+    (word ≡ codes "status") ⊎ (word ≡ codes "metrics") ⊎ (word ≡ codes "stop") ⊎ (word ≡ codes "reload")
+    ⊎ (word ≡ codes "trace")
+
+-- it begins with a hyphen (45)
+abbrev pub IsOption : List ℕ → Type 0
+IsOption word = slice_get word 0 ≡ Some 45
+
+-- the words ask a server for it: for the realms of these names, and not of an option; for the trace of a shard by its
+-- number, a decimal one without leading zeros
+abbrev pub IsOrder : List (List ℕ) → ControlOrder → Type 0
+IsOrder words order.Status = codes "status" ∷ [] ≡ words
+IsOrder words (order.StatusOf realms) = (codes "status" ∷ realms.now ∷ [] ≡ words) × ¬ (IsOption realms.now)
+IsOrder words order.Problems = codes "status" ∷ codes "--problems" ∷ [] ≡ words
+IsOrder words order.StatusAsJson = codes "status" ∷ codes "--json" ∷ [] ≡ words
+IsOrder words order.Watch = codes "status" ∷ codes "--watch" ∷ [] ≡ words
+IsOrder words order.Metrics = codes "metrics" ∷ [] ≡ words
+IsOrder words order.Stop = codes "stop" ∷ [] ≡ words
+IsOrder words order.Reload = codes "reload" ∷ [] ≡ words
+IsOrder words order.ReloadAndLose = codes "reload" ∷ codes "--lose" ∷ [] ≡ words
+IsOrder words (order.Trace shard) =
+    (word : List ℕ) × (codes "trace" ∷ word ∷ [] ≡ words) × (decimal_in 0 65535 word ≡ Some shard)
+
+-- the words are `ctl`, this path and these words behind it, or `ctl` and these words, and the path is the unit's
+abbrev pub NamesPath : List (List ℕ) → List ℕ → List (List ℕ) → Type 0
+NamesPath words path rest =
+    ((codes "ctl" ∷ path ∷ rest ≡ words) × ¬ (IsOrderWord path))
+    ⊎ ((codes "ctl" ∷ rest ≡ words) × (path ≡ usual_path))
+
+-- the words ask a server for it through the control socket of this path
 abbrev pub AsksOrder : List (List ℕ) → List ℕ → ControlOrder → Type 0
-AsksOrder words path order.Status = codes "ctl" ∷ path ∷ codes "status" ∷ [] ≡ words
-AsksOrder words path order.StatusAsJson = codes "ctl" ∷ path ∷ codes "status" ∷ codes "--json" ∷ [] ≡ words
-AsksOrder words path order.Watch = codes "ctl" ∷ path ∷ codes "status" ∷ codes "--watch" ∷ [] ≡ words
-AsksOrder words path order.Metrics = codes "ctl" ∷ path ∷ codes "metrics" ∷ [] ≡ words
-AsksOrder words path order.Stop = codes "ctl" ∷ path ∷ codes "stop" ∷ [] ≡ words
-AsksOrder words path order.Reload = codes "ctl" ∷ path ∷ codes "reload" ∷ [] ≡ words
-AsksOrder words path order.ReloadAndLose = codes "ctl" ∷ path ∷ codes "reload" ∷ codes "--lose" ∷ [] ≡ words
-AsksOrder words path (order.Trace shard) =
-    (word : List ℕ) × (codes "ctl" ∷ path ∷ codes "trace" ∷ word ∷ [] ≡ words)
-    × (decimal_in 0 65535 word ≡ Some shard)
+AsksOrder words path order = (rest : List (List ℕ)) × IsOrder rest order × NamesPath words path rest
 
 -- ## Words of a command
--- `check CONF`, `check OLD NEW`, `check --all CONF`, `ctl PATH` with `status` (and `--json` or `--watch` behind it),
--- `metrics`, `stop`, `reload` (and `--lose` behind it) or `trace N`, `sim CONF SCRIPT`, `serve CONF`, `serve CONF MS`,
--- these two with `--seed-of-file` before CONF or without it; `help`, `--help` or `-h`; `version`, `--version` or `-V`.
+-- `check CONF`, `check OLD NEW`, `check --all CONF`, `ctl PATH` or `ctl` with `status` (and `--json`, `--watch`,
+-- `--problems` or realms behind it), `metrics`, `stop`, `reload` (and `--lose` behind it) or `trace N`, `sim CONF
+-- SCRIPT`, `serve CONF`, `serve CONF MS`, these two with `--seed-of-file` before CONF or without it; `help`, `--help`
+-- or `-h`; `version`, `--version` or `-V`. A PATH isn't the first word of an order; without one it is the unit's.
 -- MS is a decimal number from 1 to 86400000 without leading zeros, a CONF after `serve` isn't `--seed-of-file`, and a
 -- CONF or OLD after `check` isn't `--all`. They are the words after the program's name, as many and no others. Other
 -- words ask for nothing.
 -- Source: ours
 -- Rules out: a word too many that is overlooked; a number that is read in part
--- Stands in: `roam_words` `CommandLine.antt`: `Asks`, `AsksToServe`, `AsksNothing`; `Command::from_words`, `command`
+-- Stands in: `roam_words` `CommandLine.antt`: `Asks`, `AsksOrder`, `AsksToServe`, `AsksNothing`;
+-- `Command::from_words`, `command`
 --
 -- the words ask for it. After `serve` the word `--seed-of-file` is never the configuration, nor is `--all` after
 -- `check`

@@ -20,15 +20,14 @@ use Rattle.roam_words.specs.declared.report.Fault.TheVariants as fault
 -- the usage: a line for each command
 abbrev pub usage_text : List ℕ
 usage_text =
-    codes "usage: roam check CONF\n       roam check OLD NEW\n       roam check --all CONF (prints the secrets too)\n       roam sim CONF SCRIPT\n       roam serve [--seed-of-file] CONF [MS]\n       roam ctl PATH status [--json|--watch]\n       roam ctl PATH metrics|stop|trace N\n       roam ctl PATH reload [--lose]\n       roam streams CONF [MS]\n       roam check --streams CONF\n       roam help\n       roam version\n"
+    codes "usage: roam check CONF\n       roam check OLD NEW\n       roam check --all CONF (prints the secrets too)\n       roam sim CONF SCRIPT\n       roam serve [--seed-of-file] CONF [MS]\n       roam ctl [PATH] status [--json|--watch|--problems|REALM[,REALM..]]\n       roam ctl [PATH] metrics|stop|trace N\n       roam ctl [PATH] reload [--lose] (without PATH: /run/roam/control)\n       roam streams CONF [MS]\n       roam check --streams CONF\n       roam help\n       roam version\n"
 
 -- which program this is, and the line of the toolchain that proved it
 abbrev pub version_text : List ℕ
 version_text = codes "roam 1.0.0\nrattle-kit-13f logic dac8208d650f15bf\n"
 
--- what the system says of the errors that open, read, fsync, bind, socket, listen, epoll and eventfd give, by their
--- numbers
--- (Linux)
+-- what the system says of the errors that open, read, fsync, bind, socket, listen, connect, epoll and eventfd give, by
+-- their numbers (Linux)
 abbrev pub words_of : ℕ → Option (List ℕ)
 words_of number =
     if number == 1 then Some (codes "Operation not permitted")
@@ -51,9 +50,11 @@ words_of number =
     else (if number == 98 then Some (codes "Address already in use")
     else (if number == 99 then Some (codes "Cannot assign requested address")
     else (if number == 105 then Some (codes "No buffer space available")
+    else (if number == 110 then Some (codes "Connection timed out")
+    else (if number == 111 then Some (codes "Connection refused")
     else (if number == 116 then Some (codes "Stale file handle")
     else (if number == 122 then Some (codes "Disk quota exceeded")
-    else None)))))))))))))))))))))
+    else None)))))))))))))))))))))))
 
 -- these words, or the number of the error
 abbrev pub words_or_number : Option (List ℕ) → ℕ → List ℕ
@@ -96,6 +97,10 @@ late_text seconds = codes ": no answer within " ++ decimal seconds ++ codes " s:
 abbrev pub still_text : ℕ → List ℕ
 still_text seconds = codes ": asked to stop, and still there after " ++ decimal seconds ++ codes " s\n"
 
+-- that a server did not do what it was asked for, and what can be done
+abbrev pub declined_text : List ℕ → List ℕ
+declined_text what = codes ": declined, and nothing has changed: " ++ what ++ codes "\n"
+
 -- behind the path of a file: by what name a configuration is refused; which line of a script is faulty
 abbrev pub refused_text : ConfFault → List ℕ
 refused_text why = codes ": " ++ name_of why ++ codes "\n"
@@ -124,13 +129,13 @@ text_of (fault.Unreadable path reason) = named_text path.now ++ why_text reason
 text_of (fault.NotText path line) = named_text path.now ++ not_text_text line
 text_of (fault.MayNotFollow path) = about_text path.now (codes ": may not follow\n")
 text_of (fault.Misstated path) = about_text path.now (codes ": misstated\n")
-text_of (fault.Unanswered path) = about_text path.now (codes ": no answer\n")
+text_of (fault.Unanswered path why) = named_text path.now ++ because_text why.now
 text_of (fault.Late path seconds) =
     named_text path.now ++ late_text seconds
 text_of (fault.StillServes path seconds) =
     named_text path.now ++ still_text seconds
 text_of (fault.Cut path) = about_text path.now (codes ": answer cut\n")
-text_of (fault.Declined path) = about_text path.now (codes ": declined\n")
+text_of (fault.Declined path what) = named_text path.now ++ declined_text what.now
 text_of (fault.Refused path why) = named_text path.now ++ refused_text why
 text_of (fault.FaultyLine path number) = named_text path.now ++ line_text number
 text_of fault.Write = codes "roam: write failed\n"
@@ -155,11 +160,11 @@ status_of (fault.Unreadable path reason) = 1
 status_of (fault.NotText path line) = 1
 status_of (fault.MayNotFollow path) = 1
 status_of (fault.Misstated path) = 1
-status_of (fault.Unanswered path) = 1
+status_of (fault.Unanswered path why) = 1
 status_of (fault.Late path seconds) = 1
 status_of (fault.StillServes path seconds) = 1
 status_of (fault.Cut path) = 1
-status_of (fault.Declined path) = 1
+status_of (fault.Declined path what) = 1
 status_of (fault.Refused path why) = 1
 status_of (fault.FaultyLine path number) = 1
 status_of fault.Write = 1

@@ -4,7 +4,7 @@ ghost use Rattle.std.specs.Prelude.{[], ◌∷◌, codes, map, MatchOption};
 ghost use Rattle.roam_words.specs.CommandLine.{Asks, AsksNothing, seed_of_file};
 ghost use Rattle.roam_words.specs.Shown.{shown};
 
-use crate::control_words::{of_control, of_control_words};
+use crate::control_words::{of_control, of_control_words, of_one_control_word};
 use roam_conf::decimal;
 use std::convert::AsStr;
 
@@ -12,10 +12,14 @@ use std::convert::AsStr;
 const LONGEST: u64 = 86_400_000;
 
 /// What a server is asked for through its control socket.
-#[derive(Clone, Copy, Debug, PartialEq, Eq)]
-pub enum ControlOrder {
+#[derive(Clone, Copy)]
+pub enum ControlOrder<'a> {
     /// How it stands.
     Status,
+    /// How the realms of these names stand, and their home servers; between the names stand commas.
+    StatusOf(&'a str),
+    /// What of it stands badly.
+    Problems,
     /// The same, as JSON.
     StatusAsJson,
     /// The same, anew each second.
@@ -73,13 +77,13 @@ pub enum Command<'a> {
         /// For how many milliseconds, as above.
         milliseconds: Option<u64>,
     },
-    /// To ask a server something through its control socket: `ctl PATH ORDER`.
+    /// To ask a server something through its control socket: `ctl [PATH] ORDER`.
     Control {
-        /// The path of the socket.
+        /// The path of the socket; that of the unit where none is given.
         path: &'a str,
-        /// What it is asked for: `status`, `status --json`, `status --watch`, `metrics`, `stop`,
-        /// `reload`, `reload --lose` or `trace N`.
-        order: ControlOrder,
+        /// What it is asked for: `status`, `status` with `--json`, `--watch`, `--problems` or `REALM[,REALM..]`,
+        /// `metrics`, `stop`, `reload`, `reload --lose` or `trace N`.
+        order: ControlOrder<'a>,
     },
     /// To print the usage: `help`, `--help` or `-h`.
     Help,
@@ -132,6 +136,7 @@ fn of_two_words<'a>(word: &str, configuration: &'a str) -> Option<Command<'a>>
     match word {
         "check" => of_check(configuration),
         "serve" => of_serve(configuration),
+        "ctl" => of_one_control_word(configuration),
         _ => None,
     }
 }
@@ -220,7 +225,7 @@ fn of_four_words<'a>(
     word: &str,
     option: &'a str,
     configuration: &'a str,
-    last: &str,
+    last: &'a str,
 ) -> Option<Command<'a>>
     ensures { MatchOption result
         (AsksNothing (word.now ∷ option.now ∷ configuration.now ∷ last.now ∷ []))

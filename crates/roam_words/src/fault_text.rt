@@ -134,6 +134,26 @@ fn print_line<W: Write>(writer: &mut W, path: &str, number: u64) -> io::Result<(
     writeln!(writer, ": line {number}")
 }
 
+/// Prints why no server does what it is asked for.
+fn print_unanswered<W: Write>(writer: &mut W, path: &str, why: &'static str) -> io::Result<()>
+    ensures { OnOk result
+        (Appends (W.contents writer.old) (W.contents writer.new)
+        (spec.text_of (Fault.Unanswered path.entry why.entry))) }
+{
+    print_named(writer, path)?;
+    writeln!(writer, ": {why}")
+}
+
+/// Prints that a server did not do what it was asked for, and what can be done.
+fn print_declined<W: Write>(writer: &mut W, path: &str, what: &'static str) -> io::Result<()>
+    ensures { OnOk result
+        (Appends (W.contents writer.old) (W.contents writer.new)
+        (spec.text_of (Fault.Declined path.entry what.entry))) }
+{
+    print_named(writer, path)?;
+    writeln!(writer, ": declined, and nothing has changed: {what}")
+}
+
 /// Prints that no answer came in so many seconds.
 fn print_late<W: Write>(writer: &mut W, path: &str, seconds: u64) -> io::Result<()>
     ensures { OnOk result
@@ -181,11 +201,11 @@ impl<'a> Fault<'a> {
             Fault::NotText { path, line } => print_not_text(writer, path, line),
             Fault::MayNotFollow { path } => print_about(writer, path, b": may not follow\n"),
             Fault::Misstated { path } => print_about(writer, path, b": misstated\n"),
-            Fault::Unanswered { path } => print_about(writer, path, b": no answer\n"),
+            Fault::Unanswered { path, why } => print_unanswered(writer, path, why),
             Fault::Late { path, seconds } => print_late(writer, path, seconds),
             Fault::StillServes { path, seconds } => print_still(writer, path, seconds),
             Fault::Cut { path } => print_about(writer, path, b": answer cut\n"),
-            Fault::Declined { path } => print_about(writer, path, b": declined\n"),
+            Fault::Declined { path, what } => print_declined(writer, path, what),
             Fault::Refused { path, fault } => print_refused(writer, path, fault),
             Fault::FaultyLine { path, number } => print_line(writer, path, number),
             Fault::Write => writer.write_all(b"roam: write failed\n"),

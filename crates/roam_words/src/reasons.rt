@@ -32,6 +32,8 @@ pub fn words_of(reason: u32) -> Option<&'static str>
         98 => Some("Address already in use"),
         99 => Some("Cannot assign requested address"),
         105 => Some("No buffer space available"),
+        110 => Some("Connection timed out"),
+        111 => Some("Connection refused"),
         116 => Some("Stale file handle"),
         122 => Some("Disk quota exceeded"),
         _ => None,

@@ -44,10 +44,12 @@ pub enum Fault<'a> {
         /// The path of its file.
         path: &'a str,
     },
-    /// No answer comes of a server through its control socket.
+    /// No server does what it is asked for through its control socket.
     Unanswered {
         /// The path of the socket.
         path: &'a str,
+        /// Why not.
+        why: &'static str,
     },
     /// A server doesn't answer in time what it is asked for through its control socket, and may still do it.
     Late {
@@ -72,6 +74,8 @@ pub enum Fault<'a> {
     Declined {
         /// The path of the socket.
         path: &'a str,
+        /// What can be done.
+        what: &'static str,
     },
     /// A configuration is refused.
     Refused {

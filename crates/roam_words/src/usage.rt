@@ -17,7 +17,7 @@ pub fn print_usage<W: Write>(writer: &mut W) -> io::Result<()>
         (Appends (W.contents writer.old) (W.contents writer.new) spec.usage_text) }
 {
     writer.write_all(
-        b"usage: roam check CONF\n       roam check OLD NEW\n       roam check --all CONF (prints the secrets too)\n       roam sim CONF SCRIPT\n       roam serve [--seed-of-file] CONF [MS]\n       roam ctl PATH status [--json|--watch]\n       roam ctl PATH metrics|stop|trace N\n       roam ctl PATH reload [--lose]\n       roam streams CONF [MS]\n       roam check --streams CONF\n       roam help\n       roam version\n",
+        b"usage: roam check CONF\n       roam check OLD NEW\n       roam check --all CONF (prints the secrets too)\n       roam sim CONF SCRIPT\n       roam serve [--seed-of-file] CONF [MS]\n       roam ctl [PATH] status [--json|--watch|--problems|REALM[,REALM..]]\n       roam ctl [PATH] metrics|stop|trace N\n       roam ctl [PATH] reload [--lose] (without PATH: /run/roam/control)\n       roam streams CONF [MS]\n       roam check --streams CONF\n       roam help\n       roam version\n",
     )
 }
 

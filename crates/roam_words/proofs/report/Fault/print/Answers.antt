@@ -17,13 +17,13 @@ pub returns-in-Misstated : goal.returns-in-Misstated
 returns-in-Misstated g c = rw c.in-Misstated.is c.print_about-in-Misstated.ensures
 
 pub returns-in-Unanswered : goal.returns-in-Unanswered
-returns-in-Unanswered g c = rw c.in-Unanswered.is c.print_about-in-Unanswered.ensures
+returns-in-Unanswered g c = rw c.in-Unanswered.is c.print_unanswered.ensures
 
 pub returns-in-Cut : goal.returns-in-Cut
 returns-in-Cut g c = rw c.in-Cut.is c.print_about-in-Cut.ensures
 
 pub returns-in-Declined : goal.returns-in-Declined
-returns-in-Declined g c = rw c.in-Declined.is c.print_about-in-Declined.ensures
+returns-in-Declined g c = rw c.in-Declined.is c.print_declined.ensures
 
 pub returns-in-Late : goal.returns-in-Late
 returns-in-Late g c = rw c.in-Late.is c.print_late.ensures
