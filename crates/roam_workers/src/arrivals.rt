@@ -1,6 +1,6 @@
 //! What a worker does with a datagram that came.
 
-ghost use Rattle.std.specs.Prelude.{◌≡◌, IfNone, IfOk, IfSome, OnErr};
+ghost use Rattle.std.specs.Prelude.{◌≡◌, IfNone, IfOk, IfSome, IsTrue, OnErr, true};
 ghost use Rattle.roam_route.specs.Admission.{admission, admitted};
 ghost use Rattle.roam_route.specs.Events.{IsEvent};
 ghost use Rattle.roam_route.specs.Shown.{shown_arrival, shown_job};
@@ -9,6 +9,7 @@ ghost use Rattle.roam_intake.specs.Letters.{jobs_of};
 ghost use Rattle.roam_workers.specs.Handlings as handlings;
 ghost use Rattle.roam_workers.specs.Handlings.{IsAnswered, IsHandled, IsJobHandled, at_work};
 ghost use Rattle.roam_workers.specs.Mail.{ArrivesHere, IsHandedOn, at_mail};
+ghost use Rattle.roam_workers.specs.Requests.{is_request};
 
 use crate::asked::AskedAt;
 use crate::codes::is_request;
@@ -69,6 +70,19 @@ impl<H: HubCalls<N>, N: Opened> WorkerContext<'_, '_, H, N> {
         }
     }
 
+    /// Returns whether a datagram is dropped unread: it is a request, and the server is asked to stop, or its sender is
+    /// passed over.
+    fn is_dropped(&self, datagram: &Datagram<Global>) -> bool
+        ensures { IsTrue result → is_request datagram.now.octets ≡ true }
+    {
+        let received = self.datagrams.counts.received;
+        is_request(datagram.octets.as_slice())
+            && (self.shared.stopping.is_asked()
+                || self
+                    .junk
+                    .passes_over(datagram.from.ip, self.now, received))
+    }
+
     /// Takes a datagram, and answers what became of it, unless its job is handed on. A server that is asked to stop
     /// takes no request, nor is one taken whose sender is passed over.
     fn handle<R: Wait>(
@@ -88,10 +102,7 @@ impl<H: HubCalls<N>, N: Opened> WorkerContext<'_, '_, H, N> {
             ≡ at_work self.old.seat self.old.counting self.old.outgoing)) }
         ensures kept { self.new.datagrams ≡ self.old.datagrams }
     {
-        if is_request(datagram.octets.as_slice())
-            && (self.shared.stopping.is_asked()
-                || self.junk.passes_over(datagram.from.ip, self.now))
-        {
+        if self.is_dropped(datagram) {
             return Some(Handling::Dropped);
         }
         match prepare(alloc, self.shared.config, datagram) {

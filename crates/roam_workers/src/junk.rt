@@ -15,8 +15,8 @@ const MOMENT: u32 = 6;
 /// So many datagrams of a sender are refused in a moment before others are passed over.
 const PATIENCE: u32 = 32;
 
-/// Of those one in so many is looked at all the same.
-const LOOKED_AT: u32 = 16;
+/// One in so many datagrams is looked at all the same.
+const LOOKED_AT: u64 = 16;
 
 /// So many senders are told apart at once. One that is met behind another one in its place isn't passed over.
 const SENDERS: u128 = 61;
@@ -27,8 +27,6 @@ struct Sender {
     address: Address,
     moment: u64,
     refused: u32,
-    /// How many came since so many were refused that others are passed over.
-    further: u32,
 }
 
 /// The senders of whose datagrams some were refused of late, at one thread.
@@ -87,21 +85,21 @@ impl Junk {
                     address,
                     moment,
                     refused: 1,
-                    further: 0,
                 });
             }
         }
     }
 
-    /// Returns whether a datagram of a sender is passed over, at a time in milliseconds.
-    pub(crate) fn passes_over(&mut self, address: Address, now: u64) -> bool {
-        let Some(sender) = &mut self.senders[place_of(address)] else {
-            return false;
-        };
-        if sender.address != address || sender.moment != now >> MOMENT || sender.refused < PATIENCE {
-            return false;
+    /// Returns whether a datagram of a sender is passed over, at a time in milliseconds, where so many were received.
+    pub(crate) fn passes_over(&self, address: Address, now: u64, received: u64) -> bool {
+        match &self.senders[place_of(address)] {
+            Some(sender) => {
+                sender.address == address
+                    && sender.moment == now >> MOMENT
+                    && sender.refused >= PATIENCE
+                    && received % LOOKED_AT != 0
+            }
+            None => false,
         }
-        sender.further = sender.further.wrapping_add(1);
-        sender.further % LOOKED_AT != 0
     }
 }
