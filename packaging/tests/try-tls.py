@@ -127,6 +127,8 @@ def start(around, program):
     want(made.returncode == 0, f"the converter makes the files: {made.stderr.strip()}")
     conf = changed(made.stdout, re.compile("^control = .*\n", re.M), "")
     conf = changed(conf, 'name = "probe"\n', f'name = "probe"\ncoa = "{CONTROLLER[0]}:{CONTROLLER[1]}"\nnas_id = "nas"\n')
+    # So that a peer that floods leaves Identifiers to others.
+    conf = changed(conf, 'name = "a.example"\n', 'name = "a.example"\npeer_share = 128\n')
     with open(around.path("haproxy.cfg"), encoding="utf-8") as file:
         front = changed(changed(file.read(), "    user haproxy\n    group haproxy\n", ""), "/etc/roam/tls/", folder + "/")
     around.write("haproxy.cfg", changed(changed(front, "/etc/roam/tls", folder) if "/etc/roam" in front else front, "/run/haproxy/", folder + "/"))
