@@ -60,11 +60,6 @@ pub puts_on : (outs : List PlainOut) (a b c : Outbox Global) → PutsEach outs a
 puts_on outs a b c did more =
     subst (λ those. PutsEach those a c) (append-nil outs) (puts_both outs [] a b c did more)
 
--- none, and then some
-pub puts_then : (outs : List PlainOut) (a b c : Outbox Global) → PutsEach [] a b → PutsEach outs b c
-    → PutsEach outs a c
-puts_then outs a b c did more = puts_both [] outs a b c did more
-
 -- one packet
 pub puts_one : (out : Out Global) (before after : List PlaceSockets) (sent : Sent) (old new : Outbox Global)
     → PutsSending no_account out before after old new sent → PutsEach (shown_out out ∷ []) old new

@@ -52,7 +52,7 @@ pub sent_on : (o : HubOpening) (start : AtWork) (s t : SeatView) (c d : CountsVi
     → HasWorked o start (record { seat = t; counts = d; outbox = y })
 sent_on o start s t c d x y did seat counts sends =
     worked_idle o start (record { seat = s; counts = c; outbox = x }) (record
-        { seat = t; counts = d; outbox = y }) did
+    { seat = t; counts = d; outbox = y }) did
     (ap (λ (v : SeatView). v.tallies) seat) counts sends
 
 -- or leaves the packets too

@@ -179,8 +179,8 @@ all_sent o start (before ∷ earlier) end did = all_sent o start earlier before 
 
 -- ## What a thread sent
 -- From its start to its end a thread puts just these packets into its outbox, in order, each once: those of the answers
--- of the calls that its seat counts, which stand in the histories, and the broker's own answers. An outbox hands each of
--- them to its socket, in order, or counts it as lost, or gives it back at the end.
+-- of the calls that its seat counts, which stand in the histories, and the broker's own answers. An outbox hands each
+-- of them to its socket, in order, or counts it as lost, or gives it back at the end.
 -- Source: ours
 -- Rules out: a packet of a recorded answer that isn't sent, or is sent twice; a packet that no answer has
 -- Stands in: `roam_workers` `Work.antt`: `WorkIsSent`; law `work_is_sent`

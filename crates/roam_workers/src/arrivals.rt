@@ -78,9 +78,7 @@ impl<H: HubCalls<N>, N: Opened> WorkerContext<'_, '_, H, N> {
         let received = self.datagrams.counts.received;
         is_request(datagram.octets.as_slice())
             && (self.shared.stopping.is_asked()
-                || self
-                    .junk
-                    .passes_over(datagram.from.ip, self.now, received))
+                || self.junk.passes_over(datagram.from.ip, self.now, received))
     }
 
     /// Takes a datagram, and answers what became of it, unless its job is handed on. A server that is asked to stop

@@ -1,8 +1,8 @@
 //! Which senders are looked at less, since their datagrams are refused for what they are.
 //!
-//! To find that a Message-Authenticator is wrong takes as long as half an exchange. A sender of whose datagrams many are
-//! refused so within a moment can't have others wait for that: most of its further ones are passed over unread, until
-//! the moment is over.
+//! To find that a Message-Authenticator is wrong takes as long as half an exchange. A sender of whose datagrams many
+//! are refused so within a moment can't have others wait for that: most of its further ones are passed over unread,
+//! until the moment is over.
 
 ghost use Rattle.std.specs.Prelude.{◌<◌};
 

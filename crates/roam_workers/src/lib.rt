@@ -39,6 +39,7 @@
 
 mod arrivals;
 mod asked;
+mod buffer;
 mod codes;
 mod context;
 mod ending;
@@ -47,6 +48,7 @@ mod handed;
 mod hub_calls;
 mod junk;
 mod laws;
+mod remedies;
 mod rest;
 mod rests;
 mod shared;

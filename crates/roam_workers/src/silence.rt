@@ -48,7 +48,7 @@ fn tell_realm<R: Wait, H: HubCalls<N>, N: Opened>(
 )
     ensures kept { (context.new.seat ≡ context.old.seat)
         × (counts_in context.new.counting ≡ counts_in context.old.counting)
-            × (context.new.outgoing ≡ context.old.outgoing) }
+        × (context.new.outgoing ≡ context.old.outgoing) }
 {
     if realm.rest == 0 || realm.gone {
         return;
@@ -80,7 +80,7 @@ pub fn tell_rests<R: Wait, H: HubCalls<N>, N: Opened>(
 )
     ensures kept { (context.new.seat ≡ context.old.seat)
         × (counts_in context.new.counting ≡ counts_in context.old.counting)
-            × (context.new.outgoing ≡ context.old.outgoing) }
+        × (context.new.outgoing ≡ context.old.outgoing) }
 {
     let now = context.now;
     if now < rests.next {

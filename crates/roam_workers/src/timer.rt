@@ -83,7 +83,7 @@ fn end_of<H, N: Opened>(timer: &Timer<'_, '_, H, N>) -> Option<u64> {
 fn tell_stop<H, N: Opened>(timer: &mut Timer<'_, '_, H, N>)
     ensures kept { (timer.new.context.seat ≡ timer.old.context.seat)
         × (counts_in timer.new.context.counting ≡ counts_in timer.old.context.counting)
-            × (timer.new.context.outgoing ≡ timer.old.context.outgoing) }
+        × (timer.new.context.outgoing ≡ timer.old.context.outgoing) }
 {
     if !timer.is_stop_told && timer.context.shared.stopping.is_asked() {
         timer.is_stop_told = timer.context.notices.stopping();
@@ -94,7 +94,7 @@ fn tell_stop<H, N: Opened>(timer: &mut Timer<'_, '_, H, N>)
 fn has_done_all<R: Wait, H: HubCalls<N>, N: Opened>(rt: &R, timer: &mut Timer<'_, '_, H, N>) -> bool
     ensures kept { (timer.new.context.seat ≡ timer.old.context.seat)
         × (counts_in timer.new.context.counting ≡ counts_in timer.old.context.counting)
-            × (timer.new.context.outgoing ≡ timer.old.context.outgoing) }
+        × (timer.new.context.outgoing ≡ timer.old.context.outgoing) }
 {
     if !timer.context.shared.stopping.is_asked()
         || timer.context.shared.does_mail_wait(rt)
@@ -126,7 +126,7 @@ fn tick_all<R: Wait, H: HubCalls<N>, N: Opened>(rt: &R, timer: &mut Timer<'_, '_
 fn tell_all<R: Wait, H: HubCalls<N>, N: Opened>(rt: &R, timer: &mut Timer<'_, '_, H, N>)
     ensures kept { (timer.new.context.seat ≡ timer.old.context.seat)
         × (counts_in timer.new.context.counting ≡ counts_in timer.old.context.counting)
-            × (timer.new.context.outgoing ≡ timer.old.context.outgoing) }
+        × (timer.new.context.outgoing ≡ timer.old.context.outgoing) }
 {
     tell_losses(timer);
     tell_rests(rt, &mut timer.context, &mut timer.rests);
@@ -175,7 +175,7 @@ fn until_end(wait: u64, now: u64, end: Option<u64>) -> u64
 fn wait<R: Clock, H, N: Opened>(rt: &R, timer: &mut Timer<'_, '_, H, N>, milliseconds: u64)
     ensures kept { (timer.new.context.seat ≡ timer.old.context.seat)
         × (counts_in timer.new.context.counting ≡ counts_in timer.old.context.counting)
-            × (timer.new.context.outgoing ≡ timer.old.context.outgoing) }
+        × (timer.new.context.outgoing ≡ timer.old.context.outgoing) }
 {
     let wait = until_end(milliseconds, timer.context.now, end_of(timer));
     let timeout = Some(Duration::from_millis(wait));

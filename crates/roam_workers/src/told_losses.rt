@@ -25,7 +25,7 @@ fn may_tell(now: u64, last: Option<u64>) -> bool
 fn tell_cause<H: HubCalls<N>, N: Opened>(timer: &mut Timer<'_, '_, H, N>, at: usize)
     ensures kept { (timer.new.context.seat ≡ timer.old.context.seat)
         × (counts_in timer.new.context.counting ≡ counts_in timer.old.context.counting)
-            × (timer.new.context.outgoing ≡ timer.old.context.outgoing) }
+        × (timer.new.context.outgoing ≡ timer.old.context.outgoing) }
 {
     let now = timer.context.now;
     let Some(last) = timer.told.get_mut(at) else {
@@ -51,7 +51,7 @@ fn tell_cause<H: HubCalls<N>, N: Opened>(timer: &mut Timer<'_, '_, H, N>, at: us
 pub(crate) fn tell_losses<H: HubCalls<N>, N: Opened>(timer: &mut Timer<'_, '_, H, N>)
     ensures kept { (timer.new.context.seat ≡ timer.old.context.seat)
         × (counts_in timer.new.context.counting ≡ counts_in timer.old.context.counting)
-            × (timer.new.context.outgoing ≡ timer.old.context.outgoing) }
+        × (timer.new.context.outgoing ≡ timer.old.context.outgoing) }
 {
     for at in 0..CAUSES.len() {
         tell_cause(timer, at);

@@ -7,6 +7,7 @@ ghost use Rattle.roam_outgoing.specs.Sending.{PutsEach, outbox_in};
 ghost use Rattle.roam_workers.specs.Handlings.{at_work};
 ghost use Rattle.roam_workers.specs.Work.{HasWorked, HasWorkedTo};
 
+use crate::buffer::give_back;
 use crate::context::WorkerContext;
 use crate::ending::{Ending, WorkerEnd};
 use crate::hub_calls::HubCalls;
@@ -14,8 +15,7 @@ use mio::{Events, Poll};
 use roam_calls::Opened;
 use roam_intake::{Mail, keep_ready, mark_all_ready, mark_ready, wait_before};
 use roam_port::Heard;
-use roam_route::Datagram;
-use roam_sockets::{RECEIVED, Receiver, WAIT_AFTER_FAULT};
+use roam_sockets::{Receiver, WAIT_AFTER_FAULT};
 use std::alloc::Global;
 use std::sync::Wait;
 use std::thread;
@@ -26,9 +26,6 @@ pub const LINES_WITHIN: u64 = 10;
 
 /// How many datagrams a worker takes of one socket in a round.
 pub const IN_A_ROUND: u32 = 32;
-
-/// What the buffer of a datagram is filled up with, in one go.
-static FILLING: [u8; RECEIVED] = [0; RECEIVED];
 
 /// The worker that receives from sockets.
 pub struct Worker<'s, 'c, H, N: Opened> {
@@ -73,7 +70,7 @@ impl<'s, 'c, H, N: Opened> Drop for Worker<'s, 'c, H, N> {
 fn wait<R: Wait + Clock, H, N: Opened>(rt: &R, worker: &mut Worker<'_, '_, H, N>)
     ensures kept { (worker.new.context.seat ≡ worker.old.context.seat)
         × (counts_in worker.new.context.counting ≡ counts_in worker.old.context.counting)
-            × PutsEach [] (outbox_in worker.old.context.outgoing) (outbox_in worker.new.context.outgoing) }
+        × PutsEach [] (outbox_in worker.old.context.outgoing) (outbox_in worker.new.context.outgoing) }
 {
     let receivers = worker.receivers.as_slice();
     let now = worker.context.now;
@@ -95,16 +92,6 @@ fn wait<R: Wait + Clock, H, N: Opened>(rt: &R, worker: &mut Worker<'_, '_, H, N>
         mark_all_ready(worker.receivers.as_mut_slice(), &mut worker.ready);
     }
     worker.context.outgoing.send_again();
-}
-
-/// Gives a buffer the block again in which a datagram was received, as long as it was. The block has room for that, so
-/// no memory is taken.
-fn give_back(buffer: &mut Vec<u8>, datagram: Datagram<Global>) {
-    let mut block = datagram.octets.into_vec();
-    if let Some(rest) = FILLING.get(block.len()..) {
-        let _is_whole = block.extend_from_slice(rest).is_ok();
-    }
-    *buffer = block;
 }
 
 /// Takes what arrived at one socket, up to `IN_A_ROUND` datagrams: why the worker ends with it, if it does. Once all
@@ -146,7 +133,7 @@ fn look_after_faults<R: Clock, H: HubCalls<N>, N: Opened>(
 )
     ensures kept { (context.new.seat ≡ context.old.seat)
         × (counts_in context.new.counting ≡ counts_in context.old.counting)
-            × (context.new.outgoing ≡ context.old.outgoing) }
+        × (context.new.outgoing ≡ context.old.outgoing) }
 {
     if faults > 0 {
         context.look_at_clock(rt);

@@ -13,6 +13,8 @@ loop-preserved g c =
 
 pub returns-in-Some-round : goal.returns-in-Some-round
 returns-in-Some-round g c =
-    let o = g.N.Opened.opening in
-    (_, sent_on o _ _ _ _ _ _ _ (worked_after _ _ _ _ c.loop.invariant c.round.ensures) c.leave.ensures.seat refl
-    c.leave.ensures.sends)
+    let o = g.N.Opened.opening in (
+      _,
+      sent_on o _ _ _ _ _ _ _ (worked_after _ _ _ _ c.loop.invariant c.round.ensures) c.leave.ensures.seat refl
+          c.leave.ensures.sends,
+    )

@@ -13,6 +13,6 @@ loop-preserved g c =
     let old = c.loop.context in
     let new = c.arrive.new.self in
     worked_here g.N.Opened.opening _ _ _ _ (at_mail old.seat old.counting old.outgoing old.datagrams
-        c.loop.mail.outgoing.items)
+    c.loop.mail.outgoing.items)
     (at_mail new.seat new.counting new.outgoing new.datagrams c.arrive.new.mail.outgoing.items) _ c.loop.invariant
     c.arrive.ensures

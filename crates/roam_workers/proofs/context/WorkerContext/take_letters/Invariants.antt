@@ -10,7 +10,7 @@ abbrev pub invariant-loop-letter : goal.invariant-loop-letter
 invariant-loop-letter g l =
     (new : AtWork) (after : DatagramCounts)
     → TakesAll g.N.Opened.opening (jobs_of l.letters.items (λ x. x.job))
-        (at_work l.self.seat l.self.counting l.self.outgoing) new
+    (at_work l.self.seat l.self.counting l.self.outgoing) new
     l.self.datagrams.counts after
     → TakesAll g.N.Opened.opening (jobs_of l.fn.letters.items (λ x. x.job))
     (at_work l.fn.self.seat l.fn.self.counting l.fn.self.outgoing) new l.fn.self.datagrams.counts after

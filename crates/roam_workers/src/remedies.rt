@@ -1,0 +1,71 @@
+//! What a thread does where a call of the hub isn't recorded.
+
+ghost use Rattle.std.specs.Prelude.{◌≡◌};
+ghost use Rattle.roam_counting.specs.Counting.{counts_in};
+
+use crate::context::{Remedy, WorkerContext, remedy_for};
+use crate::hub_calls::HubCalls;
+use roam_calls::{HubFault, Opened};
+use std::sync::Wait;
+
+/// Where memory is wanting, stored steps are freed for it once in so many milliseconds by each thread: what was freed a
+/// moment ago can't help a second time.
+const FREE_AGAIN: u64 = 1000;
+
+impl<H: HubCalls<N>, N: Opened> WorkerContext<'_, '_, H, N> {
+    /// Does what helps against a fault of a call. Answers whether it can be made again.
+    pub fn remedy<R: Wait>(&mut self, rt: &R, shard: u16, fault: HubFault, is_second: bool) -> bool
+        ensures kept { (self.new.seat.tallies ≡ self.old.seat.tallies)
+            × (self.new.datagrams ≡ self.old.datagrams) × (self.new.now ≡ self.old.now)
+            × (counts_in self.new.counting ≡ counts_in self.old.counting)
+            × (self.new.outgoing ≡ self.old.outgoing) }
+    {
+        match remedy_for(fault, is_second) {
+            Remedy::LetGo => self.let_go(rt, shard),
+            Remedy::FreeMemory => self.free_history(rt, shard),
+            Remedy::Refuse => false,
+        }
+    }
+
+    /// Lets go of the stored steps of a shard, which are freed beside. Answers whether that was done.
+    pub(crate) fn let_go<R: Wait>(&mut self, rt: &R, shard: u16) -> bool
+        ensures kept { (self.new.seat.tallies ≡ self.old.seat.tallies)
+            × (self.new.datagrams ≡ self.old.datagrams) × (self.new.now ≡ self.old.now)
+            × (counts_in self.new.counting ≡ counts_in self.old.counting)
+            × (self.new.outgoing ≡ self.old.outgoing) }
+    {
+        let shared = self.shared;
+        match shared.hub.let_go(rt, &mut self.seat, shard) {
+            Ok(steps) => {
+                self.counting.let_go(shard, steps.len());
+                shared.old_history.hand_over(rt, steps);
+                true
+            }
+            Err(_) => false,
+        }
+    }
+
+    /// Lets go of the stored steps of a shard, and frees them here and now, since their memory is wanted: once in
+    /// `FREE_AGAIN` milliseconds at most. Answers whether that was done.
+    fn free_history<R: Wait>(&mut self, rt: &R, shard: u16) -> bool
+        ensures kept { (self.new.seat.tallies ≡ self.old.seat.tallies)
+            × (self.new.datagrams ≡ self.old.datagrams) × (self.new.now ≡ self.old.now)
+            × (counts_in self.new.counting ≡ counts_in self.old.counting)
+            × (self.new.outgoing ≡ self.old.outgoing) }
+    {
+        if self.now < self.free_again_at {
+            return false;
+        }
+        match self.shared.hub.let_go(rt, &mut self.seat, shard) {
+            Ok(steps) => {
+                self.free_again_at = self.now.saturating_add(FREE_AGAIN);
+                self.counting.let_go(shard, steps.len());
+                self.shared.old_history.count();
+                drop(steps);
+                self.shared.old_history.free_all(rt);
+                true
+            }
+            Err(_) => false,
+        }
+    }
+}
