@@ -76,7 +76,7 @@ def look_at_rows(server):
         found = rows_of(ctl("--problems").stdout)
     want([row[0] for row in found["REALM"]] == ["full.example"], f"realms: {found['REALM']}")
     stands = [(row[2], row[3]) for row in found["HOME"]]
-    want(stands == [("dead.example", "rests"), ("wrong.example", "replies")], f"home servers: {found['HOME']}")
+    want(stands == [("dead.example", "never"), ("wrong.example", "replies")], f"home servers: {found['HOME']}")
     want([row[0] for row in found["PEER"]] == ["nas2"], f"peers: {found['PEER']}")
     found = rows_of(ctl("dead.example,Wrong.Example").stdout)
     want([row[0] for row in found["REALM"]] == ["dead.example", "wrong.example"] and len(found["HOME"]) == 4 and "PEER" not in found, f"{found}")

@@ -71,7 +71,7 @@ fn is_full(cell: &str) -> bool {
 
 /// Returns the rank of a server that stands so, where something is wrong with it.
 fn rank_of_server(stands: &str) -> Option<u8> {
-    if stands.starts_with("rests ") {
+    if stands.starts_with("never answered ") || stands.starts_with("rests ") {
         Some(0)
     } else if stands == "replies refused" {
         Some(1)

@@ -20,7 +20,7 @@ fn place_of(names: &[String], realm: &Realm) -> Option<u16> {
     }
     for (place, name) in names.iter().enumerate() {
         if name.as_str() == realm.name.as_str() {
-            return Some(place as u16);
+            return u16::try_from(place).ok();
         }
     }
     None

@@ -11,5 +11,5 @@ none-holds P (Some x) nothing holds = absurd (let k : true ≡ false = nothing i
 
 pub returns-in-Ok : goal.returns-in-Ok
 returns-in-Ok g c =
-    none-holds (MayFollow (shown c.args.old.now) (shown c.in_ok-config.config)) c.hindrance_of-hindrance.result
+    none-holds (MayFollow (shown c.args.old.now) (shown c.in_ok-config.field-0.config)) c.hindrance_of-hindrance.result
     (sym c.is_some.ensures ∙ c.if-is_some.false) c.hindrance_of-hindrance.ensures.none
