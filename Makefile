@@ -5,12 +5,13 @@ ROAM = $(CURDIR)/crates/roam/out/roam
 # A crate, for `make proof` and `make look`: make proof CRATE=roam_book.
 CRATE =
 
-.PHONY: help see run test pages look proof scripts trials around deb
+.PHONY: help quick see run test pages look proof scripts trials around deb
 
 help:
-	@echo 'make see                  a script of datagrams, played in two minutes, without a proof'
-	@echo 'make run                  proves the program and all below it, and plays the same (an hour, the first time)'
-	@echo 'make test                 the gate: everything proved and tested from nothing (two hours)'
+	@echo 'make quick                builds the program without a proof and tries it (ten minutes); with ROAM=PROGRAM it tries that one'
+	@echo 'make see                  plays a script of datagrams without a proof (two minutes)'
+	@echo 'make run                  proves the program and the crates below it, and plays the same script (two hours, the first time)'
+	@echo 'make test                 the gate: proves and tests everything from nothing (100 minutes on four processors, 180 on two)'
 	@echo 'make pages                what is generated, written anew; names, keys, refusals and mistakes of the pages looked at'
 	@echo 'make look CRATE=NAME      layout, names, types and borrows of a crate; no proof'
 	@echo 'make proof CRATE=NAME     a crate and what it needs, proved'
@@ -20,6 +21,10 @@ help:
 	@echo 'make around ROAM=PROGRAM  tries it between servers of others, where these are installed; no root'
 	@echo 'make deb ROAM=PROGRAM     the Debian package'
 	@echo 'What each is about: docs/CONTRIBUTING.md.'
+
+# A program that is named is tried, else one is built.
+quick:
+	tools/unproved.py $(if $(filter file,$(origin ROAM)),,$(ROAM))
 
 see:
 	cd crates/roam && rt try --data a.conf=../../examples/two-realms.conf --data a.script=../../examples/accounting.script \

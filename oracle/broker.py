@@ -438,7 +438,7 @@ class Realm:
 
     # A reply
 
-    def on_reply(self, now, link, reply):
+    def on_reply(self, now, link, reply, keeps_session):
         if now > LATEST:
             raise Refused(19)
         waiting = [e for e in self.entries if e.waits() and e.link == link and e.id == reply.id]
@@ -452,7 +452,7 @@ class Realm:
         packet = returned(reply, self.list_of(reply, request), request.packet, request.secret, sent, secret)
         if len(packet) > LARGEST:
             raise Refused(18)
-        if reply.code == ACCOUNTING_RESPONSE:
+        if reply.code == ACCOUNTING_RESPONSE and keeps_session:
             self.sessions.apply(request.peer, request.packet)
         return self.hold(now, entry, packet, link)
 
@@ -529,7 +529,7 @@ class Broker:
         self.config = config
         self.realms = [Realm(config, index) for index in range(len(config.realms))]
 
-    def arrive(self, now, place, source, datagram, seconds=None):
+    def arrive(self, now, place, source, datagram, seconds=None, keeps_session=True):
         packet = Packet(datagram)
         kind, *numbers = place.split(":")
         number = numbers.pop(0) if kind in ("out", "reverse") else ""
@@ -537,7 +537,7 @@ class Broker:
         if number and int(number) >= len(self.realms):
             raise Refused(4)
         if kind == "out":
-            return self.reply(now, int(number), which, source, packet)
+            return self.reply(now, int(number), which, source, packet, keeps_session)
         own = listed(self.config.realms[int(number)].get("reverse")) if number else getattr(self.config, kind)
         if which >= len(own):
             raise Refused(4)
@@ -640,13 +640,13 @@ class Broker:
             raise Refused(10)
         return [("-", place, source, octets)]
 
-    def reply(self, now, realm, out, source, packet):
+    def reply(self, now, realm, out, source, packet, keeps_session):
         link = self.config.link_of(realm, out, source)
         if link is None:
             raise Refused(4)
         if packet.code not in REPLIES_FROM[link[0]]:
             raise Refused(5)
-        return self.realms[realm].on_reply(now, link, packet)
+        return self.realms[realm].on_reply(now, link, packet, keeps_session)
 
     def tick(self, now, shard):
         if shard >= self.config.shards:
@@ -665,11 +665,11 @@ class Broker:
         try:
             if fields[0] == "T":
                 return self.tick(int(fields[1]), int(fields[2])), None
-            _, now, place, source, digits = fields
+            letter, now, place, source, digits = fields
             datagram = b"" if digits == "-" else bytes.fromhex(digits)
             now, _, seconds = now.partition("/")
             seconds = int(seconds) if seconds else None
-            return self.arrive(int(now), place, endpoint(source), datagram, seconds), None
+            return self.arrive(int(now), place, endpoint(source), datagram, seconds, letter != "L"), None
         except Refused as refused:
             return [], refused.number
 

@@ -31,8 +31,8 @@ class Story(Row):
         self.ticket, self.ids[link] = ticket + 1, (id + 1) % 256
         return id, ticket
 
-    def account(self, what, status, session=None, server=FIRST, name=NAME, answered=True):
-        """An Accounting-Request with a new Identifier, and its response."""
+    def account(self, what, status, session=None, server=FIRST, name=NAME, answered=True, lost=False):
+        """An Accounting-Request with a new Identifier, and its response, which may find no memory for the session."""
         _, _, source, secret = server
         body = name + status + (b"" if session is None else id_of(session))
         id, ticket = self.take(S1)
@@ -42,7 +42,8 @@ class Story(Row):
         if answered:
             head = header(5, ticket % 256, b"")
             octets = head + md5(head, req[4:20], secret)
-            self.reply(self.now, response(fwd), [given_back(octets, source)], "it is answered")
+            reply, what = (self.lost, "it is answered, without its session") if lost else (self.reply, "it is answered")
+            reply(self.now, response(fwd), [given_back(octets, source)], what)
         return req, fwd
 
     def ask(self, what, attributes, code=40, id=None, server=FIRST, answered=True):
@@ -110,6 +111,22 @@ row.gone("the third's", b"2", THIRD)
 row.kept("the fourth's", b"2", FOURTH)
 row.account("a Start after it", START, b"1", THIRD)
 row.kept("the third's", b"1", THIRD)
+
+row = Story("sessions-without-memory", "access-servers-of-two-sessions")
+row.account("a Start for which there is no memory", START, b"1", lost=True)
+row.gone("its session", b"1")
+row.account("an Interim-Update of it", INTERIM, b"1")
+row.kept("its session", b"1")
+row.account("a Stop for which there is no memory", STOP, b"1", lost=True)
+row.kept("its session", b"1")
+row.account("a second Start", START, b"2")
+row.account("a third one without memory, which takes nobody's place", START, b"3", lost=True)
+row.kept("the first", b"1")
+row.kept("the second", b"2")
+row.gone("the third", b"3")
+req, fwd = row.account("a request that waits", START, b"4", answered=False)
+row.lost(0, response(fwd, b"", P), 16, "its response with another secret, without memory for the session")
+row.gone("not answered yet", b"4")
 
 row = Story("what-is-a-session", "access-servers")
 row.account("a Start without an id", START)

@@ -14,7 +14,7 @@ def most_growths(line, packets, refusal):
     """
     if refusal is not None and (refusal <= 10 or refusal in (20, 24, 25, 26, 28, 29) or line[0] == "T"):
         return 0
-    if line[0] == "A" and not packets:
+    if line[0] in "AL" and not packets:
         return 1
     return None
 
@@ -57,6 +57,10 @@ class Row:
 
     def reply(self, now, octets, expected, what, realm=0, source=S1, probe=False):
         self.arrive(now, octets, expected, what, f"out:{realm}", source, probe)
+
+    def lost(self, now, octets, expected, what, realm=0, source=S1):
+        """A reply for whose session there is no memory."""
+        self.note(what, f"L {now} out:{realm} {source} {octets.hex()}", expected, False)
 
     def tick(self, now, expected, what, shard=0, probe=False):
         self.note(what, f"T {now} {shard}", expected, probe)

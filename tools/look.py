@@ -10,12 +10,13 @@ The looks, each a module of tools/looking, whose head says what it looks at:
     sizes         files, bodies and lines that are too long (also: sizes --list, sizes --write)
     unused        imports and lemmas that nothing uses (also: unused [--fix] CRATE ..)
     tests_only    public functions that only tests call
+    proved        names behind the crates' lists of what is proved (the head of lib.rt) that aren't there
 """
 import importlib
 import sys
 
 sys.dont_write_bytecode = True
-LOOKS = ("names", "counts", "sizes", "unused", "tests_only")
+LOOKS = ("names", "counts", "sizes", "unused", "tests_only", "proved")
 
 
 def main() -> int:

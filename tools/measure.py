@@ -18,7 +18,7 @@ def product(root: pathlib.Path) -> list[pathlib.Path]:
 
 def made(path: pathlib.Path) -> bool:
     """Whether a page is made by a tool, as its first line says."""
-    return path.name == "THEOREM.md" or path.read_text(encoding="utf-8").startswith("<!-- Made by")
+    return path.read_text(encoding="utf-8").startswith("<!-- Made by")
 
 
 def by_hand_in(path: pathlib.Path) -> int:

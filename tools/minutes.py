@@ -101,18 +101,26 @@ class Progress:
 
     def __init__(self) -> None:
         kept = {name: sum(of.values()) for name, of in read(KEPT.read_text(encoding="utf-8")).items()}
-        names = re.findall(r"^(\w+):", (ROOT / "crates.txt").read_text(encoding="utf-8"), re.M)
-        # Of a crate that no run had is taken what half of them take less than.
+        # For a crate that no run had, take what half of them take less than.
         usual = statistics.median(kept.values())
-        self.left = {name: kept.get(name, usual) for name in names}
-        self.count, self.begun, self.running, self.done = len(names), 0, {}, 0.0
-        self.began = time.monotonic()
+        # All crates below each one, of which crates.txt names the lowest first.
+        self.below: dict[str, set[str]] = {}
+        for name, used in re.findall(r"^(\w+):(.*)$", (ROOT / "crates.txt").read_text(encoding="utf-8"), re.M):
+            self.below[name] = set().union(*({it} | self.below[it] for it in used.split() if it in self.below))
+        self.left = {name: kept.get(name, usual) for name in self.below}
+        self.running: dict[str, float] = {}
+        self.done, self.began = 0.0, time.monotonic()
 
     def clock(self) -> float:
-        """About how many minutes by the clock are left: by what those that ended took, at first by the number of processors."""
+        """Returns about how many minutes by the clock are left: for all crates as many at once as so far (at first as there are processors), and
+        no less than for those that wait for each other, one after the other."""
         elapsed = (time.monotonic() - self.began) / 60
         at_once = self.done / elapsed if self.done > 10 and elapsed > 5 else os.cpu_count() or 1
-        return (sum(self.left.values()) + sum(self.running.values()) / 2) / max(at_once, .1)
+        rest = self.left | {name: minutes / 2 for name, minutes in self.running.items()}
+        in_row: dict[str, float] = {}
+        for name in filter(rest.__contains__, self.below):
+            in_row[name] = rest[name] + max((in_row.get(it, 0) for it in self.below[name]), default=0)
+        return max([sum(rest.values()) / max(at_once, .1), *in_row.values()])
 
     def tell(self, working: set[str]) -> None:
         """Says of each crate that begins which it is. Nothing is said of one that ends: so the command's last line stays the last."""
@@ -120,9 +128,11 @@ class Progress:
             self.done += self.running.pop(name)
         for name in sorted(working & set(self.left)):
             self.running[name] = self.left.pop(name)
-            self.begun += 1
-            print(f"progress: {name} begins, crate {self.begun} of {self.count}; about {self.clock():.0f} minutes of proofs and their tests are left",
-                  file=sys.stderr, flush=True)
+            # A crate begins when those below it are proved: by this run, or by an earlier one that kept them.
+            for it in self.below[name] & set(self.left):
+                del self.left[it]
+            print(f"progress: {name} begins, crate {len(self.below) - len(self.left)} of {len(self.below)}; "
+                  f"about {self.clock():.0f} minutes of proofs and tests are left", file=sys.stderr, flush=True)
 
 
 def run(file: str, words: list[str]) -> int:

@@ -6,9 +6,9 @@
 
 The parts, each a module of tools/making, whose head says of what it is made and what is wrong:
 
+    asked          docs/ASKED.md, what is asked and where it is proved
     theorem        docs/THEOREM.md, the headline with each definition under it
-    definitions    docs/DEFINITIONS.md
-    claims         docs/CLAIMS.md
+    definitions    docs/DEFINITIONS.md, all definitions; not kept in the repository
     metrics        docs/METRICS.md
     pictures       docs/pictures/*.svg
     lists          the lists of packaging/installed/roam.8; keys, refusals, faults and usage stand once, and agree
@@ -20,14 +20,19 @@ import sys
 
 sys.dont_write_bytecode = True
 ROOT = pathlib.Path(__file__).resolve().parent.parent
-PARTS = ("theorem", "definitions", "claims", "metrics", "pictures", "lists", "mistakes")
+PARTS = ("asked", "theorem", "definitions", "metrics", "pictures", "lists", "mistakes")
+
+
+# The parts whose pages aren't kept: that they can be made is looked at.
+NOT_KEPT = ("definitions",)
 
 
 def faults_of(part: str) -> list[str]:
-    """What is wrong with a part, its pages among that."""
+    """Returns what is wrong with a part, its pages among that."""
     module = importlib.import_module(f"making.{part}")
-    return module.faults() + [f"{path.relative_to(ROOT)} isn't what the sources give: run tools/pages.py {part}"
-                              for path, text in module.made().items() if not path.exists() or path.read_text(encoding="utf-8") != text]
+    made = module.made()
+    return module.faults() + [f"{path.relative_to(ROOT)} isn't what the sources give: run tools/pages.py {part}" for path, text in made.items()
+                              if part not in NOT_KEPT and (not path.exists() or path.read_text(encoding="utf-8") != text)]
 
 
 def write(part: str) -> None:

@@ -123,7 +123,7 @@ class Conversion:
     def write_top(self):
         out = self.out
         out.put("# Written by from-freeradius.py. `roam check` judges it; docs/FILES.md has every key, and",
-                "# docs/TUNING.md how each number is chosen. It has secrets: owner root, mode 0600.", "")
+                "# docs/OPERATING.md how each number is chosen. It has secrets: owner root, mode 0600.", "")
         for name in self.missed:
             out.lose(f"$INCLUDE {name}: name that file beside the others")
         for listen in self.inner:

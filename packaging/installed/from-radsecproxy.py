@@ -113,7 +113,7 @@ class Conversion:
     def write_top(self):
         out, top = self.out, self.top
         out.put("# Written by from-radsecproxy.py. `roam check` judges it; docs/FILES.md has every key, and",
-                "# docs/TUNING.md how each number is chosen. It has secrets: owner root, mode 0600.", "")
+                "# docs/OPERATING.md how each number is chosen. It has secrets: owner root, mode 0600.", "")
         udp, source = top.all("listenudp"), top.get("sourceudp", "*")
         listen = [endpoint_of(text, 1812, self.options) for text in udp]
         found = [endpoint for endpoint in listen if endpoint]

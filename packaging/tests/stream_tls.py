@@ -15,6 +15,16 @@ from stream_ends import Home, Stream, access, accepted_by, answers
 
 HERE = os.path.dirname(os.path.abspath(__file__))
 SAMPLES = os.path.join(os.path.dirname(HERE), "samples", "tls")
+PAGE = os.path.join(os.path.dirname(os.path.dirname(HERE)), "docs", "TLS.md")
+# Stands for socat where that isn't installed: what comes goes to a socket of haproxy, and what it says is printed.
+SOCAT = """#!/usr/bin/env python3
+import socket, sys
+orders = socket.socket(socket.AF_UNIX)
+orders.connect(sys.argv[2])
+orders.sendall(sys.stdin.buffer.read())
+while said := orders.recv(4096):
+    sys.stdout.buffer.write(said)
+"""
 FRONT, HOME = ("127.0.0.1", 29683), ("127.0.0.1", 29690)
 # What stands in the samples, and what in this trial.
 PLACES = (
@@ -47,7 +57,8 @@ unique_subject = no
 [any]
 commonName = supplied
 """
-NAMES = ("radius.roam.example", "radius.home.example", "proxy1.university.example", "proxy2.university.example", "stranger.example", "lost.example")
+NAMES = ("radius.roam.example", "radius.home.example", "proxy1.university.example", "proxy2.university.example", "proxy3.university.example",
+         "stranger.example", "lost.example")
 
 
 def openssl(directory, *words):
@@ -71,6 +82,11 @@ def make_certificates(directory, names=NAMES, revoked=("proxy2.university.exampl
     for name in revoked:
         openssl(directory, "ca", "-config", "authority.cnf", "-revoke", f"{name}.crt")
     openssl(directory, "ca", "-config", "authority.cnf", "-gencrl", "-out", "crl.pem")
+    # A peer's name in a certificate of nobody's authority.
+    openssl(directory, "req", "-x509", "-newkey", "rsa:2048", "-nodes", "-keyout", "foreign.pem", "-out", "foreign.crt", "-days", "2",
+            "-subj", "/CN=proxy1.university.example")
+    with open(os.path.join(directory, "foreign.pem"), "a", encoding="ascii") as pem, open(os.path.join(directory, "foreign.crt"), encoding="ascii") as file:
+        pem.write(file.read())
     shutil.copy(os.path.join(directory, "radius.roam.example.pem"), os.path.join(directory, "own.pem"))
 
 
@@ -80,7 +96,26 @@ def sample(name, directory):
         text = file.read()
     for old, new in PLACES:
         text = text.replace(old, new)
+    return placed(text, directory)
+
+
+def placed(text, directory):
+    """The text with the trial's folder in place of those that the page and the samples name."""
     return text.replace("/etc/roam/tls/", directory + "/").replace("/run/haproxy/", directory + "/").replace("/run/roam/", directory + "/")
+
+
+def play(directory, word):
+    """Runs the commands of docs/TLS.md for haproxy that have this word, each as it stands there. Returns what was printed."""
+    with open(PAGE, encoding="utf-8") as file:
+        commands = [line.strip() for line in file if "admin.sock" in line and word in line and line.startswith("  ")]
+    want(commands, f"the page has commands with {word}")
+    path = os.path.join(directory, "socat")
+    with open(path, "w", encoding="ascii") as file:
+        file.write(SOCAT)
+    os.chmod(path, 0o755)
+    done = subprocess.run(["sh", "-c", placed("\n".join(commands), directory)], capture_output=True, text=True, check=False,
+                          env={**os.environ, "PATH": os.environ["PATH"] + os.pathsep + directory})
+    return done.stdout + done.stderr
 
 
 def home_context(directory, name):
@@ -142,6 +177,27 @@ def comes(around, name, text):
     return False
 
 
+def revokes(around, directory):
+    """A certificate is revoked while a connection with it is open, and another one is put off, by the commands of the page."""
+    stream = client(directory, "proxy1.university.example")
+    stream.send(access(31, b"open", b"u@home.example"))
+    want(accepted_by(stream, 31), "a login on a connection that stays open")
+    openssl(directory, "ca", "-config", "authority.cnf", "-revoke", "proxy1.university.example.crt")
+    openssl(directory, "ca", "-config", "authority.cnf", "-gencrl", "-out", "crl.pem")
+    said = play(directory, "crl-file")
+    want("Success" in said, f"haproxy takes another list of revoked certificates: {said.strip()!r}")
+    want(not is_answered(directory, "proxy1.university.example"), "a certificate that is revoked meanwhile has no further connection")
+    stream.send(access(32, b"open", b"u@home.example"))
+    want(accepted_by(stream, 32), "the one that is open stays")
+    said = play(directory, "shutdown sessions")
+    want(stream.ends(), f"and ends by the command that cuts it {said.strip()}")
+    want(comes(around, "streams", "ended: by the other side"), "that is told")
+    want(is_answered(directory, "proxy3.university.example"), "another certificate of the peer goes on")
+    play(directory, "del map")
+    said = play(directory, "del map")
+    want("not found" in said, f"a name is taken out of the map, once: {said.strip()!r}")
+
+
 def logs_in(directory, program):
     """Plays it."""
     directory = os.path.join(directory, "tls")
@@ -151,7 +207,7 @@ def logs_in(directory, program):
     home.clear(answers)
     haproxy = shutil.which("haproxy") or "/usr/sbin/haproxy"
     try:
-        names = sample("names.map", directory) + "stranger.example nobody\n"
+        names = sample("names.map", directory) + "stranger.example nobody\nproxy3.university.example university\n"
         around.write("names.map", names)
         front = around.write("haproxy.cfg", sample("haproxy.cfg", directory))
         done = subprocess.run([haproxy, "-c", "-q", "-f", front], capture_output=True, text=True, check=False)
@@ -165,10 +221,12 @@ def logs_in(directory, program):
         want(is_answered(directory, "proxy1.university.example"), "a login by a certificate of a peer goes through TLS on both sides")
         want(comes(around, "broker", 'peer="university"'), "the broker has it from that peer")
         want(not is_answered(directory, "proxy2.university.example"), "a revoked certificate has no login")
+        want(not is_answered(directory, "foreign"), "nor has a peer's name by another authority")
         want(not is_answered(directory, "lost.example"), "nor has one that isn't in the map")
         want(not is_answered(directory, "stranger.example"), "nor one whose name in the map is no line of the front")
         want(not is_answered(directory, None), "nor who shows none")
         want(around.log("streams").count(" taken from ") == 1, "no connection of these comes to the broker")
+        revokes(around, directory)
     except BaseException:
         around.tell(40)
         raise

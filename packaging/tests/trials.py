@@ -50,8 +50,8 @@ def main():
     if not 1 <= len(given) <= 2 or given[0] not in WHEN:
         print(__doc__, file=sys.stderr)
         return 2
-    failed = []
-    for words, needs in rows(given[0]):
+    failed, found = [], rows(given[0])
+    for place, (words, needs) in enumerate(found, 1):
         words = [os.path.abspath(given[1]) if it == "PROGRAM" and given[1:] else it for it in words]
         missing = [it for it in needs if not (shutil.which(it) or shutil.which(it, path="/usr/sbin:/sbin"))]
         if "PROGRAM" in words or missing or until is not None and time.monotonic() - BEGAN > until:
@@ -61,7 +61,7 @@ def main():
         begun, limit = time.monotonic(), 180 if given[0] in ("gate", "scripts") else 900
         if not is_good(words, limit) and not is_good(words, limit):
             failed.append(" ".join(words))
-        print(f"tried: {' '.join(words)} ({time.monotonic() - begun:.0f} s)", flush=True)
+        print(f"tried: {' '.join(words)} ({time.monotonic() - begun:.0f} s), {place} of {len(found)}", flush=True)
     print("".join(f"FAILED: {it}\n" for it in failed), end="")
     return int(bool(failed))
 

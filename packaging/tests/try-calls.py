@@ -123,6 +123,17 @@ def receive_fails(program, folder):
     goes_on(program, folder, "recvfrom:error=EIO:when=5..44", least=40)
 
 
+def receive_given_up(program, folder):
+    """every receive fails: a socket for which there is word is given up after a hundred, a second, and the server ends with 1 and says so"""
+    with Server(program, folder, "recvfrom:error=EIO:when=1+") as server:
+        server.waits_for()
+        begun = time.monotonic()
+        reply, status = asked(radius.access(1, b"u@a.example"), (HERE, PORT), seconds=.1), server.ends(20)
+        seconds, said = time.monotonic() - begun, server.said().strip().splitlines()[-1:]
+        want(reply is None and status == 1 and said == ["roam: receive failed"], f"it ends with {status}: {said}")
+        want(.99 <= seconds and server.injected() == 100, f"after {seconds:.1f} s and {server.injected()} receives")
+
+
 def send_without_room(program, folder):
     """every second send finds no room"""
     goes_on(program, folder, "sendto:error=EAGAIN:when=1+2")
@@ -269,8 +280,8 @@ def reload_fails(program, folder):
             stops(server)
 
 
-GATE = [receive_interrupted, receive_without_memory, receive_fails, send_without_room, send_without_buffers, send_not_permitted, wait_interrupted,
-        connection_fails, sync_fails, rename_fails, start_fails, reload_fails]
+GATE = [receive_interrupted, receive_without_memory, receive_fails, receive_given_up, send_without_room, send_without_buffers, send_not_permitted,
+        wait_interrupted, connection_fails, sync_fails, rename_fails, start_fails, reload_fails]
 CASES = [*GATE, watch_fails, receive_refused, send_long_without_room, wait_without_memory, poll_interrupted, connection_without_buffers, log_blocks, log_fails]
 
 

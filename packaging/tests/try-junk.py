@@ -1,15 +1,13 @@
 #!/usr/bin/env python3
 """try-junk.py PROGRAM
 
-Sends a server more junk than it can take, from one address and port, and looks whether access servers at other ports are
-answered meanwhile: the system deals what comes to `auth` to several sockets by its sender, so junk fills the buffer of one of
-them. The junk comes from a peer, 4,096 octets each with a wrong Message-Authenticator, and from a stranger; `spread` is false
-and true. Beside it an access server asks 300 times a second from 16 ports, each request once. One port in eight shares its
-socket with the junk, by chance, or with `spread` one in sixteen: so 8 and 5 ports may lose requests, and the others none. Each
-datagram that was received has to be counted as handled in the end.
+Sends a server more junk than it can read, and looks whether access servers at another address are answered meanwhile. The junk
+comes from a peer, each datagram with a wrong Message-Authenticator, and from a stranger; from one port and from 64 ports of that
+address; `spread` is false and true. Beside it an access server asks 300 times a second from 16 ports, each request once: one in a
+thousand may be lost. Each datagram that was received has to be counted as handled in the end.
 
 It needs no root: it makes a network of its own in a namespace of its own (unshare, ip), and says so where that can't be had,
-or where there are fewer than 4 processors. It takes half a minute, and prints `ok` or `BAD` for each thing that it wants; the
+or where there are fewer than 4 processors. It takes a minute, and prints `ok` or `BAD` for each thing that it wants; the
 status is 1 where one is bad.
 """
 import collections
@@ -115,18 +113,19 @@ class Message(ctypes.Structure):
                 ('control', ctypes.c_void_p), ('control_length', ctypes.c_size_t), ('flags', ctypes.c_int), ('sent', ctypes.c_uint32)]
 
 
-def send_junk(kind):
-    """Sends junk as fast as that goes, until it is ended."""
-    octets = 4096 if kind == 'peer' else 60
-    packets = [request(number, b'another secret', octets) for number in range(IN_A_CALL)]
+def send_junk(kind, ports):
+    """Sends junk as fast as that goes from so many ports in turn, until it is ended."""
+    packets = [request(number, b'another secret', 120 if kind == 'peer' else 60) for number in range(IN_A_CALL)]
     junk = [ctypes.create_string_buffer(one, len(one)) for one in packets]
     pieces = (Piece * IN_A_CALL)(*[Piece(ctypes.addressof(one), len(one)) for one in junk])
     messages = (Message * IN_A_CALL)(*[Message(pieces=ctypes.addressof(pieces[at]), count=1) for at in range(IN_A_CALL)])
     library = ctypes.CDLL(None)
-    with socket.socket(socket.AF_INET, socket.SOCK_DGRAM) as one:
+    ends = [socket.socket(socket.AF_INET, socket.SOCK_DGRAM) for _ in range(ports)]
+    for one in ends:
         one.bind((PEER if kind == 'peer' else STRANGER, 0))
         one.connect((HERE, AUTH))
-        while os.getppid() != 1:
+    while os.getppid() != 1:
+        for one in ends:
             library.sendmmsg(one.fileno(), messages, IN_A_CALL, 0)
 
 
@@ -158,10 +157,10 @@ def ask(seconds):
 
 
 def dropped():
-    """How many datagrams found the buffer of a socket at `auth` full, and how many such sockets there are."""
+    """How many datagrams found the buffer of a socket at `auth` full that is read, and how many such sockets there are."""
     with open('/proc/net/udp') as file:
         rows = [row.split() for row in file.read().splitlines()[1:]]
-    counts = [int(row[-1]) for row in rows if int(row[1].split(':')[1], 16) == AUTH]
+    counts = [int(row[-1]) for row in rows if int(row[1].split(':')[1], 16) == AUTH and row[2] == '00000000:0000']
     return sum(counts), len(counts)
 
 
@@ -178,10 +177,10 @@ def within(took, percent):
     return took[len(took) * percent // 100] if took else 0
 
 
-def try_beside(kind, most):
-    """Junk of a kind, and requests beside it, of which so many ports may lose some."""
+def try_beside(kind, ports):
+    """Junk of a kind from so many ports, and requests beside it, of which one in a thousand may be lost."""
     before = dropped()[0]
-    junk = subprocess.Popen([sys.executable, os.path.realpath(__file__), sys.argv[1], 'junk', kind])
+    junk = subprocess.Popen([sys.executable, os.path.realpath(__file__), sys.argv[1], 'junk', kind, str(ports)])
     try:
         time.sleep(.5)
         lost, took = ask(SECONDS)
@@ -189,9 +188,9 @@ def try_beside(kind, most):
         junk.kill()
         junk.wait()
     found_full = dropped()[0] - before
-    print(f'       junk of a {kind}: {found_full} datagrams found a buffer full; {len(took)} of {SECONDS * RATE} answered, half within',
+    print(f'       {found_full} datagrams found a buffer full that is read; half are answered within',
           f'{within(took, 50):.1f} ms, 99 of 100 within {within(took, 99):.1f}; unanswered by port {list(lost.values())}', flush=True)
-    want(len(lost) <= most, f'{PORTS - len(lost)} of {PORTS} ports have all their requests answered beside junk of a {kind}')
+    want(sum(lost.values()) * 1000 <= SECONDS * RATE, f'{len(took)} of {SECONDS * RATE} are answered beside junk of a {kind} from {ports} ports')
 
 
 def try_served(program, spread):
@@ -208,7 +207,8 @@ def try_served(program, spread):
             lost, took = ask(1)
             want(not lost, f'alone all are answered, half within {within(took, 50):.1f} ms')
             for kind in ('peer', 'stranger'):
-                try_beside(kind, 8 if spread == 'false' else 5)
+                for ports in (1, 64):
+                    try_beside(kind, ports)
             end = time.monotonic() + 20
             while counted(b'received_datagrams') != counted(b'handled_datagrams') and time.monotonic() < end:
                 time.sleep(.2)
@@ -237,7 +237,7 @@ def main():
         print('usage: try-junk.py PROGRAM', file=sys.stderr)
         return 2
     if sys.argv[2:3] == ['junk']:
-        return send_junk(sys.argv[3])
+        return send_junk(sys.argv[3], int(sys.argv[4]))
     if sys.argv[2:] != ['inside']:
         return try_apart()
     subprocess.run(['ip', 'link', 'set', 'lo', 'up'], check=True)

@@ -2,8 +2,8 @@
 """try-linear.py PROGRAM
 
 Counts the instructions of `PROGRAM check` by valgrind, for configurations of which one has eight times as many realms, peers and
-servers as the other: the larger one may cost twelve times as much (what is sorted costs a little more than in proportion). Where
-valgrind isn't installed nothing is counted, and that is said.
+servers as the other: the larger one may cost twelve times as much (what is sorted costs a little more than in proportion). So too of
+`PROGRAM check OLD NEW`, where one file stands for both. Where valgrind isn't installed nothing is counted, and that is said.
 """
 import os
 import re
@@ -45,12 +45,13 @@ def configuration(realms, servers, outs, reverses, has_peers):
     return text + ANY
 
 
-def instructions(program, path):
-    """How many instructions a check takes, which has to accept the configuration and to advise nothing."""
-    ran = subprocess.run(["valgrind", "--tool=cachegrind", "--cache-sim=no", "--cachegrind-out-file=/dev/null", program, "check", path],
+def instructions(program, *paths):
+    """How many instructions a check takes, which has to accept the configuration and to advise nothing; or one of two of them, of which
+    the new one has to be one that may follow."""
+    ran = subprocess.run(["valgrind", "--tool=cachegrind", "--cache-sim=no", "--cachegrind-out-file=/dev/null", program, "check", *paths],
                          capture_output=True, text=True, timeout=300, check=False)
-    told = [line for line in ran.stderr.splitlines() if line.startswith(f"{path}:")]
-    if ran.returncode or not ran.stdout.startswith("ok realms") or told:
+    told = [line for line in ran.stderr.splitlines() if line.startswith(f"{paths[0]}:")]
+    if ran.returncode or not ran.stdout.startswith(("ok realms", "may follow")[len(paths) - 1]) or told:
         sys.exit(f"try-linear: check ends with {ran.returncode}: {ran.stdout} {told or ran.stderr}")
     return int(re.search(r"I\s+refs:\s+([\d,]+)", ran.stderr).group(1).replace(",", ""))
 
@@ -64,15 +65,16 @@ def main():
     failed = []
     with tempfile.TemporaryDirectory() as folder:
         for name, few, *kind in KINDS:
-            counts = []
-            for realms in (few, 8 * few):
-                path = os.path.join(folder, f"{realms}.conf")
-                with open(path, "w", encoding="ascii") as file:
-                    file.write(configuration(realms, *kind))
-                counts.append(instructions(os.path.abspath(sys.argv[1]), path))
-            times = counts[1] / counts[0]
-            print(f"a check of realms with {name}: {few} take {counts[0]} instructions, {8 * few} {times:.1f} times as many")
-            failed += [name] if times > MOST else []
+            for files in (1, 2):
+                counts = []
+                for realms in (few, 8 * few):
+                    path = os.path.join(folder, f"{realms}.conf")
+                    with open(path, "w", encoding="ascii") as file:
+                        file.write(configuration(realms, *kind))
+                    counts.append(instructions(os.path.abspath(sys.argv[1]), *[path] * files))
+                times = counts[1] / counts[0]
+                print(f"a check of {files} of realms with {name}: {few} take {counts[0]} instructions, {8 * few} {times:.1f} times as many")
+                failed += [name] if times > MOST else []
     if failed:
         sys.exit(f"try-linear: more than {MOST} times as many: {', '.join(failed)}")
 

@@ -1,7 +1,7 @@
 #!/usr/bin/env python3
 """try-pages.py [--booted] [--pages DIR] PROGRAM [PAGE..]
 
-Runs the commands of QUICKSTART, OPERATING and MIGRATING as they stand on the page, in one shell for each page, with
+Runs the commands of QUICKSTART, OPERATING, MIGRATING and TLS as they stand on the page, in one shell for each page, with
 PROGRAM as what was built. It fails where one of them fails; where a line of the text behind a command of QUICKSTART isn't
 in what it printed; where a configuration of the page is refused; and where a page names a file that isn't there. What
 it doesn't run it lists, with the reason.
@@ -19,10 +19,14 @@ import shutil
 import subprocess
 import sys
 import tempfile
+import textwrap
+
+sys.dont_write_bytecode = True
+import stream_tls
 
 ROOT = os.path.dirname(os.path.dirname(os.path.dirname(os.path.abspath(__file__))))
 DOCS = os.path.join(ROOT, "docs")
-PAGES = ["QUICKSTART", "OPERATING", "MIGRATING"]
+PAGES = ["QUICKSTART", "OPERATING", "MIGRATING", "TLS"]
 # A file of the repository, or a page beside this one; and whether the page says that it isn't installed.
 NAMES = r"`((?:docs|packaging|load|oracle|crates|examples|samples)/[\w./-]*|[A-Z]+\.md)`( of the source)?"
 SOURCES = ["packaging", "docs", "examples", "oracle", "CHANGELOG.md", "README.md", "SECURITY.md", "LICENSE-MIT", "LICENSE-APACHE"]
@@ -36,6 +40,7 @@ UNRUN = [
     (r"^tcpdump", "it runs until it is ended"),
     (r"^sysctl -w", "it changes the machine, and a container can't"),
     (r"^systemctl edit", "it asks a person"),
+    (r"admin\.sock", "it needs haproxy at work; try-streams.py runs it"),
 ]
 # What is run with --booted alone.
 OF_SYSTEM = r"\b(systemctl|journalctl|apt)\b"
@@ -80,8 +85,8 @@ def lines_of(block):
 def blocks_of(name, page):
     """The commands of a page: those of each block, with the lines that it has to print, and those within sentences."""
     blocks = []
-    for kind, block, word in re.findall(r"^```(\w*)\n(.*?)^```$|`([^`\n]+(?:\n[^`\n]+)?)`", page, re.DOTALL | re.MULTILINE):
-        word = " ".join(word.split())
+    for _, kind, block, word in re.findall(r"^( *)```(\w*)\n(.*?)^\1```$|`([^`\n]+(?:\n[^`\n]+)?)`", page, re.DOTALL | re.MULTILINE):
+        word, block = " ".join(word.split()), textwrap.dedent(block)
         if kind == "sh":
             blocks.append((lines_of(block), []))
         elif kind == "text" and name == "QUICKSTART" and blocks:
@@ -217,6 +222,9 @@ def editor_for(page, directory):
 
 def try_page(name, pages, program, booted, tally):
     print(f"\n{name}")
+    if name == "TLS" and not shutil.which("haproxy", path="/usr/sbin:/usr/bin"):
+        print("not run: there is no haproxy here")
+        return
     with open(os.path.join(pages, f"{name}.md")) as file:
         page = file.read()
     installed = pages != DOCS
@@ -229,6 +237,10 @@ def try_page(name, pages, program, booted, tally):
             # What the page says of it: it stands in examples/migrating.
             shutil.copy(os.path.join(ROOT, "examples", "migrating", "radsecproxy.conf"), "/etc/radsecproxy.conf")
             shell.run("make -s -C packaging install")
+        if name == "TLS":
+            # What the page begins with: two certificates, and what revokes others.
+            shell.run("make -s -C packaging install")
+            stream_tls.make_certificates(directory)
         try_commands(name, page, shell, booted, tally)
         try_configurations(page, program, tally)
         shell.close()

@@ -1,7 +1,7 @@
 #!/bin/bash
 # try-spreading.sh [--by nft|route|numgen] [--roam PROGRAM] [--sources N]
 #
-# Tries what docs/SPREADING.md says, in network namespaces of this machine: N access servers, a balancer, two brokers
+# Tries what docs/OPERATING.md, "Several proxies", says, in network namespaces of this machine: N access servers, a balancer, two brokers
 # and a home server. It fails unless each source keeps to one broker, duplicates are forwarded once, and a Disconnect is
 # taken by the broker from which its session came; and, when the second broker is taken out, the first one has all.
 # It needs root, ip, ss, nft and python3 (3.11), and cleans up after itself.

@@ -23,11 +23,13 @@ import time
 sys.dont_write_bytecode = True
 from around import Around, packets
 from looks import end, want, words
+import stream_rows
 from server import run
 from stream_ends import SECRET, Home, accepted_by, access, accounting, answer, answers, answers_at_length, connected
 
 TAKE, AUTH, ACCT, REVERSE, COA = ("127.0.0.1", 29651), ("127.0.0.1", 29652), ("127.0.0.1", 29653), ("127.0.0.1", 29654), 29655
-HOME, HOME_ACCT, OUT_A, OUT_B = ("127.2.0.1", 29656), ("127.2.0.1", 29657), 29658, 29659
+HOME, HOME_ACCT, AWAY, AWAY_ACCT = ("127.2.0.1", 29656), ("127.2.0.1", 29657), ("127.2.0.2", 29656), ("127.2.0.2", 29657)
+OUT_A, OUT_B, OUT_C = 29658, 29659, 29660
 BROKER = f"""shards = 1
 auth = "{AUTH[0]}:{AUTH[1]}"
 acct = "{ACCT[0]}:{ACCT[1]}"
@@ -57,6 +59,28 @@ rest_after = 50
 auth = "{HOME[0]}:{HOME[1]}"
 acct = "{HOME_ACCT[0]}:{HOME_ACCT[1]}"
 secret = "radsec"
+
+[[realm]]
+name = "b.example"
+out = "127.0.0.1:{OUT_B}"
+
+[[realm.server]]
+auth = "{HOME[0]}:{HOME[1]}"
+acct = "{HOME_ACCT[0]}:{HOME_ACCT[1]}"
+secret = "radsec"
+
+# It is away, or doesn't answer. (A bit more than 500 ms, so that no phase of two clocks matters.)
+[[realm]]
+name = "c.example"
+out = "127.0.0.1:{OUT_C}"
+wait = 510
+tries = 10
+rest_after = 50
+
+[[realm.server]]
+auth = "{AWAY[0]}:{AWAY[1]}"
+acct = "{AWAY_ACCT[0]}:{AWAY_ACCT[1]}"
+secret = "radsec"
 """
 STREAMS = f"""take = ["{TAKE[0]}:{TAKE[1]}"]
 auth = "{AUTH[0]}:{AUTH[1]}"
@@ -68,18 +92,24 @@ at = ["{HOME[0]}:{HOME[1]}", "{HOME_ACCT[0]}:{HOME_ACCT[1]}"]
 reverse = "{REVERSE[0]}:{REVERSE[1]}"
 silence = 20000
 """
+# A home server more, in the trial alone: without `reverse`.
+MORE = f"""
+[[server]]
+at = ["{AWAY[0]}:{AWAY[1]}"]
+silence = 2000
+"""
 
 
 class Trial:
     def __init__(self, around, program):
         self.around, self.program = around, program
-        self.home, self.home_acct = Home(HOME), Home(HOME_ACCT)
-        self.home.clear(answers)
-        self.home_acct.clear(answers)
+        self.home, self.home_acct, self.away = Home(HOME), Home(HOME_ACCT), Home(AWAY)
+        for home in (self.home, self.home_acct, self.away):
+            home.clear(answers)
 
     def start(self):
-        self.around.broker(self.program, BROKER, 90000)
-        self.around.start("streams", [self.program, "streams", self.around.write("streams.conf", STREAMS), "90000"])
+        self.around.broker(self.program, BROKER, 120000)
+        self.around.start("streams", [self.program, "streams", self.around.write("streams.conf", STREAMS + MORE), "120000"])
         for _ in range(100):
             try:
                 connected(TAKE).close()
@@ -268,35 +298,56 @@ class Trial:
         self.limits()
         self.once()
         self.disconnects()
+        stream_rows.play(self, TAKE, AWAY)
+        stream_rows.few_descriptors(self, AUTH, ACCT)
         self.floods()
         want(unfinished.ends(max(0.5, 12 - (time.monotonic() - begin))), "a packet that stays unfinished ends its connection")
         want(self.told("36 StreamSilent"), "that is told")
 
 
+# Files of streams: what is in each, its text, and what is printed of it, or the fault and the lines that say where it stands.
+SECOND = '[[server]]\nat = ["%s"]\nreverse = "%s"\n'
+AT, TO = "%s:%d" % HOME, "%s:%d" % REVERSE
 FILES = (
     ("take and a server", STREAMS, "ok servers 1\n"),
     ("nothing", "", "ok servers 0\n"),
-    ("a reverse in two tables", STREAMS + '[[server]]\nat = ["127.2.0.2:1812"]\nreverse = "%s:%d"\n' % REVERSE, "ok servers 2\n"),
-    ("no document", "take = [", "Syntax"),
-    ("no acct", STREAMS.replace("acct =", "# acct ="), "Missing"),
-    ("a server without at", "[[server]]\nsilence = 2000\n", "Missing"),
-    ("take that isn't local", STREAMS.replace(f'take = ["{TAKE[0]}', 'take = ["192.0.2.10'), "BadValue"),
-    ("most of 0", STREAMS.replace("most_of_one = 8", "most = 0"), "BadValue"),
-    ("an unknown key", STREAMS + 'name = "home"\n', "BadValue"),
-    ("IPv6", STREAMS.replace(f'"{AUTH[0]}:{AUTH[1]}"', '"[::1]:1812"'), "BadValue"),
-    ("one endpoint in two at", STREAMS + '[[server]]\nat = ["%s:%d"]\n' % HOME, "DuplicateEndpoint"),
-    ("a reverse that is an at", STREAMS + '[[server]]\nat = ["127.2.0.3:1812"]\nreverse = "%s:%d"\n' % HOME, "DuplicateEndpoint"),
+    ("a reverse in two tables", STREAMS + SECOND % ("127.2.0.2:1812", TO), "ok servers 2\n"),
+    ("no document", "auth = yes\n", 'Syntax\n:1:8: invalid value, expected a string, number, boolean, date-time, array or inline table: auth is a text in quotation marks\n'),
+    ("no acct", STREAMS.replace("acct =", "# acct ="), "Missing\n: acct: is missing\n"),
+    ("a server without at", "[[server]]\nsilence = 2000\n", "Missing\n:1: server 1: at: is missing\n"),
+    ("take that isn't local", STREAMS.replace(f'take = ["{TAKE[0]}', 'take = ["192.0.2.10'),
+     f'BadValue\n:1: take: "192.0.2.10:{TAKE[1]}" is not in an array of 0..8 endpoints of 127.0.0.0/8, as "127.0.0.1:1812"\n'),
+    ("take that is no array", STREAMS.replace(f'take = ["{TAKE[0]}:{TAKE[1]}"]', 'take = "127.0.0.1:1"'),
+     'BadValue\n:1: take: "127.0.0.1:1" is not in an array of 0..8 endpoints of 127.0.0.0/8, as "127.0.0.1:1812": write ["127.0.0.1:1"]\n'),
+    ("at with nothing", STREAMS + "[[server]]\nat = []\n", 'BadValue\n:11: server 2: at: an array of 0 is not in an array of 1..2 endpoints of 127.0.0.0/8, as "127.0.0.1:1812"\n'),
+    ("most of 0", STREAMS.replace("most_of_one = 8", "most = 0"), "BadValue\n:4: most: 0 is not in 1..4096\n"),
+    ("silence of a second too few", STREAMS.replace("20000", "999"), "BadValue\n:9: server 1: silence: 999 is not in 1000..3600000\n"),
+    ("an unknown key", STREAMS + 'name = "home"\n', 'BadValue\n:10: server "home": name: is no key of a server\n'),
+    ("a misspelt key", STREAMS.replace("most_of_one", "most_of_on"), "BadValue\n:4: most_of_on: is no key of the top table: did you mean most_of_one?\n"),
+    ("a key in a wrong table", STREAMS + "idle = 100\n",
+     "BadValue\n:10: server 1: idle: is no key of a server: it is one of the top table, so put it before the first table\n"),
+    ("one table in place of several", '[server]\nat = ["127.2.0.1:1812"]\n', "BadValue\n:1: server: a table is no array of 0..1024 tables: write [[server]]\n"),
+    ("IPv6", STREAMS.replace(f'"{AUTH[0]}:{AUTH[1]}"', '"[::1]:1812"'),
+     'BadValue\n:2: auth: "[::1]:1812" is no IPv4 address with a port of 1..65535, as "127.0.0.1:1812"\n'),
+    ("one endpoint in two at", STREAMS + f'[[server]]\nat = ["{AT}"]\n', f'DuplicateEndpoint\n:11: server 2: at: "{AT}" stands also in line 7: server 1: at\n'),
+    ("auth that is acct", STREAMS.replace(f":{ACCT[1]}", f":{AUTH[1]}"), 'DuplicateEndpoint\n:3: acct: "%s:%d" stands also in line 2: auth\n' % AUTH),
+    ("a reverse that is an at", STREAMS + SECOND % ("127.2.0.3:1812", AT), f'DuplicateEndpoint\n:12: server 2: reverse: "{AT}" stands also in line 7: server 1: at\n'),
+    ("a reverse that is a later at", STREAMS + SECOND % (TO, TO),
+     f'DuplicateEndpoint\n:8: server 1: reverse: "{TO}" stands also in line 11: server 2: at\n:12: server 2: reverse: "{TO}" stands also in line 11: server 2: at\n'),
 )
 
 
 def files(around, program):
     for what, text, answer_of in FILES:
         path = around.write("file.conf", text)
-        status, printed, told = run(program, "check", "--streams", path)
         if answer_of.startswith("ok"):
-            want((status, printed, told) == (0, answer_of, ""), f"a file with {what}: {answer_of.strip()}")
-        else:
-            want((status, printed, told.splitlines()[0]) == (1, "", f"roam: {path}: {answer_of}"), f"a file with {what}: {answer_of}")
+            want(run(program, "check", "--streams", path) == (0, answer_of, ""), f"a file with {what}: {answer_of.strip()}")
+            continue
+        name, *lines = answer_of.splitlines()
+        told = f"roam: {path}: {name}\n" + "".join(f"{path}{line}\n" for line in lines)
+        for words_of in (("check", "--streams", path), ("streams", path, "1000")):
+            found = run(program, *words_of)
+            want(found == (1, "", told), f"{words_of[0]} of a file with {what}: {name}" + ("" if found == (1, "", told) else f", not {found}"))
     taken = socket.socket(socket.AF_INET, socket.SOCK_STREAM)
     taken.bind(TAKE)
     taken.listen()
@@ -323,6 +374,7 @@ def main():
         finally:
             trial.home.close()
             trial.home_acct.close()
+            trial.away.close()
         if shutil.which("haproxy") or shutil.which("haproxy", path="/usr/sbin"):
             import stream_tls
 

@@ -2,10 +2,10 @@
 """try-tls.py PROGRAM [SECONDS]
 
 Puts the packages haproxy, radsecproxy and FreeRADIUS round `roam streams` and `roam serve`, by TLS on both sides, in a network of its own;
-haproxy.cfg, names.map, streams.conf and roam.conf are what from-radsecproxy.py makes of a radsecproxy.conf. Logins and accounting from
-radsecproxy and FreeRADIUS to these two as home servers, a Status-Server, a Disconnect from a home server; then logins while haproxy gets
-another certificate and is loaded anew, while the broker is started anew, and while a home server ends its connections with 100 requests
-waiting; and one login after the other beside a peer that floods, and one that reads nothing, for so many seconds each (10).
+haproxy.cfg, names.map, streams.conf and roam.conf are what from-radsecproxy.py makes of a radsecproxy.conf. Logins by PAP and by EAP-TTLS and
+accounting, from radsecproxy and FreeRADIUS to these two as home servers, a Status-Server, a Disconnect from a home server; then logins while
+haproxy gets another certificate and is loaded anew, while the broker is started anew, and while a home server ends its connections with 100
+requests waiting; and one login after the other beside a peer that floods, and one that reads nothing, for so many seconds each (10).
 
 It needs haproxy, radsecproxy, freeradius, openssl, unshare and ip, and no root where users may have networks of their own.
 """
@@ -20,6 +20,7 @@ import threading
 import time
 
 sys.dont_write_bytecode = True
+import eap_ttls
 from around import Around, command
 from looks import BAD, changed, end, go_on, over_lines, want, words
 from radius import bound, packets
@@ -66,6 +67,13 @@ realm * { server radius; accountingServer radius-acct }
 """
 USERS = """
 modules {{
+  eap {{
+    default_eap_type = ttls
+    timer_expire = 60
+    max_sessions = 4096
+    tls-config common {{ private_key_file = {folder}/{name}.key; certificate_file = {folder}/{name}.crt; ca_file = {folder}/ca.pem; tls_max_version = "1.2" }}
+    ttls {{ tls = common; virtual_server = "inner" }}
+  }}
   pap {{ }}
   always ok {{ rcode = ok }}
 }}
@@ -76,11 +84,19 @@ clients radsec {{
 server default {{
 {listens}
   authorize {{
+    eap {{ ok = return }}
+    update control {{ Cleartext-Password := "a password" }}
+    pap
+  }}
+  authenticate {{ pap; eap }}
+  accounting {{ ok }}
+}}
+server inner {{
+  authorize {{
     update control {{ Cleartext-Password := "a password" }}
     pap
   }}
   authenticate {{ pap }}
-  accounting {{ ok }}
 }}
 """
 LISTEN = "  listen {{ type = {0}; ipaddr = {1}; port = {2} }}\n"
@@ -90,7 +106,7 @@ OVER_TLS = """  listen {{
     port = 2083
     proto = tcp
     clients = radsec
-    tls {{ private_key_file = {0}/radius.direct.example.key; certificate_file = {0}/radius.direct.example.crt; ca_file = {0}/ca.pem; require_client_cert = yes; tls_max_version = "1.2" }}
+    tls {{ private_key_file = {0}/radius.direct.example.key; certificate_file = {0}/radius.direct.example.crt; ca_file = {0}/ca.pem; require_client_cert = yes; fragment_size = 8192; tls_max_version = "1.2" }}
   }}
 """
 COLLEGE = """
@@ -101,7 +117,7 @@ home_server front {{
   port = 2083
   proto = tcp
   secret = radsec
-  tls {{ private_key_file = {0}/proxy.college.example.key; certificate_file = {0}/proxy.college.example.crt; ca_file = {0}/ca.pem; tls_max_version = "1.2" }}
+  tls {{ private_key_file = {0}/proxy.college.example.key; certificate_file = {0}/proxy.college.example.crt; ca_file = {0}/ca.pem; fragment_size = 8192; tls_max_version = "1.2" }}
 }}
 home_server_pool front {{ home_server = front }}
 realm front {{ auth_pool = front; acct_pool = front; nostrip }}
@@ -138,8 +154,8 @@ def start(around, program):
     around.home = Home(("127.0.6.1", 2083), home_context(folder, "radius.python.example"))
     around.home.clear(answers)
     listens = LISTEN.format("auth", "127.0.4.1", 1812) + LISTEN.format("acct", "127.0.4.1", 1813)
-    around.freeradius("home", USERS.format(listens=listens))
-    around.freeradius("direct", USERS.format(listens=OVER_TLS.format(folder)))
+    around.freeradius("home", USERS.format(listens=listens, folder=folder, name="radius.home.example"))
+    around.freeradius("direct", USERS.format(listens=OVER_TLS.format(folder), folder=folder, name="radius.direct.example"))
     around.freeradius("college", COLLEGE.format(folder), proxies="yes")
     for name, text in (("university", UNIVERSITY), ("of-home", OF_HOME)):
         path = around.write(f"{name}.conf", over_lines(text.replace("{0}", folder), 4))
@@ -148,25 +164,32 @@ def start(around, program):
 
 
 def asked(to, octets, seconds=12):
-    """The code of what answers a datagram, sent again each two seconds, or nothing."""
+    """The packet that answers a datagram, sent again each two seconds, or nothing."""
     with bound(0, "127.0.3.9", 2) as opened:
         for _ in range(int(seconds / 2)):
             opened.sendto(octets, to)
             try:
-                return opened.recv(4096)[0]
+                return packets.Packet(opened.recv(4096))
             except TimeoutError:
                 pass
     return None
 
 
+def code_of(packet):
+    return packet and packet.code
+
+
 def exchanges(around):
     """Logins and accounting between the servers of others."""
-    del around
     for name, proxy in (("radsecproxy", "127.0.3.1"), ("FreeRADIUS", "127.0.3.2")):
         for behind, realm in (("radsecproxy", b"home.example"), ("FreeRADIUS", b"direct.example")):
-            got = asked((proxy, 1812), access(os.urandom(1)[0], os.urandom(8), b"u@" + realm))
+            got = code_of(asked((proxy, 1812), access(os.urandom(1)[0], os.urandom(8), b"u@" + realm)))
             want(got == packets.ACCESS_ACCEPT, f"a login by {name} to a home server behind {behind}: {got}")
-            got = asked((proxy, 1813), accounting(os.urandom(1)[0], b"s-" + os.urandom(4).hex().encode(), b"u@" + realm))
+            for password, code in ((b"a password", packets.ACCESS_ACCEPT), (b"another", packets.ACCESS_REJECT)):
+                login = eap_ttls.Login(lambda octets, to=(proxy, 1812): asked(to, octets), b"u@" + realm, password, around.path("ca.pem"), SECRET)
+                got = login.code()
+                want(got == code, f"a login by EAP-TTLS with {password.decode()!r} by {name} to a home server behind {behind}: {got}")
+            got = code_of(asked((proxy, 1813), accounting(os.urandom(1)[0], b"s-" + os.urandom(4).hex().encode(), b"u@" + realm)))
             want(got == packets.ACCOUNTING_RESPONSE, f"accounting by {name} to a home server behind {behind}: {got}")
 
 
@@ -263,6 +286,7 @@ def changes(around, probe):
     good, all_of = beside(probe, another_certificate)
     want(good == all_of > 0, f"while haproxy gets another certificate: {good} of {all_of} logins")
     want(serial(folder) != before, "a new connection has the new certificate")
+    time.sleep(1)
     taken = around.log("streams").count(" taken from 127.1.0.3")
 
     def broker_anew():

@@ -4,17 +4,21 @@ It looks at README.md and docs/*.md: at paths in backticks and in links; at sect
 "Section", above or below; at `Type::function` and `crate::function` in backticks, which one crate has to have, and that one where
 it is named; at names whose link leads to a file of code, which has to have them; at names behind "the law" or "the laws"; at other
 names in backticks on the pages about the code, which some source has to have; and at blocks of Rust, which stand in
-crates/test_callers, so that the gate proves them.
+crates/test_callers, so that the gate proves them. A page that tools/pages.py makes and that isn't kept is looked at as it is made; of the page of definitions and of
+docs/THEOREM.md, whose blocks are made of the sources, the blocks aren't.
 """
 import pathlib
 import re
+
+from making import definitions
 
 ROOT = pathlib.Path(__file__).resolve().parents[2]
 # Names of the toolchain and of the language, and forms that stand for a name.
 KNOWN_TYPES = {"Option", "Result", "Vec", "String", "Hash", "UdpSocket", "Scope", "Process", "Refusal", "Self", "Rattle", "std", "self"}
 # Names of others on pages about the code.
 KNOWN_NAMES = {"LoadCredential"}
-CODE_PAGES = ("ARCHITECTURE", "CONTRIBUTING", "DECISIONS", "GLOSSARY", "PROOFS", "TOUR")
+CODE_PAGES = ("CONTRIBUTING", "DECISIONS", "PROOFS", "TOUR")
+MADE_PAGES = ("THEOREM", "DEFINITIONS")
 SOURCES = ("crates/*/src/**/*.rt", "crates/*/specs/**/*.antt", "crates/*/proofs/**/*.antt", "oracle/*.py", "packaging/**/*.*", "tools/**/*.py")
 OWN_FOLDERS = ("crates", "docs", "oracle", "load", "packaging", "mistakes", "tools", "examples")
 
@@ -54,7 +58,7 @@ def missing_file(name: str, page: pathlib.Path) -> bool:
     if not name or any(it in name for it in "*<>{} ") or name.isupper() or "NAME" in name or "/out/" in name:
         return False
     if name.split("/")[0] in OWN_FOLDERS:
-        return not (ROOT / name).exists() and not (page.parent / name).exists()
+        return ROOT / name != definitions.PAGE and not (ROOT / name).exists() and not (page.parent / name).exists()
     return False
 
 
@@ -98,11 +102,11 @@ def missing_rust(text: str) -> list[str]:
     return [it.split("\n")[0] for it in blocks if "".join(it.split()) not in "".join(callers.split())]
 
 
-def faults_of(page: pathlib.Path, code, specs: set[str]) -> list[str]:
-    """What a page names that isn't there."""
+def faults_of(page: pathlib.Path, text: str, code, specs: set[str]) -> list[str]:
+    """Returns what a page names that isn't there."""
     functions = set().union(*(it for it, _ in code.values()))
     faults, is_code = [], False
-    for number, line in enumerate(page.read_text(encoding="utf-8").split("\n"), 1):
+    for number, line in enumerate(text.split("\n"), 1):
         if line.startswith("```"):
             is_code = not is_code
         if is_code:
@@ -135,8 +139,9 @@ def faults() -> list[str]:
     """What isn't there, with its page and line."""
     code, specs = names_of_code(), spec_names()
     pages = [ROOT / "README.md", *sorted((ROOT / "docs").glob("*.md"))]
-    said = [it for page in pages if page.name != "THEOREM.md" for it in faults_of(page, code, specs)]
-    texts = {page: page.read_text(encoding="utf-8") for page in pages if page.name != "THEOREM.md"}
+    texts = {page: page.read_text(encoding="utf-8") for page in pages} | definitions.made()
+    said = [it for page, text in texts.items() for it in faults_of(page, text, code, specs)]
+    texts = {page: text for page, text in texts.items() if page.stem not in MADE_PAGES}
     said += [f"{page.relative_to(ROOT)}: {it} isn't there" for page, text in texts.items()
              for it in missing_sections(page, text) + missing_rust(text)]
     words = words_of_code() | KNOWN_NAMES

@@ -1,4 +1,4 @@
-"""Writes docs/DEFINITIONS.md from what stands above the definitions in crates/*/specs, in the order of docs/definitions.txt.
+"""Writes docs/DEFINITIONS.md: what stands above the definitions in crates/*/specs, in the order of docs/definitions.txt, with their terms.
 
 Above a definition that the page has stands a comment of this form, and below it, after an empty line of comment, the
 definition's own:
@@ -10,11 +10,18 @@ definition's own:
     -- Stands in: `crate` `File.antt`: `names`; the functions and laws that carry it
     --
 
+Below the words of a file stand the terms of those of its definitions on which the headline rests, or the provenance of packets, or a line of
+`roam sim` (theorem.py reads them): without its comment where the words say it. The page isn't kept in the repository: `make pages` writes
+it, and the gate looks that it can be made.
+
 Wrong is a file with such definitions that docs/definitions.txt doesn't name, and a name behind "Stands in"
 that isn't in its file.
 """
 import pathlib
 import re
+
+from making import theorem
+from making.terms import Definition, by_file, in_order, print_group, unread_fields
 
 ROOT = pathlib.Path(__file__).resolve().parents[2]
 PAGE = ROOT / "docs" / "DEFINITIONS.md"
@@ -22,10 +29,10 @@ ORDER = ROOT / "docs" / "definitions.txt"
 MARK = "<!-- Made by tools/pages.py from the comments in crates/*/specs: change those. -->\n"
 TAGS = ("Source", "Rules out", "Stands in")
 KINDS = {
-    "also": "**To be believed as well**, wherever a contract or a definition above uses a word of theirs:",
-    "laws": "**Statements of laws**, which are proved, and on which no definition above rests:",
-    "not": "**Not to be believed**: words of private functions, of room and memory, of how data is kept, and of tests. What is sent\n"
-           "doesn't rest on them: data that stood for something else couldn't give the written answers.",
+    "also": "**You have to believe these too**, where a contract or a definition above uses a word of theirs:",
+    "laws": "**Statements of laws**, which are proved; no definition above rests on them:",
+    "not": "**You needn't believe these**: words of private functions, of room and memory, of how data is kept, and of tests. No packet rests on\n"
+           "them: data that stood for something else couldn't give the written answers.",
 }
 
 
@@ -114,9 +121,45 @@ def in_list(paths: list[pathlib.Path]) -> list[str]:
     return [f"- `{crate}`: {'; '.join(names)}" for crate, names in crates.items()]
 
 
+class Terms:
+    """The terms of the definitions below the headline, file by file, each to be printed once."""
+
+    def __init__(self):
+        book = theorem.book()
+        self.unread = unread_fields(book.chapters)
+        order = [one for chapter in book.chapters[3:] for one in chapter.order]
+        groups = by_file(order + in_order(book.sources, book))
+        self.left = {ROOT / "crates" / group[0].crate / group[0].path: group for group in groups}
+        self.first = {ROOT / "crates" / one.crate / one.path for chapter in book.chapters[:3] for one in chapter.order}
+
+    def of_file(self, path: pathlib.Path, told: set[str] = frozenset()) -> list[str]:
+        """The terms of a file, without the comments of those that are told above."""
+        group = [Definition(it.crate, it.path, it.name, [] if it.name in told else it.comment, it.text) for it in self.left.pop(path, [])]
+        page: list[str] = []
+        if group:
+            print_group(page, group, self.unread)
+        if path in self.first:
+            page.append("Terms of this file stand in `THEOREM.md`.\n")
+        return page
+
+    def of_code(self, crate: str) -> list[str]:
+        """The types and constants of a crate's code."""
+        return [line for path in sorted(it for it in self.left if it.is_relative_to(ROOT / "crates" / crate / "src")) for line in self.of_file(path)]
+
+    def of_others(self) -> list[str]:
+        return [line for path in sorted(self.left) for line in self.of_file(path)]
+
+
+def told_in(path: pathlib.Path) -> set[str]:
+    """The definitions of a file that its words on the page tell."""
+    tags = " ".join(parts_of(block)[1].get("Stands in", "") for block in blocks_of(path).values())
+    found = re.findall(r"`%s\.antt`:((?:,? `[A-Za-z_]+`(?: and)?)+)" % path.stem, tags)
+    return set(re.findall(r"`([A-Za-z_]+)`", " ".join(found)))
+
+
 def written() -> str:
     """The page."""
-    lines = ordered()
+    lines, terms, begun = ordered(), Terms(), set()
     page = [MARK, "# The definitions of the broker\n"]
     for kind, text, files in lines:
         if kind == "words":
@@ -125,12 +168,17 @@ def written() -> str:
             page.append(f"\n{text}\n")
         elif kind == "files":
             for name in files:
-                for plain, block in blocks_of(file_of(text, name)).items():
+                path = file_of(text, name)
+                for plain, block in blocks_of(path).items():
                     words, tags = parts_of(block)
                     page += [f"### {plain}\n", words + "\n"] + [f"- *{tag}:* {tags[tag]}" for tag in TAGS if tag in tags] + [""]
+                page += terms.of_file(path, told_in(path))
+                page += [] if text in begun else terms.of_code(text)
+                begun.add(text)
     page.append("## The other files\n\nEach file of `specs/` has definitions above or stands in one of these lists, with its own first line.\n")
     for kind, paths in others(lines).items():
         page += [KINDS[kind] + "\n", *in_list(paths), ""]
+    page += ["## Terms of the other files\n", *terms.of_others()]
     return re.sub(r"\n{3,}", "\n\n", "\n".join(page)).rstrip("\n") + "\n"
 
 

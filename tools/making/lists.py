@@ -148,7 +148,8 @@ def faults() -> list[str]:
              if not re.search(rf"^(?:{it} =|\[\[(?:\w+\.)?{it}\]\])", shown, re.M)]
     code = (ROOT / "crates" / "roam_wire" / "src" / "refusal.rt").read_text(encoding="utf-8")
     names = re.findall(r"^    ([A-Z][A-Za-z]+),$", code.split("pub enum Refusal {")[1].split("}")[0], re.M)
-    rows = [(number, name.strip("`")) for number, name, *_ in rows_of("REFUSALS.md", "no.")]
+    # Each row has a line of the log, which begins `refused N NAME`.
+    rows = [(number, line.strip("`").removeprefix(f"refused {number} ").split(" ")[0]) for number, line, *_ in rows_of("REFUSALS.md", "no.")]
     if rows != [(str(place), name) for place, name in enumerate(names, 1)]:
         said.append("the refusals of docs/REFUSALS.md aren't those of roam_wire, in their order")
     counted = re.findall(r'"(\d+)",\s*CountedEvent::Refused\(Refusal::(\w+)\)', (

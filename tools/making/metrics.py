@@ -13,12 +13,12 @@ HEAD = """<!-- Made by tools/pages.py from crates/roam_metrics/src: change that.
 
 # The metrics of `roam serve`
 
-What `GET /metrics` and `roam ctl PATH metrics` answer, in Prometheus' text format. `docs/OPERATING.md`, "Counts, for Prometheus", says
-how one comes to them, and what is seen by them.
+`GET /metrics` and `roam ctl metrics` answer these, in Prometheus' text format. `docs/OPERATING.md`, "Counts, for Prometheus", says how to
+turn them on, and which of them add up.
 """
 
 ABOUT_WHO = """
-Those that aren't 0, each with the label `realm`, or `realm` and `server` (the home server's `auth`), or `peer`.
+Only those that aren't 0 are there, each with the label `realm`, or `realm` and `server` (the home server's `auth`), or `peer`.
 """
 
 
@@ -72,7 +72,7 @@ def written() -> str:
     page = [HEAD]
     for head, rows in (("Of the whole server", of_server()),
                        ("WHO is `realm`, `server` or `peer`", families()),
-                       ("How they stand, each realm when it is looked at", standing())):
+                       ("Gauges, read when the page is asked for", standing())):
         about = ABOUT_WHO if head.startswith("WHO") else ""
         page += [f"\n## {head}\n{about}\n| metric | labels | |\n|---|---|---|", *rows]
     return "\n".join(page).replace("\n\n\n", "\n\n") + "\n"

@@ -1,7 +1,7 @@
 //! The program `roam`: does what the words of its command line ask for, and says how it ended.
 //!
-//! What is done stands in `roam_program`, the words and texts in `roam_words`; here are the standard streams and the status
-//! alone.
+//! What is done stands in `roam_program`, the words and texts in `roam_words`; here are the standard streams and the
+//! status alone.
 #![tactic(auto)]
 
 use log::Log;
@@ -27,7 +27,7 @@ fn words<R: Env + AllocGlobal>(rt: &R) -> Result<Vec<String>, Fault<'static>> {
     args.skip(1).collect(rt.alloc()).map_err(|_| Fault::Memory)
 }
 
-/// Whether words ask for a server, or for streams: what tells lines as long as it goes on.
+/// Returns whether words ask for a server, or for streams: what tells lines as long as it goes on.
 fn ask_to_serve(words: &[String]) -> bool {
     match words.first() {
         Some(word) => word.as_str() == "serve" || word.as_str() == "streams",

@@ -73,7 +73,7 @@ impl Address {
         self.ip
     }
 
-    /// Whether it is an IPv6 address.
+    /// Returns whether it is an IPv6 address.
     pub fn is_ipv6(self) -> bool
         ensures { result ≡ is_ipv6 (ip_of self) }
     {
@@ -100,7 +100,7 @@ impl Address {
         }
     }
 
-    /// How many bits it has.
+    /// Returns how many bits it has.
     pub fn width(self) -> u8
         ensures value { result ≡ width (ip_of self) }
         ensures small { result ≤ 128 }

@@ -5,14 +5,14 @@ ghost use Rattle.std.specs.Char.{is_ascii_digit};
 ghost use Rattle.std.specs.List.{list_all};
 ghost use Rattle.roam_address.specs.Decimals.{is_decimal, decimal_in};
 
-/// Whether each octet is a decimal digit.
+/// Returns whether each octet is a decimal digit.
 fn are_digits(octets: &[u8]) -> bool
     ensures { result ≡ list_all is_ascii_digit octets.now }
 {
     octets.iter().all(|octet| octet.is_ascii_digit())
 }
 
-/// Whether the octets are decimal digits, of which the first is a zero only where it stands alone.
+/// Returns whether the octets are decimal digits, of which the first is a zero only where it stands alone.
 #[tactic(auto, unfolding(crate::specs::Decimals::is_decimal))]
 fn is_decimal(octets: &[u8]) -> bool
     ensures { result ≡ is_decimal octets.now }

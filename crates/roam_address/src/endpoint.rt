@@ -39,7 +39,7 @@ impl Endpoint {
         }
     }
 
-    /// What a text states, cut at its last colon.
+    /// Returns what a text states, cut at its last colon.
     fn read(text: &str) -> Option<Endpoint>
         ensures { Reads IsEndpointText text.now result }
     {

@@ -22,7 +22,7 @@ fn above(number: u128, places: u8) -> u128
     if places == 128 { 0 } else { number >> places }
 }
 
-/// Whether a number's lowest bits, so many of them, are zero.
+/// Returns whether a number's lowest bits, so many of them, are zero.
 fn is_zero_below(number: u128, places: u8) -> bool
     requires { places ≤ 128 }
     ensures { IsTrue result ↔ (number % 2 ^ places ≡ 0) }
@@ -51,7 +51,7 @@ impl Leading {
         }
     }
 
-    /// Whether all bits of an address behind the leftmost ones are zero.
+    /// Returns whether all bits of an address behind the leftmost ones are zero.
     pub(crate) fn is_all(address: Address, length: u8) -> bool
         requires { length ≤ width (ip_of address) }
         ensures { IsTrue result ↔ (number (ip_of address) % 2 ^ (width (ip_of address) - length) ≡ 0) }

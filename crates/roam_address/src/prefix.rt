@@ -51,7 +51,7 @@ impl Prefix {
         }
     }
 
-    /// What a text states that isn't an address alone, cut at its last slash.
+    /// Returns what a text states that isn't an address alone, cut at its last slash.
     fn read_part(text: &str) -> Option<Prefix>
         requires { Reads IsAddressText text.now None }
         ensures { Reads IsPrefixText text.now result }
@@ -68,7 +68,7 @@ impl Prefix {
         }
     }
 
-    /// What a text states.
+    /// Returns what a text states.
     fn read(text: &str) -> Option<Prefix>
         ensures { Reads IsPrefixText text.now result }
     {
@@ -108,7 +108,7 @@ impl Prefix {
         Leading::of(self.network, self.length)
     }
 
-    /// Whether an address is in it.
+    /// Returns whether an address is in it.
     #[tactic(auto, using(crate::proofs::SameLemmas::kinds_apart))]
     pub fn has(self, address: Address) -> bool
         ensures states { IsTrue result ↔ IsIn self address }

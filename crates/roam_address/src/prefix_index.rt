@@ -11,7 +11,7 @@ use std::hash::{BuildHasherDefault, FoldHasher};
 /// How many pairs of a kind and a length there are: 33 of IPv4 and 129 of IPv6.
 const LENGTHS: usize = 162;
 
-/// Where it is marked that a prefix of this kind and length is there.
+/// Returns where it is marked that a prefix of this kind and length is there.
 fn slot(is_ipv6: bool, length: u8) -> usize
     ensures { result ≡ slot is_ipv6 length }
 {

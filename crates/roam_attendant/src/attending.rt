@@ -46,7 +46,7 @@ pub struct Attendant<'s, 'c, R, H, N: Opened> {
 }
 
 impl<'s, 'c, R, H, N: Opened> Attendant<'s, 'c, R, H, N> {
-    /// What it has at first.
+    /// Returns what it has at first.
     pub fn new(
         rt: &'s R,
         shared: &'s Shared<'s, 'c, H, N>,
@@ -71,7 +71,7 @@ pub(crate) fn bare(alloc: Global, course: Course) -> Reply {
     plain_reply(course, Vec::new(alloc))
 }
 
-/// What is answered to who has the server stop.
+/// Returns what is answered to who has the server stop.
 pub fn stopping(alloc: Global) -> Reply {
     let mut body = Vec::new(alloc);
     let _is_said = body.extend_from_slice(b"stopping\n").is_ok();
@@ -93,7 +93,7 @@ impl<R: Threads + Wait + Clock + Net + Log + Sync, H: HubCalls<N>, N: Opened> At
             .of_thread(usize::from(shared.config.shards))
     }
 
-    /// What was counted, and how all stands; none where nothing is counted.
+    /// Returns what was counted, and how all stands; none where nothing is counted.
     fn look(&self) -> Result<Option<Overview<'_>>, AllocError> {
         let shared = self.shared;
         match shared.counters {
@@ -116,7 +116,7 @@ impl<R: Threads + Wait + Clock + Net + Log + Sync, H: HubCalls<N>, N: Opened> At
         }
     }
 
-    /// How the server stands.
+    /// Returns how the server stands.
     fn status(&self, form: StatusForm) -> Result<Reply, AllocError> {
         let Some(standing) = self.look()? else {
             return Ok(bare(self.shared.alloc, Course::Unknown));

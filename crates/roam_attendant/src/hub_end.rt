@@ -16,7 +16,7 @@ pub enum HubEnd {
 }
 
 impl HubEnd {
-    /// Whether the server ends.
+    /// Returns whether the server ends.
     pub fn is_over(&self) -> bool {
         match self {
             HubEnd::Over => true,
@@ -24,7 +24,7 @@ impl HubEnd {
         }
     }
 
-    /// Whether what serves couldn't be started.
+    /// Returns whether what serves couldn't be started.
     pub fn has_failed(&self) -> bool {
         match self {
             HubEnd::Failed(_, _) => true,

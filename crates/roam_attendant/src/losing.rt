@@ -19,7 +19,7 @@ use std::alloc::{AllocError, Global};
 use std::io::Write;
 use std::sync::Wait;
 
-/// What goes of the realm of an index; nothing where that isn't known.
+/// Returns what goes of the realm of an index; nothing where that isn't known.
 fn loss_at<R: Wait, H: HubCalls<N>, N: Opened>(
     rt: &R,
     shared: &Shared<'_, '_, H, N>,
@@ -55,7 +55,7 @@ fn changed_of<H, N: Opened>(
     }
 }
 
-/// What goes of each realm where a configuration follows.
+/// Returns what goes of each realm where a configuration follows.
 fn all_losses<R: Wait, H: HubCalls<N>, N: Opened>(
     rt: &R,
     shared: &Shared<'_, '_, H, N>,
@@ -71,7 +71,7 @@ fn all_losses<R: Wait, H: HubCalls<N>, N: Opened>(
     Ok(losses)
 }
 
-/// Whether nothing goes.
+/// Returns whether nothing goes.
 fn is_nothing(loss: &Loss) -> bool {
     loss.waiting == 0 && loss.held == 0 && loss.sessions == 0
 }
@@ -125,8 +125,8 @@ pub fn tell_what_went<R: Log>(rt: &R, config: &Config, losses: &[Loss]) {
     }
 }
 
-/// Why a configuration isn't followed to which nobody agreed: something would be lost by it as the realms stand now.
-/// The workers serve meanwhile, so it is looked again when they have ended.
+/// Returns why a configuration isn't followed to which nobody agreed: something would be lost by it as the realms
+/// stand now. The workers serve meanwhile, so it is looked again when they have ended.
 pub fn objection<R: Wait, H: HubCalls<N>, N: Opened>(
     rt: &R,
     shared: &Shared<'_, '_, H, N>,
@@ -143,7 +143,7 @@ pub fn objection<R: Wait, H: HubCalls<N>, N: Opened>(
 }
 
 impl<R: Wait + Log, H: HubCalls<N>, N: Opened> Attendant<'_, '_, R, H, N> {
-    /// How a realm stands that is here, by its index.
+    /// Returns how a realm stands that is here, by its index.
     fn standing_of(&self, index: u16) -> Option<Gauges> {
         let shared = self.shared;
         match shared.config.realms.get(usize::from(index)) {

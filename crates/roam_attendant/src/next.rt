@@ -49,7 +49,7 @@ const SPARE_OF_A_THREAD: usize = 9 << 20;
 
 const SPARE_BESIDE: usize = 1 << 20;
 
-/// How many octets the lists and the stacks of the threads may take that start then. They aren't touched.
+/// Returns how many octets the lists and the stacks of the threads may take that start then. They aren't touched.
 fn spare_for(threads: usize, sockets: usize) -> usize {
     sockets
         .saturating_mul(SPARE_OF_A_SOCKET)
@@ -102,12 +102,12 @@ fn declined_with(alloc: Global, words: &[u8]) -> Reply {
     declined(body)
 }
 
-/// What is answered where memory is wanting.
+/// Returns what is answered where memory is wanting.
 pub fn out_of_memory(alloc: Global) -> Reply {
     declined_with(alloc, b"roam: out of memory\n")
 }
 
-/// What is said to who asks for another configuration where the server is asked to stop.
+/// Returns what is said to who asks for another configuration where the server is asked to stop.
 fn is_stopping(alloc: Global) -> Reply {
     declined_with(alloc, b"roam: asked to stop\n")
 }
@@ -138,8 +138,8 @@ fn bind_next<R: Net + Log, H: HubCalls<N>, N: Opened>(
     })
 }
 
-/// What is said of a fault for which a configuration doesn't follow: of a socket that can't be bound also beside which
-/// one that is open.
+/// Returns what is said of a fault for which a configuration doesn't follow: of a socket that can't be bound also
+/// beside which one that is open.
 fn words_of<S: Source>(source: &mut S, sockets: &[BoundSocket], fault: ServeFault) -> Vec<u8> {
     let mut words = source.words_of(fault);
     if let ServeFault::Bind(endpoint, _) = fault {

@@ -41,7 +41,7 @@ impl<'p> Overview<'p> {
         })
     }
 
-    /// How a realm stood.
+    /// Returns how a realm stood.
     fn of(&self, realm: u16) -> Option<&Gauges> {
         match self.gauges.get(usize::from(realm)) {
             Some(Some(gauges)) => Some(gauges),
@@ -55,7 +55,7 @@ impl<'p> Overview<'p> {
         Some(realm.servers.len().saturating_add(usize::from(server)))
     }
 
-    /// How many Identifiers are in use at a link of a realm.
+    /// Returns how many Identifiers are in use at a link of a realm.
     fn in_use(&self, realm: u16, place: usize) -> Option<u64> {
         Some(u64::from(*self.of(realm)?.in_use_at.get(place)?))
     }
@@ -68,7 +68,7 @@ impl<'p> Overview<'p> {
         }
     }
 
-    /// How many requests were given up at a link of a realm since a reply was last taken.
+    /// Returns how many requests were given up at a link of a realm since a reply was last taken.
     fn unanswered(&self, realm: u16, place: usize) -> Option<u64> {
         Some(u64::from(self.of(realm)?.rests.get(place)?.given_up))
     }

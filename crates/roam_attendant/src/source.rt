@@ -48,7 +48,7 @@ pub trait Source {
     fn following(&mut self, old: &Config) -> Result<Following, Vec<u8>>
         ensures { IfOk result (λ following. MayFollow (shown old.now) (shown following.config)) };
 
-    /// What is said of a fault for which the server can't go on with a configuration.
+    /// Returns what is said of a fault for which the server can't go on with a configuration.
     fn words_of(&mut self, fault: ServeFault) -> Vec<u8>;
 
     /// Returns the octets that the file of a path holds; none where there is no such file; or why it can't be read.

@@ -2,7 +2,7 @@
 
 ghost use Rattle.std.specs.Prelude.{◌≡◌, ◌↔◌, IsTrue};
 
-/// Whether two digests are the same octets. All octets are looked at, wherever the first difference
+/// Returns whether two digests are the same octets. All octets are looked at, wherever the first difference
 /// stands: the time that it takes says nothing but whether they are as long.
 pub(crate) fn is_same_digest(one: &[u8], other: &[u8]) -> bool
     ensures { IsTrue result ↔ (one.now ≡ other.now) }

@@ -19,7 +19,7 @@ use crate::seal_place::seal_place;
 use crate::secret::Secret;
 use roam_wire::View;
 
-/// Where the Value of the one Message-Authenticator begins, in the packet's octets.
+/// Returns where the Value of the one Message-Authenticator begins, in the packet's octets.
 fn seal_place_in(octets: &[u8]) -> Option<usize>
     requires { IsPacketText octets.now }
     ensures none { IfNone result (¬ HasOneMessageAuthenticator (packet_of octets.now)) }

@@ -18,7 +18,7 @@ use roam_md5::Hasher;
 use roam_wire::View;
 use roam_wire::attribute_type::MESSAGE_AUTHENTICATOR;
 
-/// Whether just one Message-Authenticator stands there, of 16 octets (RFC 3579, section 3.2).
+/// Returns whether just one Message-Authenticator stands there, of 16 octets (RFC 3579, section 3.2).
 pub fn has_one_message_authenticator(view: &View<'_>) -> bool
     ensures { IsTrue result ↔ HasOneMessageAuthenticator view.now }
 {
@@ -76,7 +76,7 @@ pub fn message_auth(view: &View<'_>, secret: &Secret, authenticator: [u8; 16]) -
     }
 }
 
-/// Whether a packet is well sealed for a secret and one Authenticator: whether it has no
+/// Returns whether a packet is well sealed for a secret and one Authenticator: whether it has no
 /// Message-Authenticator, or just one, of 16 octets, that is the packet's over that Authenticator
 /// (RFC 3579, section 3.2).
 pub fn message_ok(view: &View<'_>, secret: &Secret, authenticator: [u8; 16]) -> bool

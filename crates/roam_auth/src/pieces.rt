@@ -27,7 +27,7 @@ pub fn behind_authenticator(octets: &[u8]) -> &[u8]
     octets.split_at(20).1
 }
 
-/// What stands in the Authenticator's field.
+/// Returns what stands in the Authenticator's field.
 pub fn authenticator_in(octets: &[u8]) -> &[u8]
     requires { 20 ≤ length octets.now }
     ensures { result.now ≡ drop 4 (take 20 octets.now) }
@@ -35,7 +35,7 @@ pub fn authenticator_in(octets: &[u8]) -> &[u8]
     octets.split_at(20).0.split_at(4).1
 }
 
-/// What stands before an octet.
+/// Returns what stands before an octet.
 pub fn octets_before(octets: &[u8], at: usize) -> &[u8]
     requires { at ≤ length octets.now }
     ensures { result.now ≡ take at octets.now }
@@ -43,7 +43,7 @@ pub fn octets_before(octets: &[u8], at: usize) -> &[u8]
     octets.split_at(at).0
 }
 
-/// What stands from an octet on.
+/// Returns what stands from an octet on.
 pub fn octets_from(octets: &[u8], at: usize) -> &[u8]
     requires { at ≤ length octets.now }
     ensures { result.now ≡ drop at octets.now }
@@ -51,7 +51,7 @@ pub fn octets_from(octets: &[u8], at: usize) -> &[u8]
     octets.split_at(at).1
 }
 
-/// Where in a packet's octets the Value of its first Message-Authenticator begins, if it has one.
+/// Returns where in a packet's octets the Value of its first Message-Authenticator begins, if it has one.
 pub fn value_place(view: &View<'_>) -> Option<usize>
     ensures { MatchOption result (HasNoMessageAuthenticator view.now)
         (λ at. IsValuePlace at view.now.attributes) }

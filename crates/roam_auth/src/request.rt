@@ -20,7 +20,7 @@ pub fn request_auth(view: &View<'_>, secret: &[u8]) -> [u8; 16]
     response_auth(view, ZERO_OCTETS, secret)
 }
 
-/// Whether an accounting or reverse request is signed: whether its Authenticator field is its
+/// Returns whether an accounting or reverse request is signed: whether its Authenticator field is its
 /// Request Authenticator (RFC 2866, section 3; RFC 5176, section 2.3).
 pub fn request_ok(view: &View<'_>, secret: &[u8]) -> bool
     requires secret { IsSecret secret.now }

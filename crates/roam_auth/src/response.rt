@@ -21,7 +21,7 @@ pub fn response_auth(view: &View<'_>, request_authenticator: [u8; 16], secret: &
     hasher.finalize()
 }
 
-/// Whether a reply is signed: whether its Authenticator field is its Response Authenticator
+/// Returns whether a reply is signed: whether its Authenticator field is its Response Authenticator
 /// (RFC 2865, section 3).
 pub fn response_ok(view: &View<'_>, request_authenticator: [u8; 16], secret: &[u8]) -> bool
     requires secret { IsSecret secret.now }

@@ -28,7 +28,8 @@ fn place_after(met: Option<usize>, at: usize, attribute: &Attr<'_>) -> Option<Op
     Some(Some(at + 2))
 }
 
-/// Where the Value of a packet's Message-Authenticator begins, where just one stands there, of 16 octets. One pass.
+/// Returns where the Value of a packet's Message-Authenticator begins, where just one stands there, of 16 octets. One
+/// pass.
 pub(crate) fn seal_place(view: &View<'_>) -> Option<usize>
     ensures none { IfNone result (¬ HasOneMessageAuthenticator view.now) }
     ensures one { IfSome result (λ _. HasOneMessageAuthenticator view.now) }

@@ -18,7 +18,7 @@ fn name_part<'a>(packet: &View<'a>) -> Option<&'a [u8]>
     realm_part(packet.first(USER_NAME)?)
 }
 
-/// Whether two name parts are there, and equal without ASCII case.
+/// Returns whether two name parts are there, and equal without ASCII case.
 fn is_same_name(part: Option<&[u8]>, other: Option<&[u8]>) -> bool
     ensures { result ≡ is_same_name (option_map (λ part. part.now) part.entry)
         (option_map (λ part. part.now) other.entry) }
@@ -29,7 +29,7 @@ fn is_same_name(part: Option<&[u8]>, other: Option<&[u8]>) -> bool
     }
 }
 
-/// Whether an attribute is a User-Name of the request's name part, or none at all; where own names alone pass.
+/// Returns whether an attribute is a User-Name of the request's name part, or none at all; where own names alone pass.
 #[tactic(auto, unfolding(crate::specs::Returned::is_own))]
 fn is_own(attribute: &Attr<'_>, own: bool, request: &View<'_>) -> bool
     ensures { result ≡ is_own own request.now (shown attribute.now) }
@@ -38,7 +38,7 @@ fn is_own(attribute: &Attr<'_>, own: bool, request: &View<'_>) -> bool
         || is_same_name(realm_part(attribute.value), name_part(request))
 }
 
-/// Whether an attribute of a reply passes by its name, and is returned.
+/// Returns whether an attribute of a reply passes by its name, and is returned.
 pub(crate) fn is_kept(attribute: &Attr<'_>, access: bool, own: bool, request: &View<'_>) -> bool
     ensures { result ≡ (is_own own request.now (shown attribute.now)
         && is_carried access (shown attribute.now)) }
@@ -46,7 +46,7 @@ pub(crate) fn is_kept(attribute: &Attr<'_>, access: bool, own: bool, request: &V
     is_own(attribute, own, request) && is_carried(attribute, access)
 }
 
-/// Whether own names alone pass of a reply of this code: of an Access-Accept.
+/// Returns whether own names alone pass of a reply of this code: of an Access-Accept.
 pub(crate) fn own_of(own: bool, code: u8) -> bool
     ensures { result ≡ own_of own code }
 {

@@ -20,7 +20,7 @@ use roam_wire::writing::{
 use roam_wire::{Attr, View};
 use std::alloc::Allocator;
 
-/// Whether an attribute of a reply is returned: no Proxy-State is, and no Message-Authenticator of an
+/// Returns whether an attribute of a reply is returned: no Proxy-State is, and no Message-Authenticator of an
 /// Access reply.
 #[tactic(auto, unfolding(crate::specs::Private::Plain::is_carried))]
 pub(crate) fn is_carried(attribute: &Attr<'_>, access: bool) -> bool
@@ -29,7 +29,7 @@ pub(crate) fn is_carried(attribute: &Attr<'_>, access: bool) -> bool
     attribute.kind != PROXY_STATE && !(access && attribute.kind == MESSAGE_AUTHENTICATOR)
 }
 
-/// How many octets the Message-Authenticator takes that stands first in an Access reply.
+/// Returns how many octets the Message-Authenticator takes that stands first in an Access reply.
 fn seal_len(access: bool) -> usize
     ensures { result ≡ length (attributes_text (first_seal access)) }
 {
@@ -40,7 +40,7 @@ fn seal_len(access: bool) -> usize
     }
 }
 
-/// How many octets what is returned of an attribute of a reply takes.
+/// Returns how many octets what is returned of an attribute of a reply takes.
 fn piece_len(
     attribute: &Attr<'_>,
     access: bool,
@@ -59,7 +59,7 @@ fn piece_len(
     }
 }
 
-/// How many octets the attributes of a reply take that pass and are returned. One pass.
+/// Returns how many octets the attributes of a reply take that pass and are returned. One pass.
 fn carried_len(
     reply: &View<'_>,
     access: bool,

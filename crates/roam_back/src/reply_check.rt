@@ -17,7 +17,7 @@ use roam_wire::code::{
 };
 use roam_wire::{Refusal, View};
 
-/// Whether a reply's code answers a request's (RFC 2865 section 4, RFC 2866 section 4, RFC 5176
+/// Returns whether a reply's code answers a request's (RFC 2865 section 4, RFC 2866 section 4, RFC 5176
 /// section 2.3).
 fn answers(request: u8, reply: u8) -> bool
     ensures { IsTrue result ↔ IsTrue (answers request reply) }
@@ -31,7 +31,7 @@ fn answers(request: u8, reply: u8) -> bool
     }
 }
 
-/// Whether a reply is well sealed for one of the Authenticators over which its Message-Authenticator
+/// Returns whether a reply is well sealed for one of the Authenticators over which its Message-Authenticator
 /// may be (RFC 3579, section 3.2).
 fn is_well_sealed(reply: &View<'_>, forwarded: &View<'_>, secret: &Secret) -> bool
     requires secret { IsSecret secret.now }
@@ -44,7 +44,7 @@ fn is_well_sealed(reply: &View<'_>, forwarded: &View<'_>, secret: &Secret) -> bo
     !is_access_reply(reply.code()) && message_ok(reply, secret, ZERO_OCTETS)
 }
 
-/// Whether a reply has a Message-Authenticator where it needs one for its EAP-Message (RFC 3579,
+/// Returns whether a reply has a Message-Authenticator where it needs one for its EAP-Message (RFC 3579,
 /// section 3.1).
 fn has_seal_for_eap(reply: &View<'_>) -> bool
     ensures { IsTrue result ↔ HasSealForEap reply.now }
@@ -54,7 +54,7 @@ fn has_seal_for_eap(reply: &View<'_>) -> bool
         || reply.count(MESSAGE_AUTHENTICATOR) > 0
 }
 
-/// Whether an Access reply has a Message-Authenticator where its home server is required to seal. A
+/// Returns whether an Access reply has a Message-Authenticator where its home server is required to seal. A
 /// reply without one may be forged by who stands between (CVE-2024-3596).
 fn has_required_seal(reply: &View<'_>, seal_required: bool) -> bool
     ensures { IsTrue result ↔ HasRequiredSeal seal_required reply.now }
@@ -62,7 +62,7 @@ fn has_required_seal(reply: &View<'_>, seal_required: bool) -> bool
     !seal_required || !is_access_reply(reply.code()) || reply.count(MESSAGE_AUTHENTICATOR) > 0
 }
 
-/// Whether a reply is rightly sealed for a forwarded request (RFC 3579, sections 3.1 and 3.2).
+/// Returns whether a reply is rightly sealed for a forwarded request (RFC 3579, sections 3.1 and 3.2).
 fn is_rightly_sealed(
     reply: &View<'_>,
     forwarded: &View<'_>,
@@ -77,7 +77,7 @@ fn is_rightly_sealed(
         && has_required_seal(reply, seal_required)
 }
 
-/// Whether a reply to a forwarded request is taken, with the secret of the link from which it came,
+/// Returns whether a reply to a forwarded request is taken, with the secret of the link from which it came,
 /// of 1 to 64 octets, and whether its home server is required to seal its Access replies. Takes no
 /// memory.
 ///

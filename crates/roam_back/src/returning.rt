@@ -87,7 +87,7 @@ fn seal_appended<A: Allocator>(
     seal_for_requester(&mut out[start..], reply, request, returning);
 }
 
-/// Which attributes don't pass of a reply of this code: none but of an Access reply.
+/// Returns which attributes don't pass of a reply of this code: none but of an Access reply.
 fn removal_of<'a>(code: u8, removal: &Removal<'a>) -> Removal<'a>
     ensures { removed_by result ≡ removed_of (removed_by removal.now) code }
 {

@@ -266,41 +266,41 @@ module _ (c : RealmConfig) (l : Link) where
       subst (λ (i : ℕ). Tells c 0 (get_or (set rests (end_place c k) heard) i awake)) is
       (heard_there c rests (end_place c k) heard (heard-tells c 0 (rest_of c rests k)))
 
-  reply_turn-wakes : (now : ℕ) (s : RealmState) (e : PlainEntry) (k : Link) (forwarded reply : Packet)
+  reply_turn-wakes : (now : ℕ) (s : RealmState) (keep : Bool) (e : PlainEntry) (k : Link) (forwarded reply : Packet)
       (why : Option Refusal) → end_place c k ≡ end_place c l
-      → Wakes s (reply_turn c now s e k forwarded reply why)
-  reply_turn-wakes now s e k forwarded reply (Some why) is =
+      → Wakes s (reply_turn c now s keep e k forwarded reply why)
+  reply_turn-wakes now s keep e k forwarded reply (Some why) is =
       either (Wakes s) (shows_life why) (hears why (once_heard_from c s k)) (refuses why)
       (λ sign. woken-at s.rests k is) (refuses-wakes s why)
-  reply_turn-wakes now s e k forwarded reply None is =
+  reply_turn-wakes now s keep e k forwarded reply None is =
       either (Wakes s)
       (ltb 4096 (returned_length (returning c e.request k forwarded) (passing_to c e.request reply)
       (packet_of e.request.octets)))
       _ _ (λ sign. woken-at s.rests k is) (λ sign. woken-at s.rests k is)
 
-  standing-wakes : (now : ℕ) (s : RealmState) (e : PlainEntry) (from : Link) (id : ℕ) (reply : Packet)
+  standing-wakes : (now : ℕ) (s : RealmState) (keep : Bool) (e : PlainEntry) (from : Link) (id : ℕ) (reply : Packet)
       (p : PlainStanding) → stands_at from id p ≡ true → end_place c from ≡ end_place c l
-      → Wakes s (to_standing c now s e reply p)
-  standing-wakes now s e from id reply (waiting k i forwarded sends_left deadline signs) at is =
+      → Wakes s (to_standing c now s keep e reply p)
+  standing-wakes now s keep e from id reply (waiting k i forwarded sends_left deadline signs) at is =
       let same = same_place k from (both_true (same_link k from) (i == id) at) in
-      reply_turn-wakes now s e k (packet_of forwarded) reply
+      reply_turn-wakes now s keep e k (packet_of forwarded) reply
       (reply_fault (link_secret c k) (seal_required c k) reply (packet_of forwarded)) (same ∙ is)
-  standing-wakes now s e from id reply (done old deadline kept) at is = refuses-wakes s refusal.NoEntry
+  standing-wakes now s keep e from id reply (done old deadline kept) at is = refuses-wakes s refusal.NoEntry
 
-  entry-wakes : (now : ℕ) (s : RealmState) (from : Link) (id : ℕ) (reply : Packet)
+  entry-wakes : (now : ℕ) (s : RealmState) (keep : Bool) (from : Link) (id : ℕ) (reply : Packet)
       (o : Option PlainEntry) → find_link from id s.entries ≡ o → end_place c from ≡ end_place c l
-      → Wakes s (to_entry c now s reply o)
-  entry-wakes now s from id reply None found is = refuses-wakes s refusal.NoEntry
-  entry-wakes now s from id reply (Some e) found is =
-      standing-wakes now s e from id reply e.standing (found_is (waits_at from id) s.entries e found) is
+      → Wakes s (to_entry c now s keep reply o)
+  entry-wakes now s keep from id reply None found is = refuses-wakes s refusal.NoEntry
+  entry-wakes now s keep from id reply (Some e) found is =
+      standing-wakes now s keep e from id reply e.standing (found_is (waits_at from id) s.entries e found) is
 
-  reply-wakes : (now : ℕ) (s : RealmState) (from : Link) (octets : List ℕ)
-      → end_place c from ≡ end_place c l → Wakes s (on_reply c now s from octets)
-  reply-wakes now s from octets is =
+  reply-wakes : (now : ℕ) (s : RealmState) (keep : Bool) (from : Link) (octets : List ℕ)
+      → end_place c from ≡ end_place c l → Wakes s (on_reply c now s keep from octets)
+  reply-wakes now s keep from octets is =
       let id = (packet_of octets).id in
       either (Wakes s) (ltb (2 ^ 62) now) (refuses refusal.Moment)
-      (to_entry c now s (packet_of octets) (find_link from id s.entries)) (refuses-wakes s refusal.Moment)
-      (entry-wakes now s from id (packet_of octets) (find_link from id s.entries) refl is)
+      (to_entry c now s keep (packet_of octets) (find_link from id s.entries)) (refuses-wakes s refusal.Moment)
+      (entry-wakes now s keep from id (packet_of octets) (find_link from id s.entries) refl is)
 
   -- ---- an event, and a list of them
 
@@ -330,15 +330,15 @@ module _ (c : RealmConfig) (l : Link) where
         tick-by (nat_lt latest_moment now) n (given_up_by c now s l (due_list now s.entries)) s
             (due_each c now s (due_list now s.entries)) h (each-at n now s (due_list now s.entries) h),
       )
-  event-at n s (reply_came now from octets) h =
-      let turn : Turn = on_reply c now s from octets in
-      let kept = reply-keeps c (At c l (n + 0)) (answered-at (n + 0)) now s from octets
+  event-at n s (reply_came now keep from octets) h =
+      let turn : Turn = on_reply c now s keep from octets in
+      let kept = reply-keeps c (At c l (n + 0)) (answered-at (n + 0)) now s keep from octets
       (more c n (n + 0) (rest_of c s.rests l) (omega arith) h) in
       elim (cases_Bool (shares_end c l from)) [
         | inl here ↦ elim (cases_Bool (is_sign turn)) [
           | inl sign ↦
               let place = (Decides-eqb (end_place c from) (end_place c l)).0 here in
-              inl (reply-wakes now s from octets place sign)
+              inl (reply-wakes now s keep from octets place sign)
           | inr none ↦ inr (
             ap (sign_if (shares_end c l from)) none ∙ no_sign_given (shares_end c l from),
             kept,

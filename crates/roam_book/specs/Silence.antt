@@ -56,8 +56,8 @@ is_sign (sends packets state) = true
 
 -- how many signs of life a link gives in an event
 abbrev pub signs_in : RealmConfig → RealmState → Link → RealmEvent → ℕ
-signs_in c s l (reply_came now from octets) =
-    if shares_end c l from && is_sign (on_event c s (reply_came now from octets)) then 1 else 0
+signs_in c s l (reply_came now keeps_session from octets) =
+    if shares_end c l from && is_sign (on_event c s (reply_came now keeps_session from octets)) then 1 else 0
 signs_in c s l _ = 0
 
 -- the state that an event leaves

@@ -124,7 +124,7 @@ impl<'c, A: Allocator + Copy> Book<'c, A> {
         })
     }
 
-    /// Where a book would begin that went on from here, if no request were pending: its place in the
+    /// Returns where a book would begin that went on from here, if no request were pending: its place in the
     /// stream of random words, and its next ticket.
     pub fn start(&self) -> Start
         ensures place { result.place ≡ self.now.state.stream_position }
@@ -188,7 +188,8 @@ impl<'c, A: Allocator + Copy> Book<'c, A> {
             numbers: &mut self.numbers,
         };
         let lines = ExchangeLines::OfNone;
-        answer_of(realm.on_reply(now, link_of(job.side), octets, lines))
+        let link = link_of(job.side);
+        answer_of(realm.on_reply(now, link, octets, lines, job.keeps_session))
     }
 
     /// All the memory of a tick at a moment in milliseconds. Where nothing is due no memory is wanted.
@@ -240,7 +241,7 @@ impl<'c, A: Allocator + Copy> Book<'c, A> {
         realm.let_go(now);
     }
 
-    /// Whether each entry that is due at a moment in milliseconds was answered. Takes no memory.
+    /// Returns whether each entry that is due at a moment in milliseconds was answered. Takes no memory.
     pub fn has_only_done_due(&self, now: u64) -> bool
         ensures { result ≡ only_done_due now self.now.state.entries }
     {

@@ -103,21 +103,21 @@ impl<N: Opened> Front<N> {
         }
     }
 
-    /// How many steps it has: those that were let go of, and the stored ones. Takes no memory.
+    /// Returns how many steps it has: those that were let go of, and the stored ones. Takes no memory.
     pub fn len(&self) -> u64
         ensures { result ≡ length (steps_in self.now.entries) }
     {
         self.steps
     }
 
-    /// How often the stored steps were let go of. Takes no memory.
+    /// Returns how often the stored steps were let go of. Takes no memory.
     pub fn times_let_go(&self) -> u64
         ensures { result ≡ times_let_go self.now.entries }
     {
         self.times
     }
 
-    /// How many entries it has. Takes no memory.
+    /// Returns how many entries it has. Takes no memory.
     pub fn entries(&self) -> u64
         ensures { result ≡ length self.now.entries }
     {
@@ -145,7 +145,7 @@ impl<N: Opened> Front<N> {
         }
     }
 
-    /// Whether the other one begins with this one. Of two fronts of one shard one always begins with the
+    /// Returns whether the other one begins with this one. Of two fronts of one shard one always begins with the
     /// other. Takes no memory.
     pub fn begins(&self, whole: &Front<N>) -> bool
         requires { whole.now.shard ≡ self.now.shard }

@@ -14,14 +14,14 @@ use crate::receipt::Receipt;
 use crate::report::Report;
 use std::alloc::Allocator;
 
-/// Whether two receipts are of one call.
+/// Returns whether two receipts are of one call.
 fn are_of_one_call<A: Allocator, N: Opened>(one: &Receipt<A, N>, other: &Receipt<A, N>) -> bool
     ensures { result ≡ are_of_one_call (shown_receipt one.now) (shown_receipt other.now) }
 {
     one.shard == other.shard && one.number == other.number
 }
 
-/// Whether none of these receipts is of the call of another one.
+/// Returns whether none of these receipts is of the call of another one.
 fn is_alone<A: Allocator, N: Opened>(before: &[Receipt<A, N>], receipt: &Receipt<A, N>) -> bool
     ensures { IsTrue result ↔ All (λ earlier. are_of_one_call (shown_receipt earlier)
         (shown_receipt receipt.now) ≡ false) before.now }
@@ -31,7 +31,7 @@ fn is_alone<A: Allocator, N: Opened>(before: &[Receipt<A, N>], receipt: &Receipt
         .all(|earlier| !are_of_one_call(earlier, receipt))
 }
 
-/// Whether a receipt stands in the whole history of its shard. What it has seen of that history begins
+/// Returns whether a receipt stands in the whole history of its shard. What it has seen of that history begins
 /// the whole, so it does; or the whole begins that, and its number tells.
 fn stands_in<A: Allocator, N: Opened>(receipt: &Receipt<A, N>, whole: &Front<N>) -> bool
     requires { whole.now.shard ≡ receipt.now.shard }
@@ -45,7 +45,7 @@ fn stands_in<A: Allocator, N: Opened>(receipt: &Receipt<A, N>, whole: &Front<N>)
 }
 
 impl<A: Allocator, N: Opened> Report<A, N> {
-    /// Whether a receipt's shard has its step at its number.
+    /// Returns whether a receipt's shard has its step at its number.
     fn has(&self, receipt: &Receipt<A, N>) -> bool
         ensures { IsTrue result ↔ Stands (recorded self.now) (shown_receipt receipt.now) }
     {
@@ -55,7 +55,7 @@ impl<A: Allocator, N: Opened> Report<A, N> {
         }
     }
 
-    /// Whether a receipt is right after others.
+    /// Returns whether a receipt is right after others.
     fn is_right(&self, before: &[Receipt<A, N>], receipt: &Receipt<A, N>) -> bool
         ensures { IsTrue result ↔ IsRightAfter (recorded self.now) (shown_receipts before.now)
             (shown_receipt receipt.now) }

@@ -42,7 +42,7 @@ impl<A: Allocator, N: Opened> Drop for Report<A, N> {
     }
 }
 
-/// How many steps these histories have together; as many as 64 bits hold.
+/// Returns how many steps these histories have together; as many as 64 bits hold.
 fn count_in<N: Opened>(fronts: &[Front<N>]) -> u64
     ensures { result ≡ min (count_of_steps fronts.now) (2 ^ 64 - 1) }
 {
@@ -77,7 +77,7 @@ impl<A: Allocator, N: Opened> Report<A, N> {
         }
     }
 
-    /// How many steps were recorded of all shards, those that were let go of too; as many as 64 bits hold.
+    /// Returns how many steps were recorded of all shards, those that were let go of too; as many as 64 bits hold.
     pub fn count_steps(&self) -> u64
         ensures { result ≡ min (count_of_steps self.now.fronts.items) (2 ^ 64 - 1) }
     {

@@ -60,7 +60,7 @@ impl<A: Allocator, N: Opened> Seat<A, N> {
         self.tallies.as_slice()
     }
 
-    /// What it has seen of a shard's history.
+    /// Returns what it has seen of a shard's history.
     pub fn front(&self, shard: u16) -> &Front<N>
         requires { shard < N.opening.config.shards }
         ensures shard { result.now.shard ≡ shard }
@@ -70,7 +70,7 @@ impl<A: Allocator, N: Opened> Seat<A, N> {
         &self.fronts[usize::from(shard)]
     }
 
-    /// How many calls of a shard it counted.
+    /// Returns how many calls of a shard it counted.
     pub(crate) fn calls(&self, shard: usize) -> u64
         requires { shard < N.opening.config.shards }
         ensures { result ≡ (tally_of self.now.tallies shard).calls }
@@ -78,7 +78,7 @@ impl<A: Allocator, N: Opened> Seat<A, N> {
         self.tallies[shard].calls
     }
 
-    /// How often it let go of a shard's stored steps.
+    /// Returns how often it let go of a shard's stored steps.
     pub(crate) fn times(&self, shard: usize) -> u64
         requires { shard < N.opening.config.shards }
         ensures { result ≡ times_of self.now.times shard }
@@ -86,7 +86,7 @@ impl<A: Allocator, N: Opened> Seat<A, N> {
         self.times[shard]
     }
 
-    /// Whether it is marked at a shard.
+    /// Returns whether it is marked at a shard.
     pub(crate) fn is_marked(&self, shard: usize) -> bool
         requires { shard < N.opening.config.shards }
         ensures { result ≡ (tally_of self.now.tallies shard).is_marked }

@@ -14,7 +14,7 @@ use crate::report::Report;
 use crate::seat::Seat;
 use std::alloc::Allocator;
 
-/// How many calls of a shard the seats counted together.
+/// Returns how many calls of a shard the seats counted together.
 fn calls_of<A: Allocator, N: Opened>(seats: &[Seat<A, N>], shard: usize) -> u128
     requires { shard < N.opening.config.shards }
     ensures { result ≡ calls_of seats.now shard }
@@ -26,7 +26,7 @@ fn calls_of<A: Allocator, N: Opened>(seats: &[Seat<A, N>], shard: usize) -> u128
     calls
 }
 
-/// How often the seats let go of a shard's stored steps together.
+/// Returns how often the seats let go of a shard's stored steps together.
 fn times_of_all<A: Allocator, N: Opened>(seats: &[Seat<A, N>], shard: usize) -> u128
     requires { shard < N.opening.config.shards }
     ensures { result ≡ times_of_all seats.now shard }
@@ -38,7 +38,7 @@ fn times_of_all<A: Allocator, N: Opened>(seats: &[Seat<A, N>], shard: usize) -> 
     times
 }
 
-/// Whether no seat is marked at a shard.
+/// Returns whether no seat is marked at a shard.
 fn are_unmarked<A: Allocator, N: Opened>(seats: &[Seat<A, N>], shard: usize) -> bool
     requires { shard < N.opening.config.shards }
     ensures { IsTrue result ↔ All (λ seat. (tally_of seat.tallies shard).is_marked ≡ false) seats.now }
@@ -47,7 +47,7 @@ fn are_unmarked<A: Allocator, N: Opened>(seats: &[Seat<A, N>], shard: usize) -> 
 }
 
 impl<A: Allocator, N: Opened> Report<A, N> {
-    /// How many steps a shard has: those that were let go of, and the stored ones.
+    /// Returns how many steps a shard has: those that were let go of, and the stored ones.
     fn steps_at(&self, shard: usize) -> u64
         requires { shard < vec_len self.now.fronts }
         ensures { result ≡ length (steps_of (recorded self.now) shard) }
@@ -55,7 +55,7 @@ impl<A: Allocator, N: Opened> Report<A, N> {
         self.fronts[shard].len()
     }
 
-    /// How often a shard's stored steps were let go of.
+    /// Returns how often a shard's stored steps were let go of.
     fn times_at(&self, shard: usize) -> u64
         requires { shard < vec_len self.now.fronts }
         ensures { result ≡ times_let_go (whole_of self.now shard) }
@@ -63,7 +63,7 @@ impl<A: Allocator, N: Opened> Report<A, N> {
         self.fronts[shard].times_let_go()
     }
 
-    /// Whether the seats agree with a shard.
+    /// Returns whether the seats agree with a shard.
     fn agrees(&self, seats: &[Seat<A, N>], shard: usize) -> bool
         requires { shard < vec_len self.now.fronts }
         ensures { IsTrue result ↔ Agrees (recorded self.now) (whole_of self.now) seats.now shard }

@@ -1,5 +1,5 @@
 -- The events of a realm leave as many cursors, and as many rests, as there are.
-use Rattle.std.proofs.Common.{◌≡◌, ℕ, ◌==◌, ◌^◌, List, [], ◌∷◌, Option, Some, None, ◌∙◌, set, length, ltb}
+use Rattle.std.proofs.Common.{◌≡◌, ℕ, ◌==◌, ◌^◌, Bool, List, [], ◌∷◌, Option, Some, None, ◌∙◌, set, length, ltb}
 use Rattle.std.specs.Prelude.{nat_eq}
 use Rattle.std.specs.Cmp.Lexicographic.{pointwise}
 use Rattle.std.proofs.lemmas.List.{length-set}
@@ -78,32 +78,32 @@ module _ (c : RealmConfig) (n : ℕ) where
       (of_key-stays now s named q (find_client q.key s.entries) k)
 
   -- a reply
-  reply_turn-stays : (now : ℕ) (s : RealmState) (e : PlainEntry) (l : Link) (forwarded reply : Packet)
-      (why : Option Refusal) → Has n s → After n s (reply_turn c now s e l forwarded reply why)
-  reply_turn-stays now s e l forwarded reply (Some why) k = either (After n s) (shows_life why) _ _ k k
-  reply_turn-stays now s e l forwarded reply None k =
+  reply_turn-stays : (now : ℕ) (s : RealmState) (kept : Bool) (e : PlainEntry) (l : Link) (forwarded reply : Packet)
+      (why : Option Refusal) → Has n s → After n s (reply_turn c now s kept e l forwarded reply why)
+  reply_turn-stays now s kept e l forwarded reply (Some why) k = either (After n s) (shows_life why) _ _ k k
+  reply_turn-stays now s kept e l forwarded reply None k =
       either (After n s)
       (ltb 4096 (returned_length (returning c e.request l forwarded) (passing_to c e.request reply)
       (packet_of e.request.octets)))
       _ _ k k
 
-  to_standing-stays : (now : ℕ) (s : RealmState) (e : PlainEntry) (reply : Packet) (p : PlainStanding)
-      → Has n s → After n s (to_standing c now s e reply p)
-  to_standing-stays now s e reply (waiting l id forwarded sends_left deadline signs) k =
-      reply_turn-stays now s e l (packet_of forwarded) reply
+  to_standing-stays : (now : ℕ) (s : RealmState) (kept : Bool) (e : PlainEntry) (reply : Packet) (p : PlainStanding)
+      → Has n s → After n s (to_standing c now s kept e reply p)
+  to_standing-stays now s kept e reply (waiting l id forwarded sends_left deadline signs) k =
+      reply_turn-stays now s kept e l (packet_of forwarded) reply
       (reply_fault (link_secret c l) (seal_required c l) reply (packet_of forwarded)) k
-  to_standing-stays now s e reply (done old deadline from) k = k
+  to_standing-stays now s kept e reply (done old deadline from) k = k
 
-  to_entry-stays : (now : ℕ) (s : RealmState) (reply : Packet) (o : Option PlainEntry) → Has n s
-      → After n s (to_entry c now s reply o)
-  to_entry-stays now s reply None k = k
-  to_entry-stays now s reply (Some e) k = to_standing-stays now s e reply e.standing k
+  to_entry-stays : (now : ℕ) (s : RealmState) (kept : Bool) (reply : Packet) (o : Option PlainEntry) → Has n s
+      → After n s (to_entry c now s kept reply o)
+  to_entry-stays now s kept reply None k = k
+  to_entry-stays now s kept reply (Some e) k = to_standing-stays now s kept e reply e.standing k
 
-  reply-stays : (now : ℕ) (s : RealmState) (l : Link) (octets : List ℕ) → Has n s
-      → After n s (on_reply c now s l octets)
-  reply-stays now s l octets k =
+  reply-stays : (now : ℕ) (s : RealmState) (kept : Bool) (l : Link) (octets : List ℕ) → Has n s
+      → After n s (on_reply c now s kept l octets)
+  reply-stays now s kept l octets k =
       either (After n s) (ltb (2 ^ 62) now) _ _ k
-      (to_entry-stays now s (packet_of octets) (find_link l (packet_of octets).id s.entries) k)
+      (to_entry-stays now s kept (packet_of octets) (find_link l (packet_of octets).id s.entries) k)
 
   -- a tick
   refused-stays : (now : ℕ) (s : RealmState) (e : PlainEntry) (octets : List ℕ) → Has n s
@@ -136,7 +136,7 @@ module _ (c : RealmConfig) (n : ℕ) where
 
   event-stays : (s : RealmState) (e : RealmEvent) → Has n s → After n s (on_event c s e)
   event-stays s (request_came now named q) k = request-stays now s named q k
-  event-stays s (reply_came now l octets) k = reply-stays now s l octets k
+  event-stays s (reply_came now kept l octets) k = reply-stays now s kept l octets k
   event-stays s (tick_came now) k =
       either (After n s) (ltb (2 ^ 62) now) _ _ k (due_each-stays now s (due_list now s.entries) k)
 

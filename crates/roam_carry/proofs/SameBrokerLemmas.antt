@@ -345,24 +345,25 @@ module _ (c : RealmConfig) where
   counted_same q None sessions = refl
   counted_same q (Some peer) sessions = refl
 
-  once_returned_same : (now : ℕ) (s : RealmState) (e : PlainEntry) (l : Link) (reply : Packet) (octets : List ℕ) →
-      once_returned (bare c) now s e l reply octets ≡ once_returned c now s e l reply octets
-  once_returned_same now s e l reply octets = λ i. record s {
+  once_returned_same :
+      (now : ℕ) (s : RealmState) (kept : Bool) (e : PlainEntry) (l : Link) (reply : Packet) (octets : List ℕ)
+      → once_returned (bare c) now s kept e l reply octets ≡ once_returned c now s kept e l reply octets
+  once_returned_same now s kept e l reply octets = λ i. record s {
     entries = put (with_standing (done octets (now + c.realm.hold) (Some l)) e) s.entries;
-    sessions = counted_same e.request (counted_peer e.request.requester reply) s.sessions i;
+    sessions = counted_same e.request (counted_peer kept e.request.requester reply) s.sessions i;
     rests = sign_same s.rests l i;
   }
 
   heard_same : (s : RealmState) (l : Link) → once_heard_from (bare c) s l ≡ once_heard_from c s l
   heard_same s l = λ i. with_rests s (sign_same s.rests l i)
 
-  return_same : (now : ℕ) (s : RealmState) (e : PlainEntry) (l : Link) (p reply : Packet) →
-      return_reply (bare c) now s e l p reply ≡ return_reply c now s e l p reply
-  return_same now s e l p reply =
-      let state : once_returned (bare c) now s e l reply (returned_octets (bare c) e.request l p reply)
-      ≡ once_returned c now s e l reply (returned_octets c e.request l p reply) =
-      ap (once_returned (bare c) now s e l reply) (returned_same e.request l p reply)
-      ∙ once_returned_same now s e l reply (returned_octets c e.request l p reply) in
+  return_same : (now : ℕ) (s : RealmState) (kept : Bool) (e : PlainEntry) (l : Link) (p reply : Packet) →
+      return_reply (bare c) now s kept e l p reply ≡ return_reply c now s kept e l p reply
+  return_same now s kept e l p reply =
+      let state : once_returned (bare c) now s kept e l reply (returned_octets (bare c) e.request l p reply)
+      ≡ once_returned c now s kept e l reply (returned_octets c e.request l p reply) =
+      ap (once_returned (bare c) now s kept e l reply) (returned_same e.request l p reply)
+      ∙ once_returned_same now s kept e l reply (returned_octets c e.request l p reply) in
       λ i. if nat_lt MAX_PACKET_LENGTH
       (returned_length (returning_same e.request l p i) (passing_reply c.realm.own_names (packet_of e.request.octets)
       (removed_same e.request.requester i) reply)
@@ -370,32 +371,32 @@ module _ (c : RealmConfig) where
       then hears refusal.ReplyTooLong (heard_same s l i)
       else sends (packet_to_requester c e.request.key (returned_same e.request l p reply i) ∷ []) (state i)
 
-  judge_same : (now : ℕ) (s : RealmState) (e : PlainEntry) (l : Link) (p reply : Packet) (why : Option Refusal) →
-      reply_turn (bare c) now s e l p reply why ≡ reply_turn c now s e l p reply why
-  judge_same now s e l p reply (Some why) = λ i.
+  judge_same : (now : ℕ) (s : RealmState) (kept : Bool) (e : PlainEntry) (l : Link) (p reply : Packet)
+      (why : Option Refusal) → reply_turn (bare c) now s kept e l p reply why ≡ reply_turn c now s kept e l p reply why
+  judge_same now s kept e l p reply (Some why) = λ i.
       if shows_life why then hears why (heard_same s l i) else refuses why
-  judge_same now s e l p reply None = return_same now s e l p reply
+  judge_same now s kept e l p reply None = return_same now s kept e l p reply
 
-  standing_same : (now : ℕ) (s : RealmState) (e : PlainEntry) (reply : Packet) (x : PlainStanding) →
-      to_standing (bare c) now s e reply x ≡ to_standing c now s e reply x
-  standing_same now s e reply (waiting l id octets sends_left deadline signs) =
+  standing_same : (now : ℕ) (s : RealmState) (kept : Bool) (e : PlainEntry) (reply : Packet) (x : PlainStanding) →
+      to_standing (bare c) now s kept e reply x ≡ to_standing c now s kept e reply x
+  standing_same now s kept e reply (waiting l id octets sends_left deadline signs) =
       let why : reply_fault (link_secret (bare c) l) (seal_required (bare c) l) reply (packet_of octets)
       ≡ reply_fault (link_secret c l) (seal_required c l) reply (packet_of octets) =
       λ i. reply_fault (secret_of l i) (seal_same l i) reply (packet_of octets) in
-      ap (reply_turn (bare c) now s e l (packet_of octets) reply) why
-      ∙ judge_same now s e l (packet_of octets) reply
+      ap (reply_turn (bare c) now s kept e l (packet_of octets) reply) why
+      ∙ judge_same now s kept e l (packet_of octets) reply
       (reply_fault (link_secret c l) (seal_required c l) reply (packet_of octets))
-  standing_same now s e reply (done old deadline from) = refl
+  standing_same now s kept e reply (done old deadline from) = refl
 
-  to_entry_same : (now : ℕ) (s : RealmState) (reply : Packet) (e : Option PlainEntry) →
-      to_entry (bare c) now s reply e ≡ to_entry c now s reply e
-  to_entry_same now s reply None = refl
-  to_entry_same now s reply (Some e) = standing_same now s e reply e.standing
+  to_entry_same : (now : ℕ) (s : RealmState) (kept : Bool) (reply : Packet) (e : Option PlainEntry) →
+      to_entry (bare c) now s kept reply e ≡ to_entry c now s kept reply e
+  to_entry_same now s kept reply None = refl
+  to_entry_same now s kept reply (Some e) = standing_same now s kept e reply e.standing
 
-  reply_same : (now : ℕ) (s : RealmState) (l : Link) (octets : List ℕ) →
-      on_reply (bare c) now s l octets ≡ on_reply c now s l octets
-  reply_same now s l octets = λ i. in_time now
-      (to_entry_same now s (packet_of octets) (find_link l (packet_of octets).id s.entries) i)
+  reply_same : (now : ℕ) (s : RealmState) (kept : Bool) (l : Link) (octets : List ℕ) →
+      on_reply (bare c) now s kept l octets ≡ on_reply c now s kept l octets
+  reply_same now s kept l octets = λ i. in_time now
+      (to_entry_same now s kept (packet_of octets) (find_link l (packet_of octets).id s.entries) i)
 
   -- ticks
   given_up_same : (now : ℕ) (s : RealmState) (e : PlainEntry) → given_up (bare c) now s e ≡ given_up c now s e
@@ -471,7 +472,7 @@ module _ (c : RealmConfig) where
 
   pub event_same : (s : RealmState) (e : RealmEvent) → on_event (bare c) s e ≡ on_event c s e
   event_same s (request_came now named q) = request_same now s named q
-  event_same s (reply_came now l octets) = reply_same now s l octets
+  event_same s (reply_came now kept l octets) = reply_same now s kept l octets
   event_same s (tick_came now) = tick_same now s
 
   -- what an event does, and then what a state does

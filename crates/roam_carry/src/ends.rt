@@ -114,7 +114,7 @@ pub(crate) fn way_before(
     }
 }
 
-/// Whether a peer's request can be forwarded with what is added for it then.
+/// Returns whether a peer's request can be forwarded with what is added for it then.
 fn still_fits<A: Allocator>(new: &RealmSettings<'_>, peer: u16, request: &Request<A>) -> bool
     requires peer { peer < length new.now.peers }
     requires packet { IsPacketText request.now.octets }
@@ -125,7 +125,7 @@ fn still_fits<A: Allocator>(new: &RealmSettings<'_>, peer: u16, request: &Reques
     can_be_shaped(&packet, &new.shaping_from(peer))
 }
 
-/// Whether a peer's request stays.
+/// Returns whether a peer's request stays.
 fn peer_stays<A: Allocator>(
     old: &RealmSettings<'_>,
     new: &RealmSettings<'_>,

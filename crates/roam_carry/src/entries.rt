@@ -181,7 +181,7 @@ fn make_way<A: Allocator, E: Entries<A>>(entries: &mut E, realm: u16, most: u16)
     }
 }
 
-/// Whether fewer may be pending than before.
+/// Returns whether fewer may be pending than before.
 fn keeps_fewer(old: &RealmSettings<'_>, new: &RealmSettings<'_>) -> bool
     ensures fewer { result ≡ true → new.now.realm.max_pending < old.now.realm.max_pending }
     ensures as_many { result ≡ false → old.now.realm.max_pending ≤ new.now.realm.max_pending }

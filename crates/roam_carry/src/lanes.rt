@@ -30,8 +30,8 @@ pub struct FreshLanes<A: Allocator> {
     pub(crate) rests: Vec<Rest, A>,
 }
 
-/// Whether each server and each `out` stands where it stood, and no peer's place is gone: then each lane stays where it
-/// is.
+/// Returns whether each server and each `out` stands where it stood, and no peer's place is gone: then each lane stays
+/// where it is.
 pub(crate) fn stand_as_before(old: &RealmSettings<'_>, new: &RealmSettings<'_>) -> bool
     ensures { IsTrue result ↔ StandAsBefore old.now new.now }
 {
@@ -151,7 +151,7 @@ fn move_lanes<A: Allocator>(
     }
 }
 
-/// Whether a peer was there whose `coa` isn't what it was.
+/// Returns whether a peer was there whose `coa` isn't what it was.
 fn is_renewed(old: &RealmSettings<'_>, new: &RealmSettings<'_>, peer: u16) -> bool
     ensures yes { result ≡ true
         → (peer < length old.now.peers) × (of_peer keeps_coa old.now.peers new.now.peers peer ≡ false) }

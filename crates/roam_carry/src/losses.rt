@@ -44,7 +44,7 @@ fn more(count: usize, counts: bool) -> usize
     if counts { count + 1 } else { count }
 }
 
-/// Whether an entry that is looked at was answered.
+/// Returns whether an entry that is looked at was answered.
 fn is_held<A: Allocator>(entry: Option<&Entry<A>>) -> bool
     ensures { result ≡ option_map_or is_done (seen entry.entry) false }
 {
@@ -59,7 +59,7 @@ fn is_held<A: Allocator>(entry: Option<&Entry<A>>) -> bool
     }
 }
 
-/// How many entries of a realm were answered.
+/// Returns how many entries of a realm were answered.
 fn held_in<A: Allocator, E: Entries<A>>(entries: &E, realm: u16) -> usize
     ensures { result ≡ count_held (E.entries_of entries.now realm) }
 {
@@ -73,7 +73,7 @@ fn held_in<A: Allocator, E: Entries<A>>(entries: &E, realm: u16) -> usize
     held.min(most)
 }
 
-/// Whether an entry doesn't stay, by its ends.
+/// Returns whether an entry doesn't stay, by its ends.
 fn goes<A: Allocator>(old: &RealmSettings<'_>, new: &RealmSettings<'_>, entry: &Entry<A>) -> bool
     requires { IsRequest old.now (shown entry.now).request }
     ensures { result ≡ not (is_some (entry_then old.now new.now (shown entry.now))) }
@@ -81,7 +81,7 @@ fn goes<A: Allocator>(old: &RealmSettings<'_>, new: &RealmSettings<'_>, entry: &
     ends_then(old, new, entry).is_none()
 }
 
-/// Whether an entry that is looked at goes and waited, and whether it goes and was answered.
+/// Returns whether an entry that is looked at goes and waited, and whether it goes and was answered.
 fn goes_as<A: Allocator>(
     old: &RealmSettings<'_>,
     new: &RealmSettings<'_>,
@@ -101,7 +101,7 @@ fn goes_as<A: Allocator>(
     }
 }
 
-/// How many entries go by their ends.
+/// Returns how many entries go by their ends.
 fn count_going<A: Allocator + Copy, E: Entries<A>>(
     old: &RealmSettings<'_>,
     new: &RealmSettings<'_>,
@@ -131,7 +131,8 @@ fn count_going<A: Allocator + Copy, E: Entries<A>>(
     }
 }
 
-/// How many held replies go, where so many entries go by their ends: others make way where fewer may be pending.
+/// Returns how many held replies go, where so many entries go by their ends: others make way where fewer may be
+/// pending.
 fn held_lost<A: Allocator + Copy, E: Entries<A>>(
     old: &RealmSettings<'_>,
     new: &RealmSettings<'_>,
@@ -154,7 +155,7 @@ fn held_lost<A: Allocator + Copy, E: Entries<A>>(
     going.held + over.min(all.saturating_sub(going.held))
 }
 
-/// How many sessions go with a peer.
+/// Returns how many sessions go with a peer.
 fn sessions_of<A: Allocator + Copy>(
     old: &[Peer],
     new: &[Peer],
@@ -171,7 +172,7 @@ fn sessions_of<A: Allocator + Copy>(
     }
 }
 
-/// How many sessions go with their peers.
+/// Returns how many sessions go with their peers.
 fn sessions_gone<A: Allocator + Copy>(
     old: &[Peer],
     new: &[Peer],
@@ -190,7 +191,7 @@ fn sessions_gone<A: Allocator + Copy>(
     gone.min(most)
 }
 
-/// How many sessions go.
+/// Returns how many sessions go.
 fn sessions_lost<A: Allocator + Copy>(
     old: &RealmSettings<'_>,
     new: &RealmSettings<'_>,
@@ -212,7 +213,8 @@ fn sessions_lost<A: Allocator + Copy>(
     gone.saturating_add(left.saturating_sub(new.max_sessions() as usize))
 }
 
-/// What goes of a realm that goes on under other settings. `changed` are the peers whose tables are other ones.
+/// Returns what goes of a realm that goes on under other settings. `changed` are the peers whose tables are other
+/// ones.
 pub fn losses_of<A: Allocator + Copy, E: Entries<A>>(
     old: &RealmSettings<'_>,
     new: &RealmSettings<'_>,
@@ -240,7 +242,7 @@ pub fn losses_of<A: Allocator + Copy, E: Entries<A>>(
     }
 }
 
-/// What goes of a realm that goes.
+/// Returns what goes of a realm that goes.
 pub fn all_of<A: Allocator + Copy, E: Entries<A>>(
     old: &RealmSettings<'_>,
     entries: &E,

@@ -42,7 +42,7 @@ fn push_lanes<A: Allocator + Copy>(
     }
 }
 
-/// Whether the table of a peer's number is another one, or isn't there any more.
+/// Returns whether the table of a peer's number is another one, or isn't there any more.
 fn is_changed_at(old: &[Peer], new: &[Peer], i: usize) -> bool
     requires { i < length old.now }
     ensures { Unless result (slice_get (map peer_part (map shown_peer new.now)) i
@@ -141,7 +141,7 @@ pub fn reserve_carry<A: Allocator + Copy>(
     Ok(Some(fresh_lanes(numbers.alloc, new)?))
 }
 
-/// Whether neither the realm's table nor any peer's is another one, as far as its packets depend on them.
+/// Returns whether neither the realm's table nor any peer's is another one, as far as its packets depend on them.
 pub(crate) fn is_untouched(
     old: &RealmSettings<'_>,
     new: &RealmSettings<'_>,
@@ -159,7 +159,7 @@ pub(crate) fn is_untouched(
     }
 }
 
-/// Whether a realm goes on just as it stands: nothing of it is touched, and each lane stays where it is.
+/// Returns whether a realm goes on just as it stands: nothing of it is touched, and each lane stays where it is.
 fn stands_as_it_is<A: Allocator>(
     old: &RealmSettings<'_>,
     new: &RealmSettings<'_>,

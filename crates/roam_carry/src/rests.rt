@@ -24,7 +24,7 @@ fn rest_at(rests: &[Rest], place: usize) -> Rest
     }
 }
 
-/// How a server's end rests then, by the first link to it: as it did, if it was there and the same.
+/// Returns how a server's end rests then, by the first link to it: as it did, if it was there and the same.
 fn rest_then(old: &RealmSettings<'_>, new: &RealmSettings<'_>, before: &[Rest], link: Link) -> Rest
     requires link { IsLink new.now link }
     requires server { end_place new.now link < server_link_count new.now }

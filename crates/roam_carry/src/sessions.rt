@@ -11,7 +11,7 @@ use roam_reload::peer_keeps_sessions;
 use roam_reverse::Sessions;
 use std::alloc::Allocator;
 
-/// Whether sessions are told by their access servers in both, or in neither.
+/// Returns whether sessions are told by their access servers in both, or in neither.
 fn tells_alike(old: &RealmSettings<'_>, new: &RealmSettings<'_>) -> bool
     ensures { result ≡ same_sessions old.now.realm new.now.realm }
 {

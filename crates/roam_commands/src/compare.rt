@@ -67,7 +67,7 @@ fn print_no_room<W: Write>(writer: &mut W) -> io::Result<()>
     writer.flush()
 }
 
-/// What the program ends with where one may not follow, once that could be printed.
+/// Returns what the program ends with where one may not follow, once that could be printed.
 fn not_following<'a>(path: &'a str, printed: io::Result<()>) -> Fault<'a>
     ensures { MatchResult printed (λ done. result ≡ Fault.MayNotFollow path.entry) (λ why. result ≡ Fault.Write) }
 {

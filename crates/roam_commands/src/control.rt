@@ -82,7 +82,7 @@ pub fn answer<R: AllocGlobal + Net>(
     Ok((stream, answer))
 }
 
-/// Whether an answer tells success (RFC 9110, section 15.3).
+/// Returns whether an answer tells success (RFC 9110, section 15.3).
 pub fn is_done(answer: &[u8]) -> bool {
     answer.starts_with(b"HTTP/1.1 2")
 }
@@ -97,7 +97,7 @@ fn why_not_done(order: ControlOrder<'_>, answer: &[u8]) -> &'static str {
     }
 }
 
-/// Whether an answer says why what was asked for was not done (RFC 9110, section 15.5.10).
+/// Returns whether an answer says why what was asked for was not done (RFC 9110, section 15.5.10).
 fn is_declined(answer: &[u8]) -> bool {
     answer.starts_with(b"HTTP/1.1 409")
 }

@@ -51,7 +51,7 @@ pub fn ask_for_trace<W: Write>(stream: &mut W, shard: u16) -> io::Result<()> {
     )
 }
 
-/// What is sent, where it is always the same.
+/// Returns what is sent, where it is always the same.
 pub fn question(order: ControlOrder<'_>) -> &'static [u8] {
     match order {
         ControlOrder::Trace(_) => b"",

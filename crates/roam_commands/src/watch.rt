@@ -20,7 +20,7 @@ const FROM_THE_TOP: &[u8] = b"\x1b[H\x1b[2J";
 /// What is said where a server that is watched doesn't say any more how it stands.
 const NO_MORE: &[u8] = b"no answer any more\n";
 
-/// What has a terminal show octets from its top on.
+/// Returns what has a terminal show octets from its top on.
 fn from_the_top(alloc: Global, octets: &[u8]) -> Result<Vec<u8>, AllocError> {
     let mut text = Vec::new(alloc);
     text.extend_from_slice(FROM_THE_TOP)?;
@@ -29,7 +29,7 @@ fn from_the_top(alloc: Global, octets: &[u8]) -> Result<Vec<u8>, AllocError> {
     Ok(text)
 }
 
-/// What has a terminal show how a server stands, in place of what it shows; none where the server doesn't say.
+/// Returns what has a terminal show how a server stands, in place of what it shows; none where the server doesn't say.
 fn standing<R: AllocGlobal + Net>(rt: &R, path: &str) -> Option<Vec<u8>> {
     let (stream, answer) = answer(rt, path, ControlOrder::Watch).ok()?;
     let text = match body_of(answer.as_slice()) {

@@ -10,7 +10,7 @@ ghost use Rattle.roam_conf.specs.Parts.{shown_peer, shown_realm, shown_server};
 
 use crate::{Config, Endpoint, Peer, Prefix, Realm, Server};
 
-/// Whether the name is one of these.
+/// Returns whether the name is one of these.
 fn is_one_of(names: &[String], name: &str) -> bool
     ensures { result ≡ is_listed (Some (map string_bytes names.now)) name.now }
 {
@@ -22,7 +22,7 @@ fn is_one_of(names: &[String], name: &str) -> bool
     false
 }
 
-/// Whether the endpoint is there, at an address of the prefix.
+/// Returns whether the endpoint is there, at an address of the prefix.
 fn is_there_in(prefix: Prefix, endpoint: Option<Endpoint>) -> bool
     ensures { result ≡ option_map_or (λ e. is_in e.ip (shown_prefix prefix)) endpoint false }
 {
@@ -32,7 +32,7 @@ fn is_there_in(prefix: Prefix, endpoint: Option<Endpoint>) -> bool
     }
 }
 
-/// Whether one of the servers is at an address of the prefix.
+/// Returns whether one of the servers is at an address of the prefix.
 fn is_some_server_in(prefix: Prefix, servers: &[Server]) -> bool
     ensures { result ≡ list_any (is_server_in (shown_prefix prefix)) (map shown_server servers.now) }
 {
@@ -45,7 +45,7 @@ fn is_some_server_in(prefix: Prefix, servers: &[Server]) -> bool
 }
 
 impl Realm {
-    /// Whether the peer is one of the realm's.
+    /// Returns whether the peer is one of the realm's.
     fn is_peer(&self, peer: &Peer) -> bool
         ensures { result ≡ is_peer_of (shown_realm self.now) (shown_peer peer.now) }
     {
@@ -55,14 +55,14 @@ impl Realm {
         }
     }
 
-    /// Whether one of the realm's servers is at an address of the peer.
+    /// Returns whether one of the realm's servers is at an address of the peer.
     fn is_at_server(&self, peer: &Peer) -> bool
         ensures { result ≡ is_at_server (shown_realm self.now) (shown_peer peer.now) }
     {
         is_some_server_in(peer.ip, self.servers.as_slice())
     }
 
-    /// Whether the realm takes requests of the peer.
+    /// Returns whether the realm takes requests of the peer.
     #[tactic(auto, unfolding(crate::specs::Asking::takes))]
     fn takes(&self, peer: &Peer) -> bool
         ensures { result ≡ takes (shown_realm self.now) (shown_peer peer.now) }
@@ -71,7 +71,7 @@ impl Realm {
     }
 }
 
-/// Whether the realm takes requests of the peer; not where one of the two is missing.
+/// Returns whether the realm takes requests of the peer; not where one of the two is missing.
 fn takes_if_both(realm: Option<&Realm>, peer: Option<&Peer>) -> bool
     ensures { result ≡ both_pass takes (option_map (λ r. shown_realm r.now) realm.entry)
         (option_map (λ p. shown_peer p.now) peer.entry) }
@@ -82,7 +82,7 @@ fn takes_if_both(realm: Option<&Realm>, peer: Option<&Peer>) -> bool
     }
 }
 
-/// Whether the peer is one of the realm's; not where one of the two is missing.
+/// Returns whether the peer is one of the realm's; not where one of the two is missing.
 fn is_peer_if_both(realm: Option<&Realm>, peer: Option<&Peer>) -> bool
     ensures { result ≡ both_pass is_peer_of (option_map (λ r. shown_realm r.now) realm.entry)
         (option_map (λ p. shown_peer p.now) peer.entry) }
@@ -93,7 +93,7 @@ fn is_peer_if_both(realm: Option<&Realm>, peer: Option<&Peer>) -> bool
     }
 }
 
-/// Whether reverse requests of the realm may go to the peer; not where one of the two is missing.
+/// Returns whether reverse requests of the realm may go to the peer; not where one of the two is missing.
 fn is_target_if_both(realm: Option<&Realm>, peer: Option<&Peer>) -> bool
     ensures { result ≡ both_pass is_target_of (option_map (λ r. shown_realm r.now) realm.entry)
         (option_map (λ p. shown_peer p.now) peer.entry) }
@@ -130,25 +130,26 @@ impl Config {
         }
     }
 
-    /// Whether a realm takes requests of a peer: it has no list of peers or the peer is in it, and unless it guards
-    /// against loops one of its servers may be at an address of the peer. False where one of the two isn't configured.
+    /// Returns whether a realm takes requests of a peer: it has no list of peers or the peer is in it, and unless it
+    /// guards against loops one of its servers may be at an address of the peer. False where one of the two isn't
+    /// configured.
     pub fn takes(&self, realm: u16, peer: u16) -> bool
         ensures { result ≡ takes_in (shown self.now) realm peer }
     {
         takes_if_both(self.realm_at(realm), self.peer_at(peer))
     }
 
-    /// Whether a peer is one of a realm's: it has no list of peers, or the peer is in it. False where one of the two
-    /// isn't configured.
+    /// Returns whether a peer is one of a realm's: it has no list of peers, or the peer is in it. False where one of
+    /// the two isn't configured.
     pub fn is_peer_of(&self, realm: u16, peer: u16) -> bool
         ensures { result ≡ is_peer_in (shown self.now) realm peer }
     {
         is_peer_if_both(self.realm_at(realm), self.peer_at(peer))
     }
 
-    /// Whether reverse requests of a realm may go to a peer: the realm has no list of peers or the peer is in it, and
-    /// the peer's `coa`, if it has one, is of the same kind, IPv4 or IPv6, as the realm's `out`. False where one of the
-    /// two isn't configured.
+    /// Returns whether reverse requests of a realm may go to a peer: the realm has no list of peers or the peer is in
+    /// it, and the peer's `coa`, if it has one, is of the same kind, IPv4 or IPv6, as the realm's `out`. False where
+    /// one of the two isn't configured.
     pub fn is_target_of(&self, realm: u16, peer: u16) -> bool
         ensures { result ≡ is_target_in (shown self.now) realm peer }
     {

@@ -6,14 +6,14 @@ ghost use Rattle.roam_conf.specs.Duplicates.{same_endpoint};
 
 use crate::Endpoint;
 
-/// Whether the addresses and the ports of two endpoints are equal.
+/// Returns whether the addresses and the ports of two endpoints are equal.
 pub fn is_same_endpoint(a: Endpoint, b: Endpoint) -> bool
     ensures { result ≡ same_endpoint a b }
 {
     a.ip == b.ip && a.port == b.port
 }
 
-/// Whether two names of realms are equal without ASCII case.
+/// Returns whether two names of realms are equal without ASCII case.
 pub fn is_same_name(a: &[u8], b: &[u8]) -> bool
     ensures { result ≡ str_eq_ignore_ascii_case a.now b.now }
 {

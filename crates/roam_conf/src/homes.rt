@@ -62,9 +62,9 @@ impl Config {
     ghost use Rattle.roam_conf.specs.Lookup.{home_in, homes_in};
     ghost use Rattle.roam_conf.specs.Shown.{shown};
 
-    /// Whose reverse requests come to a realm's `reverse` of this place from the address: the first server, in the
-    /// order of use, that has it in its `auth` or its `acct` endpoint; else the `coa_client` that has it, whose number
-    /// is its place behind the servers. `None` also where the realm has no such `reverse`, or isn't configured.
+    /// Returns whose reverse requests come to a realm's `reverse` of this place from the address: the first server, in
+    /// the order of use, that has it in its `auth` or its `acct` endpoint; else the `coa_client` that has it, whose
+    /// number is its place behind the servers. `None` also where the realm has no such `reverse`, or isn't configured.
     pub fn home_of(&self, realm: u16, place: u16, ip: Address) -> Option<u8>
         ensures value { result ≡ home_in (shown self.now) realm place ip }
         ensures bound { IfSome result (λ home. home < homes_in (shown self.now) realm) }

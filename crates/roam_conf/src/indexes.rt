@@ -106,7 +106,7 @@ impl Eq for Indexes {
     ghost laws = { record { refl = λ _. refl; symm = λ _ _. refl; congr = λ _ _ _ _. refl } };
 }
 
-/// Whether two names, two suffixes or two `*` of all realms, and of what is rejected, are the same.
+/// Returns whether two names, two suffixes or two `*` of all realms, and of what is rejected, are the same.
 pub fn has_duplicate_realm(
     alloc: Global,
     realms: &[Realm],

@@ -10,7 +10,7 @@ ghost use Rattle.roam_conf.specs.Parts.{shown_client, shown_server, shown_peer};
 use crate::comparison::is_same_endpoint;
 use crate::{Address, CoaClient, Endpoint, Link, Peer, Server};
 
-/// Whether the endpoint is there, and at the address.
+/// Returns whether the endpoint is there, and at the address.
 fn is_at(ip: Address, endpoint: Option<Endpoint>) -> bool
     ensures { result ≡ option_map_or (λ e. same_address e.ip ip) endpoint false }
 {

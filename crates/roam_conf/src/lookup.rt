@@ -69,7 +69,7 @@ impl Config {
     ghost use Rattle.roam_conf.specs.Lookup.{asker_at, peer_with_ip, link_in, IsLinkIn};
     ghost use Rattle.roam_conf.specs.Shown.{shown};
 
-    /// Whose a pattern is; none has a name of more than 253 octets in it.
+    /// Returns whose a pattern is; none has a name of more than 253 octets in it.
     fn owner_with(&self, pattern: PatternRef<'_>) -> Option<u16>
         ensures { result ≡ owner_with (shown self.now) (pattern_seen pattern.entry) }
     {
@@ -80,7 +80,7 @@ impl Config {
         owner_of_pattern(&self.found_by.names, kind, name)
     }
 
-    /// Whether there may be a suffix of so many octets.
+    /// Returns whether there may be a suffix of so many octets.
     fn may_have_suffix(&self, octets: usize) -> bool
         ensures short { IsTrue result → octets ≤ 253 }
         ensures none { IsFalse result → (name : List ℕ) → length name ≡ octets
@@ -89,7 +89,7 @@ impl Config {
         octets < 254 && self.found_by.suffix_lengths[octets]
     }
 
-    /// Whether there is a dot at the place, and there may be a suffix as long as what follows it.
+    /// Returns whether there is a dot at the place, and there may be a suffix as long as what follows it.
     fn may_follow(&self, text: &[u8], place: usize) -> bool
         requires { place < length text.now }
         ensures short { IsTrue result → length text.now ≤ place + 254 }
@@ -103,7 +103,7 @@ impl Config {
         text[place] == b'.' && self.may_have_suffix(text.len() - place - 1)
     }
 
-    /// Whose the suffix of this key is.
+    /// Returns whose the suffix of this key is.
     fn owner_of_suffix(&self, key: &[u8]) -> Option<u16>
         ensures { (name : List ℕ) → key.now ≡ pattern_key (suffix name)
             → result ≡ owner_with (shown self.now) (suffix name) }
@@ -111,7 +111,7 @@ impl Config {
         owner_of(&self.found_by.names, key)
     }
 
-    /// Whose the suffix is behind a place of a text, which stands there in lower case too: what begins at a
+    /// Returns whose the suffix is behind a place of a text, which stands there in lower case too: what begins at a
     /// dot there is a suffix's key.
     fn owner_behind(&self, text: &[u8], lowered: &[u8], place: usize) -> Option<u16>
         requires same { lowered.now ≡ str_to_ascii_lowercase text.now }
@@ -128,7 +128,8 @@ impl Config {
         }
     }
 
-    /// Whose the longest suffix is that follows one of the dots of a text, which stands there in lower case too.
+    /// Returns whose the longest suffix is that follows one of the dots of a text, which stands there in lower case
+    /// too.
     fn owner_of_lowered_suffix(&self, text: &[u8], lowered: &[u8]) -> Option<u16>
         requires { lowered.now ≡ str_to_ascii_lowercase text.now }
         ensures { result ≡ first_answer (λ name. owner_with (shown self.now) (suffix name))
@@ -153,8 +154,8 @@ impl Config {
         self.owner_of_lowered_suffix(text, &buffer[..text.len()])
     }
 
-    /// Whose the longest suffix is that follows one of the dots. Nothing is copied where there is no suffix as long
-    /// as what follows any of them.
+    /// Returns whose the longest suffix is that follows one of the dots. Nothing is copied where there is no suffix as
+    /// long as what follows any of them.
     fn owner_of_longest_suffix(&self, rest: &[u8]) -> Option<u16>
         ensures { result ≡ first_answer (λ name. owner_with (shown self.now) (suffix name))
             (after_dots rest.now) }
@@ -167,7 +168,7 @@ impl Config {
         None
     }
 
-    /// Whose the nearest pattern is that a name fits, where the name itself is nobody's.
+    /// Returns whose the nearest pattern is that a name fits, where the name itself is nobody's.
     fn owner_of_pattern(&self, name: &[u8]) -> Option<u16>
         ensures { result ≡ first_answer (owner_with (shown self.now)) (further_patterns name.now) }
     {
@@ -180,14 +181,14 @@ impl Config {
         }
     }
 
-    /// Whether a name may fit a pattern: names needn't be well formed, or it is.
+    /// Returns whether a name may fit a pattern: names needn't be well formed, or it is.
     fn may_fit(&self, name: &[u8]) -> bool
         ensures { result ≡ may_fit (shown self.now) name.now }
     {
         !self.well_formed || is_well_formed(name)
     }
 
-    /// Whose the nearest pattern is that decides of a name.
+    /// Returns whose the nearest pattern is that decides of a name.
     fn owner_of_name(&self, name: &[u8]) -> Option<u16>
         ensures { result ≡ first_answer (owner_with (shown self.now)) (patterns_for (shown self.now) name.now) }
     {

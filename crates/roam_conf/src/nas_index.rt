@@ -37,7 +37,7 @@ pub(crate) fn front_of(octets: &[u8], count: usize) -> &[u8]
     octets.split_at(count).0
 }
 
-/// What a text of `nas_ids` says.
+/// Returns what a text of `nas_ids` says.
 fn nas_said(text: &[u8]) -> NasRef<'_>
     ensures { nas_seen result ≡ nas_said text.now }
 {

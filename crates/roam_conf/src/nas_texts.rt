@@ -57,7 +57,7 @@ fn note_peers(index: &mut Index, alloc: Global, peers: &[Peer]) -> Result<bool, 
     Ok(true)
 }
 
-/// Whether two texts among all `nas_id` and `nas_ids` of all peers are equal.
+/// Returns whether two texts among all `nas_id` and `nas_ids` of all peers are equal.
 pub fn has_duplicate_nas_text(alloc: Global, peers: &[Peer]) -> Result<bool, AllocError>
     ensures { IfOk result (λ twice. twice ≡ has_pair bytes_eq (nas_texts (map shown_peer peers.now))) }
 {

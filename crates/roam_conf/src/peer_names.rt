@@ -30,7 +30,7 @@ fn names_of(alloc: Global, peers: &[Peer]) -> Result<Index, AllocError>
     Ok(index)
 }
 
-/// Whether one of the names isn't in the index.
+/// Returns whether one of the names isn't in the index.
 fn has_other(index: &Index, names: &[String]) -> bool
     ensures { result ≡ list_any (is_unowned (owners index.now)) (map string_bytes names.now) }
 {
@@ -67,7 +67,7 @@ fn some_states_other(index: &Index, realms: &[Realm]) -> bool
     false
 }
 
-/// Whether a realm names a peer that isn't there.
+/// Returns whether a realm names a peer that isn't there.
 pub fn has_unknown_peer(alloc: Global, peers: &[Peer], realms: &[Realm]) -> Result<bool, AllocError>
     requires { length peers.now ≤ 1024 }
     ensures { IfOk result (λ unknown. unknown

@@ -76,7 +76,7 @@ fn nas_ipv6s_of(alloc: Global, peers: &[Peer]) -> Result<Index, AllocError>
     Ok(index)
 }
 
-/// Whether one of the peers has a `nas_ipv6`.
+/// Returns whether one of the peers has a `nas_ipv6`.
 fn some_nas_ipv6(peers: &[Peer]) -> bool
     ensures { result ≡ some_nas_ipv6 (map shown_peer peers.now) }
 {
@@ -118,7 +118,7 @@ fn operators_of(alloc: Global, peers: &[Peer]) -> Result<Index, AllocError>
     Ok(index)
 }
 
-/// Whether one of the peers has an `operator_name`.
+/// Returns whether one of the peers has an `operator_name`.
 fn some_operator(peers: &[Peer]) -> bool
     ensures { result ≡ some_operator (map shown_peer peers.now) }
 {

@@ -15,7 +15,7 @@ impl Config {
     ghost use Rattle.roam_conf.specs.Targets.{peer_with_nas_ip, peer_with_nas_ipv6, peer_with_operator};
     ghost use Rattle.roam_conf.specs.Targets.{some_nas_ipv6, some_operator};
 
-    /// Whether there may be a front of so many octets.
+    /// Returns whether there may be a front of so many octets.
     fn may_have_front(&self, octets: usize) -> bool
         ensures { IsFalse result → (front : List ℕ) → length front ≡ octets
             → peer_with_nas (shown self.now).peers (begins front) ≡ None }
@@ -23,7 +23,7 @@ impl Config {
         octets > 253 || self.found_by.targets.front_lengths[octets]
     }
 
-    /// Whose the front is.
+    /// Returns whose the front is.
     fn peer_of_front(&self, front: &[u8]) -> Option<u16>
         ensures { result ≡ peer_with_nas (shown self.now).peers (begins front.now) }
     {
@@ -34,7 +34,7 @@ impl Config {
         }
     }
 
-    /// Whose the longest front is with which a NAS-Identifier begins.
+    /// Returns whose the longest front is with which a NAS-Identifier begins.
     fn peer_of_longest_front(&self, identifier: &[u8]) -> Option<u16>
         ensures { result ≡ first_answer (peer_with_nas (shown self.now).peers) (map begins (fronts identifier.now)) }
     {
@@ -75,7 +75,7 @@ impl Config {
         owner_of(&self.found_by.targets.nas_ipv6s, ip)
     }
 
-    /// Whether some peer has a `nas_ipv6`.
+    /// Returns whether some peer has a `nas_ipv6`.
     pub fn has_nas_ipv6s(&self) -> bool
         ensures { result ≡ some_nas_ipv6 (shown self.now).peers }
     {
@@ -95,7 +95,7 @@ impl Config {
         owner_of(&self.found_by.targets.operators, &buffer[..name.len()])
     }
 
-    /// Whether some peer has an `operator_name`.
+    /// Returns whether some peer has an `operator_name`.
     pub fn has_operators(&self) -> bool
         ensures { result ≡ some_operator (shown self.now).peers }
     {

@@ -8,7 +8,7 @@ ghost use Rattle.roam_conf.specs.Ways.{has_no_way_out};
 
 use crate::{Endpoint, Peer, Realm, Server};
 
-/// Whether both are at addresses of IPv4, or both of IPv6.
+/// Returns whether both are at addresses of IPv4, or both of IPv6.
 pub fn is_same_kind(a: Endpoint, b: Endpoint) -> bool
     ensures { result ≡ same_kind a b }
 {
@@ -19,7 +19,7 @@ pub fn is_same_kind(a: Endpoint, b: Endpoint) -> bool
     }
 }
 
-/// Whether one of the sockets sends to the endpoint.
+/// Returns whether one of the sockets sends to the endpoint.
 fn is_reached_at(outs: &[Endpoint], endpoint: Endpoint) -> bool
     ensures { result ≡ is_reached_at outs.now endpoint }
 {
@@ -31,7 +31,7 @@ fn is_reached_at(outs: &[Endpoint], endpoint: Endpoint) -> bool
     false
 }
 
-/// Whether one of them does to what is there.
+/// Returns whether one of them does to what is there.
 fn is_reached_if_there(outs: &[Endpoint], endpoint: Option<Endpoint>) -> bool
     ensures { result ≡ is_reached_if_there outs.now endpoint }
 {
@@ -41,7 +41,7 @@ fn is_reached_if_there(outs: &[Endpoint], endpoint: Option<Endpoint>) -> bool
     }
 }
 
-/// Whether the sockets send to all endpoints of these servers.
+/// Returns whether the sockets send to all endpoints of these servers.
 fn are_reached(outs: &[Endpoint], servers: &[Server]) -> bool
     ensures { result ≡ list_all (is_reached outs.now) (map shown_server servers.now) }
 {
@@ -53,7 +53,7 @@ fn are_reached(outs: &[Endpoint], servers: &[Server]) -> bool
     true
 }
 
-/// Whether some realm has a server to which none of its `out` sends.
+/// Returns whether some realm has a server to which none of its `out` sends.
 #[tactic(auto, unfolding(crate::specs::Ways::has_no_way_out))]
 pub fn has_no_way_out(realms: &[Realm]) -> bool
     ensures { result ≡ has_no_way_out (map shown_realm realms.now) }
@@ -67,14 +67,14 @@ pub fn has_no_way_out(realms: &[Realm]) -> bool
 }
 
 impl Realm {
-    /// Whether one of the realm's `out` sends to where the peer takes reverse requests, if it does anywhere.
+    /// Returns whether one of the realm's `out` sends to where the peer takes reverse requests, if it does anywhere.
     pub(crate) fn is_coa_reached(&self, peer: &Peer) -> bool
         ensures { result ≡ is_coa_reached (shown_realm self.now) (shown_peer peer.now) }
     {
         is_reached_if_there(self.out.as_slice(), peer.coa)
     }
 
-    /// Whether the realm's `out` of this place is there, and sends to the endpoint.
+    /// Returns whether the realm's `out` of this place is there, and sends to the endpoint.
     pub fn is_way(&self, out: usize, endpoint: Endpoint) -> bool
         ensures { result ≡ is_way (shown_realm self.now).out out endpoint }
     {
@@ -84,7 +84,7 @@ impl Realm {
         }
     }
 
-    /// How many of the realm's `out` send to the endpoint.
+    /// Returns how many of the realm's `out` send to the endpoint.
     pub fn way_count(&self, endpoint: Endpoint) -> usize
         ensures count { result ≡ count_by (λ out. same_kind out endpoint) (shown_realm self.now).out }
         ensures few { result ≤ 16 }

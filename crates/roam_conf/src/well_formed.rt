@@ -5,14 +5,14 @@ ghost use Rattle.std.specs.List.{list_all, list_any};
 ghost use Rattle.roam_conf.specs.Texts.{parts};
 ghost use Rattle.roam_conf.specs.WellFormed.{is_label_octet, is_label, is_well_formed};
 
-/// Whether each octet may stand in a label: a letter, a digit, `-`, or an octet of a letter beyond ASCII.
+/// Returns whether each octet may stand in a label: a letter, a digit, `-`, or an octet of a letter beyond ASCII.
 fn are_of_label(octets: &[u8]) -> bool
     ensures { result ≡ list_all is_label_octet octets.now }
 {
     octets.iter().all(|octet| octet.is_ascii_alphanumeric() || *octet == b'-' || *octet > 127)
 }
 
-/// Whether the octets are a label: at least one, and no `-` at either end.
+/// Returns whether the octets are a label: at least one, and no `-` at either end.
 fn is_label(octets: &[u8]) -> bool
     ensures { result ≡ is_label octets.now }
 {
@@ -22,7 +22,7 @@ fn is_label(octets: &[u8]) -> bool
     are_of_label(octets) && octets[0] != b'-' && octets[octets.len() - 1] != b'-'
 }
 
-/// Whether all that stands between the dots are labels.
+/// Returns whether all that stands between the dots are labels.
 fn are_labels(name: &[u8]) -> bool
     ensures { result ≡ list_all is_label (parts 46 name.now) }
 {
@@ -30,14 +30,14 @@ fn are_labels(name: &[u8]) -> bool
         .all(|label| is_label(label))
 }
 
-/// Whether there is a dot.
+/// Returns whether there is a dot.
 fn has_dot(name: &[u8]) -> bool
     ensures { result ≡ list_any (λ octet. octet == 46) name.now }
 {
     name.iter().any(|octet| *octet == b'.')
 }
 
-/// Whether the name is well formed: at least two labels, joined by dots.
+/// Returns whether the name is well formed: at least two labels, joined by dots.
 #[tactic(auto, unfolding(crate::specs::WellFormed::is_well_formed))]
 pub(crate) fn is_well_formed(name: &[u8]) -> bool
     ensures { result ≡ is_well_formed name.now }

@@ -24,7 +24,7 @@ struct ClientText<'a> {
     secret: &'a str,
 }
 
-/// What a table states of such a source; nothing where one of its values is bad.
+/// Returns what a table states of such a source; nothing where one of its values is bad.
 fn client_text(table: &Table) -> Option<ClientText<'_>>
     ensures { MatchOption result
         ((c : CoaClientView) → ¬ (StatesClient (table_view table.now) c))

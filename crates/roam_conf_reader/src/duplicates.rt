@@ -33,7 +33,7 @@ pub(crate) fn from_place<T>(items: &[T], place: usize) -> &[T]
     items.split_at(place).1
 }
 
-/// Whether the endpoint is one of these.
+/// Returns whether the endpoint is one of these.
 fn is_among(endpoints: &[Endpoint], endpoint: Endpoint) -> bool
     ensures { result ≡ is_among endpoints.now endpoint }
 {
@@ -42,7 +42,7 @@ fn is_among(endpoints: &[Endpoint], endpoint: Endpoint) -> bool
         .any(|other| is_same_endpoint(endpoint, *other))
 }
 
-/// Whether two of the endpoints are equal.
+/// Returns whether two of the endpoints are equal.
 fn has_equal_endpoints(endpoints: &[Endpoint]) -> bool
     ensures { result ≡ has_pair same_endpoint endpoints.now }
 {
@@ -186,7 +186,7 @@ fn is_among_clients(client: &CoaClient, others: &[CoaClient]) -> bool
     false
 }
 
-/// Whether two of the `coa_client`s have one address.
+/// Returns whether two of the `coa_client`s have one address.
 fn has_equal_clients(clients: &[CoaClient]) -> bool
     ensures { result ≡ has_pair same_client (map shown_client clients.now) }
 {
@@ -198,7 +198,7 @@ fn has_equal_clients(clients: &[CoaClient]) -> bool
     false
 }
 
-/// Whether two endpoints of a realm's servers are equal, or two addresses of its `coa_client`s.
+/// Returns whether two endpoints of a realm's servers are equal, or two addresses of its `coa_client`s.
 fn has_pair_of_servers(alloc: Global, realm: &Realm) -> Result<bool, ConfFault>
     ensures ok { IfOk result (λ b. b ≡ has_pair_of_servers (shown_realm realm.now)) }
     ensures causes { IsMemoryFault result }
@@ -208,7 +208,7 @@ fn has_pair_of_servers(alloc: Global, realm: &Realm) -> Result<bool, ConfFault>
     Ok(has_equal_endpoints(endpoints.as_slice()) || has_equal_clients(clients))
 }
 
-/// Whether that is so of one of the realms.
+/// Returns whether that is so of one of the realms.
 #[tactic(auto, unfolding(roam_conf::specs::Duplicates::has_duplicate_server))]
 fn has_duplicate_server(alloc: Global, realms: &[Realm]) -> Result<bool, ConfFault>
     ensures ok { IfOk result (λ b. b ≡ has_duplicate_server (map shown_realm realms.now)) }

@@ -61,7 +61,8 @@ fn is_among_peers(peer: &Peer, others: &[Peer]) -> bool
     false
 }
 
-/// Whether two peers that are here are equal in their name, prefix, NAS-IP-Address, NAS-IPv6-Address or Operator-Name.
+/// Returns whether two peers that are here are equal in their name, prefix, NAS-IP-Address, NAS-IPv6-Address or
+/// Operator-Name.
 fn has_equal_peers(peers: &[Peer]) -> bool
     ensures { result ≡ has_pair same_peer (map shown_peer peers.now) }
 {
@@ -73,7 +74,7 @@ fn has_equal_peers(peers: &[Peer]) -> bool
     false
 }
 
-/// Whether two peers are, or two texts among their NAS-Identifiers are equal.
+/// Returns whether two peers are, or two texts among their NAS-Identifiers are equal.
 #[tactic(auto, unfolding(roam_conf::specs::Duplicates::has_duplicate_peer))]
 pub(crate) fn has_duplicate_peer(alloc: Global, peers: &[Peer]) -> Result<bool, ConfFault>
     ensures ok { IfOk result (λ b. b ≡ has_duplicate_peer (map shown_peer peers.now)) }

@@ -10,7 +10,7 @@ use roam_conf::{Config, ConfigParts};
 use roam_reload::{LayFault, lay_out};
 use std::alloc::Global;
 
-/// Whether nothing stands twice, as far as memory was there to tell.
+/// Returns whether nothing stands twice, as far as memory was there to tell.
 fn is_consistent(alloc: Global, parts: &ConfigParts) -> bool
     ensures { IsTrue result → IsConsistent (shown_parts parts.now) }
 {

@@ -180,7 +180,7 @@ pub(crate) fn exchange_lines(table: &Table, key: &str) -> Option<ExchangeLines>
     }
 }
 
-/// What becomes of accounting: it is forwarded where the key is absent.
+/// Returns what becomes of accounting: it is forwarded where the key is absent.
 #[tactic(auto, unfolding(crate::specs::Values::accounting))]
 pub(crate) fn accounting(table: &Table, key: &str) -> Option<Accounting>
     ensures { result ≡ spec.accounting (get_member key.now (table_view table.now)) }
@@ -192,7 +192,7 @@ pub(crate) fn accounting(table: &Table, key: &str) -> Option<Accounting>
     }
 }
 
-/// How lines have a station: as it stands where the key is absent.
+/// Returns how lines have a station: as it stands where the key is absent.
 #[tactic(auto, unfolding(crate::specs::Values::station_word))]
 pub(crate) fn station_word(table: &Table, key: &str) -> Option<StationWord>
     ensures { result ≡ spec.station_word (get_member key.now (table_view table.now)) }

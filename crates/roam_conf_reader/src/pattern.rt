@@ -24,7 +24,7 @@ enum PatternText<'a> {
     Any,
 }
 
-/// Whether the octets may be a realm's name.
+/// Returns whether the octets may be a realm's name.
 #[tactic(auto, unfolding(roam_conf::specs::Patterns::is_realm_name, crate::specs::Values::text_fits))]
 fn is_realm_name(octets: &[u8]) -> bool
     ensures { result ≡ is_realm_name octets.now }
@@ -32,7 +32,7 @@ fn is_realm_name(octets: &[u8]) -> bool
     text_fits(octets, 253, Letters::RealmName)
 }
 
-/// What a text says: `*`, `*.` and a name, or a name.
+/// Returns what a text says: `*`, `*.` and a name, or a name.
 #[tactic(auto, unfolding(crate::specs::Values::pattern_in))]
 fn pattern_text(text: &str) -> Option<PatternText<'_>>
     ensures { option_map pattern_said result ≡ spec.pattern_in text.now }
@@ -125,7 +125,7 @@ pub(crate) fn all_from(alloc: Global, table: &Table) -> Result<Vec<RealmPattern>
     list_from(alloc, table, "also", 256)
 }
 
-/// Whether a pattern may be rejected.
+/// Returns whether a pattern may be rejected.
 fn is_reject(pattern: &RealmPattern) -> bool
     ensures { result ≡ is_reject (shown_pattern pattern.now) }
 {
@@ -136,7 +136,7 @@ fn is_reject(pattern: &RealmPattern) -> bool
     }
 }
 
-/// Whether all of these patterns may be rejected.
+/// Returns whether all of these patterns may be rejected.
 fn are_rejects(patterns: &[RealmPattern]) -> bool
     ensures { result ≡ list_all is_reject (map shown_pattern patterns.now) }
 {

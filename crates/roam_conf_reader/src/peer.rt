@@ -34,7 +34,7 @@ struct PeerText<'a> {
     ask_cui: bool,
 }
 
-/// What a table states of a peer; nothing where one of its own values is bad.
+/// Returns what a table states of a peer; nothing where one of its own values is bad.
 fn peer_text(table: &Table) -> Option<PeerText<'_>>
     ensures { MatchOption result
         ((p : PeerView) → ¬ (StatesPeer (table_view table.now) p))

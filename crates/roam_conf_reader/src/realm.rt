@@ -41,7 +41,7 @@ struct RealmText<'a> {
     servers: &'a Array,
 }
 
-/// How many sessions a realm remembers where its table doesn't say it, by what that has as `reverse`.
+/// Returns how many sessions a realm remembers where its table doesn't say it, by what that has as `reverse`.
 fn sessions_unless_said(reverse: Option<&Value>) -> u32
     ensures value { result ≡ sessions_unless_said (option_map (λ v. view v.now) reverse.entry) }
     ensures bound { result ≤ 65536 }
@@ -52,7 +52,7 @@ fn sessions_unless_said(reverse: Option<&Value>) -> u32
     }
 }
 
-/// What a table states of a realm; nothing where one of its own values is bad.
+/// Returns what a table states of a realm; nothing where one of its own values is bad.
 fn realm_text(table: &Table) -> Option<RealmText<'_>>
     ensures { MatchOption result
         ((r : RealmView) → ¬ (StatesRealm (table_view table.now) r))
@@ -100,7 +100,7 @@ fn realm_text(table: &Table) -> Option<RealmText<'_>>
     })
 }
 
-/// Whether each of these servers takes accounting.
+/// Returns whether each of these servers takes accounting.
 fn all_take_accounting(servers: &[Server]) -> bool
     ensures { result ≡ list_all (λ (s : ServerView). is_some s.acct) (map shown_server servers.now) }
 {
@@ -112,7 +112,7 @@ fn all_take_accounting(servers: &[Server]) -> bool
     true
 }
 
-/// Whether each of these servers takes accounting, where it is forwarded.
+/// Returns whether each of these servers takes accounting, where it is forwarded.
 fn are_accounted(accounting: Accounting, servers: &[Server]) -> bool
     ensures { result ≡ are_accounted accounting (map shown_server servers.now) }
 {

@@ -26,7 +26,7 @@ pub(crate) enum Removals {
 }
 
 impl Removals {
-    /// Whether attributes of the Type are never taken out.
+    /// Returns whether attributes of the Type are never taken out.
     fn keeps(self, kind: u8) -> bool
         ensures { result ≡ is_one_of (kept_of self) kind }
     {
@@ -36,7 +36,7 @@ impl Removals {
         }
     }
 
-    /// Whether the list may name the attribute.
+    /// Returns whether the list may name the attribute.
     fn may_name(self, removed: RemovedAttribute) -> bool
         ensures { result ≡ is_removal (kept_of self) removed }
     {

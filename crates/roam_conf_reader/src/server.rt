@@ -25,7 +25,7 @@ struct ServerText<'a> {
     require_seal: bool,
 }
 
-/// What a table states of a home server; nothing where one of its values is bad.
+/// Returns what a table states of a home server; nothing where one of its values is bad.
 fn server_text(table: &Table) -> Option<ServerText<'_>>
     ensures { MatchOption result
         ((s : ServerView) → ¬ (StatesServer (table_view table.now) s))

@@ -34,7 +34,7 @@ struct TopText<'a> {
     realms: &'a Array,
 }
 
-/// What a document states; nothing where one of its own values is bad.
+/// Returns what a document states; nothing where one of its own values is bad.
 fn top_text(table: &Table) -> Option<TopText<'_>>
     ensures { MatchOption result
         ((config : ConfigView) → ¬ (StatesConfig (table_view table.now) config))
@@ -85,7 +85,7 @@ fn top_text(table: &Table) -> Option<TopText<'_>>
     })
 }
 
-/// What the top table states.
+/// Returns what the top table states.
 pub(crate) fn parts_from(alloc: Global, table: &Table) -> Result<ConfigParts, ConfFault>
     ensures ok { IfOk result (λ parts. StatesConfig (table_view table.now) (shown_parts parts)) }
     ensures bad { result ≡ Err ConfFault.BadValue

@@ -104,7 +104,7 @@ fn is_one_of(keys: &[&str], key: &str) -> bool
     false
 }
 
-/// Whether each key of the table is one of these.
+/// Returns whether each key of the table is one of these.
 pub(crate) fn has_only(table: &Table, required: &[&str], optional: &[&str]) -> bool
     ensures { result ≡ spec.has_only (shown_keys required.now) (shown_keys optional.now)
         (table_view table.now) }
@@ -117,7 +117,7 @@ pub(crate) fn has_only(table: &Table, required: &[&str], optional: &[&str]) -> b
     true
 }
 
-/// Whether the table has each of these keys.
+/// Returns whether the table has each of these keys.
 fn has_all(table: &Table, keys: &[&str]) -> bool
     ensures { result ≡ spec.has_all (shown_keys keys.now) (table_view table.now) }
 {
@@ -129,7 +129,7 @@ fn has_all(table: &Table, keys: &[&str]) -> bool
     true
 }
 
-/// Whether one of the items is a table that misses one of these keys.
+/// Returns whether one of the items is a table that misses one of these keys.
 fn some_misses(items: &Array, keys: &[&str]) -> bool
     ensures { result ≡ some_table (misses (shown_keys keys.now)) (array_view items.now) }
 {
@@ -156,7 +156,7 @@ fn some_misses_within(table: &Table, key: &str, keys: &[&str]) -> bool
     }
 }
 
-/// Whether a realm's accounting is forwarded, as far as its table says.
+/// Returns whether a realm's accounting is forwarded, as far as its table says.
 #[tactic(auto, unfolding(crate::specs::Document::forwards))]
 fn forwards(table: &Table) -> bool
     ensures { result ≡ spec.forwards (get_member (codes "accounting") (table_view table.now)) }
@@ -168,7 +168,7 @@ fn forwards(table: &Table) -> bool
     }
 }
 
-/// Whether a realm's table, or the table of one of its servers or of its `coa_client`s, misses a key.
+/// Returns whether a realm's table, or the table of one of its servers or of its `coa_client`s, misses a key.
 #[tactic(auto, unfolding(crate::specs::Document::realm_misses))]
 fn realm_misses(table: &Table) -> bool
     ensures { result ≡ spec.realm_misses (table_view table.now) }
@@ -179,7 +179,7 @@ fn realm_misses(table: &Table) -> bool
         || forwards(table) && some_misses_within(table, "server", &ACCOUNTED_KEYS)
 }
 
-/// Whether one of the items is a realm's table that misses a key.
+/// Returns whether one of the items is a realm's table that misses a key.
 fn some_realm_misses(items: &Array) -> bool
     ensures { result ≡ some_table spec.realm_misses (array_view items.now) }
 {
@@ -206,7 +206,7 @@ fn realms_miss(table: &Table) -> bool
     }
 }
 
-/// Whether a required key is absent anywhere in the document.
+/// Returns whether a required key is absent anywhere in the document.
 #[tactic(auto, unfolding(crate::specs::Document::document_misses))]
 pub(crate) fn document_misses(table: &Table) -> bool
     ensures { result ≡ spec.document_misses (table_view table.now) }

@@ -57,7 +57,7 @@ pub(crate) fn value<'a>(table: &'a Table, key: &str) -> Option<&'a Value>
     table.get(key)
 }
 
-/// Whether the octets are 1 to `most`, all of them among the letters.
+/// Returns whether the octets are 1 to `most`, all of them among the letters.
 #[tactic(auto, unfolding(crate::specs::Values::text_fits))]
 pub(crate) fn text_fits(octets: &[u8], most: usize, letters: Letters) -> bool
     ensures { result ≡ text_fits most (letters_of letters) octets.now }
@@ -161,7 +161,7 @@ pub(crate) fn exchange_lines_of(value: &Value) -> Option<ExchangeLines>
     }
 }
 
-/// What becomes of accounting, by a text.
+/// Returns what becomes of accounting, by a text.
 #[tactic(auto, unfolding(crate::specs::Values::accounting_in))]
 pub(crate) fn accounting_in(text: &str) -> Option<Accounting>
     ensures { result ≡ spec.accounting_in text.now }
@@ -178,7 +178,7 @@ pub(crate) fn accounting_in(text: &str) -> Option<Accounting>
     None
 }
 
-/// How lines have a station, by a text.
+/// Returns how lines have a station, by a text.
 #[tactic(auto, unfolding(crate::specs::Values::station_word_in))]
 fn station_word_in(text: &str) -> Option<StationWord>
     ensures { result ≡ spec.station_word_in text.now }
@@ -192,7 +192,7 @@ fn station_word_in(text: &str) -> Option<StationWord>
     None
 }
 
-/// How lines have a station: one of two texts.
+/// Returns how lines have a station: one of two texts.
 #[tactic(auto, unfolding(crate::specs::Values::station_word))]
 pub(crate) fn station_word_of(value: &Value) -> Option<StationWord>
     ensures { result ≡ spec.station_word (Some (view value.now)) }

@@ -52,7 +52,7 @@ enum ControlRequest {
     Reload,
 }
 
-/// What a path asks for at the control socket.
+/// Returns what a path asks for at the control socket.
 fn asked_by(path: &str) -> Option<ControlRequest> {
     match path {
         "/metrics" => Some(ControlRequest::Metrics),
@@ -65,7 +65,7 @@ fn asked_by(path: &str) -> Option<ControlRequest> {
     }
 }
 
-/// What a path asks for at a door.
+/// Returns what a path asks for at a door.
 fn asked_at(door: Door, path: &str) -> Option<ControlRequest> {
     match door {
         Door::Control => asked_by(path),
@@ -83,7 +83,7 @@ fn methods(door: Door, asked: ControlRequest) -> HeaderValue {
     }
 }
 
-/// Whether a method is the right one.
+/// Returns whether a method is the right one.
 fn is_right(door: Door, asked: ControlRequest, method: &Method) -> bool {
     match (door, asked) {
         (_, ControlRequest::Stop | ControlRequest::Reload) => *method == Method::POST,

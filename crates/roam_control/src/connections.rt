@@ -167,7 +167,7 @@ fn accept_all<R: RandomSource, L: Listener>(
     None
 }
 
-/// When a connection is closed at the latest of whose answer some was taken at this moment.
+/// Returns when a connection is closed at the latest of whose answer some was taken at this moment.
 fn time_of<T>(open: &OpenConnection<T>, now: u64) -> u64 {
     now.saturating_add(if open.handed.is_some() {
         TIME_OF_STEPS

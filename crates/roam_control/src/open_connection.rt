@@ -71,7 +71,8 @@ fn await_end<T: Read>(open: &mut OpenConnection<T>) -> Turn {
     Turn::Waits
 }
 
-/// Where an answer is written: done, unless it has stored steps. Then the other side is told that this is all.
+/// Returns what follows once an answer is written: it is done, unless it has stored steps. Then the other side is told
+/// that this is all.
 fn end_answer<T: Read + AsRawFd>(open: &mut OpenConnection<T>) -> Turn {
     if open.handed.is_none() {
         return Turn::Done;
@@ -87,8 +88,8 @@ fn end_answer<T: Read + AsRawFd>(open: &mut OpenConnection<T>) -> Turn {
     await_end(open)
 }
 
-/// What an error of a read or a write comes to, where some of an answer was taken before or not; None where it is tried
-/// again.
+/// Returns what an error of a read or a write comes to, where some of an answer was taken before or not; None where it
+/// is tried again.
 fn after_error(error: &io::Error, has_moved: bool) -> Option<Turn> {
     match error.kind() {
         ErrorKind::WouldBlock if has_moved => Some(Turn::Moved),

@@ -29,7 +29,7 @@ impl Pause {
         }
     }
 
-    /// Whether connections are taken at this moment.
+    /// Returns whether connections are taken at this moment.
     pub fn is_over(&self, now: u64) -> bool
         ensures { IsTrue result ↔ (self.now.until ≤ now) }
     {

@@ -51,14 +51,14 @@ Within c ends s more turn =
     counted ends (packets_of turn) + may_still_follow c ends (state_after s turn).entries
     ≤ may_still_follow c ends s.entries + more
 
-found-within : (c : RealmConfig) (ends : Ends) (tries : 1 ≤ c.realm.tries) (now : ℕ) (s : RealmState) (l : Link)
-    (octets : List ℕ) (found : Option PlainEntry) → find_link l (packet_of octets).id s.entries ≡ found →
-    Within c ends s 0 (in_time now (to_entry c now s (packet_of octets) found))
-found-within c ends tries now s l octets None is =
+found-within : (c : RealmConfig) (ends : Ends) (tries : 1 ≤ c.realm.tries) (now : ℕ) (s : RealmState)
+    (kept : Bool) (l : Link) (octets : List ℕ) (found : Option PlainEntry) →
+    find_link l (packet_of octets).id s.entries ≡ found → Within c ends s 0 (in_time now (to_entry c now s kept (packet_of octets) found))
+found-within c ends tries now s kept l octets None is =
     either (Within c ends s 0) (ltb (2 ^ 62) now) _ _ (omega arith) (omega arith)
-found-within c ends tries now s l octets (Some e) is =
-    let whole = reply-answers c ends all tries now s l octets in
-    let turn = in_time now (to_entry c now s (packet_of octets) (Some e)) in
+found-within c ends tries now s kept l octets (Some e) is =
+    let whole = reply-answers c ends all tries now s kept l octets in
+    let turn = in_time now (to_entry c now s kept (packet_of octets) (Some e)) in
     let here :
     counted ends (packets_of turn) + may_still_follow c ends (state_after s turn).entries
     ≤ may_still_follow c ends s.entries
@@ -68,8 +68,8 @@ found-within c ends tries now s l octets (Some e) is =
 event-within : (c : RealmConfig) (ends : Ends) (tries : 1 ≤ c.realm.tries) (s : RealmState) (e : RealmEvent) →
     Within c ends s (caused_by c ends e) (on_event c s e)
 event-within c ends tries s (request_came now named q) = (request-pays c ends all tries now s named q).all
-event-within c ends tries s (reply_came now l octets) =
-    found-within c ends tries now s l octets (find_link l (packet_of octets).id s.entries) refl
+event-within c ends tries s (reply_came now kept l octets) =
+    found-within c ends tries now s kept l octets (find_link l (packet_of octets).id s.entries) refl
 event-within c ends tries s (tick_came now) =
     let dues = due_list now s.entries in
     let spend :
@@ -109,7 +109,10 @@ only-back c ends (request_came now named q ∷ es) h =
     let none = ap (λ (n : ℕ). c.realm.tries * n) (none-toward c ends (targets c q) h) in
     let rest = only-back c ends es h in
     omega (arith, none, rest)
-only-back c ends (reply_came now l octets ∷ es) h = let rest = only-back c ends es h in omega (arith, rest)
+only-back c ends (reply_came now kept l octets ∷ es) h = let rest = only-back c ends es h in omega (
+  arith,
+  rest,
+)
 only-back c ends (tick_came now ∷ es) h = let rest = only-back c ends es h in omega (arith, rest)
 
 pub no_more_answers : NoMoreAnswersThanRequests
@@ -157,25 +160,25 @@ of_key-few c now s named q (Some e) =
     either Few (pointwise nat_eq e.request.octets q.octets) _ _ (held-few c q e.standing)
     (nak_or_new-few c now s q (reverse_cause c s named q))
 
-reply_turn-few : (c : RealmConfig) (now : ℕ) (s : RealmState) (e : PlainEntry) (l : Link) (forwarded reply : Packet)
-    (why : Option Refusal) → Few (reply_turn c now s e l forwarded reply why)
-reply_turn-few c now s e l forwarded reply (Some why) = either Few (shows_life why) _ _ (omega arith) (omega arith)
-reply_turn-few c now s e l forwarded reply None =
+reply_turn-few : (c : RealmConfig) (now : ℕ) (s : RealmState) (kept : Bool) (e : PlainEntry) (l : Link)
+    (forwarded reply : Packet) (why : Option Refusal) → Few (reply_turn c now s kept e l forwarded reply why)
+reply_turn-few c now s kept e l forwarded reply (Some why) = either Few (shows_life why) _ _ (omega arith) (omega arith)
+reply_turn-few c now s kept e l forwarded reply None =
     either Few (ltb 4096 (returned_length (returning c e.request l forwarded) (passing_to c e.request reply)
     (packet_of e.request.octets))) _ _
     (omega arith) (omega arith)
 
-to_standing-few : (c : RealmConfig) (now : ℕ) (s : RealmState) (e : PlainEntry) (reply : Packet)
-    (standing : PlainStanding) → Few (to_standing c now s e reply standing)
-to_standing-few c now s e reply (waiting l id forwarded sends_left deadline signs) =
-    reply_turn-few c now s e l (packet_of forwarded) reply
+to_standing-few : (c : RealmConfig) (now : ℕ) (s : RealmState) (kept : Bool) (e : PlainEntry) (reply : Packet)
+    (standing : PlainStanding) → Few (to_standing c now s kept e reply standing)
+to_standing-few c now s kept e reply (waiting l id forwarded sends_left deadline signs) =
+    reply_turn-few c now s kept e l (packet_of forwarded) reply
     (reply_fault (link_secret c l) (seal_required c l) reply (packet_of forwarded))
-to_standing-few c now s e reply (done old deadline from) = omega arith
+to_standing-few c now s kept e reply (done old deadline from) = omega arith
 
-to_entry-few : (c : RealmConfig) (now : ℕ) (s : RealmState) (reply : Packet) (found : Option PlainEntry) →
-    Few (to_entry c now s reply found)
-to_entry-few c now s reply None = omega arith
-to_entry-few c now s reply (Some e) = to_standing-few c now s e reply e.standing
+to_entry-few : (c : RealmConfig) (now : ℕ) (s : RealmState) (kept : Bool) (reply : Packet) (found : Option PlainEntry) →
+    Few (to_entry c now s kept reply found)
+to_entry-few c now s kept reply None = omega arith
+to_entry-few c now s kept reply (Some e) = to_standing-few c now s kept e reply e.standing
 
 -- and one at most for each entry that is due
 
@@ -213,9 +216,9 @@ dues-few c now s (d ∷ ds) =
 pub one_packet_each : OnePacketEach
 one_packet_each c s (request_came now named q) =
     either Few (ltb (2 ^ 62) now) _ _ (omega arith) (of_key-few c now s named q (find_client q.key s.entries))
-one_packet_each c s (reply_came now l octets) =
+one_packet_each c s (reply_came now kept l octets) =
     either Few (ltb (2 ^ 62) now) _ _ (omega arith)
-    (to_entry-few c now s (packet_of octets) (find_link l (packet_of octets).id s.entries))
+    (to_entry-few c now s kept (packet_of octets) (find_link l (packet_of octets).id s.entries))
 one_packet_each c s (tick_came now) =
     let dues = due_list now s.entries in
     either (λ (turn : Turn). length (packets_of turn) ≤ length dues) (ltb (2 ^ 62) now) _ _ (omega arith)

@@ -1,6 +1,6 @@
 -- The random words that a realm draws: its stream moves on by the four words of each draw, so that no words are
 -- drawn twice before the stream ends.
-use Rattle.std.proofs.Common.{◌≡◌, ◌+◌, ◌*◌, ◌%◌, ◌^◌, ◌<◌, ◌≤◌, ℕ, zero, suc, List, [], ◌∷◌, ◌++◌, Option, Some, None, refl, sym, ap, subst, ◌∙◌, true, false, eqb, ltb, inl, inr, arith, append_assoc, length}
+use Rattle.std.proofs.Common.{◌≡◌, ◌+◌, ◌*◌, ◌%◌, ◌^◌, ◌<◌, ◌≤◌, ℕ, zero, suc, Bool, List, [], ◌∷◌, ◌++◌, Option, Some, None, refl, sym, ap, subst, ◌∙◌, true, false, eqb, ltb, inl, inr, arith, append_assoc, length}
 use Rattle.std.specs.Prelude.{◌⊎◌, nat_eq, slice_get}
 use Rattle.std.specs.Cmp.Lexicographic.{pointwise}
 use Rattle.std.proofs.lemmas.Bool.{cases_Bool}
@@ -90,31 +90,31 @@ request-moves c s now named q =
 abbrev Rests : RealmState → Turn → Type 0
 Rests old turn = (state_after old turn).stream_position ≡ old.stream_position
 
-reply_turn-rests : (c : RealmConfig) (now : ℕ) (s : RealmState) (e : PlainEntry) (l : Link) (forwarded reply : Packet)
-    (why : Option Refusal) → Rests s (reply_turn c now s e l forwarded reply why)
-reply_turn-rests c now s e l forwarded reply (Some why) = either (Rests s) (shows_life why) _ _ refl refl
-reply_turn-rests c now s e l forwarded reply None =
+reply_turn-rests : (c : RealmConfig) (now : ℕ) (s : RealmState) (kept : Bool) (e : PlainEntry) (l : Link)
+    (forwarded reply : Packet) (why : Option Refusal) → Rests s (reply_turn c now s kept e l forwarded reply why)
+reply_turn-rests c now s kept e l forwarded reply (Some why) = either (Rests s) (shows_life why) _ _ refl refl
+reply_turn-rests c now s kept e l forwarded reply None =
     either (Rests s) (ltb 4096 (returned_length (returning c e.request l forwarded) (passing_to c e.request reply)
     (packet_of e.request.octets))) _ _
     refl refl
 
-to_standing-rests : (c : RealmConfig) (now : ℕ) (s : RealmState) (e : PlainEntry) (reply : Packet)
-    (standing : PlainStanding) → Rests s (to_standing c now s e reply standing)
-to_standing-rests c now s e reply (waiting l id forwarded sends_left deadline signs) =
-    reply_turn-rests c now s e l (packet_of forwarded) reply
+to_standing-rests : (c : RealmConfig) (now : ℕ) (s : RealmState) (kept : Bool) (e : PlainEntry) (reply : Packet)
+    (standing : PlainStanding) → Rests s (to_standing c now s kept e reply standing)
+to_standing-rests c now s kept e reply (waiting l id forwarded sends_left deadline signs) =
+    reply_turn-rests c now s kept e l (packet_of forwarded) reply
     (reply_fault (link_secret c l) (seal_required c l) reply (packet_of forwarded))
-to_standing-rests c now s e reply (done old deadline from) = refl
+to_standing-rests c now s kept e reply (done old deadline from) = refl
 
-to_entry-rests : (c : RealmConfig) (now : ℕ) (s : RealmState) (reply : Packet) (found : Option PlainEntry) →
-    Rests s (to_entry c now s reply found)
-to_entry-rests c now s reply None = refl
-to_entry-rests c now s reply (Some e) = to_standing-rests c now s e reply e.standing
+to_entry-rests : (c : RealmConfig) (now : ℕ) (s : RealmState) (kept : Bool) (reply : Packet)
+    (found : Option PlainEntry) → Rests s (to_entry c now s kept reply found)
+to_entry-rests c now s kept reply None = refl
+to_entry-rests c now s kept reply (Some e) = to_standing-rests c now s kept e reply e.standing
 
-reply-rests : (c : RealmConfig) (s : RealmState) (now : ℕ) (l : Link) (octets : List ℕ) →
-    Rests s (on_event c s (reply_came now l octets))
-reply-rests c s now l octets =
+reply-rests : (c : RealmConfig) (s : RealmState) (now : ℕ) (kept : Bool) (l : Link) (octets : List ℕ) →
+    Rests s (on_event c s (reply_came now kept l octets))
+reply-rests c s now kept l octets =
     either (Rests s) (ltb (2 ^ 62) now) _ _ refl
-    (to_entry-rests c now s (packet_of octets) (find_link l (packet_of octets).id s.entries))
+    (to_entry-rests c now s kept (packet_of octets) (find_link l (packet_of octets).id s.entries))
 
 -- a due entry draws once at most
 abbrev Goes : RealmState → Progress → Type 0
@@ -207,8 +207,8 @@ pub event-draws : (place k : ℕ) (c : RealmConfig) (s : RealmState) (e : RealmE
     Draws place k (drawn_by c s e) (state_after s (on_event c s e)).stream_position
 event-draws place k c s (request_came now named q) at =
     moved-draws place k s (state_after s (on_event c s (request_came now named q))) at (request-moves c s now named q)
-event-draws place k c s (reply_came now l octets) at =
-    none-drawn place k s.stream_position _ at (reply-rests c s now l octets)
+event-draws place k c s (reply_came now kept l octets) at =
+    none-drawn place k s.stream_position _ at (reply-rests c s now kept l octets)
 event-draws place k c s (tick_came now) at =
     elim (cases_Bool (ltb (2 ^ 62) now)) [
       | inl late ↦ rw late (none-drawn place k s.stream_position s.stream_position at refl)

@@ -116,10 +116,12 @@ module _ (c : RealmConfig) (Kept : List PlainEntry → Type 0) (Good : PlainEntr
       → Good (with_standing (done octets (now + c.realm.hold) from) e)
 
   reply_turn-keeps :
-      (now : ℕ) (s : RealmState) (e : PlainEntry) (l : Link) (forwarded reply : Packet) (why : Option Refusal)
-      → Kept s.entries → DoneIsGood now → Keeps s (reply_turn c now s e l forwarded reply why)
-  reply_turn-keeps now s e l forwarded reply (Some why) old done_good = either (Keeps s) (shows_life why) _ _ old old
-  reply_turn-keeps now s e l forwarded reply None old done_good =
+      (now : ℕ) (s : RealmState) (keeps_session : Bool) (e : PlainEntry) (l : Link) (forwarded reply : Packet)
+      (why : Option Refusal)
+      → Kept s.entries → DoneIsGood now → Keeps s (reply_turn c now s keeps_session e l forwarded reply why)
+  reply_turn-keeps now s keeps_session e l forwarded reply (Some why) old done_good = either (Keeps s) (shows_life
+      why) _ _ old old
+  reply_turn-keeps now s keeps_session e l forwarded reply None old done_good =
       let octets = returned_octets c e.request l forwarded reply in
       either (Keeps s)
       (ltb 4096 (returned_length (returning c e.request l forwarded) (passing_to c e.request reply)
@@ -128,25 +130,27 @@ module _ (c : RealmConfig) (Kept : List PlainEntry → Type 0) (Good : PlainEntr
       old)
 
   to_standing-keeps :
-      (now : ℕ) (s : RealmState) (e : PlainEntry) (reply : Packet) (standing : PlainStanding)
-      → Kept s.entries → DoneIsGood now → Keeps s (to_standing c now s e reply standing)
-  to_standing-keeps now s e reply (waiting l id forwarded sends_left deadline signs) old done_good =
-      reply_turn-keeps now s e l (packet_of forwarded) reply
+      (now : ℕ) (s : RealmState) (keeps_session : Bool) (e : PlainEntry) (reply : Packet) (standing : PlainStanding)
+      → Kept s.entries → DoneIsGood now → Keeps s (to_standing c now s keeps_session e reply standing)
+  to_standing-keeps now s keeps_session e reply (waiting l id forwarded sends_left deadline signs) old done_good =
+      reply_turn-keeps now s keeps_session e l (packet_of forwarded) reply
       (reply_fault (link_secret c l) (seal_required c l) reply (packet_of forwarded)) old done_good
-  to_standing-keeps now s e reply (done held deadline from) old done_good = old
+  to_standing-keeps now s keeps_session e reply (done held deadline from) old done_good = old
 
   to_entry-keeps :
-      (now : ℕ) (s : RealmState) (reply : Packet) (found : Option PlainEntry)
-      → Kept s.entries → DoneIsGood now → Keeps s (to_entry c now s reply found)
-  to_entry-keeps now s reply None old done_good = old
-  to_entry-keeps now s reply (Some e) old done_good = to_standing-keeps now s e reply e.standing old done_good
+      (now : ℕ) (s : RealmState) (keeps_session : Bool) (reply : Packet) (found : Option PlainEntry)
+      → Kept s.entries → DoneIsGood now → Keeps s (to_entry c now s keeps_session reply found)
+  to_entry-keeps now s keeps_session reply None old done_good = old
+  to_entry-keeps now s keeps_session reply (Some e) old done_good = to_standing-keeps now s keeps_session e reply
+      e.standing old done_good
 
   pub reply-keeps :
-      (now : ℕ) (s : RealmState) (l : Link) (octets : List ℕ) → Kept s.entries → DoneIsGood now
-      → Keeps s (on_event c s (reply_came now l octets))
-  reply-keeps now s l octets old done_good =
+      (now : ℕ) (s : RealmState) (keeps_session : Bool) (l : Link) (octets : List ℕ) → Kept s.entries → DoneIsGood now
+      → Keeps s (on_event c s (reply_came now keeps_session l octets))
+  reply-keeps now s keeps_session l octets old done_good =
       either (Keeps s) (ltb (2 ^ 62) now) _ _ old
-      (to_entry-keeps now s (packet_of octets) (find_link l (packet_of octets).id s.entries) old done_good)
+      (to_entry-keeps now s keeps_session (packet_of octets) (find_link l (packet_of octets).id s.entries) old
+      done_good)
 
   -- A tick: an entry that is sent once more, or to a later target, is good where it was good
 

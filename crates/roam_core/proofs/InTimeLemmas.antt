@@ -40,9 +40,9 @@ event-order : (c : RealmConfig) (s : RealmState) (e : RealmEvent) → IsInOrder 
 event-order c s (request_came now named q) order =
     request-keeps c IsInOrder Any order-filter (λ e es h. order-put e es) (λ e es h at. tt) now s named q order
     (λ t signs fits. tt)
-event-order c s (reply_came now l octets) order =
-    reply-keeps c IsInOrder Any order-filter (λ e es h. order-put e es) (λ e es h at. tt) now s l octets order
-    (λ e octets from. tt)
+event-order c s (reply_came now keep l octets) order =
+    reply-keeps c IsInOrder Any order-filter (λ e es h. order-put e es) (λ e es h at. tt) now s keep l octets
+    order (λ e octets from. tt)
 event-order c s (tick_came now) order =
     tick-keeps c IsInOrder Any order-filter (λ e es h. order-put e es) (λ e es h at. tt) now s (record {
       again = λ e l id f k d signs is some h. tt;
@@ -193,9 +193,9 @@ module _ (c : RealmConfig) (gap ticket until : ℕ) (tries : 1 ≤ c.realm.tries
   event-in-time tick before s (request_came now named q) from not_back soon late wait given order old =
       request-keeps c (AllInTime tick) (IsInTime tick) (all-less tick) (all-more tick) (all-each tick) now s named q old
       (λ target signs fits at. absurd (let same : s.ticket ≡ ticket = at in omega arith))
-  event-in-time tick before s (reply_came now l octets) from not_back soon late wait given order old =
-      reply-keeps c (AllInTime tick) (IsInTime tick) (all-less tick) (all-more tick) (all-each tick) now s l octets old
-      (λ e octets from at. tt)
+  event-in-time tick before s (reply_came now keep l octets) from not_back soon late wait given order old =
+      reply-keeps c (AllInTime tick) (IsInTime tick) (all-less tick) (all-more tick) (all-each tick) now s keep
+      l octets old (λ e octets from at. tt)
   event-in-time tick before s (tick_came now) from not_back soon late wait given order old =
       let early : ltb (2 ^ 62) now ≡ false = grind (arith, nat_tests, late) in
       rw early (dues-in-time tick now s (omega arith) soon wait order old)
@@ -218,12 +218,12 @@ module _ (c : RealmConfig) (gap ticket until : ℕ) (tries : 1 ≤ c.realm.tries
   tick-before : (tick before : ℕ) (e : RealmEvent) → tick ≤ before → before ≤ moment_of e →
       last_tick tick e ≤ moment_of e
   tick-before tick before (request_came now named q) from not_back = omega arith
-  tick-before tick before (reply_came now l octets) from not_back = omega arith
+  tick-before tick before (reply_came now keep l octets) from not_back = omega arith
   tick-before tick before (tick_came now) from not_back = omega arith
 
   tick-soon : (tick : ℕ) (e : RealmEvent) → moment_of e ≤ tick + gap → moment_of e ≤ last_tick tick e + gap
   tick-soon tick (request_came now named q) soon = soon
-  tick-soon tick (reply_came now l octets) soon = soon
+  tick-soon tick (reply_came now keep l octets) soon = soon
   tick-soon tick (tick_came now) soon = omega arith
 
   pub run-in-time :

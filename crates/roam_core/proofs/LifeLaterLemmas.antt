@@ -94,6 +94,7 @@ pub returned-later :
 returned-later b es fs q ticket out h = record {
   before = h.before;
   answered_at = h.answered_at;
+  keeps_session = h.keeps_session;
   target = h.target;
   position = h.position;
   under = h.under;
@@ -103,7 +104,7 @@ returned-later b es fs q ticket out h = record {
   link = h.link;
   reply = h.reply;
   after = h.after ++ fs;
-  in_order = longer es h.before h.after fs (event (reply_came h.answered_at h.link h.reply)) h.in_order;
+  in_order = longer es h.before h.after fs (event (reply_came h.answered_at h.keeps_session h.link h.reply)) h.in_order;
   config_then = h.config_then;
   forwarded = h.forwarded;
   from_there = h.from_there;
@@ -114,8 +115,7 @@ returned-later b es fs q ticket out h = record {
   sent = h.sent;
 }
 
-pub nak-later :
-    (b : Stage) (es fs : List Happening) (q : PlainRequest) (out : PlainOut)
+pub nak-later : (b : Stage) (es fs : List Happening) (q : PlainRequest) (out : PlainOut)
     → IsNakIn b es q out → IsNakIn b (es ++ fs) q out
 nak-later b es fs q out (inl h) = inl (record {
   first = h.first;

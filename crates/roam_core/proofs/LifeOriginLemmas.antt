@@ -30,8 +30,8 @@ event-keeps :
 event-keeps b before (request_came now named q) at is kept sent =
     let still = each-later b before (request_came now named q) at.state.entries kept in
     on_request-keeps b before at now named q (record { stage = is; does = refl }) still
-event-keeps b before (reply_came now l reply) at is kept sent =
-    on_reply-keeps b before at is now l reply kept sent
+event-keeps b before (reply_came now keeps_session l reply) at is kept sent =
+    on_reply-keeps b before at is now keeps_session l reply kept sent
 event-keeps b before (tick_came now) at is kept sent =
     let still = each-later b before (tick_came now) at.state.entries kept in
     on_tick-keeps b before at is now kept still sent

@@ -1,5 +1,5 @@
 -- A reply in a realm's life keeps what is known: it is returned for the request that waits on its link.
-use Rattle.std.proofs.Common.{◌≡◌, ℕ, ◌+◌, true, List, [], ◌∷◌, ◌++◌, Option, Some, None, refl, sym, ap, subst, ◌∙◌, arith, eqb, ltb, inl, inr}
+use Rattle.std.proofs.Common.{◌≡◌, ℕ, ◌+◌, true, Bool, List, [], ◌∷◌, ◌++◌, Option, Some, None, refl, sym, ap, subst, ◌∙◌, arith, eqb, ltb, inl, inr}
 use Rattle.std.proofs.lemmas.Bool.{cases_Bool}
 use Rattle.std.proofs.lemmas.Bool.Decides.{nat_tests}
 use Rattle.roam_wire.specs.Packet.{Packet}
@@ -29,8 +29,8 @@ use Rattle.roam_core.proofs.LifeLaterLemmas.{EachComesIn, AreSentIn, TurnKeepsIn
 use Rattle.roam_core.proofs.ToldLemmas.{told-of, told-same}
 
 -- what happened, a reply from a link being the last
-abbrev and_reply : List Happening → ℕ → Link → List ℕ → List Happening
-and_reply before now l reply = before ++ event (reply_came now l reply) ∷ []
+abbrev and_reply : List Happening → ℕ → Bool → Link → List ℕ → List Happening
+and_reply before now keeps_session l reply = before ++ event (reply_came now keeps_session l reply) ∷ []
 
 -- what goes back to the sender of a request, for a reply to what was forwarded
 abbrev back_for : RealmConfig → PlainRequest → Link → Packet → Packet → PlainOut
@@ -45,10 +45,10 @@ on-same_link b life q ticket id octets k l is h = rw (← is) h
 
 -- of a reply that comes from a link, at a stage whose entries come from what happened before it
 module _ (b : Stage) (before : List Happening) (at : Stage) (is_at : stage_then b before ≡ at) (now : ℕ)
-    (from : Link) (reply : List ℕ) (kept : EachComesIn b before at.state.entries) where
+    (keeps_session : Bool) (from : Link) (reply : List ℕ) (kept : EachComesIn b before at.state.entries) where
   -- the entries still come from there
-  still : EachComesIn b (and_reply before now from reply) at.state.entries
-  still = each-later b before (reply_came now from reply) at.state.entries kept
+  still : EachComesIn b (and_reply before now keeps_session from reply) at.state.entries
+  still = each-later b before (reply_came now keeps_session from reply) at.state.entries kept
 
   -- a reply that is taken for what was forwarded, and is then sent back
   answered-returned :
@@ -57,13 +57,14 @@ module _ (b : Stage) (before : List Happening) (at : Stage) (is_at : stage_then 
       → (packet_of reply).id ≡ id
       → reply_fault (link_secret at.config from) (seal_required at.config from) (packet_of reply)
       (packet_of forwarded) ≡ None
-      → IsSentIn b before (reply_came now from reply)
+      → IsSentIn b before (reply_came now keeps_session from reply)
       (back_for at.config e.request from (packet_of forwarded) (packet_of reply))
-      → IsReturnedIn b (and_reply before now from reply) comes.came e.ticket
+      → IsReturnedIn b (and_reply before now keeps_session from reply) comes.came e.ticket
       (back_for at.config e.request from (packet_of forwarded) (packet_of reply))
   answered-returned e id forwarded comes waits asked taken sent = record {
     before = before;
     answered_at = now;
+    keeps_session = keeps_session;
     target = waits.target;
     position = waits.position;
     under = waits.under;
@@ -97,12 +98,13 @@ module _ (b : Stage) (before : List Happening) (at : Stage) (is_at : stage_then 
   -- an entry that is done with it comes from the life
   settled-comes :
       (e : PlainEntry) (octets : List ℕ) (deadline : ℕ) (comes : ComesFromIn b before e)
-      → IsReturnedIn b (and_reply before now from reply) comes.came e.ticket
+      → IsReturnedIn b (and_reply before now keeps_session from reply) comes.came e.ticket
       (packet_to_requester at.config e.request.key octets)
-      → ComesFromIn b (and_reply before now from reply) (with_standing (done octets deadline (Some from)) e)
+      → ComesFromIn b (and_reply before now keeps_session from reply) (with_standing (done octets deadline (Some
+      from)) e)
   settled-comes e octets deadline comes returned =
-      let life = and_reply before now from reply in
-      let happened = reply_came now from reply in
+      let life = and_reply before now keeps_session from reply in
+      let happened = reply_came now keeps_session from reply in
       let told = told-same b before comes.came e.ticket comes.request before e.request comes.is_told in
       let here = subst (λ (k : Key). IsReturnedIn b life comes.came e.ticket (packet_to_requester at.config k octets))
       told.key returned in
@@ -124,13 +126,13 @@ module _ (b : Stage) (before : List Happening) (at : Stage) (is_at : stage_then 
       → (packet_of reply).id ≡ id
       → reply_fault (link_secret at.config from) (seal_required at.config from) (packet_of reply)
       (packet_of forwarded) ≡ None
-      → AreSentIn b before (reply_came now from reply)
-      (packets_of (return_reply at.config now at.state e from (packet_of forwarded) (packet_of reply)))
-      → TurnKeepsIn b (and_reply before now from reply) at.state
-      (return_reply at.config now at.state e from (packet_of forwarded) (packet_of reply))
+      → AreSentIn b before (reply_came now keeps_session from reply)
+      (packets_of (return_reply at.config now at.state keeps_session e from (packet_of forwarded) (packet_of reply)))
+      → TurnKeepsIn b (and_reply before now keeps_session from reply) at.state
+      (return_reply at.config now at.state keeps_session e from (packet_of forwarded) (packet_of reply))
   return_reply-keeps e id forwarded comes waits asked taken sent =
-      let life = and_reply before now from reply in
-      let happened = reply_came now from reply in
+      let life = and_reply before now keeps_session from reply in
+      let happened = reply_came now keeps_session from reply in
       let octets = returned_octets at.config e.request from (packet_of forwarded) (packet_of reply) in
       let how = returning at.config e.request from (packet_of forwarded) in
       let length = returned_length how (passing_to at.config e.request (packet_of reply))
@@ -160,10 +162,10 @@ module _ (b : Stage) (before : List Happening) (at : Stage) (is_at : stage_then 
       (packet_of forwarded) ≡ why
       → (comes : ComesFromIn b before e) → WaitsForIn b before comes.came e.ticket from id forwarded
       → (packet_of reply).id ≡ id
-      → AreSentIn b before (reply_came now from reply)
-      (packets_of (reply_turn at.config now at.state e from (packet_of forwarded) (packet_of reply) why))
-      → TurnKeepsIn b (and_reply before now from reply) at.state
-      (reply_turn at.config now at.state e from (packet_of forwarded) (packet_of reply) why)
+      → AreSentIn b before (reply_came now keeps_session from reply)
+      (packets_of (reply_turn at.config now at.state keeps_session e from (packet_of forwarded) (packet_of reply) why))
+      → TurnKeepsIn b (and_reply before now keeps_session from reply) at.state
+      (reply_turn at.config now at.state keeps_session e from (packet_of forwarded) (packet_of reply) why)
   reply_turn-keeps e id forwarded (Some why) fault comes waits asked sent =
       elim (cases_Bool (shows_life why)) [
         | inl y ↦ rw y (record { packets = tt; entries = still })
@@ -177,21 +179,22 @@ module _ (b : Stage) (before : List Happening) (at : Stage) (is_at : stage_then 
       (e : PlainEntry) (standing : PlainStanding) (comes : ComesFromIn b before e)
       → StandsFromIn b before comes.came e.ticket standing
       → stands_at from (packet_of reply).id standing ≡ true
-      → AreSentIn b before (reply_came now from reply)
-      (packets_of (to_standing at.config now at.state e (packet_of reply) standing))
-      → TurnKeepsIn b (and_reply before now from reply) at.state
-      (to_standing at.config now at.state e (packet_of reply) standing)
+      → AreSentIn b before (reply_came now keeps_session from reply)
+      (packets_of (to_standing at.config now at.state keeps_session e (packet_of reply) standing))
+      → TurnKeepsIn b (and_reply before now keeps_session from reply) at.state
+      (to_standing at.config now at.state keeps_session e (packet_of reply) standing)
   to_standing-keeps e (waiting l id forwarded sends_left deadline signs) comes waits stands sent =
       let tests = both (same_link l from) (eqb id (packet_of reply).id) stands in
       let is = same_link-equal l from tests.0 in
       let asked : (packet_of reply).id ≡ id = let t = tests.1 in grind (arith, nat_tests, t) in
       let there = on-same_link b before comes.came e.ticket id forwarded l from is waits in
-      let happened = reply_came now from reply in
+      let happened = reply_came now keeps_session from reply in
       let of_link : Link → Type 0 = λ k. AreSentIn b before happened
-      (packets_of (to_standing at.config now at.state e (packet_of reply)
+      (packets_of (to_standing at.config now at.state keeps_session e (packet_of reply)
       (waiting k id forwarded sends_left deadline signs))) in
-      let kept_there : Link → Type 0 = λ k. TurnKeepsIn b (and_reply before now from reply) at.state
-      (to_standing at.config now at.state e (packet_of reply) (waiting k id forwarded sends_left deadline signs)) in
+      let kept_there : Link → Type 0 = λ k. TurnKeepsIn b (and_reply before now keeps_session from reply) at.state
+      (to_standing at.config now at.state keeps_session e (packet_of reply) (waiting k id forwarded sends_left
+      deadline signs)) in
       let why = reply_fault (link_secret at.config from) (seal_required at.config from) (packet_of reply)
       (packet_of forwarded) in
       subst kept_there (sym is)
@@ -202,10 +205,10 @@ module _ (b : Stage) (before : List Happening) (at : Stage) (is_at : stage_then 
   -- the entry that is found there, if one is
   to_entry-keeps :
       (found : Option PlainEntry) → find_link from (packet_of reply).id at.state.entries ≡ found
-      → AreSentIn b before (reply_came now from reply)
-      (packets_of (to_entry at.config now at.state (packet_of reply) found))
-      → TurnKeepsIn b (and_reply before now from reply) at.state
-      (to_entry at.config now at.state (packet_of reply) found)
+      → AreSentIn b before (reply_came now keeps_session from reply)
+      (packets_of (to_entry at.config now at.state keeps_session (packet_of reply) found))
+      → TurnKeepsIn b (and_reply before now keeps_session from reply) at.state
+      (to_entry at.config now at.state keeps_session (packet_of reply) found)
   to_entry-keeps None found_by sent = record { packets = tt; entries = still }
   to_entry-keeps (Some e) found_by sent =
       let waits = waits_at from (packet_of reply).id in
@@ -213,13 +216,13 @@ module _ (b : Stage) (before : List Happening) (at : Stage) (is_at : stage_then 
       to_standing-keeps e e.standing comes comes.standing (find-passes waits at.state.entries e found_by) sent
 
   pub on_reply-keeps :
-      AreSentIn b before (reply_came now from reply)
-      (packets_of (on_reply at.config now at.state from reply))
-      → TurnKeepsIn b (and_reply before now from reply) at.state
-      (on_reply at.config now at.state from reply)
+      AreSentIn b before (reply_came now keeps_session from reply)
+      (packets_of (on_reply at.config now at.state keeps_session from reply))
+      → TurnKeepsIn b (and_reply before now keeps_session from reply) at.state
+      (on_reply at.config now at.state keeps_session from reply)
   on_reply-keeps sent =
-      let happened = reply_came now from reply in
-      let life = and_reply before now from reply in
+      let happened = reply_came now keeps_session from reply in
+      let life = and_reply before now keeps_session from reply in
       let found = find_link from (packet_of reply).id at.state.entries in
-      let turn = to_entry at.config now at.state (packet_of reply) found in
+      let turn = to_entry at.config now at.state keeps_session (packet_of reply) found in
       in_time-keeps b before life happened now at.state turn still (to_entry-keeps found refl) sent

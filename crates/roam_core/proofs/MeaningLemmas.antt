@@ -28,7 +28,7 @@ use Rattle.roam_route.specs.RejectCauses.{reject_cause}
 use Rattle.roam_route.specs.Admission.{Arrival, Admission, sender, checked, forwarded_for, answered_by, accounted, accounting_in, is_answered_unnamed, route_request, request_admission, packet_admission, sent_admission, read_admission, admission, is_taken, peer_secret, home_secret, has_few_attributes, is_rightly_signed, is_rightly_sealed, has_needed_seal, has_few_hops, seal_required}
 use Rattle.roam_route.specs.declared.job.Side.{Side}
 use Rattle.roam_route.specs.declared.job.Side.TheVariants as side
-use Rattle.roam_route.proofs.AlikeLemmas.{there-same}
+use Rattle.roam_route.proofs.AlikeLemmas.{came, there-same}
 use Rattle.roam_core.specs.Isolation.{is_realm}
 use Rattle.roam_core.specs.OwnPart.{AgreeFor}
 use Rattle.roam_core.proofs.ToRealmLemmas.{acct-given, auth-given, gives, none-out, none-reverse, own-reversed, same-checked, sent-judged, where_accounted, where_asked}
@@ -192,20 +192,20 @@ module _ (one other : ConfigView) (realm now : ℕ) (agree : AgreeFor one other 
   home-found : (nth : ℕ) (ip : Address) → home_in one realm nth ip ≡ home_in other realm nth ip
   home-found nth ip = rw agree.entry refl
 
-  place-same : (at : Place) (from : Endpoint) (octets : List ℕ) (seconds : Option ℕ) (p : Packet) → let a : Arrival =
-      record { at = at; from = from; octets = octets; seconds = seconds } in
+  place-same : (at : Place) (from : Endpoint) (octets : List ℕ) (seconds : Option ℕ) (kept : Bool) (p : Packet) →
+      let a : Arrival = came at from octets seconds kept in
       gives realm now (sent_admission one a p (sender one a at))
       ≡ gives realm now (sent_admission other a p (sender other a at))
-  place-same (place.Auth nth) from octets seconds p =
-      let a : Arrival = record { at = (place.Auth nth); from = from; octets = octets; seconds = seconds } in
+  place-same (place.Auth nth) from octets seconds kept p =
+      let a : Arrival = came (place.Auth nth) from octets seconds kept in
       rw (asker-found one.auth other.auth nth from.ip agree.auth)
       (known-same a p (sender other a (place.Auth nth)) (λ k m is. absurd (cc is)))
-  place-same (place.Acct nth) from octets seconds p =
-      let a : Arrival = record { at = (place.Acct nth); from = from; octets = octets; seconds = seconds } in
+  place-same (place.Acct nth) from octets seconds kept p =
+      let a : Arrival = came (place.Acct nth) from octets seconds kept in
       rw (asker-found one.acct other.acct nth from.ip agree.acct)
       (known-same a p (sender other a (place.Acct nth)) (λ k m is. absurd (cc is)))
-  place-same (place.Out k nth) from octets seconds p =
-      let a : Arrival = record { at = place.Out k nth; from = from; octets = octets; seconds = seconds } in
+  place-same (place.Out k nth) from octets seconds kept p =
+      let a : Arrival = came (place.Out k nth) from octets seconds kept in
       elim (cases_Bool (k == realm)) [
         | inl yes' ↦ (
             let here : k ≡ realm = (Decides-eqb k realm).0 yes' in
@@ -215,11 +215,11 @@ module _ (one other : ConfigView) (realm now : ℕ) (agree : AgreeFor one other 
             (ap (λ o. option_map (λ l. side.Link l) o) (link-found nth from)) in
             known-same a p (sender one a (place.Out k nth)) (λ j m is. absurd (cc is))
             ∙ ap (λ (s : Option Side). gives realm now (sent_admission other a p s)) found_by)
-        | inr no' ↦ none-out realm now one k nth from octets seconds p (sender one a (place.Out k nth)) no'
-            ∙ sym (none-out realm now other k nth from octets seconds p (sender other a (place.Out k nth)) no')
+        | inr no' ↦ none-out realm now one k nth from octets seconds kept p (sender one a (place.Out k nth)) no'
+            ∙ sym (none-out realm now other k nth from octets seconds kept p (sender other a (place.Out k nth)) no')
       ]
-  place-same (place.Reverse k nth) from octets seconds p =
-      let a : Arrival = record { at = place.Reverse k nth; from = from; octets = octets; seconds = seconds } in
+  place-same (place.Reverse k nth) from octets seconds kept p =
+      let a : Arrival = came (place.Reverse k nth) from octets seconds kept in
       elim (cases_Bool (k == realm)) [
         | inl yes' ↦ (
             let here : k ≡ realm = (Decides-eqb k realm).0 yes' in
@@ -230,14 +230,14 @@ module _ (one other : ConfigView) (realm now : ℕ) (agree : AgreeFor one other 
             known-same a p (sender one a (place.Reverse k nth)) (λ j m is. (let at_k : k ≡ j = cc is in sym at_k
             ∙ here))
             ∙ ap (λ (s : Option Side). gives realm now (sent_admission other a p s)) found_by)
-        | inr no' ↦ none-reverse realm now one k nth from octets seconds p (home_in one k nth from.ip) no'
-            ∙ sym (none-reverse realm now other k nth from octets seconds p (home_in other k nth from.ip) no')
+        | inr no' ↦ none-reverse realm now one k nth from octets seconds kept p (home_in one k nth from.ip) no'
+            ∙ sym (none-reverse realm now other k nth from octets seconds kept p (home_in other k nth from.ip) no')
       ]
 
   read-same : (a : Arrival) (read : Result Packet Refusal) →
       gives realm now (read_admission one a read) ≡ gives realm now (read_admission other a read)
   read-same a (Err why) = refl
-  read-same a (Ok p) = place-same a.at a.from a.octets a.seconds p
+  read-same a (Ok p) = place-same a.at a.from a.octets a.seconds a.keeps_session p
 
   pub gives-same : (a : Arrival) → gives realm now (admission one a) ≡ gives realm now (admission other a)
   unfolding admission

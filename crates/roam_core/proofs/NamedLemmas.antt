@@ -30,7 +30,7 @@ only_own realm named = if is_realm realm named then Some realm else None
 -- an event as its realm looks at it
 abbrev pub seen : ℕ → RealmEvent → RealmEvent
 seen realm (request_came now named q) = request_came now (only_own realm named) q
-seen realm (reply_came now l octets) = reply_came now l octets
+seen realm (reply_came now keeps_session l octets) = reply_came now keeps_session l octets
 seen realm (tick_came now) = tick_came now
 
 pub itself : (realm : ℕ) → (realm == realm) ≡ true
@@ -102,7 +102,7 @@ event-same : (c : RealmConfig) (s : RealmState) (e : RealmEvent) → on_event c 
 event-same c s (request_came now named q) =
     let same = reverse-same c s (only_own c.index named) named q (still_own c.index named) in
     ap (in_time now) (of_key-same c now s (only_own c.index named) named q (find_client q.key s.entries) same)
-event-same c s (reply_came now l octets) = refl
+event-same c s (reply_came now keeps_session l octets) = refl
 event-same c s (tick_came now) = refl
 
 abbrev then_run : RealmConfig → RealmState → List RealmEvent → Turn → Progress

@@ -60,7 +60,7 @@ drew-there c s (request_came now named q) o p (inl is) drew =
     let here = ap (λ (x : Occasion). drawn_between x.before x.after) is ∙ drew in
     subst (λ (ps : List ℕ). IsIn p ps) (sym here) (inl refl)
 drew-there c s (request_came now named q) o p (inr there) drew = absurd there
-drew-there c s (reply_came now l octets) o p there drew = absurd there
+drew-there c s (reply_came now keeps_session l octets) o p there drew = absurd there
 drew-there c s (tick_came now) o p there drew =
     subst (λ (ps : List ℕ). IsIn p ps) (sym (tick-draws c s now (in-range c s now o there)))
     (due-drew c now s (due_list now s.entries) o p (of-tick c s now o there) drew)
@@ -114,7 +114,8 @@ pub same-occasion : (place k : ℕ) (c : RealmConfig) (s : RealmState) (e : Real
 same-occasion place k c s (request_came now named q) o x p r at few (inl is) (inl also) drew again same = sym is ∙ also
 same-occasion place k c s (request_came now named q) o x p r at few (inl is) (inr here) drew again same = absurd here
 same-occasion place k c s (request_came now named q) o x p r at few (inr there) here drew again same = absurd there
-same-occasion place k c s (reply_came now l octets) o x p r at few there here drew again same = absurd there
+same-occasion place k c s (reply_came now keeps_session l octets) o x p r at few there here drew again same = absurd
+    there
 same-occasion place k c s (tick_came now) o x p r at few there here drew again same =
     let dues = due_list now s.entries in
     let draws = tick-draws c s now (in-range c s now o there) in

@@ -85,13 +85,14 @@ pub returned-later :
 returned-later c start es fs q ticket out h = record {
   before = h.before;
   answered_at = h.answered_at;
+  keeps_session = h.keeps_session;
   target = h.target;
   position = h.position;
   reply = h.reply;
   after = h.after ++ fs;
   in_order =
       ap (λ (l : List RealmEvent). l ++ fs) h.in_order
-      ∙ append_assoc h.before (reply_came h.answered_at h.target.link h.reply ∷ h.after) fs;
+      ∙ append_assoc h.before (reply_came h.answered_at h.keeps_session h.target.link h.reply ∷ h.after) fs;
   forwarded = h.forwarded;
   identifier = h.identifier;
   taken = h.taken;

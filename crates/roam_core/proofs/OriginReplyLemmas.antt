@@ -52,8 +52,8 @@ both true b h = (refl, h)
 both false b h = absurd (let k : false ≡ true = h in cc)
 
 -- the events, a reply from a link being the last
-abbrev pub and_reply : List RealmEvent → ℕ → Link → List ℕ → List RealmEvent
-and_reply before now l reply = before ++ reply_came now l reply ∷ []
+abbrev pub and_reply : List RealmEvent → ℕ → Bool → Link → List ℕ → List RealmEvent
+and_reply before now keeps_session l reply = before ++ reply_came now keeps_session l reply ∷ []
 
 -- what goes back to the sender of a request, for a reply to what was forwarded
 abbrev pub back_for : RealmConfig → PlainRequest → Link → Packet → Packet → PlainOut
@@ -69,10 +69,10 @@ on-same_link c start events q ticket id octets a b is h = rw (← is) h
 
 -- of a reply that comes from a link, in a state whose entries come from the events before it
 module _ (c : RealmConfig) (start : Start) (before : List RealmEvent) (now : ℕ) (s : RealmState)
-    (from : Link) (reply : List ℕ) (kept : EachComes c start before s.entries) where
+    (keeps_session : Bool) (from : Link) (reply : List ℕ) (kept : EachComes c start before s.entries) where
   -- the entries still come from the events
-  still : EachComes c start (and_reply before now from reply) s.entries
-  still = each-later c start before (reply_came now from reply ∷ []) s.entries kept
+  still : EachComes c start (and_reply before now keeps_session from reply) s.entries
+  still = each-later c start before (reply_came now keeps_session from reply ∷ []) s.entries kept
 
   -- a reply that is taken for what was forwarded, and is then sent back
   answered-returned :
@@ -80,13 +80,14 @@ module _ (c : RealmConfig) (start : Start) (before : List RealmEvent) (now : ℕ
       → WaitsFor c start before q ticket (record { link = from; id = id }) forwarded
       → (packet_of reply).id ≡ id
       → reply_fault (link_secret c from) (seal_required c from) (packet_of reply) (packet_of forwarded) ≡ None
-      → IsSentBy c start before (reply_came now from reply)
+      → IsSentBy c start before (reply_came now keeps_session from reply)
       (back_for c q from (packet_of forwarded) (packet_of reply))
-      → IsReturned c start (and_reply before now from reply) q ticket
+      → IsReturned c start (and_reply before now keeps_session from reply) q ticket
       (back_for c q from (packet_of forwarded) (packet_of reply))
   answered-returned q ticket id forwarded waits at taken sent = record {
     before = before;
     answered_at = now;
+    keeps_session = keeps_session;
     target = record { link = from; id = id };
     position = waits.position;
     reply = reply;
@@ -109,13 +110,13 @@ module _ (c : RealmConfig) (start : Start) (before : List RealmEvent) (now : ℕ
       → WaitsFor c start before e.request e.ticket (record { link = from; id = id }) forwarded
       → (packet_of reply).id ≡ id
       → reply_fault (link_secret c from) (seal_required c from) (packet_of reply) (packet_of forwarded) ≡ None
-      → AreSentBy c start before (reply_came now from reply)
-      (packets_of (return_reply c now s e from (packet_of forwarded) (packet_of reply)))
-      → TurnKeeps c start (and_reply before now from reply) s
-      (return_reply c now s e from (packet_of forwarded) (packet_of reply))
+      → AreSentBy c start before (reply_came now keeps_session from reply)
+      (packets_of (return_reply c now s keeps_session e from (packet_of forwarded) (packet_of reply)))
+      → TurnKeeps c start (and_reply before now keeps_session from reply) s
+      (return_reply c now s keeps_session e from (packet_of forwarded) (packet_of reply))
   return_reply-keeps e id forwarded comes waits at taken sent =
-      let events = and_reply before now from reply in
-      let event = reply_came now from reply in
+      let events = and_reply before now keeps_session from reply in
+      let event = reply_came now keeps_session from reply in
       let octets = returned_octets c e.request from (packet_of forwarded) (packet_of reply) in
       let how = returning c e.request from (packet_of forwarded) in
       let length = returned_length how (passing_to c e.request (packet_of reply)) (packet_of e.request.octets) in
@@ -146,10 +147,10 @@ module _ (c : RealmConfig) (start : Start) (before : List RealmEvent) (now : ℕ
       → ComesFrom c start before e
       → WaitsFor c start before e.request e.ticket (record { link = from; id = id }) forwarded
       → (packet_of reply).id ≡ id
-      → AreSentBy c start before (reply_came now from reply)
-      (packets_of (reply_turn c now s e from (packet_of forwarded) (packet_of reply) why))
-      → TurnKeeps c start (and_reply before now from reply) s
-      (reply_turn c now s e from (packet_of forwarded) (packet_of reply) why)
+      → AreSentBy c start before (reply_came now keeps_session from reply)
+      (packets_of (reply_turn c now s keeps_session e from (packet_of forwarded) (packet_of reply) why))
+      → TurnKeeps c start (and_reply before now keeps_session from reply) s
+      (reply_turn c now s keeps_session e from (packet_of forwarded) (packet_of reply) why)
   reply_turn-keeps e id forwarded (Some why) fault comes waits at sent =
       elim (cases_Bool (shows_life why)) [
         | inl y ↦ rw y (record { packets = tt; entries = still })
@@ -163,20 +164,21 @@ module _ (c : RealmConfig) (start : Start) (before : List RealmEvent) (now : ℕ
       (e : PlainEntry) (standing : PlainStanding) → ComesFrom c start before e
       → StandsFrom c start before e.request e.ticket standing
       → stands_at from (packet_of reply).id standing ≡ true
-      → AreSentBy c start before (reply_came now from reply)
-      (packets_of (to_standing c now s e (packet_of reply) standing))
-      → TurnKeeps c start (and_reply before now from reply) s
-      (to_standing c now s e (packet_of reply) standing)
+      → AreSentBy c start before (reply_came now keeps_session from reply)
+      (packets_of (to_standing c now s keeps_session e (packet_of reply) standing))
+      → TurnKeeps c start (and_reply before now keeps_session from reply) s
+      (to_standing c now s keeps_session e (packet_of reply) standing)
   to_standing-keeps e (waiting l id forwarded sends_left deadline signs) comes waits at sent =
       let tests = both (same_link l from) (eqb id (packet_of reply).id) at in
       let is = same_link-equal l from tests.0 in
       let asked : (packet_of reply).id ≡ id = let t = tests.1 in grind (arith, nat_tests, t) in
       let there = on-same_link c start before e.request e.ticket id forwarded l from is waits in
-      let event = reply_came now from reply in
+      let event = reply_came now keeps_session from reply in
       let of_link : Link → Type 0 = λ k. AreSentBy c start before event
-      (packets_of (to_standing c now s e (packet_of reply) (waiting k id forwarded sends_left deadline signs))) in
-      let kept_there : Link → Type 0 = λ k. TurnKeeps c start (and_reply before now from reply) s
-      (to_standing c now s e (packet_of reply) (waiting k id forwarded sends_left deadline signs)) in
+      (packets_of (to_standing c now s keeps_session e (packet_of reply) (waiting k id forwarded sends_left deadline
+      signs))) in
+      let kept_there : Link → Type 0 = λ k. TurnKeeps c start (and_reply before now keeps_session from reply) s
+      (to_standing c now s keeps_session e (packet_of reply) (waiting k id forwarded sends_left deadline signs)) in
       let why = reply_fault (link_secret c from) (seal_required c from) (packet_of reply) (packet_of forwarded) in
       subst kept_there (sym is)
       (reply_turn-keeps e id forwarded why refl comes there asked (subst of_link is sent))
@@ -186,10 +188,10 @@ module _ (c : RealmConfig) (start : Start) (before : List RealmEvent) (now : ℕ
   -- the entry that is found there, if one is
   to_entry-keeps :
       (found : Option PlainEntry) → find_link from (packet_of reply).id s.entries ≡ found
-      → AreSentBy c start before (reply_came now from reply)
-      (packets_of (to_entry c now s (packet_of reply) found))
-      → TurnKeeps c start (and_reply before now from reply) s
-      (to_entry c now s (packet_of reply) found)
+      → AreSentBy c start before (reply_came now keeps_session from reply)
+      (packets_of (to_entry c now s keeps_session (packet_of reply) found))
+      → TurnKeeps c start (and_reply before now keeps_session from reply) s
+      (to_entry c now s keeps_session (packet_of reply) found)
   to_entry-keeps None at sent = record { packets = tt; entries = still }
   to_entry-keeps (Some e) at sent =
       let waits = waits_at from (packet_of reply).id in
@@ -197,13 +199,13 @@ module _ (c : RealmConfig) (start : Start) (before : List RealmEvent) (now : ℕ
       to_standing-keeps e e.standing comes comes.standing (find-passes waits s.entries e at) sent
 
   pub on_reply-keeps :
-      AreSentBy c start before (reply_came now from reply)
-      (packets_of (on_reply c now s from reply))
-      → TurnKeeps c start (and_reply before now from reply) s
-      (on_reply c now s from reply)
+      AreSentBy c start before (reply_came now keeps_session from reply)
+      (packets_of (on_reply c now s keeps_session from reply))
+      → TurnKeeps c start (and_reply before now keeps_session from reply) s
+      (on_reply c now s keeps_session from reply)
   on_reply-keeps sent =
-      let event = reply_came now from reply in
-      let events = and_reply before now from reply in
+      let event = reply_came now keeps_session from reply in
+      let events = and_reply before now keeps_session from reply in
       let found = find_link from (packet_of reply).id s.entries in
-      let turn = to_entry c now s (packet_of reply) found in
+      let turn = to_entry c now s keeps_session (packet_of reply) found in
       in_time-keeps c start before events event now s turn still (to_entry-keeps found refl) sent

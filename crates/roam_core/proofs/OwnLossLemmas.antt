@@ -40,7 +40,7 @@ not-missed :
     (c : RealmConfig) (s : RealmState) (e : RealmEvent) (events : List RealmEvent) → is_missed s e ≡ false
     → one_realm_run c s (e ∷ events) ≡ one_realm_run c s events
 not-missed c s (request_came now named q) events h = absurd (let bad : true ≡ false = h in cc)
-not-missed c s (reply_came now l octets) events h = absurd (let bad : true ≡ false = h in cc)
+not-missed c s (reply_came now keeps_session l octets) events h = absurd (let bad : true ≡ false = h in cc)
 not-missed c s (tick_came now) events h =
     nothing-is_lost c s now events (none-are_some (due_list now s.entries) h)
 

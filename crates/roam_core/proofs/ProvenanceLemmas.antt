@@ -37,8 +37,8 @@ event-keeps :
 event-keeps c start before (request_came now named q) s after kept sent =
     let still = each-later c start before (request_came now named q ∷ []) s.entries kept in
     on_request-keeps c start before now named q s after still
-event-keeps c start before (reply_came now l reply) s after kept sent =
-    on_reply-keeps c start before now s l reply kept sent
+event-keeps c start before (reply_came now keeps_session l reply) s after kept sent =
+    on_reply-keeps c start before now s keeps_session l reply kept sent
 event-keeps c start before (tick_came now) s after kept sent =
     let still = each-later c start before (tick_came now ∷ []) s.entries kept in
     let drew = in-all (DrawsAt c start before (tick_came now)) (drawn_by c s (tick_came now))

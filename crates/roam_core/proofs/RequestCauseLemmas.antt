@@ -159,11 +159,12 @@ module _ (c : RealmConfig) (ends : Ends) (looked : ℕ → Bool) (tries : 1 ≤ 
   heard-answers s found why l = omega (arith, nothing (looked_found found))
 
   return-answers :
-      (now : ℕ) (s : RealmState) (e : PlainEntry) (l : Link) (id : ℕ) (octets : List ℕ) (sends_left deadline signs : ℕ)
+      (now : ℕ) (s : RealmState) (keeps_session : Bool) (e : PlainEntry) (l : Link) (id : ℕ) (octets : List ℕ)
+      (sends_left deadline signs : ℕ)
       (forwarded reply : Packet)
       → e.standing ≡ waiting l id octets sends_left deadline signs → IsIn e s.entries
-      → Answers s (Some e) (return_reply c now s e l forwarded reply)
-  return-answers now s e l id octets sends_left deadline signs forwarded reply is at =
+      → Answers s (Some e) (return_reply c now s keeps_session e l forwarded reply)
+  return-answers now s keeps_session e l id octets sends_left deadline signs forwarded reply is at =
       let b = looked e.ticket in
       let back_octets = returned_octets c e.request l forwarded reply in
       let answered = with_standing (done back_octets (now + c.realm.hold) (Some l)) e in
@@ -179,35 +180,38 @@ module _ (c : RealmConfig) (ends : Ends) (looked : ℕ → Bool) (tries : 1 ≤ 
       (heard-answers s (Some e) refusal.ReplyTooLong l) (omega (arith, replaced, sent, enough, nothing b))
 
   reply_turn-answers :
-      (now : ℕ) (s : RealmState) (e : PlainEntry) (l : Link) (id : ℕ) (octets : List ℕ) (sends_left deadline signs : ℕ)
+      (now : ℕ) (s : RealmState) (keeps_session : Bool) (e : PlainEntry) (l : Link) (id : ℕ) (octets : List ℕ)
+      (sends_left deadline signs : ℕ)
       (forwarded reply : Packet) (why : Option Refusal)
       → e.standing ≡ waiting l id octets sends_left deadline signs → IsIn e s.entries
-      → Answers s (Some e) (reply_turn c now s e l forwarded reply why)
-  reply_turn-answers now s e l id octets sends_left deadline signs forwarded reply (Some why) is at =
+      → Answers s (Some e) (reply_turn c now s keeps_session e l forwarded reply why)
+  reply_turn-answers now s keeps_session e l id octets sends_left deadline signs forwarded reply (Some why) is at =
       either (Answers s (Some e)) (shows_life why) _ _ (heard-answers s (Some e) why l) (refuses-answers s (Some e) why)
-  reply_turn-answers now s e l id octets sends_left deadline signs forwarded reply None is at =
-      return-answers now s e l id octets sends_left deadline signs forwarded reply is at
+  reply_turn-answers now s keeps_session e l id octets sends_left deadline signs forwarded reply None is at =
+      return-answers now s keeps_session e l id octets sends_left deadline signs forwarded reply is at
 
   to_standing-answers :
-      (now : ℕ) (s : RealmState) (e : PlainEntry) (reply : Packet) (standing : PlainStanding)
-      → e.standing ≡ standing → IsIn e s.entries → Answers s (Some e) (to_standing c now s e reply standing)
-  to_standing-answers now s e reply (waiting l id forwarded sends_left deadline signs) is at =
-      reply_turn-answers now s e l id forwarded sends_left deadline signs (packet_of forwarded) reply
+      (now : ℕ) (s : RealmState) (keeps_session : Bool) (e : PlainEntry) (reply : Packet) (standing : PlainStanding)
+      → e.standing ≡ standing → IsIn e s.entries → Answers s (Some e) (to_standing c now s keeps_session e reply
+      standing)
+  to_standing-answers now s keeps_session e reply (waiting l id forwarded sends_left deadline signs) is at =
+      reply_turn-answers now s keeps_session e l id forwarded sends_left deadline signs (packet_of forwarded) reply
       (reply_fault (link_secret c l) (seal_required c l) reply (packet_of forwarded)) is at
-  to_standing-answers now s e reply (done old deadline from) is at = refuses-answers s (Some e) refusal.NoEntry
+  to_standing-answers now s keeps_session e reply (done old deadline from) is at = refuses-answers s (Some e)
+      refusal.NoEntry
 
   to_entry-answers :
-      (now : ℕ) (s : RealmState) (reply : Packet) (l : Link) (id : ℕ) (found : Option PlainEntry)
-      → find_link l id s.entries ≡ found → Answers s found (to_entry c now s reply found)
-  to_entry-answers now s reply l id None at = refuses-answers s None refusal.NoEntry
-  to_entry-answers now s reply l id (Some e) at =
-      to_standing-answers now s e reply e.standing refl (found-in (waits_at l id) s.entries e at)
+      (now : ℕ) (s : RealmState) (keeps_session : Bool) (reply : Packet) (l : Link) (id : ℕ) (found : Option PlainEntry)
+      → find_link l id s.entries ≡ found → Answers s found (to_entry c now s keeps_session reply found)
+  to_entry-answers now s keeps_session reply l id None at = refuses-answers s None refusal.NoEntry
+  to_entry-answers now s keeps_session reply l id (Some e) at =
+      to_standing-answers now s keeps_session e reply e.standing refl (found-in (waits_at l id) s.entries e at)
 
   pub reply-answers :
-      (now : ℕ) (s : RealmState) (l : Link) (octets : List ℕ)
+      (now : ℕ) (s : RealmState) (keeps_session : Bool) (l : Link) (octets : List ℕ)
       → Answers s (find_link l (packet_of octets).id s.entries)
-      (in_time now (to_entry c now s (packet_of octets) (find_link l (packet_of octets).id s.entries)))
-  reply-answers now s l octets =
+      (in_time now (to_entry c now s keeps_session (packet_of octets) (find_link l (packet_of octets).id s.entries)))
+  reply-answers now s keeps_session l octets =
       let found = find_link l (packet_of octets).id s.entries in
       either (Answers s found) (ltb (2 ^ 62) now) _ _ (refuses-answers s found refusal.Moment)
-      (to_entry-answers now s (packet_of octets) l (packet_of octets).id found refl)
+      (to_entry-answers now s keeps_session (packet_of octets) l (packet_of octets).id found refl)

@@ -63,13 +63,14 @@ module _ (c : RealmConfig) (ends : Ends) (ticket : ℕ) (tries : 1 ≤ c.realm.t
   is-found None = refl
   is-found (Some e) = refl
 
-  reply-step : (s : RealmState) (now : ℕ) (l : Link) (octets : List ℕ) → Step s (reply_came now l octets) 0
-  reply-step s now l octets =
+  reply-step : (s : RealmState) (now : ℕ) (kept : Bool) (l : Link) (octets : List ℕ) → Step s (reply_came now
+      kept l octets) 0
+  reply-step s now kept l octets =
       let found = find_link l (packet_of octets).id s.entries in
-      let turn = on_event c s (reply_came now l octets) in
+      let turn = on_event c s (reply_came now kept l octets) in
       let sent = only-counted ends (is_of ticket found) (packets_of turn) in
       let test = ap (λ (b : Bool). guard b (counted ends (packets_of turn))) (is-found found) in
-      omega (arith, sent, test, reply-answers c ends own tries now s l octets)
+      omega (arith, sent, test, reply-answers c ends own tries now s kept l octets)
 
   -- a request that takes the ticket, and one that doesn't
   taken-step :
@@ -106,7 +107,7 @@ module _ (c : RealmConfig) (ends : Ends) (ticket : ℕ) (tries : 1 ≤ c.realm.t
   event-step :
       (s : RealmState) (e : RealmEvent) → takes ticket s (state_after s (on_event c s e)) ≡ false → Step s e 0
   event-step s (request_came now named q) untaken = other-step s now named q untaken
-  event-step s (reply_came now l octets) untaken = reply-step s now l octets
+  event-step s (reply_came now kept l octets) untaken = reply-step s now kept l octets
   event-step s (tick_came now) untaken = tick-step s now
 
   run-rises : (s : RealmState) (es : List RealmEvent) → s.ticket ≤ (one_realm_run c s es).state.ticket

@@ -118,36 +118,38 @@ on_request_for c now s named q =
     (of_key_for c now s named q (find_client q.key s.entries))
 
 -- a reply
-return_reply_for : (c : RealmConfig) (now : ℕ) (s : RealmState) (e : PlainEntry) (l : Link)
-    (forwarded reply : Packet) → SendsFor c.index (return_reply c now s e l forwarded reply)
-return_reply_for c now s e l forwarded reply =
+return_reply_for : (c : RealmConfig) (now : ℕ) (s : RealmState) (kept : Bool) (e : PlainEntry) (l : Link)
+    (forwarded reply : Packet) → SendsFor c.index (return_reply c now s kept e l forwarded reply)
+return_reply_for c now s kept e l forwarded reply =
     either (SendsFor c.index) _ _ _ (hears_for c.index refusal.ReplyTooLong (once_heard_from c s l))
     (one_for c.index _ _ refl)
 
-judge_for : (c : RealmConfig) (now : ℕ) (s : RealmState) (e : PlainEntry) (l : Link) (forwarded reply : Packet)
-    (fault : Option Refusal) → SendsFor c.index (reply_turn c now s e l forwarded reply fault)
-judge_for c now s e l forwarded reply (Some why) =
+judge_for : (c : RealmConfig) (now : ℕ) (s : RealmState) (kept : Bool) (e : PlainEntry) (l : Link) (forwarded
+    reply : Packet)
+    (fault : Option Refusal) → SendsFor c.index (reply_turn c now s kept e l forwarded reply fault)
+judge_for c now s kept e l forwarded reply (Some why) =
     either (SendsFor c.index) (shows_life why) _ _ (hears_for c.index why (once_heard_from c s l))
     (refuses_for c.index why)
-judge_for c now s e l forwarded reply None = return_reply_for c now s e l forwarded reply
+judge_for c now s kept e l forwarded reply None = return_reply_for c now s kept e l forwarded reply
 
-to_standing_for : (c : RealmConfig) (now : ℕ) (s : RealmState) (e : PlainEntry) (reply : Packet)
-    (standing : PlainStanding) → SendsFor c.index (to_standing c now s e reply standing)
-to_standing_for c now s e reply (waiting l id forwarded sends_left deadline signs) =
-    judge_for c now s e l (packet_of forwarded) reply
+to_standing_for : (c : RealmConfig) (now : ℕ) (s : RealmState) (kept : Bool) (e : PlainEntry) (reply : Packet)
+    (standing : PlainStanding) → SendsFor c.index (to_standing c now s kept e reply standing)
+to_standing_for c now s kept e reply (waiting l id forwarded sends_left deadline signs) =
+    judge_for c now s kept e l (packet_of forwarded) reply
     (reply_fault (link_secret c l) (seal_required c l) reply (packet_of forwarded))
-to_standing_for c now s e reply (done old deadline from) = refuses_for c.index refusal.NoEntry
+to_standing_for c now s kept e reply (done old deadline from) = refuses_for c.index refusal.NoEntry
 
-to_entry_for : (c : RealmConfig) (now : ℕ) (s : RealmState) (reply : Packet) (e : Option PlainEntry) →
-    SendsFor c.index (to_entry c now s reply e)
-to_entry_for c now s reply None = refuses_for c.index refusal.NoEntry
-to_entry_for c now s reply (Some e) = to_standing_for c now s e reply e.standing
+to_entry_for : (c : RealmConfig) (now : ℕ) (s : RealmState) (kept : Bool) (reply : Packet) (e : Option PlainEntry) →
+    SendsFor c.index (to_entry c now s kept reply e)
+to_entry_for c now s kept reply None = refuses_for c.index refusal.NoEntry
+to_entry_for c now s kept reply (Some e) = to_standing_for c now s kept e reply e.standing
 
-on_reply_for : (c : RealmConfig) (now : ℕ) (s : RealmState) (l : Link) (octets : List ℕ) →
-    SendsFor c.index (on_reply c now s l octets)
-on_reply_for c now s l octets =
+on_reply_for : (c : RealmConfig) (now : ℕ) (s : RealmState) (kept : Bool) (l : Link) (octets : List ℕ) →
+    SendsFor c.index (on_reply c now s kept l octets)
+on_reply_for c now s kept l octets =
     let e = find_link l (packet_of octets).id s.entries in
-    in_time_for c.index now (to_entry c now s (packet_of octets) e) (to_entry_for c now s (packet_of octets) e)
+    in_time_for c.index now (to_entry c now s kept (packet_of octets) e) (to_entry_for c now s kept
+    (packet_of octets) e)
 
 -- a tick
 silent_for : (index : ℕ) (s : RealmState) → MadeFor index (silent s)
@@ -201,5 +203,5 @@ on_tick_for c now s =
 -- whatever the event, each packet is for the event's realm
 pub on_event_for : (c : RealmConfig) (s : RealmState) (e : RealmEvent) → SendsFor c.index (on_event c s e)
 on_event_for c s (request_came now named q) = on_request_for c now s named q
-on_event_for c s (reply_came now l octets) = on_reply_for c now s l octets
+on_event_for c s (reply_came now kept l octets) = on_reply_for c now s kept l octets
 on_event_for c s (tick_came now) = on_tick_for c now s

@@ -1,5 +1,5 @@
 -- A ticket is given to one event: no event takes the next ticket back.
-use Rattle.std.proofs.Common.{◌≡◌, ◌≤◌, ℕ, ◌^◌, List, [], ◌∷◌, ◌++◌, Option, Some, None, refl, sym, ap, subst, ◌∙◌, eqb, ltb, arith, append_assoc, length}
+use Rattle.std.proofs.Common.{◌≡◌, ◌≤◌, ℕ, ◌^◌, Bool, List, [], ◌∷◌, ◌++◌, Option, Some, None, refl, sym, ap, subst, ◌∙◌, eqb, ltb, arith, append_assoc, length}
 use Rattle.std.specs.Prelude.{nat_eq}
 use Rattle.std.specs.Cmp.Lexicographic.{pointwise}
 use Rattle.std.proofs.lemmas.List.{append-nil}
@@ -74,25 +74,25 @@ in_time-rises : (now : ℕ) (s : RealmState) (turn : Turn) → Rises s turn → 
 in_time-rises now s turn h = either (Rises s) (ltb (2 ^ 62) now) _ _ (stays s) h
 
 -- a reply gives no ticket
-reply_turn-rises : (c : RealmConfig) (now : ℕ) (s : RealmState) (e : PlainEntry) (l : Link) (forwarded reply : Packet)
-    (why : Option Refusal) → Rises s (reply_turn c now s e l forwarded reply why)
-reply_turn-rises c now s e l forwarded reply (Some why) = either (Rises s) (shows_life why) _ _ (stays s) (stays s)
-reply_turn-rises c now s e l forwarded reply None =
+reply_turn-rises : (c : RealmConfig) (now : ℕ) (s : RealmState) (kept : Bool) (e : PlainEntry) (l : Link)
+    (forwarded reply : Packet) (why : Option Refusal) → Rises s (reply_turn c now s kept e l forwarded reply why)
+reply_turn-rises c now s kept e l forwarded reply (Some why) = either (Rises s) (shows_life why) _ _ (stays s) (stays s)
+reply_turn-rises c now s kept e l forwarded reply None =
     either (Rises s) (ltb 4096 (returned_length (returning c e.request l forwarded) (passing_to c e.request reply)
     (packet_of e.request.octets))) _ _
     (stays s) (stays s)
 
-to_standing-rises : (c : RealmConfig) (now : ℕ) (s : RealmState) (e : PlainEntry) (reply : Packet)
-    (standing : PlainStanding) → Rises s (to_standing c now s e reply standing)
-to_standing-rises c now s e reply (waiting l id forwarded sends_left deadline signs) =
-    reply_turn-rises c now s e l (packet_of forwarded) reply
+to_standing-rises : (c : RealmConfig) (now : ℕ) (s : RealmState) (kept : Bool) (e : PlainEntry) (reply : Packet)
+    (standing : PlainStanding) → Rises s (to_standing c now s kept e reply standing)
+to_standing-rises c now s kept e reply (waiting l id forwarded sends_left deadline signs) =
+    reply_turn-rises c now s kept e l (packet_of forwarded) reply
     (reply_fault (link_secret c l) (seal_required c l) reply (packet_of forwarded))
-to_standing-rises c now s e reply (done old deadline from) = stays s
+to_standing-rises c now s kept e reply (done old deadline from) = stays s
 
-to_entry-rises : (c : RealmConfig) (now : ℕ) (s : RealmState) (reply : Packet) (found : Option PlainEntry) →
-    Rises s (to_entry c now s reply found)
-to_entry-rises c now s reply None = stays s
-to_entry-rises c now s reply (Some e) = to_standing-rises c now s e reply e.standing
+to_entry-rises : (c : RealmConfig) (now : ℕ) (s : RealmState) (kept : Bool) (reply : Packet)
+    (found : Option PlainEntry) → Rises s (to_entry c now s kept reply found)
+to_entry-rises c now s kept reply None = stays s
+to_entry-rises c now s kept reply (Some e) = to_standing-rises c now s kept e reply e.standing
 
 -- nor does a tick
 abbrev Keeps : RealmState → Progress → Type 0
@@ -135,9 +135,10 @@ pub event-rises : (c : RealmConfig) (s : RealmState) (e : RealmEvent) → Rises 
 event-rises c s (request_came now named q) =
     in_time-rises now s (of_key c now s named q (find_client q.key s.entries))
     (of_key-rises c now s named q (find_client q.key s.entries))
-event-rises c s (reply_came now l octets) =
+event-rises c s (reply_came now kept l octets) =
     let found = find_link l (packet_of octets).id s.entries in
-    in_time-rises now s (to_entry c now s (packet_of octets) found) (to_entry-rises c now s (packet_of octets) found)
+    in_time-rises now s (to_entry c now s kept (packet_of octets) found) (to_entry-rises c now s
+    kept (packet_of octets) found)
 event-rises c s (tick_came now) =
     let dues = due_list now s.entries in
     in_time-rises now s (as_turn (due_each c now s dues)) (tick-rises c now s dues)

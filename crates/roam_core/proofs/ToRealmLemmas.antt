@@ -24,6 +24,7 @@ use Rattle.roam_route.specs.LocalReject.{takes_of, taking}
 use Rattle.roam_route.specs.Shapings.{sent_length}
 use Rattle.roam_route.specs.declared.local_answer.LocalAnswer.TheVariants as local
 use Rattle.roam_route.specs.declared.local_answer.RejectCause.{RejectCause}
+use Rattle.roam_route.proofs.AlikeLemmas.{came}
 use Rattle.roam_route.specs.Admission.{Arrival, Admission, checked, job_of, forwarded_for, answered_by, rejected_for, reversed, for_named_realm, accounted, accounting_in, by_accounting, is_answered_unnamed, is_unnamed, request_admission, packet_admission, sent_admission, status_from, is_status_request, is_taken, peer_secret, home_secret, has_few_attributes, is_rightly_signed, is_rightly_sealed, has_needed_seal, has_few_hops, has_seal, seal_required}
 use Rattle.roam_route.specs.declared.job.Side.{Side}
 use Rattle.roam_route.specs.declared.job.Side.TheVariants as side
@@ -250,27 +251,29 @@ module _ (realm now : ℕ) where
       ]
 
   -- at another realm's places nothing is the realm's
-  pub none-out : (config : ConfigView) (k nth : ℕ) (from : Endpoint) (octets : List ℕ) (seconds : Option ℕ) (p : Packet)
+  pub none-out : (config : ConfigView) (k nth : ℕ) (from : Endpoint) (octets : List ℕ) (seconds : Option ℕ)
+      (kept : Bool) (p : Packet)
       (s : Option Side) →
       (k == realm) ≡ false
       → gives
       (sent_admission config
-      (record { at = place.Out k nth; from = from; octets = octets; seconds = seconds }) p s) ≡ []
-  none-out config k nth from octets seconds p None differs = refl
-  none-out config k nth from octets seconds p (Some s) differs =
-      let a : Arrival = record { at = place.Out k nth; from = from; octets = octets; seconds = seconds } in
+      (came (place.Out k nth) from octets seconds kept) p s) ≡ []
+  none-out config k nth from octets seconds kept p None differs = refl
+  none-out config k nth from octets seconds kept p (Some s) differs =
+      let a : Arrival = came (place.Out k nth) from octets seconds kept in
       none-checked (is_taken (place.Out k nth) s p.code) refusal.WrongCode (job_of a s p k None)
       (none-given k a s p None differs)
 
   pub none-reverse : (config : ConfigView) (k nth : ℕ) (from : Endpoint) (octets : List ℕ) (seconds : Option ℕ)
+      (kept : Bool)
       (p : Packet) (o : Option ℕ) →
       (k == realm) ≡ false
       → gives
-      (sent_admission config (record { at = place.Reverse k nth; from = from; octets = octets; seconds = seconds }) p
+      (sent_admission config (came (place.Reverse k nth) from octets seconds kept) p
       (option_map (λ i. side.Home i) o)) ≡ []
-  none-reverse config k nth from octets seconds p None differs = refl
-  none-reverse config k nth from octets seconds p (Some i) differs =
-      let a : Arrival = record { at = place.Reverse k nth; from = from; octets = octets; seconds = seconds } in
+  none-reverse config k nth from octets seconds kept p None differs = refl
+  none-reverse config k nth from octets seconds kept p (Some i) differs =
+      let a : Arrival = came (place.Reverse k nth) from octets seconds kept in
       let secret = home_secret config k i in
       none-checked (is_taken (place.Reverse k nth) (side.Home i) p.code) refusal.WrongCode
       (request_admission config secret a (side.Home i) p)

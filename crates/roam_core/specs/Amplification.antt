@@ -67,7 +67,7 @@ may_cause c ends q =
 -- what the requests among some events may cause, together
 abbrev pub caused_by : RealmConfig → Ends → RealmEvent → ℕ
 caused_by c ends (request_came now named q) = may_cause c ends q
-caused_by c ends (reply_came now l octets) = 0
+caused_by c ends (reply_came now keeps_session l octets) = 0
 caused_by c ends (tick_came now) = 0
 
 abbrev pub may_be_caused : RealmConfig → Ends → List RealmEvent → ℕ
@@ -112,7 +112,7 @@ NoAmplificationFromStart =
 abbrev pub requests_from : Ends → List RealmEvent → ℕ
 requests_from ends [] = 0
 requests_from ends (request_came now named q ∷ es) = counted_back ends q.key + requests_from ends es
-requests_from ends (reply_came now l octets ∷ es) = requests_from ends es
+requests_from ends (reply_came now keeps_session l octets ∷ es) = requests_from ends es
 requests_from ends (tick_came now ∷ es) = requests_from ends es
 
 -- whichever senders are looked at, and no link: no more packets go back to them than requests came from them
@@ -125,7 +125,7 @@ NoMoreAnswersThanRequests =
 -- one event: a request sends one packet at most, a reply too, and a tick one for each entry that is due
 abbrev pub sends_at_most : RealmState → RealmEvent → ℕ
 sends_at_most s (request_came now named q) = 1
-sends_at_most s (reply_came now l octets) = 1
+sends_at_most s (reply_came now keeps_session l octets) = 1
 sends_at_most s (tick_came now) = length (due_list now s.entries)
 
 abbrev pub OnePacketEach : Type 0

@@ -30,7 +30,7 @@ drawn_by_dues c now s (d ∷ ds) =
 abbrev pub drawn_by : RealmConfig → RealmState → RealmEvent → List ℕ
 drawn_by c s (request_came now named q) =
     drawn_between s (state_after s (on_event c s (request_came now named q)))
-drawn_by c s (reply_came now l octets) = []
+drawn_by c s (reply_came now keeps_session l octets) = []
 drawn_by c s (tick_came now) =
     if nat_lt latest_moment now then [] else drawn_by_dues c now s (due_list now s.entries)
 

@@ -15,13 +15,13 @@ use Rattle.roam_core.specs.Provenance.{TakesTicket}
 -- when an event comes, in milliseconds
 abbrev pub moment_of : RealmEvent → ℕ
 moment_of (request_came now named q) = now
-moment_of (reply_came now l octets) = now
+moment_of (reply_came now keeps_session l octets) = now
 moment_of (tick_came now) = now
 
 -- when the last tick was, once an event came
 abbrev pub last_tick : ℕ → RealmEvent → ℕ
 last_tick tick (request_came now named q) = tick
-last_tick tick (reply_came now l octets) = tick
+last_tick tick (reply_came now keeps_session l octets) = tick
 last_tick tick (tick_came now) = now
 
 -- moments don't go back, and no event comes more than `gap` milliseconds after the tick before it: so

@@ -1,7 +1,7 @@
 -- Provenance over a realm's life (ours): where each of its packets comes from, and each of its entries, while its
 -- configuration changes. In all of this `b` is the stage at which the life begins, and `life` what happens to the
 -- realm then, in order.
-use Rattle.std.specs.Prelude.{◌≡◌, ◌⊎◌, ◌+◌, ℕ, true, List, [], ◌∷◌, ◌++◌, Some, None, Option}
+use Rattle.std.specs.Prelude.{◌≡◌, ◌⊎◌, ◌+◌, ℕ, Bool, true, List, [], ◌∷◌, ◌++◌, Some, None, Option}
 use Rattle.roam_wire.specs.Reading.{packet_of}
 use Rattle.roam_conf.specs.declared.place.Link.{Link}
 use Rattle.roam_route.specs.Admission.{PlainOut}
@@ -104,6 +104,7 @@ pub record IsReturnedIn (b : Stage) (life : List Happening) (q : PlainRequest) (
     (out : PlainOut) : Type 0 where
   pub before : List Happening
   pub answered_at : ℕ
+  pub keeps_session : Bool
   pub target : Target
   pub position : ℕ
   pub under : RealmConfig
@@ -113,7 +114,7 @@ pub record IsReturnedIn (b : Stage) (life : List Happening) (q : PlainRequest) (
   pub link : Link
   pub reply : List ℕ
   pub after : List Happening
-  pub in_order : life ≡ before ++ event (reply_came answered_at link reply) ∷ after
+  pub in_order : life ≡ before ++ event (reply_came answered_at keeps_session link reply) ∷ after
   pub config_then : (stage_then b before).config ≡ now_under
   pub forwarded : IsForwardedIn b before under q told position ticket target
   pub from_there : IsTargetThen b before under q told position ticket target forwarded link
@@ -125,7 +126,7 @@ pub record IsReturnedIn (b : Stage) (life : List Happening) (q : PlainRequest) (
   pub is_returned :
       out ≡ packet_to_requester now_under told_now.key (returned_octets now_under told_now link
       (packet_of (forwarded_octets under told position ticket target)) (packet_of reply))
-  pub sent : IsSentIn b before (reply_came answered_at link reply) out
+  pub sent : IsSentIn b before (reply_came answered_at keeps_session link reply) out
 
 -- a packet is the NAK of a reverse request of the life, which goes back to the home server that sent the request: with
 -- the Error-Cause for which the request wasn't forwarded, from its own turn (RFC 5176, sections 2.3 and 3.5)

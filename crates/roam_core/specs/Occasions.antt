@@ -38,7 +38,7 @@ of_dues c now s (d ∷ ds) =
 -- those of an event
 abbrev pub occasions : RealmConfig → RealmState → RealmEvent → List Occasion
 occasions c s (request_came now named q) = own_turn s (on_event c s (request_came now named q)) ∷ []
-occasions c s (reply_came now l octets) = []
+occasions c s (reply_came now keeps_session l octets) = []
 occasions c s (tick_came now) =
     if nat_lt latest_moment now then [] else of_dues c now s (due_list now s.entries)
 

@@ -35,7 +35,7 @@ are_some (d ∷ ds) = true
 -- whether a realm misses an event that it was to be given in this state: not a tick at which nothing of it is due
 abbrev pub is_missed : RealmState → RealmEvent → Bool
 is_missed s (request_came now named q) = true
-is_missed s (reply_came now l octets) = true
+is_missed s (reply_came now keeps_session l octets) = true
 is_missed s (tick_came now) = are_some (due_list now s.entries)
 
 -- what an event gives to a realm after all: where the event was lost, what the realm doesn't miss

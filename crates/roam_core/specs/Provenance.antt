@@ -1,7 +1,7 @@
 -- Provenance (ours): where each packet of a realm comes from, and each of its entries. In all of this `c`
 -- is what the realm reads of the configuration, `start` where it begins, and `events` a list of its own
 -- events, in order.
-use Rattle.std.specs.Prelude.{◌≡◌, ◌⊎◌, ◌+◌, ◌<◌, ℕ, true, List, [], ◌∷◌, ◌++◌, Some, None, length, Option}
+use Rattle.std.specs.Prelude.{◌≡◌, ◌⊎◌, ◌+◌, ◌<◌, ℕ, Bool, true, List, [], ◌∷◌, ◌++◌, Some, None, length, Option}
 use Rattle.roam_conf.specs.Config.{ConfigView}
 use Rattle.roam_wire.specs.Reading.{packet_of}
 use Rattle.roam_route.specs.Admission.{PlainOut}
@@ -90,11 +90,12 @@ pub record IsReturned (c : RealmConfig) (start : Start) (events : List RealmEven
     (q : PlainRequest) (ticket : ℕ) (out : PlainOut) : Type 0 where
   pub before : List RealmEvent
   pub answered_at : ℕ
+  pub keeps_session : Bool
   pub target : Target
   pub position : ℕ
   pub reply : List ℕ
   pub after : List RealmEvent
-  pub in_order : events ≡ before ++ reply_came answered_at target.link reply ∷ after
+  pub in_order : events ≡ before ++ reply_came answered_at keeps_session target.link reply ∷ after
   pub forwarded : IsForwarded c start before q position ticket target
   pub identifier : (packet_of reply).id ≡ target.id
   pub taken :
@@ -103,7 +104,7 @@ pub record IsReturned (c : RealmConfig) (start : Start) (events : List RealmEven
   pub is_returned :
       out ≡ packet_to_requester c q.key (returned_octets c q target.link
       (packet_of (forwarded_octets c q position ticket target)) (packet_of reply))
-  pub sent : IsSentBy c start before (reply_came answered_at target.link reply) out
+  pub sent : IsSentBy c start before (reply_came answered_at keeps_session target.link reply) out
 
 -- a packet is the NAK of a reverse request of the list, which goes back to the home server that sent the
 -- request: with the Error-Cause for which the request wasn't forwarded, from its own turn (RFC 5176, sections

@@ -42,9 +42,9 @@ abbrev pub sent_for : RealmConfig → ℕ → RealmState → RealmEvent → List
 sent_for c ticket s (request_came now named q) =
     let turn = on_event c s (request_came now named q) in
     only_if (takes ticket s (state_after s turn)) (packets_of turn)
-sent_for c ticket s (reply_came now l octets) =
+sent_for c ticket s (reply_came now keeps_session l octets) =
     only_if (is_of ticket (find_link l (packet_of octets).id s.entries))
-    (packets_of (on_event c s (reply_came now l octets)))
+    (packets_of (on_event c s (reply_came now keeps_session l octets)))
 sent_for c ticket s (tick_came now) =
     if nat_lt latest_moment now then [] else sent_by_dues c ticket now s (due_list now s.entries)
 

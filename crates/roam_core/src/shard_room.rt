@@ -41,7 +41,7 @@ fn room_for<A: Allocator + Copy>(
     Ok(Some(room))
 }
 
-/// How many packets a realm sends at most.
+/// Returns how many packets a realm sends at most.
 fn most_of<A: Allocator>(room: &Option<Room<A>>) -> usize
     ensures { result ≡ most_of room.now }
 {
@@ -85,7 +85,7 @@ pub(crate) fn room_of_shard<A: Allocator + Copy>(
     Ok(ShardRoom { rooms, outs })
 }
 
-/// Whether each entry of a realm that is due was answered, where the realm belongs to the shard.
+/// Returns whether each entry of a realm that is due was answered, where the realm belongs to the shard.
 fn is_done<A: Allocator + Copy>(
     config: &Config,
     book: &Book<'_, A>,
@@ -99,7 +99,7 @@ fn is_done<A: Allocator + Copy>(
     config.shard_of(realm) != shard || book.has_only_done_due(now)
 }
 
-/// Whether each entry that is due in a shard's realms was answered. Takes no memory.
+/// Returns whether each entry that is due in a shard's realms was answered. Takes no memory.
 pub(crate) fn has_only_done<A: Allocator + Copy>(
     config: &Config,
     books: &[Book<'_, A>],

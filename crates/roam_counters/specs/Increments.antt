@@ -29,10 +29,10 @@ use Rattle.roam_counters.specs.declared.turn.CountedTurn.{CountedTurn}
 -- Of a packet for a realm, of the realm and of who sent it: that it was refused (of all too), that it waits, that it
 -- was answered again or by a NAK, and why, or forwarded, of the link too; of a request that made way for it, of its
 -- realm, its link and who sent it, that it was replaced. Of a reply that it was returned, of who asked too, and of the
--- home server how long it took. Of a tick: that a packet was sent again, of realm and link; that a request failed
--- over, of its realm, its link and who sent it, and of the realm and the new link that it was taken over; that it was
--- given up, of the first three, and by which NAK. Of a change of the configuration, of each realm: how many waiting
--- requests, held replies and sessions it drops.
+-- home server how long it took; of realm and peer that its session was lost, where it isn't kept. Of a tick: that a
+-- packet was sent again, of realm and link; that a request failed over, of its realm, its link and who sent it, and of
+-- the realm and the new link that it was taken over; that it was given up, of the first three, and by which NAK. Of a
+-- change of the configuration, of each realm: how many waiting requests, held replies and sessions it drops.
 -- Source: ours
 -- Rules out: a count that rises by what didn't happen, or of somebody else; a failover counted as a packet sent again
 -- Stands in: `roam_counters` `Increments.antt`: `job_increments`, `due_increments`, `local_increments`,
@@ -144,12 +144,18 @@ delay_at realm (link.Coa peer out) time = None ∷ None ∷ []
 abbrev pub of_delay : ℕ → PlainWaited → ℕ → ℕ → List (Option Increment)
 of_delay realm w now wait = delay_at realm w.link (time_of w now wait)
 
+-- the session is lost, where it isn't kept
+abbrev pub lost_event : CountedTurn → Option CountedEvent
+lost_event turn = if turn.keeps_session then None else Some event.LostSession
+
 abbrev pub of_returned : CountedTurn → ℕ → PlainWaited → ℕ → ℕ → List (Option Increment)
 of_returned turn code w now wait =
     one (subject.Realm turn.realm) (returned_event code)
     ∷ one (sender turn) (returned_event code)
     ∷ one (requester_of turn.realm w.requester) (returned_event code)
-    ∷ (of_delay turn.realm w now wait ++ None ∷ None ∷ [])
+    ∷ (of_delay turn.realm w now wait
+    ++ one (subject.Realm turn.realm) (lost_event turn)
+    ∷ one (requester_of turn.realm w.requester) (lost_event turn) ∷ [])
 
 -- by a packet for a realm
 abbrev pub job_increments : CountedTurn → PlainHappening → ℕ → ℕ → List (Option Increment)

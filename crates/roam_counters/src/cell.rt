@@ -36,7 +36,7 @@ pub enum Holder {
 }
 
 impl Holder {
-    /// How many counts the list has.
+    /// Returns how many counts the list has.
     pub fn cells(self) -> usize
         ensures { result ≡ spec.cells self }
     {
@@ -60,10 +60,10 @@ impl Subject {
         }
     }
 
-    /// Where its events begin there.
+    /// Returns where its events begin there.
     pub fn first_cell(self) -> usize
         ensures value { result ≡ spec.first_cell self }
-        ensures small { result ≤ 25957 }
+        ensures small { result ≤ 26214 }
     {
         match self {
             Subject::All => PROCESSES,
@@ -72,7 +72,7 @@ impl Subject {
         }
     }
 
-    /// Where an event is counted there.
+    /// Returns where an event is counted there.
     pub fn cell(self, event: CountedEvent) -> usize
         ensures { result ≡ spec.cell_of self event }
     {
@@ -81,7 +81,7 @@ impl Subject {
 }
 
 impl Process {
-    /// Where it is counted, in the server's list.
+    /// Returns where it is counted, in the server's list.
     pub fn cell(self) -> usize
         ensures { result ≡ spec.process_cell self }
     {

@@ -34,8 +34,8 @@ fn subject_of_peer(peer: Option<u16>) -> Option<Subject>
     }
 }
 
-/// Who is at the other end of a packet that comes to this place from this endpoint, or leaves from this place to it;
-/// none where nobody of the configuration has it there.
+/// Returns who is at the other end of a packet that comes to this place from this endpoint, or leaves from this place
+/// to it; none where nobody of the configuration has it there.
 pub fn end_at(config: &Config, place: Place, endpoint: Endpoint) -> Option<Subject>
     ensures { result ≡ spec.end_at (shown config.now) place endpoint }
 {

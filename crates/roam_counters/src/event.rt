@@ -8,7 +8,7 @@ use crate::kinds::{NakCause, ReplyKind, RequestKind};
 use roam_wire::Refusal;
 
 /// How many events are told apart.
-pub const EVENTS: usize = 101;
+pub const EVENTS: usize = 102;
 
 /// What is counted of a realm, a home server or a peer.
 #[derive(Clone, Copy, PartialEq, Eq)]
@@ -56,13 +56,15 @@ pub enum CountedEvent {
     DroppedReply,
     /// An open session was dropped there.
     DroppedSession,
+    /// There was no memory for a session: the reply was returned without it.
+    LostSession,
 }
 
 impl CountedEvent {
     /// Its place among all events.
     pub fn place(self) -> usize
         ensures value { result ≡ spec.event_place self }
-        ensures below { result < 101 }
+        ensures below { result < 102 }
     {
         match self {
             CountedEvent::Request(kind) => kind.place(),
@@ -86,6 +88,7 @@ impl CountedEvent {
             CountedEvent::DroppedRequest => 98,
             CountedEvent::DroppedReply => 99,
             CountedEvent::DroppedSession => 100,
+            CountedEvent::LostSession => 101,
         }
     }
 }

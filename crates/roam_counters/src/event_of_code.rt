@@ -84,7 +84,7 @@ pub(crate) fn nak_by_tick(code: u8) -> Option<CountedEvent>
     }
 }
 
-/// Why it did.
+/// Returns why it did.
 pub(crate) fn nak_cause(cause: u32) -> Option<CountedEvent>
     ensures { result ≡ spec.nak_cause cause }
 {

@@ -42,7 +42,7 @@ pub(crate) fn one(subject: Subject, event: Option<CountedEvent>) -> Option<Incre
     }
 }
 
-/// Who sent a request of a realm.
+/// Returns who sent a request of a realm.
 pub(crate) fn requester_of(realm: u16, requester: Requester) -> Subject
     ensures { result ≡ spec.requester_of realm requester }
 {
@@ -140,8 +140,8 @@ fn of_forwarded<A: Allocator>(
     ]
 }
 
-/// How long a home server took to answer a request that waited, which may wait so long: since it was sent there last.
-/// Of a peer nothing is counted.
+/// Returns how long a home server took to answer a request that waited, which may wait so long: since it was sent
+/// there last. Of a peer nothing is counted.
 fn of_delay<A: Allocator>(
     realm: u16,
     waited: &Waited<A>,
@@ -165,6 +165,17 @@ fn of_delay<A: Allocator>(
     [one(server, Some(within)), Some(took)]
 }
 
+/// That a session is lost, where it isn't kept.
+fn lost_event(turn: CountedTurn) -> Option<CountedEvent>
+    ensures { result ≡ spec.lost_event turn }
+{
+    if turn.keeps_session {
+        None
+    } else {
+        Some(CountedEvent::LostSession)
+    }
+}
+
 /// A reply of this code was returned for a request that waited.
 fn of_returned<A: Allocator>(
     turn: CountedTurn,
@@ -176,6 +187,7 @@ fn of_returned<A: Allocator>(
     ensures { result ≡ spec.of_returned turn code (shown_waited waited.now) now wait }
 {
     let event = returned(code);
+    let lost = lost_event(turn);
     let [within, took] = of_delay(turn.realm, waited, now, wait);
     [
         one(Subject::Realm(turn.realm), event),
@@ -183,8 +195,8 @@ fn of_returned<A: Allocator>(
         one(requester_of(turn.realm, waited.requester), event),
         within,
         took,
-        None,
-        None,
+        one(Subject::Realm(turn.realm), lost),
+        one(requester_of(turn.realm, waited.requester), lost),
     ]
 }
 

@@ -18,10 +18,12 @@ pub struct CountedTurn {
     pub side: Side,
     /// Its code.
     pub code: u8,
+    /// Whether the session is kept that a reply opens, changes or ends.
+    pub keeps_session: bool,
 }
 
 impl CountedTurn {
-    /// Who sent it.
+    /// Returns who sent it.
     pub fn sender(self) -> Subject
         ensures { result ≡ spec.sender_of self.realm self.side }
     {

@@ -10,4 +10,10 @@ code_of (code ∷ rest) = code
 
 -- a job, as what comes of it is counted
 abbrev pub turn_of : PlainJob → CountedTurn
-turn_of job = record { realm = job.realm; side = job.side; code = code_of job.octets }
+turn_of job =
+    record {
+      realm = job.realm;
+      side = job.side;
+      code = code_of job.octets;
+      keeps_session = job.keeps_session;
+    }

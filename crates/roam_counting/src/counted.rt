@@ -26,5 +26,6 @@ pub fn turn_of(job: &Job<Global>) -> CountedTurn
         realm: job.realm,
         side: job.side,
         code: code_of(job.octets.as_slice()),
+        keeps_session: job.keeps_session,
     }
 }

@@ -55,7 +55,7 @@ impl Counters {
         })
     }
 
-    /// What the threads counted together at a place; it begins again at 0 after 2^64 - 1.
+    /// Returns what the threads counted together at a place; it begins again at 0 after 2^64 - 1.
     fn sum(&self, holder: Holder, place: usize) -> u64 {
         let mut sum = 0u64;
         for thread in &self.threads {
@@ -66,7 +66,7 @@ impl Counters {
         sum
     }
 
-    /// How many octets the datagrams and packets of all stored steps have.
+    /// Returns how many octets the datagrams and packets of all stored steps have.
     pub fn history_octets(&self) -> u64 {
         let mut sum = 0u64;
         for octets in &self.history {
@@ -143,7 +143,7 @@ impl Counters {
         }
     }
 
-    /// What one thread counts of events, which goes on from what it counted before.
+    /// Returns what one thread counts of events, which goes on from what it counted before.
     pub fn events_of_thread(
         &self,
         alloc: Global,
@@ -155,7 +155,7 @@ impl Counters {
         }
     }
 
-    /// What one thread counts of the whole server.
+    /// Returns what one thread counts of the whole server.
     pub fn of_thread(&self, number: usize) -> Option<ThreadCounts<'_>> {
         match self.threads.get(number) {
             Some(sheet) => Some(ThreadCounts {

@@ -38,7 +38,7 @@ impl<'s> Drop for Counting<'s> {
     }
 }
 
-/// How long a request of a realm waits for a server, in milliseconds.
+/// Returns how long a request of a realm waits for a server, in milliseconds.
 fn wait_of(config: &Config, realm: u16) -> u32
     ensures { result ≡ spec.wait_of (shown config.now) realm }
 {

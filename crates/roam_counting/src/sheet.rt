@@ -37,12 +37,13 @@ pub fn zeros(alloc: Global, count: usize) -> Result<Vec<AtomicU64>, AllocError> 
     Ok(zeros)
 }
 
-/// Whether a realm's list goes on as it is: its table is no other one, so that whoever sends to it has the same number.
+/// Returns whether a realm's list goes on as it is: its table is no other one, so that whoever sends to it has the
+/// same number.
 fn goes_on(before: &Realm, after: &Realm) -> bool {
     !before.gone && realm_difference(before, after).is_none()
 }
 
-/// How many counts are made for the realm of an index: none where its list goes on, or where it is gone.
+/// Returns how many counts are made for the realm of an index: none where its list goes on, or where it is gone.
 fn realm_cells(before: Option<&Config>, after: &Realm, number: usize) -> usize {
     let old = match before {
         Some(before) => before.realms.get(number),
@@ -183,7 +184,7 @@ impl Sheet {
         self.list(holder)?.get(place)
     }
 
-    /// What stands here, as the own counts of a thread.
+    /// Returns what stands here, as the own counts of a thread.
     pub fn own(&self, alloc: Global) -> Result<OwnCounts<Global>, AllocError> {
         Ok(OwnCounts::new(
             own_list(alloc, self.server.as_slice())?,

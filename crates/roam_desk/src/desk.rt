@@ -237,7 +237,7 @@ impl Office {
         }
     }
 
-    /// Which server is told of at this moment, in milliseconds since the start.
+    /// Returns which server is told of at this moment, in milliseconds since the start.
     pub fn about(&self, now: u64) -> About {
         About {
             version: self.build.version(),

@@ -35,7 +35,7 @@ impl Missing {
         }
     }
 
-    /// How many of a shard are missing of which that isn't said yet. It is said from now on.
+    /// Returns how many of a shard are missing of which that isn't said yet. It is said from now on.
     pub fn take(&self, shard: u16) -> u64 {
         match self.of_shards.get(usize::from(shard)) {
             Some(count) => count.swap(0, Ordering::SeqCst),

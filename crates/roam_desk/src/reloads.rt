@@ -40,7 +40,7 @@ pub struct Tally {
     last: AtomicU64,
 }
 
-/// When the last one was, by what is noted of it.
+/// Returns when the last one was, by what is noted of it.
 fn last_of(noted: u64) -> Option<u64>
     ensures { result ≡ (if noted == 2 ^ 64 - 1 then None else Some noted) }
 {
@@ -62,7 +62,7 @@ impl Tally {
         self.last.store(now, Ordering::SeqCst);
     }
 
-    /// How many there were.
+    /// Returns how many there were.
     pub fn reloads(&self) -> Reloads {
         Reloads {
             times: self.times.load(Ordering::SeqCst),

@@ -26,19 +26,30 @@ fn push_hex(script: &mut Vec<u8>, octets: &[u8]) -> Result<(), AllocError> {
 /// The words of an arrival's line before its octets: when, at which place, and from where.
 fn words_of(alloc: Global, now: u64, at: Place, from: Endpoint) -> Result<String, AllocError> {
     match at {
-        Place::Auth(nth) => format!(in alloc; "A {now} auth{} {from} ", NthText(nth)),
-        Place::Acct(nth) => format!(in alloc; "A {now} acct{} {from} ", NthText(nth)),
+        Place::Auth(nth) => format!(in alloc; " {now} auth{} {from} ", NthText(nth)),
+        Place::Acct(nth) => format!(in alloc; " {now} acct{} {from} ", NthText(nth)),
         Place::Out(realm, nth) => {
-            format!(in alloc; "A {now} out:{realm}{} {from} ", NthText(nth))
+            format!(in alloc; " {now} out:{realm}{} {from} ", NthText(nth))
         }
         Place::Reverse(realm, nth) => {
-            format!(in alloc; "A {now} reverse:{realm}{} {from} ", NthText(nth))
+            format!(in alloc; " {now} reverse:{realm}{} {from} ", NthText(nth))
         }
     }
 }
 
+/// Returns the letter of an arrival, whose session is kept or not.
+fn letter_of(keeps_session: bool) -> u8 {
+    if keeps_session { b'A' } else { b'L' }
+}
+
 /// Adds the line of an arrival.
-fn push_arrival(script: &mut Vec<u8>, words: String, octets: &[u8]) -> Result<(), AllocError> {
+fn push_arrival(
+    script: &mut Vec<u8>,
+    letter: u8,
+    words: String,
+    octets: &[u8],
+) -> Result<(), AllocError> {
+    script.push(letter)?;
     script.extend_from_slice(words.as_str().as_bytes())?;
     push_hex(script, octets)?;
     script.extend_from_slice(b"\n")
@@ -109,12 +120,15 @@ fn push_arrived(
     alloc: Global,
     script: &mut Vec<u8>,
     numbering: &Numbering<'_>,
-    arrived: (u64, Place, Endpoint),
+    arrived: (u64, Place, Endpoint, bool),
     octets: &[u8],
 ) -> Result<(), AllocError> {
-    let (now, at, from) = arrived;
+    let (now, at, from, keeps_session) = arrived;
     match numbering.place(at) {
-        Some(at) => push_arrival(script, words_of(alloc, now, at, from)?, octets),
+        Some(at) => {
+            let words = words_of(alloc, now, at, from)?;
+            push_arrival(script, letter_of(keeps_session), words, octets)
+        }
         None => {
             let line = format!(in alloc;
                 "# 1 step is missing here, at {now}: its realm isn't in the file\n"
@@ -151,7 +165,11 @@ fn push_step(
             at,
             from,
             octets,
-        } => push_arrived(alloc, script, numbering, (now, at, from), octets),
+            keeps_session,
+        } => {
+            let arrived = (now, at, from, keeps_session);
+            push_arrived(alloc, script, numbering, arrived, octets)
+        }
         EventRef::Ticked { now, .. } => push_ticks(alloc, script, numbering, now),
     }
 }

@@ -16,8 +16,8 @@ pub struct Stopping {
     end: AtomicU64,
 }
 
-/// How long a server has to end that is asked to stop, in milliseconds: the longest time that a reply of a home server
-/// is waited for, 30 seconds at most.
+/// Returns how long a server has to end that is asked to stop, in milliseconds: the longest time that a reply of a
+/// home server is waited for, 30 seconds at most.
 pub fn grace(config: &Config) -> u64
     ensures { result ≤ 30000 }
 {
@@ -54,7 +54,7 @@ impl Stopping {
         self.is_asked.store(true, Ordering::SeqCst);
     }
 
-    /// Whether it is asked to stop.
+    /// Returns whether it is asked to stop.
     pub fn is_asked(&self) -> bool {
         self.is_asked.load(Ordering::SeqCst)
     }
@@ -68,7 +68,8 @@ impl Stopping {
         true
     }
 
-    /// When the server's time is over: at this moment, or where it was asked to stop and that is earlier, then.
+    /// Returns when the server's time is over: at this moment, or where it was asked to stop and that is earlier,
+    /// then.
     pub fn or_earlier(&self, end: Option<u64>) -> Option<u64> {
         earlier(end, self.end.load(Ordering::SeqCst))
     }

@@ -4,7 +4,7 @@ use crate::advices::{ADVICES, Advice};
 use crate::document::{Document, Located};
 use crate::lines::Lines;
 use crate::survey::Survey;
-use crate::{deliveries, names, servers, sessions, sharing, slips};
+use crate::{deliveries, known_secret, names, servers, sessions, sharing, slips};
 
 /// What is unwise in a table, in what stands under a key.
 #[derive(Clone, Copy)]
@@ -19,6 +19,8 @@ pub(crate) enum Unwise {
     ShortRest,
     /// A secret of less than 8 octets.
     ShortSecret,
+    /// The secret that everybody knows, where another machine may send.
+    KnownSecret,
     /// A secret of a sample.
     SampleSecret,
     /// A socket at all addresses.
@@ -77,16 +79,16 @@ fn number(at: Located<'_>, key: &str) -> u64 {
     at.keys.number_or(key, default)
 }
 
-/// Whether a server that rests does so for a shorter time than it takes to find that it is silent.
+/// Returns whether a server that rests does so for a shorter time than it takes to find that it is silent.
 fn has_short_rest(at: Located<'_>) -> bool {
     let rest = number(at, "rest");
     0 < rest && rest < number(at, "tries").saturating_mul(number(at, "wait"))
 }
 
-/// Whether the text under the key is an endpoint at all addresses.
+/// Returns whether the text under the key is an endpoint at all addresses.
 fn is_at_any_address(at: Located<'_>, key: &str) -> bool {
-    for nth in 0..servers::count_under(at.keys, key) {
-        if let Some(endpoint) = servers::nth_under(at.keys, key, nth) {
+    for value in at.keys.values(key) {
+        if let Some(endpoint) = servers::endpoint_in(value) {
             if endpoint.ip.number() == 0 {
                 return true;
             }
@@ -109,20 +111,19 @@ impl Unwise {
             Unwise::FewEntries => number(at, "max_pending") < number(at, "hold") / 1000,
             Unwise::ShortRest => has_short_rest(at),
             Unwise::ShortSecret => match at.keys.secret_length() {
-                Some(length) => length < 8,
+                Some(length) => length < 8 && !at.keys.has_known_secret(),
                 None => false,
             },
+            Unwise::KnownSecret => known_secret::is_known_elsewhere(at),
             Unwise::SampleSecret => at.keys.has_sample_secret(),
             Unwise::AnyAddress => is_at_any_address(at, key),
             Unwise::OwnServer => servers::is_own(&survey.own, at, key),
             Unwise::OtherSecret => servers::has_other_secret(&survey.servers, at),
-            Unwise::Default => names::has_default(at, key),
+            Unwise::Default => names::has_text(at, key, "DEFAULT"),
             Unwise::OpenBelow => survey.patterns.are_open_below(at),
-            Unwise::IllFormed => {
-                names::has_pattern(at, "*") && !names::are_well_formed(document)
-            }
-            Unwise::Looping => { names::has_pattern(at, "*") && !at.keys.is_set("loop_prevention") }
-            Unwise::Unshared => names::has_pattern(at, "*") && !at.keys.has("share"),
+            Unwise::IllFormed => names::takes_any(at) && !names::are_well_formed(document),
+            Unwise::Looping => names::takes_any(at) && !at.keys.is_set("loop_prevention"),
+            Unwise::Unshared => names::takes_any(at) && !at.keys.has("share"),
             Unwise::PeersUnshared => sharing::is_unshared(survey, document.peers(), at),
             Unwise::NameUnshared => sharing::is_name_unshared(survey, document.peers(), at),
             Unwise::NoSessions => sessions::are_never_there(at),
@@ -131,8 +132,8 @@ impl Unwise {
             Unwise::NoUseOfSessions => survey.deliveries.are_remembered_in_vain(&survey.names, at),
             Unwise::NeverNamed => deliveries::is_never_named(at),
             Unwise::NeverReached => survey.deliveries.never_reach(at),
-            Unwise::Seconds => slips::has_seconds(at, key),
-            Unwise::Dotted => slips::has_dotted(at, key),
+            Unwise::Seconds => slips::seconds_under(at, key).is_some(),
+            Unwise::Dotted => slips::dotted_under(at, key).is_some(),
             Unwise::Port(port) => slips::has_port(at, key, port),
             Unwise::Relative => slips::is_relative(at, key),
             Unwise::Absent => !at.keys.has(key),

@@ -14,6 +14,9 @@ pub(crate) struct Advice(
 
 const SHORT_SECRET: &str = "has less than 8 octets, and can be found by trying";
 
+const KNOWN_SECRET: &str =
+    "is radsec, which everybody knows (RFC 6614): only an address of 127.0.0.0/8, behind TLS, may have it";
+
 const SAMPLE_SECRET: &str = "is a sample's, which everybody knows: make one of your own";
 
 const ANY_ADDRESS: &str =
@@ -37,7 +40,7 @@ const DOTTED: &str = "has a text that begins with a dot, as no name does";
 const DEFAULT: &str = "is a name as any other: what FreeRADIUS calls DEFAULT is also = [\"*\"]";
 
 /// The advice for each kind of tables, in the order in which it is said; that for sockets first.
-pub(crate) const ADVICES: [Advice; 43] = [
+pub(crate) const ADVICES: [Advice; 46] = [
     Advice(TableKind::Top, "auth", Unwise::AnyAddress, ANY_ADDRESS),
     Advice(TableKind::Top, "acct", Unwise::AnyAddress, ANY_ADDRESS),
     Advice(TableKind::Realm, "out", Unwise::AnyAddress, ANY_ADDRESS),
@@ -64,6 +67,7 @@ pub(crate) const ADVICES: [Advice; 43] = [
         SAMPLE_SECRET,
     ),
     Advice(TableKind::Peer, "secret", Unwise::ShortSecret, SHORT_SECRET),
+    Advice(TableKind::Peer, "secret", Unwise::KnownSecret, KNOWN_SECRET),
     Advice(
         TableKind::Peer,
         "require_seal",
@@ -185,6 +189,12 @@ pub(crate) const ADVICES: [Advice; 43] = [
     Advice(
         TableKind::Server,
         "secret",
+        Unwise::KnownSecret,
+        KNOWN_SECRET,
+    ),
+    Advice(
+        TableKind::Server,
+        "secret",
         Unwise::OtherSecret,
         "isn't what this server has in another realm: it knows the broker by one address, so one is wrong",
     ),
@@ -205,5 +215,11 @@ pub(crate) const ADVICES: [Advice; 43] = [
         "secret",
         Unwise::ShortSecret,
         SHORT_SECRET,
+    ),
+    Advice(
+        TableKind::Client,
+        "secret",
+        Unwise::KnownSecret,
+        KNOWN_SECRET,
     ),
 ];

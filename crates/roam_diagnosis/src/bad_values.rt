@@ -2,10 +2,11 @@
 
 use crate::document::{Document, Located};
 use crate::form_words::say_misfit;
-use crate::forms::{ValueForm, is_list, is_of_tables, misfit};
-use crate::hidden::is_hidden;
+use crate::forms::{ValueForm, is_list, misfit};
+use crate::hidden::{is_hidden, may_be_name};
 use crate::lines::Lines;
 use crate::nearest::nearest_key;
+use crate::network_forms::{NetworkForm, meant_prefix};
 use crate::place::{TableKind, name_of};
 use crate::quoted::quote;
 use crate::rules::{has_rule, header_of, owner_of, rules_of};
@@ -25,38 +26,21 @@ fn say_value(value: &Value, lines: &mut Lines) {
     }
 }
 
-/// How a value is mended where a number or a flag belongs.
-fn remedy_of_plain(form: ValueForm, value: &Value) -> &'static str {
-    match value {
-        Value::String(_) => ": leave the quotation marks out",
-        Value::Float(_) => match form {
-            ValueForm::Number(..) => ": it is a whole number",
-            _ => "",
-        },
-        _ => "",
-    }
-}
-
-/// How a value that isn't of its form is mended, where that can be told by its type; else nothing.
-fn remedy_of(form: ValueForm, value: &Value) -> &'static str {
-    match form {
-        ValueForm::Number(..) | ValueForm::Flag => remedy_of_plain(form, value),
-        _ if is_list(form) || is_of_tables(form) => "",
-        _ => match value {
-            Value::Integer(_) | Value::Float(_) | Value::Boolean(_) => {
-                ": put it in quotation marks"
-            }
-            _ => "",
-        },
-    }
-}
-
 /// Says how a value that isn't of its form is mended, where that can be told by its type.
 fn say_remedy(form: ValueForm, value: &Value, header: &str, lines: &mut Lines) {
-    match value {
-        Value::String(text) if is_list(form) => quote(": write [", text.as_str(), "]", lines),
-        Value::Table(_) if is_of_tables(form) => lines.put(": write [[", header, "]]"),
-        _ => lines.say(remedy_of(form, value)),
+    match (form, value) {
+        (ValueForm::Number(..) | ValueForm::Flag, Value::String(_)) => {
+            lines.say(": leave the quotation marks out");
+        }
+        (ValueForm::Number(..), Value::Float(_)) => lines.say(": it is a whole number"),
+        (ValueForm::Number(..) | ValueForm::Flag, _) => {}
+        (ValueForm::Tables(..), Value::Table(_)) => lines.put(": write [[", header, "]]"),
+        (ValueForm::Tables(..), _) => {}
+        (_, Value::String(text)) if is_list(form) => quote(": write [", text.as_str(), "]", lines),
+        (_, Value::Integer(_) | Value::Float(_) | Value::Boolean(_)) if !is_list(form) => {
+            lines.say(": put it in quotation marks");
+        }
+        _ => {}
     }
 }
 
@@ -68,16 +52,35 @@ fn say_length(length: Option<usize>, lines: &mut Lines) {
     }
 }
 
+/// Says what is meant by a text where an address belongs: another prefix, or a name, as one that isn't shown may be.
+fn say_meant(form: ValueForm, text: &str, is_hidden: bool, lines: &mut Lines) {
+    match (form, meant_prefix(text)) {
+        (ValueForm::Network(NetworkForm::Prefix), Some(prefix)) => {
+            lines.put(": did you mean \"", prefix, "\"?");
+        }
+        (ValueForm::Network(_) | ValueForm::Endpoints(_) | ValueForm::LocalEndpoints(..), _) => {
+            if is_hidden || may_be_name(text) {
+                lines.say(": names aren't looked up, so write the address");
+            }
+        }
+        _ => {}
+    }
+}
+
 /// Says what stands under a key and isn't of its form, unless it may be a secret.
 fn say_shown(key: &str, form: ValueForm, value: &Value, lines: &mut Lines) {
     let shown = misfit(form, value);
-    if is_hidden(key, shown) {
-        say_misfit(form, lines);
-        lines.say(" (it isn't shown: it may be a secret)");
-        return;
+    let is_hidden = is_hidden(key, shown);
+    if !is_hidden {
+        say_value(shown, lines);
     }
-    say_value(shown, lines);
     say_misfit(form, lines);
+    if is_hidden {
+        lines.say(" (it isn't shown: it may be a secret)");
+    }
+    if let Value::String(text) = shown {
+        say_meant(form, text.as_str(), is_hidden, lines);
+    }
 }
 
 /// Says that what stands under a key isn't of its form. A secret isn't shown.
@@ -93,7 +96,7 @@ fn say_bad(
     match at.keys.value(key) {
         Some(value) => {
             say_shown(key, form, value, lines);
-            say_remedy(form, value, header_of(key), lines);
+            say_remedy(form, value, header_of(at.place.kind, key), lines);
         }
         None => {
             say_misfit(form, lines);
@@ -108,11 +111,11 @@ fn say_bad(
 /// Says where a key belongs that stands in a table of another kind.
 fn say_owner(here: TableKind, key: &str, lines: &mut Lines) {
     match owner_of(here, key) {
-        Some(TableKind::Top) => {
+        Some(TableKind::Top | TableKind::Streams) => {
             lines.say(": it is one of the top table, so put it before the first table");
         }
         Some(TableKind::Realm) if WITH_HEADERS.contains(&key) => {
-            lines.put(": write [[", header_of(key), "]]");
+            lines.put(": write [[", header_of(here, key), "]]");
         }
         Some(owner) => lines.put(": it is one of ", name_of(owner), ""),
         None => say_nearest(here, key, lines),

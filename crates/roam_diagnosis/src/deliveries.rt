@@ -1,6 +1,6 @@
 //! Where Disconnect- and CoA-Requests can be delivered: which peers take them, and of which realms.
 
-use crate::document::{Document, Located, items_of};
+use crate::document::{Document, Located};
 use crate::peer_names::PeerNames;
 use crate::place::TableKind;
 use crate::sessions;
@@ -47,7 +47,7 @@ impl Deliveries {
             return Ok(());
         }
         self.reach_all |= !realm.keys.has("peers");
-        for name in items_of(realm.keys, "peers") {
+        for name in realm.keys.items("peers") {
             if let Some(peer) = named_by(names, name) {
                 self.reached.insert(peer.place.index)?;
             }
@@ -60,7 +60,7 @@ impl Deliveries {
         if !realm.keys.has("peers") {
             return !self.some_take;
         }
-        for name in items_of(realm.keys, "peers") {
+        for name in realm.keys.items("peers") {
             if let Some(peer) = named_by(names, name) {
                 if peer.keys.has("coa") {
                     return false;
@@ -104,5 +104,5 @@ pub(crate) fn is_never_named(peer: Located<'_>) -> bool {
         && !peer.keys.has("nas_ipv6")
         && !peer.keys.has("nas_id")
         && !peer.keys.has("operator_name")
-        && items_of(peer.keys, "nas_ids").is_empty()
+        && peer.keys.items("nas_ids").is_empty()
 }

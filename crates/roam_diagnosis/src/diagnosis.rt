@@ -45,28 +45,39 @@ fn say(document: &Document<'_>, fault: Option<ConfFault>, lines: &mut Lines) {
     }
 }
 
-/// Where the fault stands for which a configuration is refused: a line for each place, ten at most. There are none
-/// where memory is wanting.
-///
-/// Each begins with the path of the file and the line in it. `fault` is what `read_config` answered for the text.
-pub fn diagnose(alloc: Global, path: &str, text: &str, fault: ConfFault) -> Lines {
+/// Returns where the fault stands for which a file with a top of this kind is refused.
+fn diagnose_as(top: TableKind, alloc: Global, path: &str, text: &str, fault: ConfFault) -> Lines {
     let mut lines = Lines::new(alloc);
     match toml::table_from_str(alloc, text) {
         Ok(table) => {
-            let document = Document::new(alloc, path, text, &table);
+            let document = Document::new(alloc, path, text, &table, top);
             say(&document, Some(fault), &mut lines);
         }
-        Err(error) => say_syntax(path, text, &error, &mut lines),
+        Err(error) => say_syntax(top, path, text, &error, &mut lines),
     }
     lines.unless_failed()
 }
 
-/// What is unwise in a configuration that was accepted: a line for each advice, with the first place that it is for,
-/// ten at most. There are none where memory is wanting.
+/// Returns where the fault stands for which a configuration is refused: a line for each place, ten at most. There are
+/// none where memory is wanting.
+///
+/// Each begins with the path of the file and the line in it. `fault` is what `read_config` answered for the text.
+pub fn diagnose(alloc: Global, path: &str, text: &str, fault: ConfFault) -> Lines {
+    diagnose_as(TableKind::Top, alloc, path, text, fault)
+}
+
+/// Returns where the fault stands for which a file of `roam streams` is refused, as `diagnose` does for a
+/// configuration.
+pub fn diagnose_streams(alloc: Global, path: &str, text: &str, fault: ConfFault) -> Lines {
+    diagnose_as(TableKind::Streams, alloc, path, text, fault)
+}
+
+/// Returns what is unwise in a configuration that was accepted: a line for each advice, with the first place that it
+/// is for, ten at most. There are none where memory is wanting.
 pub fn advise(alloc: Global, path: &str, text: &str) -> Lines {
     let mut lines = Lines::new(alloc);
     if let Ok(table) = toml::table_from_str(alloc, text) {
-        let document = Document::new(alloc, path, text, &table);
+        let document = Document::new(alloc, path, text, &table, TableKind::Top);
         say(&document, None, &mut lines);
     }
     lines.unless_failed()

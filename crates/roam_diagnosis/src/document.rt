@@ -30,21 +30,14 @@ pub(crate) struct Document<'a> {
     pub has_failed: bool,
 }
 
-/// The items of the array under a key; none where there is no array.
-pub(crate) fn items_of<'a>(keys: Keys<'a>, key: &str) -> &'a [Value] {
-    match keys.array(key) {
-        Some(items) => items.as_slice(),
-        None => &[],
-    }
-}
-
 impl<'a> Document<'a> {
-    /// The document of a text that has this table.
+    /// Returns the document of a text that has this table, with a top of this kind.
     pub(crate) fn new(
         alloc: Global,
         path: &'a str,
         text: &'a str,
         table: &'a Table,
+        top: TableKind,
     ) -> Document<'a> {
         let mut document = Document {
             alloc,
@@ -54,12 +47,20 @@ impl<'a> Document<'a> {
             peers: 0,
             has_failed: false,
         };
-        let top = Keys::new(table);
-        document.add(TablePlace::TOP, top, top);
-        document.add_all(TablePlace::peer(0), top, "peer");
-        document.peers = document.tables.len().saturating_sub(1);
-        document.add_all(TablePlace::realm(0), top, "realm");
+        document.add_tables(TablePlace::new(top, 0, 0), Keys::new(table));
         document
+    }
+
+    /// Adds the top table and all below it, in their order.
+    fn add_tables(&mut self, place: TablePlace, top: Keys<'a>) {
+        self.add(place, top, top);
+        if place.kind == TableKind::Streams {
+            self.add_all(TableKind::StreamServer, top, "server");
+            return;
+        }
+        self.add_all(TableKind::Peer, top, "peer");
+        self.peers = self.tables.len().saturating_sub(1);
+        self.add_all(TableKind::Realm, top, "realm");
     }
 
     fn add(&mut self, place: TablePlace, keys: Keys<'a>, named: Keys<'a>) {
@@ -68,26 +69,26 @@ impl<'a> Document<'a> {
         }
     }
 
-    /// Adds the tables under a key of the document, which are of this place's kind, and those below them.
-    fn add_all(&mut self, before: TablePlace, top: Keys<'a>, key: &str) {
-        let mut place = before;
-        for item in items_of(top, key) {
+    /// Adds the tables under a key of the document, which are of this kind, and those below them.
+    fn add_all(&mut self, kind: TableKind, top: Keys<'a>, key: &str) {
+        let mut place = TablePlace::new(kind, 0, 0);
+        for item in top.items(key) {
             place.index = place.index.saturating_add(1);
             if let Value::Table(table) = item {
                 let keys = Keys::new(table);
                 self.add(place, keys, keys);
-                if place.kind == TableKind::Realm {
-                    self.add_below(TablePlace::server(place.index, 0), keys, "server");
-                    self.add_below(TablePlace::client(place.index, 0), keys, "coa_client");
+                if kind == TableKind::Realm {
+                    self.add_below(place, TableKind::Server, keys, "server");
+                    self.add_below(place, TableKind::Client, keys, "coa_client");
                 }
             }
         }
     }
 
-    /// Adds the tables under a key of a realm, which are of this place's kind.
-    fn add_below(&mut self, before: TablePlace, realm: Keys<'a>, key: &str) {
-        let mut place = before;
-        for item in items_of(realm, key) {
+    /// Adds the tables under a key of a realm at a place, which are of this kind.
+    fn add_below(&mut self, at: TablePlace, kind: TableKind, realm: Keys<'a>, key: &str) {
+        let mut place = TablePlace::new(kind, at.index, 0);
+        for item in realm.items(key) {
             place.server = place.server.saturating_add(1);
             if let Value::Table(table) = item {
                 self.add(place, Keys::new(table), realm);
@@ -161,6 +162,7 @@ fn say_key(at: Located<'_>, key: &str, lines: &mut Lines) {
     match at.place.kind {
         TableKind::Peer => say_named("peer", at, ": ", lines),
         TableKind::Realm => say_named("realm", at, ": ", lines),
+        TableKind::StreamServer => say_named("server", at, ": ", lines),
         TableKind::Server => {
             say_named("realm", at, ", server ", lines);
             lines.put("", at.place.server, ": ");

@@ -31,12 +31,14 @@ enum Compared {
 struct Group {
     fault: ConfFault,
     keys: &'static [ComparedKey],
+    /// Keys whose values may be equal to each other, but to none of those.
+    others: &'static [ComparedKey],
     /// Whether the values of each realm are compared apart.
     is_apart: bool,
     compared: Compared,
 }
 
-const GROUPS: [Group; 11] = [
+const GROUPS: [Group; 12] = [
     Group {
         fault: ConfFault::DuplicateRealm,
         keys: &[
@@ -44,30 +46,35 @@ const GROUPS: [Group; 11] = [
             ComparedKey(TableKind::Realm, "also"),
             ComparedKey(TableKind::Top, "reject"),
         ],
+        others: &[],
         is_apart: false,
         compared: Compared::WithoutCase,
     },
     Group {
         fault: ConfFault::DuplicatePeer,
         keys: &[ComparedKey(TableKind::Peer, "name")],
+        others: &[],
         is_apart: false,
         compared: Compared::AsText,
     },
     Group {
         fault: ConfFault::DuplicatePeer,
         keys: &[ComparedKey(TableKind::Peer, "ip")],
+        others: &[],
         is_apart: false,
         compared: Compared::AsAddress,
     },
     Group {
         fault: ConfFault::DuplicatePeer,
         keys: &[ComparedKey(TableKind::Peer, "nas_ip")],
+        others: &[],
         is_apart: false,
         compared: Compared::AsAddress,
     },
     Group {
         fault: ConfFault::DuplicatePeer,
         keys: &[ComparedKey(TableKind::Peer, "nas_ipv6")],
+        others: &[],
         is_apart: false,
         compared: Compared::AsAddress,
     },
@@ -77,12 +84,14 @@ const GROUPS: [Group; 11] = [
             ComparedKey(TableKind::Peer, "nas_id"),
             ComparedKey(TableKind::Peer, "nas_ids"),
         ],
+        others: &[],
         is_apart: false,
         compared: Compared::AsText,
     },
     Group {
         fault: ConfFault::DuplicatePeer,
         keys: &[ComparedKey(TableKind::Peer, "operator_name")],
+        others: &[],
         is_apart: false,
         compared: Compared::WithoutCase,
     },
@@ -94,6 +103,7 @@ const GROUPS: [Group; 11] = [
             ComparedKey(TableKind::Realm, "out"),
             ComparedKey(TableKind::Realm, "reverse"),
         ],
+        others: &[],
         is_apart: false,
         compared: Compared::AsAddress,
     },
@@ -103,22 +113,36 @@ const GROUPS: [Group; 11] = [
             ComparedKey(TableKind::Server, "auth"),
             ComparedKey(TableKind::Server, "acct"),
         ],
+        others: &[],
         is_apart: true,
         compared: Compared::AsAddress,
     },
     Group {
         fault: ConfFault::DuplicateServer,
         keys: &[ComparedKey(TableKind::Client, "ip")],
+        others: &[],
         is_apart: true,
         compared: Compared::AsAddress,
     },
     Group {
         fault: ConfFault::DuplicateLink,
-        keys: &[
-            ComparedKey(TableKind::Peer, "coa"),
+        keys: &[ComparedKey(TableKind::Peer, "coa")],
+        others: &[
             ComparedKey(TableKind::Server, "auth"),
             ComparedKey(TableKind::Server, "acct"),
         ],
+        is_apart: false,
+        compared: Compared::AsAddress,
+    },
+    Group {
+        fault: ConfFault::DuplicateEndpoint,
+        keys: &[
+            ComparedKey(TableKind::Streams, "take"),
+            ComparedKey(TableKind::Streams, "auth"),
+            ComparedKey(TableKind::Streams, "acct"),
+            ComparedKey(TableKind::StreamServer, "at"),
+        ],
+        others: &[ComparedKey(TableKind::StreamServer, "reverse")],
         is_apart: false,
         compared: Compared::AsAddress,
     },
@@ -135,6 +159,8 @@ struct Spot<'a> {
 #[derive(Drop)]
 struct Seen<'a> {
     group: Group,
+    /// Whether what comes is only compared with what came before.
+    is_looking: bool,
     spots: BTreeMap<String, Spot<'a>>,
 }
 
@@ -180,7 +206,7 @@ impl<'a> Seen<'a> {
         }
         match self.spots.get(compared.as_str()) {
             Some(first) => say(document, *first, spot, text, lines),
-            None if self.is_only_looked_for(spot) => {}
+            None if self.is_looking => {}
             None => {
                 if self.spots.insert(compared, spot).is_err() {
                     lines.fail();
@@ -189,23 +215,27 @@ impl<'a> Seen<'a> {
         }
     }
 
-    /// Whether equal values of this kind may stand: servers' endpoints, which only peers' mustn't equal.
-    fn is_only_looked_for(&self, spot: Spot<'_>) -> bool {
-        self.group.fault == ConfFault::DuplicateLink && spot.at.place.kind == TableKind::Server
-    }
-
     /// Takes down the texts under a key.
     fn take_all(&mut self, document: &Document<'_>, spot: Spot<'a>, lines: &mut Lines) {
-        match spot.at.keys.value(spot.key) {
-            Some(Value::String(text)) => self.take(document, spot, text.as_str(), lines),
-            Some(Value::Array(items)) => {
-                for item in items {
-                    if let Value::String(text) = item {
-                        self.take(document, spot, text.as_str(), lines);
-                    }
-                }
+        for value in spot.at.keys.values(spot.key) {
+            if let Value::String(text) = value {
+                self.take(document, spot, text.as_str(), lines);
             }
-            _ => {}
+        }
+    }
+
+    /// Takes down the texts of a table under those of the keys that its kind has.
+    fn take_table(
+        &mut self,
+        document: &Document<'_>,
+        at: Located<'a>,
+        keys: &[ComparedKey],
+        lines: &mut Lines,
+    ) {
+        for ComparedKey(kind, key) in keys {
+            if at.place.kind == *kind {
+                self.take_all(document, Spot { at, key }, lines);
+            }
         }
     }
 }
@@ -225,14 +255,15 @@ fn say(document: &Document<'_>, first: Spot<'_>, second: Spot<'_>, text: &str, l
 fn say_group(document: &Document<'_>, group: Group, lines: &mut Lines) {
     let mut seen = Seen {
         group,
+        is_looking: false,
         spots: BTreeMap::new(document.alloc),
     };
     for at in document.tables.as_slice() {
-        for ComparedKey(kind, key) in group.keys {
-            if at.place.kind == *kind {
-                seen.take_all(document, Spot { at: *at, key }, lines);
-            }
-        }
+        seen.take_table(document, *at, group.keys, lines);
+    }
+    seen.is_looking = true;
+    for at in document.tables.as_slice() {
+        seen.take_table(document, *at, group.others, lines);
     }
 }
 

@@ -20,11 +20,13 @@ pub(crate) enum ValueForm {
     /// A text that says where something is.
     Network(NetworkForm),
     /// An endpoint, or an array of 1 to so many.
-    Endpoints(usize),
+    Endpoints(u32),
+    /// An array of so many to so many endpoints of 127.0.0.0/8.
+    LocalEndpoints(u32, u32),
     /// A text of 1 to so many octets.
-    Text(usize),
+    Text(u32),
     /// A text of 1 to so many octets, none of them 0.
-    Path(usize),
+    Path(u32),
     /// A text of 1 to 64 octets, which is never shown.
     Secret,
     /// 1 to 64 of ASCII letters, digits, `.`, `-` and `_`.
@@ -45,19 +47,36 @@ pub(crate) enum ValueForm {
     ReplyRemovals,
     /// One of three texts: what becomes of accounting.
     Accounting,
-    /// 1 to so many tables.
-    Tables(usize),
-    /// At most so many tables.
-    FewTables(usize),
+    /// So many to so many tables.
+    Tables(u32, u32),
 }
 
-/// Whether the text has 1 to `most` octets.
-fn has_length(text: &str, most: usize) -> bool {
-    !text.is_empty() && text.len() <= most
+/// Returns the least and the most of what a form counts: a number, octets of a text, items of an array.
+pub(crate) fn bounds_of(form: ValueForm) -> Option<(u32, u32)> {
+    match form {
+        ValueForm::Number(least, most)
+        | ValueForm::LocalEndpoints(least, most)
+        | ValueForm::Tables(least, most) => Some((least, most)),
+        ValueForm::Endpoints(most) | ValueForm::Text(most) | ValueForm::Path(most) => {
+            Some((1, most))
+        }
+        ValueForm::Secret | ValueForm::PeerName => Some((1, 64)),
+        ValueForm::RealmName => Some((1, 253)),
+        ValueForm::Names => Some((0, 256)),
+        ValueForm::Rejects | ValueForm::NasIds => Some((0, 1024)),
+        ValueForm::PeerNames => Some((1, 1024)),
+        ValueForm::RequestRemovals | ValueForm::ReplyRemovals => Some((0, 64)),
+        _ => None,
+    }
 }
 
-/// Whether the text has 1 to `most` octets: ASCII letters, digits, `.`, `-`, and `_` where that may stand.
-fn is_name(text: &str, most: usize, may_have_underscore: bool) -> bool {
+/// Returns whether the text has 1 to `most` octets.
+fn has_length(text: &str, most: u32) -> bool {
+    !text.is_empty() && text.len() <= most as usize
+}
+
+/// Returns whether the text has 1 to `most` octets: ASCII letters, digits, `.`, `-`, and `_` where that may stand.
+fn is_name(text: &str, most: u32, may_have_underscore: bool) -> bool {
     for octet in text.bytes() {
         let fits = match octet {
             b'.' | b'-' => true,
@@ -80,7 +99,7 @@ fn is_seed(text: &str) -> bool {
     text.len() == 64
 }
 
-fn is_path(text: &str, most: usize) -> bool {
+fn is_path(text: &str, most: u32) -> bool {
     for octet in text.bytes() {
         if octet == 0 {
             return false;
@@ -89,7 +108,7 @@ fn is_path(text: &str, most: usize) -> bool {
     has_length(text, most)
 }
 
-/// Whether the text is `*`, `*.` and a realm's name, or such a name.
+/// Returns whether the text is `*`, `*.` and a realm's name, or such a name.
 fn is_pattern(text: &str) -> bool {
     if text == "*" {
         return true;
@@ -100,7 +119,7 @@ fn is_pattern(text: &str) -> bool {
     }
 }
 
-/// Whether the text names an attribute, and none of these Types.
+/// Returns whether the text names an attribute, and none of these Types.
 fn is_removal(text: &str, kept: &[u8]) -> bool {
     match removed_attribute(text) {
         Some(RemovedAttribute::Kind(kind)) => !kept.contains(&kind),
@@ -125,12 +144,13 @@ fn words_of(form: ValueForm) -> &'static [&'static str] {
     }
 }
 
-/// Whether the text is of the form, where that is one of texts.
+/// Returns whether the text is of the form, where that is one of texts.
 fn text_fits(form: ValueForm, text: &str) -> bool {
     match form {
         ValueForm::Seed => is_seed(text),
         ValueForm::Network(form) => form.fits(text),
         ValueForm::Endpoints(_) => NetworkForm::Endpoint.fits(text),
+        ValueForm::LocalEndpoints(..) => NetworkForm::LocalEndpoint.fits(text),
         ValueForm::Text(most) => has_length(text, most),
         ValueForm::Path(most) => is_path(text, most),
         ValueForm::Secret | ValueForm::PeerNames => has_length(text, 64),
@@ -145,10 +165,10 @@ fn text_fits(form: ValueForm, text: &str) -> bool {
     }
 }
 
-/// Whether the form is one of arrays of tables.
-pub(crate) fn is_of_tables(form: ValueForm) -> bool {
+/// Returns whether the form is one of arrays of tables.
+fn is_of_tables(form: ValueForm) -> bool {
     match form {
-        ValueForm::Tables(_) | ValueForm::FewTables(_) => true,
+        ValueForm::Tables(..) => true,
         _ => false,
     }
 }
@@ -168,10 +188,11 @@ fn first_misfit(form: ValueForm, items: &[Value]) -> Option<&Value> {
     None
 }
 
-/// Whether the form is one of arrays of texts.
+/// Returns whether the form is one of arrays of texts.
 pub(crate) fn is_list(form: ValueForm) -> bool {
     match form {
-        ValueForm::Names
+        ValueForm::LocalEndpoints(..)
+        | ValueForm::Names
         | ValueForm::Rejects
         | ValueForm::PeerNames
         | ValueForm::NasIds
@@ -181,25 +202,30 @@ pub(crate) fn is_list(form: ValueForm) -> bool {
     }
 }
 
-/// Whether an array of the form may have so many items.
-fn may_have(form: ValueForm, items: usize) -> bool {
+/// Returns whether an array of the form has texts, each of which may be wrong.
+fn may_be_list(form: ValueForm) -> bool {
     match form {
-        ValueForm::Names => items <= 256,
-        ValueForm::Rejects | ValueForm::NasIds => items <= 1024,
-        ValueForm::PeerNames => 1 <= items && items <= 1024,
-        ValueForm::RequestRemovals | ValueForm::ReplyRemovals => items <= 64,
-        ValueForm::Tables(most) | ValueForm::Endpoints(most) => 1 <= items && items <= most,
-        ValueForm::FewTables(most) => items <= most,
-        _ => false,
+        ValueForm::Endpoints(_) => true,
+        _ => is_list(form),
     }
 }
 
-/// Whether the items are of the form.
+/// Returns whether an array of the form may have so many items.
+fn may_have(form: ValueForm, items: usize) -> bool {
+    match bounds_of(form) {
+        Some((least, most)) => (may_be_list(form) || is_of_tables(form))
+            && least as usize <= items
+            && items <= most as usize,
+        None => false,
+    }
+}
+
+/// Returns whether the items are of the form.
 fn items_fit(form: ValueForm, items: &[Value]) -> bool {
     may_have(form, items.len()) && first_misfit(form, items).is_none()
 }
 
-/// Whether the value is of the form.
+/// Returns whether the value is of the form.
 pub(crate) fn fits(form: ValueForm, value: &Value) -> bool {
     match value {
         Value::Integer(number) => match form {
@@ -217,15 +243,7 @@ pub(crate) fn fits(form: ValueForm, value: &Value) -> bool {
     }
 }
 
-/// Whether an array of the form has texts, each of which may be wrong.
-fn may_be_list(form: ValueForm) -> bool {
-    match form {
-        ValueForm::Endpoints(_) => true,
-        _ => is_list(form),
-    }
-}
-
-/// What of a value is shown that isn't of the form: the first item that doesn't fit, or all of it.
+/// Returns what of a value is shown that isn't of the form: the first item that doesn't fit, or all of it.
 pub(crate) fn misfit(form: ValueForm, value: &Value) -> &Value {
     let Value::Array(items) = value else {
         return value;

@@ -54,15 +54,22 @@ fn is_built_as_address(text: &str) -> bool {
     text.contains("::") || marks.colons >= 7 || (marks.dots == 3 && !marks.has_letters)
 }
 
+/// Returns whether a text may be a name where an address belongs: it begins with a letter, and isn't built as one is.
+pub(crate) fn may_be_name(text: &str) -> bool {
+    match text.bytes().next() {
+        Some(first) => first.is_ascii_alphabetic() && !is_built_as_address(text),
+        None => false,
+    }
+}
+
 /// Returns whether the value that isn't of the form of its key isn't shown: under `ip`, where `secret` stands in the
 /// line below, a text or a number that isn't built as an address is.
 pub(crate) fn is_hidden(key: &str, value: &Value) -> bool {
-    if key != "ip" {
-        return false;
-    }
     match value {
-        Value::String(text) => !text.is_empty() && !is_built_as_address(text.as_str()),
-        Value::Integer(_) => true,
+        Value::String(text) => {
+            key == "ip" && !text.is_empty() && !is_built_as_address(text.as_str())
+        }
+        Value::Integer(_) => key == "ip",
         _ => false,
     }
 }

@@ -4,7 +4,7 @@ ghost use Rattle.std.specs.Prelude.{◌≡◌, codes, IsNone};
 
 use crate::forms::{ValueForm, fits};
 use std::collections::btree_map;
-use toml::value::Array;
+use std::slice;
 use toml::{Table, Value};
 
 /// A table of the document. What stands in it under the key `secret`, or under `seed`, never leaves it.
@@ -22,7 +22,7 @@ impl<'a> Keys<'a> {
         self.table.get(key).is_some()
     }
 
-    /// Whether the key is absent, or what stands under it is of the form.
+    /// Returns whether the key is absent, or what stands under it is of the form.
     pub(crate) fn fits(self, key: &str, form: ValueForm) -> bool {
         match self.table.get(key) {
             Some(value) => fits(form, value),
@@ -38,7 +38,7 @@ impl<'a> Keys<'a> {
         }
     }
 
-    /// How many octets the secret has, where it is a text.
+    /// Returns how many octets the secret has, where it is a text.
     pub(crate) fn secret_length(self) -> Option<usize> {
         match self.secret() {
             Some(secret) => Some(secret.len()),
@@ -46,7 +46,7 @@ impl<'a> Keys<'a> {
         }
     }
 
-    /// Whether the secret is one of a sample's.
+    /// Returns whether the secret is one of a sample's.
     pub(crate) fn has_sample_secret(self) -> bool {
         match self.secret() {
             Some(secret) => secret.starts_with("change me"),
@@ -54,7 +54,15 @@ impl<'a> Keys<'a> {
         }
     }
 
-    /// Whether two tables have the same secret.
+    /// Returns whether the secret is that of RADIUS within TLS, which everybody knows (RFC 6614, section 2.3).
+    pub(crate) fn has_known_secret(self) -> bool {
+        match self.secret() {
+            Some(secret) => secret == "radsec",
+            None => false,
+        }
+    }
+
+    /// Returns whether two tables have the same secret.
     pub(crate) fn has_secret_of(self, other: Keys<'_>) -> bool {
         match (self.secret(), other.secret()) {
             (Some(one), Some(another)) => one == another,
@@ -62,7 +70,7 @@ impl<'a> Keys<'a> {
         }
     }
 
-    /// What stands under a key and may be shown.
+    /// Returns what stands under a key and may be shown.
     pub(crate) fn value(self, key: &str) -> Option<&'a Value>
         ensures secret { key.now ≡ codes "secret" → IsNone result }
         ensures seed { key.now ≡ codes "seed" → IsNone result }
@@ -73,11 +81,20 @@ impl<'a> Keys<'a> {
         }
     }
 
-    /// The array under a key.
-    pub(crate) fn array(self, key: &str) -> Option<&'a Array> {
+    /// Returns the items of the array under a key; none where there is no array.
+    pub(crate) fn items(self, key: &str) -> &'a [Value] {
         match self.value(key) {
-            Some(Value::Array(items)) => Some(items),
-            _ => None,
+            Some(Value::Array(items)) => items.as_slice(),
+            _ => &[],
+        }
+    }
+
+    /// Returns what stands under a key that may have one value or an array of them.
+    pub(crate) fn values(self, key: &str) -> &'a [Value] {
+        match self.value(key) {
+            Some(Value::Array(items)) => items.as_slice(),
+            Some(value) => slice::from_ref(value),
+            None => &[],
         }
     }
 
@@ -97,7 +114,7 @@ impl<'a> Keys<'a> {
         }
     }
 
-    /// Whether `true` stands under a key.
+    /// Returns whether `true` stands under a key.
     pub(crate) fn is_set(self, key: &str) -> bool {
         match self.value(key) {
             Some(Value::Boolean(flag)) => *flag,

@@ -22,6 +22,7 @@ mod form_words;
 mod forms;
 mod hidden;
 mod keys;
+mod known_secret;
 mod line;
 mod lines;
 mod missing;
@@ -43,6 +44,6 @@ mod syntax;
 mod unknown_peers;
 mod ways;
 
-pub use diagnosis::{advise, diagnose};
+pub use diagnosis::{advise, diagnose, diagnose_streams};
 pub use line::Line;
 pub use lines::Lines;

@@ -23,7 +23,7 @@ impl Model for Line {
     ghost invariant = { λ line. IsTrue (is_line (string_bytes line.text)) };
 }
 
-/// Whether an octet is a printable character of ASCII: from the space to `~`.
+/// Returns whether an octet is a printable character of ASCII: from the space to `~`.
 fn is_printable(octet: u8) -> bool
     ensures { result ≡ is_printable octet }
 {
@@ -38,7 +38,7 @@ impl Line {
         }
     }
 
-    /// What is said.
+    /// Returns what is said.
     pub fn as_str(&self) -> &str
         ensures text { result.now ≡ self.now }
         ensures line { IsTrue (is_line self.now) }

@@ -70,7 +70,7 @@ impl Lines {
         print_each(writer, self.lines.as_slice())
     }
 
-    /// Whether no further line is taken.
+    /// Returns whether no further line is taken.
     pub(crate) fn is_full(&self) -> bool {
         self.lines.len() >= MOST_LINES
     }

@@ -17,7 +17,7 @@ fn first_unknown<'a>(at: Located<'a>) -> Option<&'a str> {
     None
 }
 
-/// Whether the top table has servers, which belong to a realm.
+/// Returns whether the top table has servers, which belong to a realm.
 fn has_servers_apart(document: &Document<'_>) -> bool {
     match document.top() {
         Some(top) => top.has("server"),
@@ -39,9 +39,12 @@ fn say(document: &Document<'_>, at: Located<'_>, key: &str, lines: &mut Lines) {
     lines.end_line();
 }
 
-/// Whether a table needs a key that its kind requires: a server needs no `acct` where the realm's accounting isn't
-/// forwarded.
+/// Returns whether a table needs a key that its kind requires: a server needs no `acct` where the realm's accounting
+/// isn't forwarded, and streams need the broker's endpoints where connections are taken.
 fn needs(at: Located<'_>, key: &str) -> bool {
+    if at.place.kind == TableKind::Streams {
+        return !at.keys.items("take").is_empty();
+    }
     if at.place.kind != TableKind::Server || key != "acct" {
         return true;
     }

@@ -1,6 +1,6 @@
 //! What a realm is called, and what of that is unwise.
 
-use crate::document::{Document, Located, items_of};
+use crate::document::{Document, Located};
 use crate::peer_names::lower;
 use crate::place::TableKind;
 use indexmap::IndexSet;
@@ -8,11 +8,11 @@ use std::alloc::{AllocError, Global};
 use std::hash::{BuildHasherDefault, FoldHasher};
 use toml::Value;
 
-/// Whether one of the items is this text, without case.
-fn holds(items: &[Value], text: &str) -> bool {
-    for item in items {
-        if let Value::String(pattern) = item {
-            if pattern.as_str().eq_ignore_ascii_case(text) {
+/// Returns whether this text stands under the key, without ASCII case: alone, or among others.
+pub(crate) fn has_text(at: Located<'_>, key: &str, text: &str) -> bool {
+    for value in at.keys.values(key) {
+        if let Value::String(found) = value {
+            if found.as_str().eq_ignore_ascii_case(text) {
                 return true;
             }
         }
@@ -20,24 +20,12 @@ fn holds(items: &[Value], text: &str) -> bool {
     false
 }
 
-/// Whether a realm has this pattern in `also`.
-pub(crate) fn has_pattern(at: Located<'_>, pattern: &str) -> bool {
-    match at.keys.array("also") {
-        Some(items) => holds(items.as_slice(), pattern),
-        None => false,
-    }
+/// Returns whether the realm takes any name.
+pub(crate) fn takes_any(realm: Located<'_>) -> bool {
+    has_text(realm, "also", "*")
 }
 
-/// Whether `DEFAULT` stands under the key, as a name.
-pub(crate) fn has_default(at: Located<'_>, key: &str) -> bool {
-    match at.keys.value(key) {
-        Some(Value::String(name)) => name.as_str().eq_ignore_ascii_case("DEFAULT"),
-        Some(Value::Array(items)) => holds(items.as_slice(), "DEFAULT"),
-        _ => false,
-    }
-}
-
-/// Whether a name has to be well formed to fit a pattern.
+/// Returns whether a name has to be well formed to fit a pattern.
 pub(crate) fn are_well_formed(document: &Document<'_>) -> bool {
     match document.top() {
         Some(top) => top.is_set("well_formed"),
@@ -67,7 +55,7 @@ impl Patterns {
         };
         for at in document.tables.as_slice() {
             if at.place.kind == TableKind::Realm {
-                patterns.note_all(alloc, items_of(at.keys, "also"))?;
+                patterns.note_all(alloc, at.keys.items("also"))?;
             }
         }
         patterns.note_open(document)?;
@@ -109,7 +97,7 @@ impl Patterns {
     /// Returns whether no pattern but `*` of another realm takes the names below a realm's.
     fn leave_open(&self, alloc: Global, at: Located<'_>) -> Result<bool, AllocError> {
         match at.keys.text("name") {
-            Some(name) if !has_pattern(at, "*") => {
+            Some(name) if !takes_any(at) => {
                 let lowered = lower(alloc, name)?;
                 Ok(!self.take_below(lowered.as_str()))
             }

@@ -13,6 +13,10 @@ pub(crate) enum TableKind {
     Server,
     /// A `[[realm.coa_client]]`.
     Client,
+    /// The document of `roam streams`.
+    Streams,
+    /// A `[[server]]` of that.
+    StreamServer,
     /// None that a configuration has.
     Other,
 }
@@ -21,7 +25,7 @@ pub(crate) enum TableKind {
 #[derive(Clone, Copy, PartialEq, Eq)]
 pub(crate) struct TablePlace {
     pub kind: TableKind,
-    /// Which of the peers or realms.
+    /// Which of the peers, realms or streams' servers.
     pub index: u32,
     /// Which of the realm's servers, or of its `coa_client`s.
     pub server: u32,
@@ -42,45 +46,22 @@ impl TablePlace {
         server: 0,
     };
 
-    pub(crate) fn peer(index: u32) -> TablePlace {
+    /// Returns the place of a table of this kind with these counts.
+    pub(crate) fn new(kind: TableKind, index: u32, server: u32) -> TablePlace {
         TablePlace {
-            kind: TableKind::Peer,
-            index,
-            server: 0,
-        }
-    }
-
-    pub(crate) fn realm(index: u32) -> TablePlace {
-        TablePlace {
-            kind: TableKind::Realm,
-            index,
-            server: 0,
-        }
-    }
-
-    pub(crate) fn server(index: u32, server: u32) -> TablePlace {
-        TablePlace {
-            kind: TableKind::Server,
+            kind,
             index,
             server,
         }
     }
-
-    pub(crate) fn client(index: u32, client: u32) -> TablePlace {
-        TablePlace {
-            kind: TableKind::Client,
-            index,
-            server: client,
-        }
-    }
 }
 
-/// The name of a kind, with its article.
+/// Returns the name of a kind, with its article.
 pub(crate) fn name_of(kind: TableKind) -> &'static str {
     match kind {
         TableKind::Peer => "a peer",
         TableKind::Realm => "a realm",
-        TableKind::Server => "a server",
+        TableKind::Server | TableKind::StreamServer => "a server",
         TableKind::Client => "a coa_client",
         _ => "the top table",
     }

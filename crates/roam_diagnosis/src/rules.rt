@@ -29,8 +29,8 @@ const TOP: [Rule; 22] = [
     Rule("well_formed", false, ValueForm::Flag),
     Rule("answer_unnamed", false, ValueForm::Flag),
     Rule("fresh", false, ValueForm::Number(10, 3600)),
-    Rule("peer", true, ValueForm::Tables(1024)),
-    Rule("realm", true, ValueForm::Tables(1024)),
+    Rule("peer", true, ValueForm::Tables(1, 1024)),
+    Rule("realm", true, ValueForm::Tables(1, 1024)),
 ];
 
 const PEER: [Rule; 14] = [
@@ -72,8 +72,8 @@ const REALM: [Rule; 23] = [
     Rule("hold", false, ValueForm::Number(0, 60000)),
     Rule("max_pending", false, ValueForm::Number(1, 4096)),
     Rule("max_sessions", false, ValueForm::Number(0, 65536)),
-    Rule("server", true, ValueForm::Tables(8)),
-    Rule("coa_client", false, ValueForm::FewTables(8)),
+    Rule("server", true, ValueForm::Tables(1, 8)),
+    Rule("coa_client", false, ValueForm::Tables(0, 8)),
 ];
 
 const SERVER: [Rule; 4] = [
@@ -87,6 +87,29 @@ const CLIENT: [Rule; 2] = [
     Rule("ip", true, ValueForm::Network(NetworkForm::Address)),
     Rule("secret", true, ValueForm::Secret),
 ];
+
+const STREAMS: [Rule; 7] = [
+    Rule("take", false, ValueForm::LocalEndpoints(0, 8)),
+    Rule("auth", true, ValueForm::Network(NetworkForm::Ipv4Endpoint)),
+    Rule("acct", true, ValueForm::Network(NetworkForm::Ipv4Endpoint)),
+    Rule("most", false, ValueForm::Number(1, 4096)),
+    Rule("most_of_one", false, ValueForm::Number(1, 256)),
+    Rule("idle", false, ValueForm::Number(60, 86400)),
+    Rule("server", false, ValueForm::Tables(0, 1024)),
+];
+
+const STREAM_SERVER: [Rule; 3] = [
+    Rule("at", true, ValueForm::LocalEndpoints(1, 2)),
+    Rule(
+        "reverse",
+        false,
+        ValueForm::Network(NetworkForm::Ipv4Endpoint),
+    ),
+    Rule("silence", false, ValueForm::Number(1000, 3600000)),
+];
+
+/// The kinds of tables that a file of `roam streams` has.
+const STREAM_KINDS: [TableKind; 2] = [TableKind::Streams, TableKind::StreamServer];
 
 /// The kinds of tables that a configuration has.
 const KINDS: [TableKind; 5] = [
@@ -105,11 +128,13 @@ pub(crate) fn rules_of(kind: TableKind) -> &'static [Rule] {
         TableKind::Realm => &REALM,
         TableKind::Server => &SERVER,
         TableKind::Client => &CLIENT,
+        TableKind::Streams => &STREAMS,
+        TableKind::StreamServer => &STREAM_SERVER,
         TableKind::Other => &[],
     }
 }
 
-/// Whether tables of the kind have the key.
+/// Returns whether tables of the kind have the key.
 pub(crate) fn has_rule(kind: TableKind, key: &str) -> bool {
     for rule in rules_of(kind) {
         if rule.0 == key {
@@ -119,9 +144,17 @@ pub(crate) fn has_rule(kind: TableKind, key: &str) -> bool {
     false
 }
 
+/// Returns the kinds of tables that stand in one file with a kind.
+fn kinds_beside(here: TableKind) -> &'static [TableKind] {
+    match here {
+        TableKind::Streams | TableKind::StreamServer => &STREAM_KINDS,
+        _ => &KINDS,
+    }
+}
+
 /// The kind of tables, other than this, that have the key; the first where several have it.
 pub(crate) fn owner_of(here: TableKind, key: &str) -> Option<TableKind> {
-    for kind in &KINDS {
+    for kind in kinds_beside(here) {
         if *kind != here && has_rule(*kind, key) {
             return Some(*kind);
         }
@@ -129,9 +162,9 @@ pub(crate) fn owner_of(here: TableKind, key: &str) -> Option<TableKind> {
     None
 }
 
-/// The form of what stands under a key, in the first kind of tables that has it.
-pub(crate) fn form_of(key: &str) -> Option<ValueForm> {
-    for kind in &KINDS {
+/// Returns the form of what stands under a key, in the first kind of tables that has it, of a file with this top.
+pub(crate) fn form_of(top: TableKind, key: &str) -> Option<ValueForm> {
+    for kind in kinds_beside(top) {
         for rule in rules_of(*kind) {
             if rule.0 == key {
                 return Some(rule.2);
@@ -141,8 +174,11 @@ pub(crate) fn form_of(key: &str) -> Option<ValueForm> {
     None
 }
 
-/// What stands in the double brackets before the tables of a key.
-pub(crate) fn header_of(key: &str) -> &'static str {
+/// Returns what stands in the double brackets before the tables of a key of such a table.
+pub(crate) fn header_of(here: TableKind, key: &str) -> &'static str {
+    if here == TableKind::Streams {
+        return "server";
+    }
     match key {
         "peer" => "peer",
         "realm" => "realm",

@@ -108,7 +108,7 @@ impl Scan {
         scan.step(b'\n')
     }
 
-    /// Whether a statement may begin here, at the beginning of a line.
+    /// Returns whether a statement may begin here, at the beginning of a line.
     pub(crate) fn is_at_rest(self) -> bool {
         match self.mode {
             Mode::Plain => self.depth == 0,

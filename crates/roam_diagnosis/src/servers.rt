@@ -9,39 +9,17 @@ use std::alloc::{AllocError, Global};
 use std::hash::{BuildHasherDefault, FoldHasher};
 use toml::Value;
 
-/// The endpoint that stands under the key, if one does.
-pub(crate) fn endpoint_under(keys: Keys<'_>, key: &str) -> Option<Endpoint> {
-    Endpoint::from_text(keys.text(key)?)
-}
-
-/// The endpoint that a value is, if it is one.
-fn endpoint_in(value: &Value) -> Option<Endpoint> {
+/// Returns the endpoint that a value is, if it is one.
+pub(crate) fn endpoint_in(value: &Value) -> Option<Endpoint> {
     match value {
         Value::String(text) => Endpoint::from_text(text.as_str()),
         _ => None,
     }
 }
 
-/// How many endpoints may stand under the key: one, or those of an array.
-pub(crate) fn count_under(keys: Keys<'_>, key: &str) -> usize {
-    match keys.array(key) {
-        Some(items) => items.len(),
-        None => 1,
-    }
-}
-
-/// The endpoint of a place of those that stand under the key, if one stands there.
-pub(crate) fn nth_under(keys: Keys<'_>, key: &str, nth: usize) -> Option<Endpoint> {
-    match keys.array(key) {
-        Some(items) => endpoint_in(items.get(nth)?),
-        None => {
-            if nth == 0 {
-                endpoint_under(keys, key)
-            } else {
-                None
-            }
-        }
-    }
+/// Returns the endpoint that stands under the key, if one does.
+pub(crate) fn endpoint_under(keys: Keys<'_>, key: &str) -> Option<Endpoint> {
+    endpoint_in(keys.value(key)?)
 }
 
 /// Endpoints, each once.
@@ -49,8 +27,8 @@ pub(crate) type Endpoints = IndexSet<Endpoint, BuildHasherDefault<FoldHasher>, G
 
 /// Adds the endpoints that stand under the key.
 fn add_under(endpoints: &mut Endpoints, keys: Keys<'_>, key: &str) -> Result<(), AllocError> {
-    for nth in 0..count_under(keys, key) {
-        if let Some(endpoint) = nth_under(keys, key, nth) {
+    for value in keys.values(key) {
+        if let Some(endpoint) = endpoint_in(value) {
             endpoints.insert(endpoint)?;
         }
     }
@@ -109,11 +87,13 @@ pub(crate) struct Known<'a> {
 /// The servers of all realms, by their ways.
 pub(crate) type KnownServers<'a> = IndexMap<Way, Known<'a>, BuildHasherDefault<FoldHasher>, Global>;
 
-/// Returns the way to a server from the endpoint of a place of those under `out`.
-fn nth_way(server: Located<'_>, nth: usize) -> Option<Way> {
+/// Returns the way to a server from one of the endpoints under `out`.
+fn way_from(server: Located<'_>, out: &Value) -> Option<Way> {
     let auth = endpoint_under(server.keys, "auth")?;
-    let out = nth_under(server.named, "out", nth)?;
-    Some(Way { auth, out: out.ip })
+    Some(Way {
+        auth,
+        out: endpoint_in(out)?.ip,
+    })
 }
 
 /// Returns what is known of a way once a server that has it was met.
@@ -135,8 +115,8 @@ fn with_server<'a>(known: Option<Known<'a>>, server: Located<'a>) -> Known<'a> {
 
 /// Notes a server, by each of its ways.
 fn note_server<'a>(servers: &mut KnownServers<'a>, server: Located<'a>) -> Result<(), AllocError> {
-    for nth in 0..count_under(server.named, "out") {
-        if let Some(way) = nth_way(server, nth) {
+    for out in server.named.values("out") {
+        if let Some(way) = way_from(server, out) {
             let known = with_server(servers.get(&way).copied(), server);
             servers.insert(way, known)?;
         }
@@ -176,8 +156,8 @@ fn has_other(known: Known<'_>, server: Located<'_>) -> bool {
 
 /// Returns whether an earlier table is of the same server, asked from the same address, with another secret.
 pub(crate) fn has_other_secret(servers: &KnownServers<'_>, server: Located<'_>) -> bool {
-    for nth in 0..count_under(server.named, "out") {
-        if let Some(way) = nth_way(server, nth) {
+    for out in server.named.values("out") {
+        if let Some(way) = way_from(server, out) {
             if let Some(known) = servers.get(&way) {
                 if has_other(*known, server) {
                     return true;

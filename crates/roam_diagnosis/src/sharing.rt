@@ -1,6 +1,6 @@
 //! Which peers may ask a realm, and which shares keep one of them from taking what all of them need.
 
-use crate::document::{Located, items_of};
+use crate::document::Located;
 use crate::keys::Keys;
 use crate::servers::endpoint_under;
 use crate::survey::Survey;
@@ -17,7 +17,7 @@ fn is_at(prefix: Prefix, server: Keys<'_>, key: &str) -> bool {
 
 /// Returns whether one of the realm's servers is at an address of the prefix.
 fn has_server_in(realm: Keys<'_>, prefix: Prefix) -> bool {
-    for item in items_of(realm, "server") {
+    for item in realm.items("server") {
         if let Value::Table(server) = item {
             let server = Keys::new(server);
             if is_at(prefix, server, "auth") || is_at(prefix, server, "acct") {
@@ -97,9 +97,10 @@ impl<'a> Askers<'a> {
 /// Returns whether more than one peer may ask the realm.
 fn may_several_ask<'a>(survey: &Survey<'a>, peers: &[Located<'a>], realm: Located<'a>) -> bool {
     let mut askers = Askers::of(realm);
-    match realm.keys.array("peers") {
-        Some(names) => askers.count_named(survey, names.as_slice()),
-        None => askers.count_all(peers),
+    if realm.keys.has("peers") {
+        askers.count_named(survey, realm.keys.items("peers"));
+    } else {
+        askers.count_all(peers);
     }
     askers.are_several
 }

@@ -1,23 +1,18 @@
 //! Values that are legal, and most likely a slip: seconds for milliseconds, ports that are turned round.
 
-use crate::document::{Located, items_of};
+use crate::document::Located;
 use crate::lines::Lines;
 use crate::quoted::quote_rest;
-use crate::servers::{count_under, nth_under};
+use crate::servers::endpoint_in;
 use toml::Value;
 
 /// Returns the number under the key, where it is so small that seconds are meant.
-fn seconds_under(at: Located<'_>, key: &str) -> Option<u64> {
+pub(crate) fn seconds_under(at: Located<'_>, key: &str) -> Option<u64> {
     match at.keys.number_or(key, 0) {
         0 => None,
         number if number < 100 => Some(number),
         _ => None,
     }
-}
-
-/// Returns whether the number under the key is so small that seconds are meant.
-pub(crate) fn has_seconds(at: Located<'_>, key: &str) -> bool {
-    seconds_under(at, key).is_some()
 }
 
 /// Says the number of milliseconds that is meant.
@@ -28,8 +23,8 @@ pub(crate) fn say_milliseconds(at: Located<'_>, key: &str, lines: &mut Lines) {
 }
 
 /// Returns the first text under the key that begins with a dot.
-fn dotted_under<'a>(at: Located<'a>, key: &str) -> Option<&'a str> {
-    for item in items_of(at.keys, key) {
+pub(crate) fn dotted_under<'a>(at: Located<'a>, key: &str) -> Option<&'a str> {
+    for item in at.keys.items(key) {
         if let Value::String(text) = item {
             if text.as_str().starts_with('.') {
                 return Some(text.as_str());
@@ -37,11 +32,6 @@ fn dotted_under<'a>(at: Located<'a>, key: &str) -> Option<&'a str> {
         }
     }
     None
-}
-
-/// Returns whether a text under the key begins with a dot.
-pub(crate) fn has_dotted(at: Located<'_>, key: &str) -> bool {
-    dotted_under(at, key).is_some()
 }
 
 /// Says the text that begins with a dot, with a `*` in front.
@@ -54,8 +44,8 @@ pub(crate) fn say_starred(at: Located<'_>, key: &str, lines: &mut Lines) {
 
 /// Returns whether an endpoint under the key has the port.
 pub(crate) fn has_port(at: Located<'_>, key: &str, port: u16) -> bool {
-    for nth in 0..count_under(at.keys, key) {
-        if let Some(endpoint) = nth_under(at.keys, key, nth) {
+    for value in at.keys.values(key) {
+        if let Some(endpoint) = endpoint_in(value) {
             if endpoint.port == port {
                 return true;
             }

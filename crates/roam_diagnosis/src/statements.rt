@@ -11,6 +11,7 @@ use crate::scan::Scan;
 struct Cursor {
     peers: u32,
     realms: u32,
+    stream_servers: u32,
     /// Of the last realm.
     servers: u32,
     clients: u32,
@@ -31,7 +32,7 @@ fn first_key(dotted: &str) -> (&str, Option<&str>) {
     }
 }
 
-/// What stands in a header's brackets, if the line is one.
+/// Returns what stands in a header's brackets, if the line is one.
 fn header_of(line: &str) -> Option<&str> {
     let path = match line.strip_prefix("[[") {
         Some(path) => path,
@@ -55,6 +56,7 @@ impl Cursor {
     const START: Cursor = Cursor {
         peers: 0,
         realms: 0,
+        stream_servers: 0,
         servers: 0,
         clients: 0,
         here: TablePlace::TOP,
@@ -65,24 +67,24 @@ impl Cursor {
         let (key, rest) = first_key(path);
         match (key, rest) {
             ("server", Some(rest)) => {
-                let last = TablePlace::server(self.realms, self.servers);
+                let last = TablePlace::new(TableKind::Server, self.realms, self.servers);
                 return (last, first_key(rest).0);
             }
             ("server", None) => {
                 self.servers = self.servers.saturating_add(1);
-                self.here = TablePlace::server(self.realms, self.servers);
+                self.here = TablePlace::new(TableKind::Server, self.realms, self.servers);
             }
             ("coa_client", Some(rest)) => {
-                let last = TablePlace::client(self.realms, self.clients);
+                let last = TablePlace::new(TableKind::Client, self.realms, self.clients);
                 return (last, first_key(rest).0);
             }
             ("coa_client", None) => {
                 self.clients = self.clients.saturating_add(1);
-                self.here = TablePlace::client(self.realms, self.clients);
+                self.here = TablePlace::new(TableKind::Client, self.realms, self.clients);
             }
             _ => {}
         }
-        (TablePlace::realm(self.realms), key)
+        (TablePlace::new(TableKind::Realm, self.realms, 0), key)
     }
 
     /// Passes a header, and says under which key of which table it is.
@@ -92,16 +94,23 @@ impl Cursor {
         match (key, rest) {
             ("peer", None) => {
                 self.peers = self.peers.saturating_add(1);
-                self.here = TablePlace::peer(self.peers);
+                self.here = TablePlace::new(TableKind::Peer, self.peers, 0);
             }
-            ("peer", Some(rest)) => return (TablePlace::peer(self.peers), first_key(rest).0),
+            ("peer", Some(rest)) => {
+                let last = TablePlace::new(TableKind::Peer, self.peers, 0);
+                return (last, first_key(rest).0);
+            }
             ("realm", None) => {
                 self.realms = self.realms.saturating_add(1);
                 self.servers = 0;
                 self.clients = 0;
-                self.here = TablePlace::realm(self.realms);
+                self.here = TablePlace::new(TableKind::Realm, self.realms, 0);
             }
             ("realm", Some(rest)) => return self.enter_below_realm(rest),
+            ("server", None) => {
+                self.stream_servers = self.stream_servers.saturating_add(1);
+                self.here = TablePlace::new(TableKind::StreamServer, self.stream_servers, 0);
+            }
             _ => {}
         }
         (TablePlace::TOP, key)
@@ -136,24 +145,25 @@ fn line_of(text: &str, place: TablePlace, key: &str) -> u32 {
     0
 }
 
-/// The number of the line, from 1, on which the key of the table stands, or else the table; 0 where there is none.
+/// Returns the number of the line, from 1, on which the key of the table stands, or else the table; 0 where there is
+/// none.
 pub(crate) fn nearest_line(text: &str, place: TablePlace, key: &str) -> u32 {
+    let realm = TablePlace::new(TableKind::Realm, place.index, 0);
+    let (above, name) = match place.kind {
+        TableKind::Peer => (TablePlace::TOP, "peer"),
+        TableKind::Realm => (TablePlace::TOP, "realm"),
+        TableKind::StreamServer => (TablePlace::TOP, "server"),
+        TableKind::Server => (realm, "server"),
+        TableKind::Client => (realm, "coa_client"),
+        _ => return line_of(text, TablePlace::TOP, key),
+    };
     let exact = line_of(text, place, key);
     if exact > 0 {
         return exact;
     }
-    let header = match place.kind {
-        TableKind::Top => 0,
-        _ => line_of(text, place, ""),
-    };
+    let header = line_of(text, place, "");
     if header > 0 {
         return header;
     }
-    match place.kind {
-        TableKind::Peer => line_of(text, TablePlace::TOP, "peer"),
-        TableKind::Realm => line_of(text, TablePlace::TOP, "realm"),
-        TableKind::Server => line_of(text, TablePlace::realm(place.index), "server"),
-        TableKind::Client => line_of(text, TablePlace::realm(place.index), "coa_client"),
-        _ => 0,
-    }
+    line_of(text, above, name)
 }

@@ -3,6 +3,7 @@
 use crate::foreign::remedy_of_foreign;
 use crate::form_words::say_wanted;
 use crate::lines::Lines;
+use crate::place::TableKind;
 use crate::rules::form_of;
 use crate::statements::key_of;
 use toml::de::Error;
@@ -34,10 +35,11 @@ fn line_of(text: &str, number: u32) -> &str {
     ""
 }
 
-/// Whether a header is of one table where it has to be one of several.
-fn is_single_header(header: &str) -> bool {
+/// Returns whether a header is of one table where it has to be one of several.
+fn is_single_header(top: TableKind, header: &str) -> bool {
     match header {
         "[peer]" | "[realm]" | "[realm.server]" => true,
+        "[server]" => top == TableKind::Streams,
         _ => false,
     }
 }
@@ -54,15 +56,15 @@ fn has_header_below(text: &str, number: u32) -> bool {
     false
 }
 
-/// Says what belongs in the line, where that is known.
-fn say_remedy(text: &str, number: u32, message: &str, lines: &mut Lines) {
+/// Says what belongs in the line of a file with this top, where that is known.
+fn say_remedy(top: TableKind, text: &str, number: u32, message: &str, lines: &mut Lines) {
     let statement = line_of(text, number);
     let header = statement.trim();
     if header == "[[realm]]" && message == "duplicate key" && has_header_below(text, number) {
         lines.say(": a [[realm.server]] or [[realm.coa_client]] stands before the first [[realm]]");
         return;
     }
-    if is_single_header(header) {
+    if is_single_header(top, header) {
         lines.put(": write [", header, "]");
         return;
     }
@@ -71,15 +73,15 @@ fn say_remedy(text: &str, number: u32, message: &str, lines: &mut Lines) {
         return;
     }
     if let Some(key) = key_of(statement) {
-        if let Some(form) = form_of(key) {
+        if let Some(form) = form_of(top, key) {
             lines.put(": ", key, " is ");
             say_wanted(form, lines);
         }
     }
 }
 
-/// Says what the reader of documents says of a text that isn't one.
-pub(crate) fn say_syntax(path: &str, text: &str, error: &Error, lines: &mut Lines) {
+/// Says what the reader of documents says of a text that isn't one, and what belongs there in a file with this top.
+pub(crate) fn say_syntax(top: TableKind, path: &str, text: &str, error: &Error, lines: &mut Lines) {
     let Some(span) = error.span() else {
         return;
     };
@@ -91,7 +93,7 @@ pub(crate) fn say_syntax(path: &str, text: &str, error: &Error, lines: &mut Line
     lines.say(message);
     let remedy = remedy_of_foreign(text);
     if remedy.is_empty() {
-        say_remedy(text, number, message, lines);
+        say_remedy(top, text, number, message, lines);
     }
     lines.say(remedy);
     lines.end_line();

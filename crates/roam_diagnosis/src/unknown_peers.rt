@@ -1,6 +1,6 @@
 //! Which peers a realm names that aren't there.
 
-use crate::document::{Document, Located, items_of};
+use crate::document::{Document, Located};
 use crate::lines::Lines;
 use crate::peer_names::PeerNames;
 use crate::place::TableKind;
@@ -45,7 +45,7 @@ fn say_of_realm(
     at: Located<'_>,
     lines: &mut Lines,
 ) {
-    for item in items_of(at.keys, "peers") {
+    for item in at.keys.items("peers") {
         if let Value::String(name) = item {
             say_unless_there(document, names, at, name.as_str(), lines);
         }

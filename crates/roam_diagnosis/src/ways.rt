@@ -2,23 +2,19 @@
 
 use crate::document::{Document, Located};
 use crate::lines::Lines;
-use crate::servers::{count_under, endpoint_under, nth_under};
+use crate::servers::{endpoint_in, endpoint_under};
 use roam_conf::Endpoint;
 
-/// The word for the kind of an endpoint's address.
-fn kind_of(endpoint: Endpoint) -> &'static str {
-    if endpoint.ip.is_ipv6() {
-        "IPv6"
-    } else {
-        "IPv4"
-    }
+/// Returns the word for a kind of addresses.
+fn kind(is_ipv6: bool) -> &'static str {
+    if is_ipv6 { "IPv6" } else { "IPv4" }
 }
 
-/// Whether one of the endpoints under `out` is of the kind of this one.
+/// Returns whether one of the endpoints under `out` is of the kind of this one.
 fn is_reached(at: Located<'_>, endpoint: Endpoint) -> bool {
-    for nth in 0..count_under(at.named, "out") {
-        if let Some(out) = nth_under(at.named, "out", nth) {
-            if kind_of(out) == kind_of(endpoint) {
+    for value in at.named.values("out") {
+        if let Some(out) = endpoint_in(value) {
+            if out.ip.is_ipv6() == endpoint.ip.is_ipv6() {
                 return true;
             }
         }
@@ -28,12 +24,13 @@ fn is_reached(at: Located<'_>, endpoint: Endpoint) -> bool {
 
 /// Says that a server's endpoint is of a kind that none of the realm's `out` has, where it is.
 fn say_in_server(document: &Document<'_>, at: Located<'_>, key: &str, lines: &mut Lines) {
-    match (endpoint_under(at.keys, key), nth_under(at.named, "out", 0)) {
-        (Some(endpoint), Some(out)) if !is_reached(at, endpoint) && !lines.is_full() => {
+    match endpoint_under(at.keys, key) {
+        Some(endpoint) if !is_reached(at, endpoint) && !lines.is_full() => {
+            let is_ipv6 = endpoint.ip.is_ipv6();
             document.begin_line(at, key, lines);
             lines.put(": \"", endpoint, "\" is ");
-            lines.put("", kind_of(endpoint), ", but out is ");
-            lines.say(kind_of(out));
+            lines.put("", kind(is_ipv6), ", but out is ");
+            lines.say(kind(!is_ipv6));
             lines.end_line();
         }
         _ => {}

@@ -31,14 +31,14 @@ and_left false b h = h
 -- The turn that a reply is
 
 -- the returned packet is short enough, and is sent and held
-pub returned-turn : (c : RealmConfig) (now : ℕ) (s : RealmState) (e : PlainEntry) (l : Link)
+pub returned-turn : (c : RealmConfig) (now : ℕ) (s : RealmState) (keeps_session : Bool) (e : PlainEntry) (l : Link)
     (forwarded reply : Packet) (peer : Option ℕ) (octets : List ℕ)
     → (4096 < returned_length (returning c e.request l forwarded) (passing_to c e.request reply)
     (packet_of e.request.octets) → ⊥)
     → octets ≡ returned_octets c e.request l forwarded reply
-    → peer ≡ counted_peer e.request.requester reply
-    → returns_octets c now e.request.key peer octets e l s ≡ return_reply c now s e l forwarded reply
-returned-turn c now s e l forwarded reply peer octets short is counts =
+    → peer ≡ counted_peer keeps_session e.request.requester reply
+    → returns_octets c now e.request.key peer octets e l s ≡ return_reply c now s keeps_session e l forwarded reply
+returned-turn c now s keeps_session e l forwarded reply peer octets short is counts =
     let size = returned_length (returning c e.request l forwarded) (passing_to c e.request reply)
     (packet_of e.request.octets) in
     let no : ltb 4096 size ≡ false =
@@ -46,12 +46,12 @@ returned-turn c now s e l forwarded reply peer octets short is counts =
     rw (no, is, counts) refl
 
 -- the returned packet is too long
-pub long-turn : (c : RealmConfig) (now : ℕ) (s : RealmState) (e : PlainEntry) (l : Link)
+pub long-turn : (c : RealmConfig) (now : ℕ) (s : RealmState) (keeps_session : Bool) (e : PlainEntry) (l : Link)
     (forwarded reply : Packet)
     → 4096 < returned_length (returning c e.request l forwarded) (passing_to c e.request reply)
     (packet_of e.request.octets)
-    → hears refusal.ReplyTooLong (once_heard_from c s l) ≡ return_reply c now s e l forwarded reply
-long-turn c now s e l forwarded reply lt =
+    → hears refusal.ReplyTooLong (once_heard_from c s l) ≡ return_reply c now s keeps_session e l forwarded reply
+long-turn c now s keeps_session e l forwarded reply lt =
     let size = returned_length (returning c e.request l forwarded) (passing_to c e.request reply)
     (packet_of e.request.octets) in
     let yes : ltb 4096 size ≡ true = grind (arith, nat_tests, lt) in

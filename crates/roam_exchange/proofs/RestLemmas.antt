@@ -109,33 +109,36 @@ module _ (c : RealmConfig) (K : List Rest → Type 0)
 -- what a reply keeps of them, a reply keeps
 module _ (c : RealmConfig) (K : List Rest → Type 0)
     (answered : (rests : List Rest) (l : Link) → K rests → K (after_sign c rests l)) where
-  reply_turn-keeps : (now : ℕ) (s : RealmState) (e : PlainEntry) (l : Link) (forwarded reply : Packet)
-      (why : Option Refusal) → K s.rests → After K s (reply_turn c now s e l forwarded reply why)
-  reply_turn-keeps now s e l forwarded reply (Some why) k =
+  reply_turn-keeps : (now : ℕ) (s : RealmState) (keeps_session : Bool) (e : PlainEntry) (l : Link) (forwarded reply :
+      Packet)
+      (why : Option Refusal) → K s.rests → After K s (reply_turn c now s keeps_session e l forwarded reply why)
+  reply_turn-keeps now s keeps_session e l forwarded reply (Some why) k =
       either (After K s) (shows_life why) _ _ (answered s.rests l k) k
-  reply_turn-keeps now s e l forwarded reply None k =
+  reply_turn-keeps now s keeps_session e l forwarded reply None k =
       either (After K s)
       (ltb 4096 (returned_length (returning c e.request l forwarded) (passing_to c e.request reply)
       (packet_of e.request.octets)))
       _ _ (answered s.rests l k) (answered s.rests l k)
 
-  to_standing-keeps : (now : ℕ) (s : RealmState) (e : PlainEntry) (reply : Packet) (p : PlainStanding)
-      → K s.rests → After K s (to_standing c now s e reply p)
-  to_standing-keeps now s e reply (waiting l id forwarded sends_left deadline signs) k =
-      reply_turn-keeps now s e l (packet_of forwarded) reply
+  to_standing-keeps : (now : ℕ) (s : RealmState) (keeps_session : Bool) (e : PlainEntry) (reply : Packet) (p :
+      PlainStanding)
+      → K s.rests → After K s (to_standing c now s keeps_session e reply p)
+  to_standing-keeps now s keeps_session e reply (waiting l id forwarded sends_left deadline signs) k =
+      reply_turn-keeps now s keeps_session e l (packet_of forwarded) reply
       (reply_fault (link_secret c l) (seal_required c l) reply (packet_of forwarded)) k
-  to_standing-keeps now s e reply (done old deadline from) k = k
+  to_standing-keeps now s keeps_session e reply (done old deadline from) k = k
 
-  to_entry-keeps : (now : ℕ) (s : RealmState) (reply : Packet) (o : Option PlainEntry) → K s.rests
-      → After K s (to_entry c now s reply o)
-  to_entry-keeps now s reply None k = k
-  to_entry-keeps now s reply (Some e) k = to_standing-keeps now s e reply e.standing k
+  to_entry-keeps : (now : ℕ) (s : RealmState) (keeps_session : Bool) (reply : Packet) (o : Option PlainEntry) → K
+      s.rests
+      → After K s (to_entry c now s keeps_session reply o)
+  to_entry-keeps now s keeps_session reply None k = k
+  to_entry-keeps now s keeps_session reply (Some e) k = to_standing-keeps now s keeps_session e reply e.standing k
 
-  pub reply-keeps : (now : ℕ) (s : RealmState) (l : Link) (octets : List ℕ) → K s.rests
-      → After K s (on_reply c now s l octets)
-  reply-keeps now s l octets k =
+  pub reply-keeps : (now : ℕ) (s : RealmState) (keeps_session : Bool) (l : Link) (octets : List ℕ) → K s.rests
+      → After K s (on_reply c now s keeps_session l octets)
+  reply-keeps now s keeps_session l octets k =
       either (After K s) (ltb (2 ^ 62) now) _ _ k
-      (to_entry-keeps now s (packet_of octets) (find_link l (packet_of octets).id s.entries) k)
+      (to_entry-keeps now s keeps_session (packet_of octets) (find_link l (packet_of octets).id s.entries) k)
 
 -- what all three keep, each event keeps
 module _ (c : RealmConfig) (K : List Rest → Type 0)
@@ -163,7 +166,7 @@ module _ (c : RealmConfig) (K : List Rest → Type 0)
 
   event-keeps : (s : RealmState) (e : RealmEvent) → K s.rests → After K s (on_event c s e)
   event-keeps s (request_came now named q) k = request-keeps c K chosen now s named q k
-  event-keeps s (reply_came now l octets) k = reply-keeps c K answered now s l octets k
+  event-keeps s (reply_came now keeps_session l octets) k = reply-keeps c K answered now s keeps_session l octets k
   event-keeps s (tick_came now) k =
       either (After K s) (ltb (2 ^ 62) now) _ _ k (due_each-keeps now s (due_list now s.entries) k)
 

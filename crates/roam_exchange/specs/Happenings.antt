@@ -150,9 +150,9 @@ returned_to lines reply (Some e) =
     returned_for reply.code
     (waited_at e (kept_octets (keeps_octets lines reply.code) e.request.octets) e.standing)
 
-abbrev pub reply_happening : ExchangeLines → RealmConfig → ℕ → RealmState → Link → List ℕ → PlainHappening
-reply_happening lines c now s l octets =
-    by_turn (on_reply c now s l octets)
+abbrev pub reply_happening : ExchangeLines → RealmConfig → ℕ → RealmState → Bool → Link → List ℕ → PlainHappening
+reply_happening lines c now s keeps_session l octets =
+    by_turn (on_reply c now s keeps_session l octets)
     (returned_to lines (packet_of octets) (find_link l (packet_of octets).id s.entries))
 
 -- ## of a tick
@@ -209,5 +209,6 @@ tick_happening lines c now s =
 -- ## of any event of a realm
 abbrev pub event_happening : ExchangeLines → RealmConfig → RealmState → RealmEvent → PlainHappening
 event_happening lines c s (request_came now named q) = request_happening c now s named q
-event_happening lines c s (reply_came now l octets) = reply_happening lines c now s l octets
+event_happening lines c s (reply_came now keeps_session l octets) =
+    reply_happening lines c now s keeps_session l octets
 event_happening lines c s (tick_came now) = tick_happening lines c now s

@@ -1,5 +1,5 @@
 -- The written broker of one realm (ours): what each of its events does, one after the other.
-use Rattle.std.specs.Prelude.{ℕ, List, [], ◌∷◌, ◌++◌, Option}
+use Rattle.std.specs.Prelude.{ℕ, Bool, List, [], ◌∷◌, ◌++◌, Option}
 use Rattle.roam_wire.specs.Reading.{packet_of}
 use Rattle.roam_conf.specs.declared.place.Link.{Link}
 use Rattle.roam_route.specs.Admission.{PlainJob}
@@ -23,10 +23,11 @@ use Rattle.roam_exchange.specs.OnTick.{Progress, silent, on_tick}
 -- Stands in: `roam_exchange` `OneRealm.antt`: `RealmEvent`, `on_event`, `one_realm_run`
 --
 -- an event of a realm, with its moment in milliseconds: a request, with the realm that its first User-Name
--- names, if it names one; a reply from a link; or a tick
+-- names, if it names one; a reply from a link, and whether the session is kept that it opens, changes or ends; or a
+-- tick
 pub data RealmEvent : Type 0 where
   request_came : (now : ℕ) (named : Option ℕ) → PlainRequest → RealmEvent
-  reply_came : (now : ℕ) → Link → List ℕ → RealmEvent
+  reply_came : (now : ℕ) (keeps_session : Bool) → Link → List ℕ → RealmEvent
   tick_came : (now : ℕ) → RealmEvent
 
 -- what tells a request from others: its place, its source and its Identifier (RFC 2865, section 3)
@@ -43,7 +44,7 @@ event_by now job (side.Peer peer) =
     request_came now job.named (request_of job (requester.Peer peer))
 event_by now job (side.Home server) =
     request_came now job.named (request_of job (requester.Home server))
-event_by now job (side.Link l) = reply_came now l job.octets
+event_by now job (side.Link l) = reply_came now job.keeps_session l job.octets
 
 abbrev pub event_of : ℕ → PlainJob → RealmEvent
 event_of now job = event_by now job job.side
@@ -51,7 +52,7 @@ event_of now job = event_by now job job.side
 -- what an event does to its realm
 abbrev pub on_event : RealmConfig → RealmState → RealmEvent → Turn
 on_event c s (request_came now named q) = on_request c now s named q
-on_event c s (reply_came now l octets) = on_reply c now s l octets
+on_event c s (reply_came now keeps_session l octets) = on_reply c now s keeps_session l octets
 on_event c s (tick_came now) = on_tick c now s
 
 -- what a list of events does: the packets in order, and the state that follows

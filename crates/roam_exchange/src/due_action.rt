@@ -96,7 +96,7 @@ fn later_target<A: Allocator + Copy>(
     }
 }
 
-/// How a reply is held from a moment on: until `now + hold`, where replies are held.
+/// Returns how a reply is held from a moment on: until `now + hold`, where replies are held.
 fn held_for<A: Allocator>(
     settings: &RealmSettings<'_>,
     now: u64,
@@ -223,7 +223,7 @@ fn fail_over<A: Allocator + Copy>(
     DueAction::Forwarded(sent, waiting)
 }
 
-/// What becomes of a due entry, by how it stands.
+/// Returns what becomes of a due entry, by how it stands.
 pub fn act_on_due<A: Allocator + Copy>(
     settings: &RealmSettings<'_>,
     numbers: &mut RealmNumbers<A>,

@@ -50,7 +50,7 @@ pub(crate) fn waited_as<A: Allocator>(
     }
 }
 
-/// What became of a request that waited, by what is done with it.
+/// Returns what became of a request that waited, by what is done with it.
 fn became_by<A: Allocator>(action: &DueAction<A>) -> Became
     ensures { result ≡ became_by action.now }
 {
@@ -80,7 +80,7 @@ fn octets_for<A: Allocator>(
     }
 }
 
-/// What is noted of an entry that was due, by what is done with it; nothing of one that is done.
+/// Returns what is noted of an entry that was due, by what is done with it; nothing of one that is done.
 pub fn happening_of<A: Allocator>(
     settings: &RealmSettings<'_>,
     entry: &Entry<A>,

@@ -84,7 +84,7 @@ pub fn packet_to_requester<A: Allocator>(
     }
 }
 
-/// Whether random words are drawn for a request: its octets are a packet's.
+/// Returns whether random words are drawn for a request: its octets are a packet's.
 fn draws(octets: &[u8]) -> bool
     requires { IsPacketText octets.now }
     ensures { (packet_of octets.now).code == ACCESS_REQUEST ≡ result }

@@ -14,7 +14,7 @@ use roam_wire::code::{ACCESS_CHALLENGE, ACCOUNTING_RESPONSE};
 use roam_wire::{NoMemory, Octets};
 use std::alloc::Allocator;
 
-/// Whether the octets of a request are kept whose reply of this code is returned.
+/// Returns whether the octets of a request are kept whose reply of this code is returned.
 fn keeps_octets(lines: ExchangeLines, code: u8) -> bool
     ensures { result ≡ keeps_octets lines code }
 {

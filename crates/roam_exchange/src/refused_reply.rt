@@ -46,7 +46,7 @@ pub(crate) fn only_heard<A: Allocator>(alloc: A, why: Refusal) -> ReplyOutcome<A
     }
 }
 
-/// Whether a reply of which this is wrong is a sign of life of its link: its seal alone is wrong, or missing.
+/// Returns whether a reply of which this is wrong is a sign of life of its link: its seal alone is wrong, or missing.
 fn shows_life(why: Refusal) -> bool
     ensures { result ≡ shows_life why }
 {

@@ -49,7 +49,7 @@ pub struct ReplyOutcome<A: Allocator> {
     pub counted: Option<u16>,
 }
 
-/// Why a reply to a forwarded packet isn't taken, if it isn't. Takes no memory.
+/// Returns why a reply to a forwarded packet isn't taken, if it isn't. Takes no memory.
 fn fault_of(
     reply: &View<'_>,
     forwarded: &View<'_>,
@@ -72,6 +72,8 @@ struct ReplyContext<'s, 'c, 'r, 'd, A: Allocator> {
     reply: &'r View<'d>,
     /// Of which exchanges lines tell.
     lines: ExchangeLines,
+    /// Whether the session is kept that it opens, changes or ends.
+    keeps_session: bool,
 }
 
 /// The packet that is returned for a reply that was taken, of what passes of it.
@@ -113,14 +115,14 @@ fn returned_packet<A: Allocator + Copy>(
     }
 }
 
-/// Whose sessions change when a reply was returned: those of the peer that sent the Accounting-Request
-/// which an Accounting-Response answers (RFC 2866, section 2).
-fn counted_peer(requester: Requester, reply: &View<'_>) -> Option<u16>
-    ensures { result ≡ counted_peer requester reply.now }
+/// Returns whose sessions change when a reply was returned: those of the peer that sent the Accounting-Request
+/// which an Accounting-Response answers (RFC 2866, section 2), but nobody's where the session isn't kept.
+fn counted_peer(keeps_session: bool, requester: Requester, reply: &View<'_>) -> Option<u16>
+    ensures { result ≡ counted_peer keeps_session requester reply.now }
 {
     match requester {
         Requester::Peer(peer) => {
-            if reply.code() == ACCOUNTING_RESPONSE {
+            if keeps_session && reply.code() == ACCOUNTING_RESPONSE {
                 Some(peer)
             } else {
                 None
@@ -179,21 +181,28 @@ fn return_reply<A: Allocator + Copy>(
     requires taken { IsTaken (link_secret context.now.settings.now waiting.now.link)
         (seal_required context.now.settings.now waiting.now.link) context.now.reply.now forwarded.now }
     ensures turn { IfOk result (λ v. IsOutcome context.now.settings.now v (shown entry.now) waiting.now.link
-        (λ s. return_reply context.now.settings.now context.now.moment s (shown entry.now) waiting.now.link
+        (λ s. return_reply context.now.settings.now context.now.moment s context.now.keeps_session (shown entry.now)
+        waiting.now.link
         forwarded.now context.now.reply.now)) }
     ensures happening { (s : RealmState) → IfOk result (λ v. shown_happening v.happening
-        ≡ by_turn (return_reply context.now.settings.now context.now.moment s (shown entry.now)
+        ≡ by_turn (return_reply context.now.settings.now context.now.moment s context.now.keeps_session (shown
+        entry.now)
         waiting.now.link forwarded.now context.now.reply.now)
         (returned_for context.now.reply.now.code (waited_at (shown entry.now)
         (kept_octets (keeps_octets context.now.lines context.now.reply.now.code) entry.now.request.octets)
         (shown_standing (standing.Waiting waiting.now))))) }
     ensures succeeds { (s : RealmState) → packets_of (return_reply context.now.settings.now
-        context.now.moment s (shown entry.now) waiting.now.link forwarded.now context.now.reply.now) ≡ []
+        context.now.moment s context.now.keeps_session (shown entry.now) waiting.now.link forwarded.now
+        context.now.reply.now) ≡ []
         → IsOk result }
 {
     match returned_packet(context, &entry.request, waiting.link, forwarded) {
         Ok(packet) => {
-            let counted = counted_peer(entry.request.requester, context.reply);
+            let counted = counted_peer(
+                context.keeps_session,
+                entry.request.requester,
+                context.reply,
+            );
             let code = context.reply.code();
             let waited = answered_request(context.alloc, context.lines, code, entry, waiting)?;
             return_packet(context, waited, counted, packet)
@@ -215,13 +224,13 @@ fn outcome_of<A: Allocator + Copy>(
         waiting.now.id waiting.now.forwarded }
     ensures turn { IfOk result (λ v.
         IsOutcome context.now.settings.now v (shown entry.now) waiting.now.link
-        (λ s. reply_turn context.now.settings.now context.now.moment s (shown entry.now)
+        (λ s. reply_turn context.now.settings.now context.now.moment s context.now.keeps_session (shown entry.now)
         waiting.now.link (packet_of waiting.now.forwarded) context.now.reply.now
         (reply_fault (link_secret context.now.settings.now waiting.now.link)
         (seal_required context.now.settings.now waiting.now.link) context.now.reply.now
         (packet_of waiting.now.forwarded)))) }
     ensures happening { (s : RealmState) → IfOk result (λ v. shown_happening v.happening
-        ≡ by_turn (reply_turn context.now.settings.now context.now.moment s (shown entry.now)
+        ≡ by_turn (reply_turn context.now.settings.now context.now.moment s context.now.keeps_session (shown entry.now)
         waiting.now.link (packet_of waiting.now.forwarded) context.now.reply.now
         (reply_fault (link_secret context.now.settings.now waiting.now.link)
         (seal_required context.now.settings.now waiting.now.link) context.now.reply.now
@@ -230,7 +239,8 @@ fn outcome_of<A: Allocator + Copy>(
         (kept_octets (keeps_octets context.now.lines context.now.reply.now.code) entry.now.request.octets)
         (shown_standing (standing.Waiting waiting.now))))) }
     ensures succeeds { (s : RealmState) → packets_of (reply_turn context.now.settings.now
-        context.now.moment s (shown entry.now) waiting.now.link (packet_of waiting.now.forwarded)
+        context.now.moment s context.now.keeps_session (shown entry.now) waiting.now.link (packet_of
+        waiting.now.forwarded)
         context.now.reply.now (reply_fault (link_secret context.now.settings.now waiting.now.link)
         (seal_required context.now.settings.now waiting.now.link) context.now.reply.now
         (packet_of waiting.now.forwarded))) ≡ [] → IsOk result }
@@ -245,7 +255,7 @@ fn outcome_of<A: Allocator + Copy>(
     return_reply(context, entry, waiting, &forwarded)
 }
 
-/// A reply to an entry, as it stands. A reply that isn't taken wants no memory.
+/// A reply to an entry, as it stands, which may be taken without its session. A reply that isn't taken wants no memory.
 pub fn to_standing<A: Allocator + Copy>(
     alloc: A,
     settings: &RealmSettings<'_>,
@@ -253,18 +263,19 @@ pub fn to_standing<A: Allocator + Copy>(
     entry: &Entry<A>,
     reply: &View<'_>,
     lines: ExchangeLines,
+    keeps_session: bool,
 ) -> Result<ReplyOutcome<A>, NoMemory>
     requires moment { now ≤ 2 ^ 62 }
     requires request { IsRequest settings.now (shown entry.now).request }
     requires standing { StandsWell settings.now (shown entry.now).request (shown entry.now).standing }
     ensures turn { IfOk result (λ v. (l : Link) (i : ℕ) → waits_at l i (shown entry.now) ≡ true
         → IsOutcome settings.now v (shown entry.now) l
-        (λ s. to_standing settings.now now s (shown entry.now) reply.now
+        (λ s. to_standing settings.now now s keeps_session (shown entry.now) reply.now
         (shown entry.now).standing)) }
     ensures happening { (s : RealmState) → IfOk result (λ v. shown_happening v.happening
-        ≡ by_turn (to_standing settings.now now s (shown entry.now) reply.now (shown entry.now).standing)
+        ≡ by_turn (to_standing settings.now now s keeps_session (shown entry.now) reply.now (shown entry.now).standing)
         (returned_to lines reply.now (Some (shown entry.now)))) }
-    ensures succeeds { (s : RealmState) → packets_of (to_standing settings.now now s
+    ensures succeeds { (s : RealmState) → packets_of (to_standing settings.now now s keeps_session
         (shown entry.now) reply.now (shown entry.now).standing) ≡ [] → IsOk result }
 {
     let context = ReplyContext {
@@ -273,6 +284,7 @@ pub fn to_standing<A: Allocator + Copy>(
         moment: now,
         reply,
         lines,
+        keeps_session,
     };
     match &entry.standing {
         Standing::Waiting(waiting) => outcome_of(&context, entry, waiting),

@@ -37,7 +37,7 @@ pub struct Room<A: Allocator> {
 }
 
 impl<A: Allocator> Room<A> {
-    /// How many packets the tick sends at most. Takes no memory.
+    /// Returns how many packets the tick sends at most. Takes no memory.
     pub fn most(&self) -> usize
         ensures { result ≡ length self.now.slots.items }
     {
@@ -49,7 +49,7 @@ impl<A: Allocator> Room<A> {
 /// gain, 255 of an Operator-Name and 3 of a Chargeable-User-Identity.
 const MAX_GROWTH: usize = 304;
 
-/// How many octets the forwarded packet of an entry may have.
+/// Returns how many octets the forwarded packet of an entry may have.
 fn size_for<A: Allocator>(entry: Option<&Entry<A>>) -> usize
     ensures { result ≡ size_of (seen entry.entry) }
 {
@@ -59,7 +59,7 @@ fn size_for<A: Allocator>(entry: Option<&Entry<A>>) -> usize
     }
 }
 
-/// Whether the octets of requests that are given up are kept for lines.
+/// Returns whether the octets of requests that are given up are kept for lines.
 fn keeps_given_up(lines: ExchangeLines) -> bool
     ensures { result ≡ keeps_given_up lines }
 {

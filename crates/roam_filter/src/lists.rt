@@ -22,7 +22,7 @@ fn all_octets<'a>(view: &View<'a>) -> &'a [u8]
     view.octets().split_at(20).1
 }
 
-/// How many octets the attributes of a packet take that pass, where a list may name some. One pass over them.
+/// Returns how many octets the attributes of a packet take that pass, where a list may name some. One pass over them.
 fn passing_len(view: &View<'_>, removal: &Removal<'_>) -> usize
     ensures all { result
         ≡ length (attributes_text (without (removed_by removal.now) view.now.attributes)) }
@@ -36,7 +36,8 @@ fn passing_len(view: &View<'_>, removal: &Removal<'_>) -> usize
     size
 }
 
-/// How many octets the attributes of a packet take that pass. One pass over them, and none where no list names any.
+/// Returns how many octets the attributes of a packet take that pass. One pass over them, and none where no list names
+/// any.
 pub fn without_len(view: &View<'_>, removal: &Removal<'_>) -> usize
     ensures all { result
         ≡ length (attributes_text (without (removed_by removal.now) view.now.attributes)) }
@@ -81,7 +82,7 @@ pub fn append_without<A: Allocator>(out: &mut Vec<u8, A>, view: &View<'_>, remov
     }
 }
 
-/// How many attributes of a Type pass; not of Vendor-Specific.
+/// Returns how many attributes of a Type pass; not of Vendor-Specific.
 pub fn count_without(view: &View<'_>, removal: &Removal<'_>, kind: u8) -> usize
     requires { kind ≢ VENDOR_SPECIFIC }
     ensures { result ≡ count_of kind (without (removed_by removal.now) view.now.attributes) }

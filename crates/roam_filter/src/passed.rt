@@ -30,7 +30,7 @@ fn vendor_octets(value: &[u8]) -> &[u8]
     value.split_at(4).0
 }
 
-/// How many octets a Vendor-Specific takes without the sub-attributes that are named.
+/// Returns how many octets a Vendor-Specific takes without the sub-attributes that are named.
 fn parts_len(value: &[u8], removal: &Removal<'_>) -> usize
     requires vendor { 4 ≤ length value.now }
     requires short { length value.now ≤ 253 }
@@ -41,7 +41,7 @@ fn parts_len(value: &[u8], removal: &Removal<'_>) -> usize
     if left == 0 { 0 } else { 6 + left }
 }
 
-/// How many octets what passes of an attribute takes, its Type and its Length among them.
+/// Returns how many octets what passes of an attribute takes, its Type and its Length among them.
 pub fn passed_len(attribute: &Attr<'_>, removal: &Removal<'_>) -> usize
     requires { length attribute.now.value.now ≤ 253 }
     ensures all { result

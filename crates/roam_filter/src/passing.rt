@@ -20,7 +20,7 @@ pub enum Passing {
     Parts,
 }
 
-/// Whether an attribute is a Vendor-Specific with a vendor.
+/// Returns whether an attribute is a Vendor-Specific with a vendor.
 fn has_vendor(attribute: &Attr<'_>) -> bool
     ensures { result ≡ has_vendor (shown attribute.now) }
 {
@@ -35,7 +35,7 @@ pub(crate) fn vendor_of(value: &[u8]) -> u32
     u32::from_be_bytes([value[0], value[1], value[2], value[3]])
 }
 
-/// How a vendor's attribute passes.
+/// Returns how a vendor's attribute passes.
 fn passing_of_vendor(removal: &Removal<'_>, vendor: u32) -> Passing
     ensures { result ≡ passing_of_vendor (removed_by removal.now) vendor }
 {
@@ -48,7 +48,7 @@ fn passing_of_vendor(removal: &Removal<'_>, vendor: u32) -> Passing
     }
 }
 
-/// How an attribute passes.
+/// Returns how an attribute passes.
 pub(crate) fn how_passed(attribute: &Attr<'_>, removal: &Removal<'_>) -> Passing
     ensures { result ≡ how_passed (removed_by removal.now) (shown attribute.now) }
 {

@@ -29,7 +29,7 @@ pub fn nothing_removed() -> Removal<'static>
     }
 }
 
-/// Whether no list names an attribute.
+/// Returns whether no list names an attribute.
 #[tactic(auto, unfolding(crate::specs::Removal::removed_by))]
 pub(crate) fn removes_nothing(removal: &Removal<'_>) -> bool
     ensures { IsTrue result → removed_by removal.now ≡ [] }
@@ -37,7 +37,7 @@ pub(crate) fn removes_nothing(removal: &Removal<'_>) -> bool
     removal.peer.is_empty() && removal.realm.is_empty()
 }
 
-/// Whether a session is named by attributes of this Type.
+/// Returns whether a session is named by attributes of this Type.
 fn names_session(kind: u8) -> bool
     ensures { result ≡ is_one_of session_kinds kind }
 {
@@ -128,14 +128,14 @@ fn any_of(list: &[RemovedAttribute], vendor: u32) -> bool
     false
 }
 
-/// Whether attributes of this Type pass since they name a session.
+/// Returns whether attributes of this Type pass since they name a session.
 fn is_kept(removal: &Removal<'_>, kind: u8) -> bool
     ensures { result ≡ (removal.now.keeps_session && is_one_of session_kinds kind) }
 {
     removal.keeps_session && names_session(kind)
 }
 
-/// Whether attributes of this Type don't pass.
+/// Returns whether attributes of this Type don't pass.
 pub(crate) fn removes_kind(removal: &Removal<'_>, kind: u8) -> bool
     ensures { result ≡ list_any (is_kind kind) (removed_by removal.now) }
 {
@@ -145,21 +145,21 @@ pub(crate) fn removes_kind(removal: &Removal<'_>, kind: u8) -> bool
     any_kind(removal.peer, kind) || any_kind(removal.realm, kind)
 }
 
-/// Whether attributes of this vendor don't pass.
+/// Returns whether attributes of this vendor don't pass.
 pub(crate) fn removes_vendor(removal: &Removal<'_>, vendor: u32) -> bool
     ensures { result ≡ list_any (is_vendor vendor) (removed_by removal.now) }
 {
     any_vendor(removal.peer, vendor) || any_vendor(removal.realm, vendor)
 }
 
-/// Whether sub-attributes of this type of this vendor don't pass.
+/// Returns whether sub-attributes of this type of this vendor don't pass.
 pub(crate) fn removes_kind_of(removal: &Removal<'_>, vendor: u32, kind: u8) -> bool
     ensures { result ≡ list_any (is_kind_of vendor kind) (removed_by removal.now) }
 {
     any_kind_of(removal.peer, vendor, kind) || any_kind_of(removal.realm, vendor, kind)
 }
 
-/// Whether some sub-attributes of this vendor don't pass.
+/// Returns whether some sub-attributes of this vendor don't pass.
 pub(crate) fn removes_some_of(removal: &Removal<'_>, vendor: u32) -> bool
     ensures { result ≡ list_any (is_some_of vendor) (removed_by removal.now) }
 {

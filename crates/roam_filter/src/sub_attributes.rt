@@ -11,14 +11,14 @@ use roam_wire::writing::append_attribute;
 use roam_wire::{Attr, Attrs};
 use std::alloc::Allocator;
 
-/// Whether a sub-attribute of a vendor isn't named.
+/// Returns whether a sub-attribute of a vendor isn't named.
 fn is_left(sub: &Attr<'_>, removal: &Removal<'_>, vendor: u32) -> bool
     ensures { result ≡ is_left (removed_by removal.now) vendor (shown sub.now) }
 {
     !removes_kind_of(removal, vendor, sub.kind)
 }
 
-/// How many octets the sub-attributes take that are left, if the octets are sub-attributes.
+/// Returns how many octets the sub-attributes take that are left, if the octets are sub-attributes.
 pub(crate) fn left_len(octets: &[u8], removal: &Removal<'_>, vendor: u32) -> usize
     requires { length octets.now ≤ 253 }
     ensures all { result ≡ length (left_text (removed_by removal.now) vendor (attributes_of octets.now)) }

@@ -88,21 +88,21 @@ pub(crate) fn all_losses<A: Allocator + Copy>(
     Ok(losses)
 }
 
-/// Whether nothing of a realm is lost.
+/// Returns whether nothing of a realm is lost.
 fn is_nothing(loss: &Loss) -> bool
     ensures { result ≡ is_nothing loss.now }
 {
     loss.waiting == 0 && loss.held == 0 && loss.sessions == 0
 }
 
-/// Whether nothing of any realm is lost.
+/// Returns whether nothing of any realm is lost.
 fn are_nothing(losses: &[Loss]) -> bool
     ensures { result ≡ list_all is_nothing losses.now }
 {
     losses.iter().all(|loss| is_nothing(loss))
 }
 
-/// Whether something is lost, and nobody agreed.
+/// Returns whether something is lost, and nobody agreed.
 pub(crate) fn is_refused(is_agreed: bool, losses: &[Loss]) -> bool
     ensures { result ≡ (not is_agreed && not (list_all is_nothing losses.now)) }
 {

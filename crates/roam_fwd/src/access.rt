@@ -15,7 +15,7 @@ use roam_auth::{seal, value_place};
 use roam_hide::{Hidden, HidingKey, rehide_packet};
 use roam_wire::View;
 
-/// Where the Message-Authenticator begins, or where the request ends if it has none.
+/// Returns where the Message-Authenticator begins, or where the request ends if it has none.
 fn seal_start(request: &View<'_>) -> usize
     ensures { IsSealStart result request.now }
 {

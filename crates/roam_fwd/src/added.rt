@@ -41,7 +41,7 @@ pub(crate) struct Added<'a> {
     pub(crate) cui: bool,
 }
 
-/// Whether a CHAP-Challenge is added, of what passes of a request (RFC 2865, section 5.3).
+/// Returns whether a CHAP-Challenge is added, of what passes of a request (RFC 2865, section 5.3).
 fn takes_challenge(request: &View<'_>, removal: &Removal<'_>) -> bool
     ensures { result ≡ (request.now.code == ACCESS_REQUEST
         && challenge_is_authenticator (without (removed_by removal.now) request.now.attributes)) }
@@ -62,14 +62,14 @@ fn challenge_to_add(request: &View<'_>, removal: &Removal<'_>) -> Option<[u8; 16
     }
 }
 
-/// Whether an Operator-Name is added to requests of this code.
+/// Returns whether an Operator-Name is added to requests of this code.
 fn takes_operator_name(code: u8) -> bool
     ensures { result ≡ takes_operator_name code }
 {
     code == ACCESS_REQUEST || code == ACCOUNTING_REQUEST
 }
 
-/// Whether an Operator-Name may be added, where none passes.
+/// Returns whether an Operator-Name may be added, where none passes.
 fn takes_name(request: &View<'_>, removal: &Removal<'_>) -> bool
     ensures { result ≡ (takes_operator_name request.now.code
         && count_of OPERATOR_NAME (without (removed_by removal.now) request.now.attributes) == 0) }
@@ -96,7 +96,7 @@ fn operator_name_to_add<'a>(request: &View<'_>, shaping: &Shaping<'a>) -> Option
     }
 }
 
-/// Whether a Chargeable-User-Identity is asked for, where none passes.
+/// Returns whether a Chargeable-User-Identity is asked for, where none passes.
 fn takes_cui(request: &View<'_>, shaping: &Shaping<'_>) -> bool
     ensures { result ≡ (request.now.code == ACCESS_REQUEST && (shaping.now.ask_cui
         && count_of CHARGEABLE_USER_IDENTITY
@@ -107,7 +107,7 @@ fn takes_cui(request: &View<'_>, shaping: &Shaping<'_>) -> bool
             && count_without(request, &shaping.removal, CHARGEABLE_USER_IDENTITY) == 0)
 }
 
-/// What is added to a request.
+/// Returns what is added to a request.
 pub(crate) fn added_to<'a>(request: &View<'_>, shaping: &Shaping<'a>) -> Added<'a>
     requires { HasShortName (shown_shaping shaping.now) }
     ensures all { shown_added result ≡ all_added (shown_shaping shaping.now) request.now }
@@ -137,7 +137,7 @@ pub(crate) fn are_octets_of(name: Option<&[u8]>)
     }
 }
 
-/// How many octets a CHAP-Challenge takes.
+/// Returns how many octets a CHAP-Challenge takes.
 fn challenge_len(challenge: Option<[u8; 16]>) -> usize
     ensures all { result ≡ length (attributes_text (challenge_of challenge)) }
     ensures few { result ≤ 18 }
@@ -148,7 +148,7 @@ fn challenge_len(challenge: Option<[u8; 16]>) -> usize
     }
 }
 
-/// How many octets an Operator-Name with this realm takes.
+/// Returns how many octets an Operator-Name with this realm takes.
 fn name_size(name: &[u8]) -> usize
     requires { length name.now ≤ 252 }
     ensures { result ≡ 3 + length name.now }
@@ -156,7 +156,7 @@ fn name_size(name: &[u8]) -> usize
     3 + name.len()
 }
 
-/// How many octets an Operator-Name takes, if there is one.
+/// Returns how many octets an Operator-Name takes, if there is one.
 fn name_len(name: Option<&[u8]>) -> usize
     requires { ForSome (option_map (λ name. name.now) name) (λ name. length name ≤ 252) }
     ensures all { result ≡ length (attributes_text (name_of (option_map (λ name. name.now) name.entry))) }
@@ -168,7 +168,7 @@ fn name_len(name: Option<&[u8]>) -> usize
     }
 }
 
-/// How many octets a Chargeable-User-Identity takes that asks for one.
+/// Returns how many octets a Chargeable-User-Identity takes that asks for one.
 fn cui_len(asked: bool) -> usize
     ensures all { result ≡ length (attributes_text (cui_of asked)) }
     ensures few { result ≤ 3 }
@@ -176,7 +176,7 @@ fn cui_len(asked: bool) -> usize
     if asked { 3 } else { 0 }
 }
 
-/// How many octets what is added takes.
+/// Returns how many octets what is added takes.
 pub(crate) fn added_len(added: &Added<'_>) -> usize
     requires { ForSome (option_map (λ name. name.now) added.now.operator_name) (λ name. length name ≤ 252) }
     ensures all { result ≡ length (attributes_text (shown_added added.now)) }

@@ -14,21 +14,21 @@ use roam_wire::attribute_type::{MESSAGE_AUTHENTICATOR, USER_PASSWORD};
 use roam_wire::code::ACCESS_REQUEST;
 use roam_wire::{MAX_PACKET_LENGTH, View};
 
-/// Whether at most one Message-Authenticator stands there, of 16 octets (RFC 3579, section 3.2).
+/// Returns whether at most one Message-Authenticator stands there, of 16 octets (RFC 3579, section 3.2).
 fn has_at_most_one_message_authenticator(request: &View<'_>) -> bool
     ensures { IsTrue result ↔ HasAtMostOneMessageAuthenticator request.now }
 {
     request.count(MESSAGE_AUTHENTICATOR) == 0 || has_one_message_authenticator(request)
 }
 
-/// Whether there is one block at least, and whole blocks alone.
+/// Returns whether there is one block at least, and whole blocks alone.
 fn has_whole_blocks(value: &[u8]) -> bool
     ensures { IsTrue result ↔ HasWholeBlocks value.now }
 {
     !value.is_empty() && value.len() % 16 == 0
 }
 
-/// Whether each User-Password has whole blocks (RFC 2865, section 5.2).
+/// Returns whether each User-Password has whole blocks (RFC 2865, section 5.2).
 fn passwords_have_blocks(request: &View<'_>) -> bool
     ensures { IsTrue result ↔ AllByRecursion HasPasswordBlocks request.now.attributes }
 {
@@ -40,8 +40,8 @@ fn passwords_have_blocks(request: &View<'_>) -> bool
     true
 }
 
-/// Whether the packet that is forwarded for a request as it is shaped has at most 4096 octets. Of a request that has
-/// the room for all that is ever added nothing is counted. Takes no memory.
+/// Returns whether the packet that is forwarded for a request as it is shaped has at most 4096 octets. Of a request
+/// that has the room for all that is ever added nothing is counted. Takes no memory.
 pub fn fits_shaped(request: &View<'_>, shaping: &Shaping<'_>) -> bool
     requires name { HasShortName (shown_shaping shaping.now) }
     ensures { IsTrue result ↔ (forwarded_length (shaped (shown_shaping shaping.now) request.now) ≤ 4096) }
@@ -52,9 +52,9 @@ pub fn fits_shaped(request: &View<'_>, shaping: &Shaping<'_>) -> bool
     forwarded_shaped_len(request, shaping) <= MAX_PACKET_LENGTH
 }
 
-/// Whether a request can be forwarded as it is shaped: whether it has at most one Message-Authenticator, of 16 octets,
-/// each User-Password of an Access-Request has whole blocks, and the packet that is then forwarded has at most 4096
-/// octets. Takes no memory.
+/// Returns whether a request can be forwarded as it is shaped: whether it has at most one Message-Authenticator, of 16
+/// octets, each User-Password of an Access-Request has whole blocks, and the packet that is then forwarded has at most
+/// 4096 octets. Takes no memory.
 pub fn can_be_shaped(request: &View<'_>, shaping: &Shaping<'_>) -> bool
     requires name { HasShortName (shown_shaping shaping.now) }
     ensures { IsTrue result ↔ CanBeShaped (shown_shaping shaping.now) request.now }

@@ -19,14 +19,14 @@ pub(crate) const ADDED_SIZE: usize = 18;
 /// Message-Authenticator and a CHAP-Challenge.
 pub const MAX_GROWTH: usize = 46;
 
-/// Whether a CHAP-Password stands without a CHAP-Challenge (RFC 2865, section 5.3).
+/// Returns whether a CHAP-Password stands without a CHAP-Challenge (RFC 2865, section 5.3).
 pub(crate) fn challenge_is_authenticator(request: &View<'_>) -> bool
     ensures { result ≡ challenge_is_authenticator request.now.attributes }
 {
     request.count(CHAP_PASSWORD) > 0 && request.count(CHAP_CHALLENGE) == 0
 }
 
-/// How many octets an Access-Request gains besides the ticket.
+/// Returns how many octets an Access-Request gains besides the ticket.
 fn access_growth(request: &View<'_>) -> usize
     ensures growth { result ≡ access_growth request.now }
     ensures few { result ≤ 36 }

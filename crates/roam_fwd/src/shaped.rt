@@ -43,7 +43,7 @@ fn len_with(request: &View<'_>, shaping: &Shaping<'_>, added: &Added<'_>) -> usi
     20 + without_len(request, &shaping.removal) + added_len(added)
 }
 
-/// Whether a Message-Authenticator is added: to an Access-Request, where none passes (RFC 3579, section 3.2).
+/// Returns whether a Message-Authenticator is added: to an Access-Request, where none passes (RFC 3579, section 3.2).
 fn takes_seal(request: &View<'_>, removal: &Removal<'_>) -> bool
     ensures { result ≡ (request.now.code == ACCESS_REQUEST
         && count_of MESSAGE_AUTHENTICATOR (without (removed_by removal.now) request.now.attributes) == 0) }
@@ -51,7 +51,7 @@ fn takes_seal(request: &View<'_>, removal: &Removal<'_>) -> bool
     request.code() == ACCESS_REQUEST && count_without(request, removal, MESSAGE_AUTHENTICATOR) == 0
 }
 
-/// How many octets are added to a shaped request when it is forwarded: 10, or 28 with a Message-Authenticator.
+/// Returns how many octets are added to a shaped request when it is forwarded: 10, or 28 with a Message-Authenticator.
 fn growth(request: &View<'_>, shaping: &Shaping<'_>) -> usize
     ensures size { packet_length (shaped (shown_shaping shaping.now) request.now) + result
         ≡ forwarded_length (shaped (shown_shaping shaping.now) request.now) }

@@ -7,7 +7,7 @@ ghost use Rattle.roam_hide.specs.HidingKeys.{password_key};
 use crate::blocks::{digest_of, rehide_blocks};
 use crate::hiding_key::HidingKey;
 
-/// Whether a User-Password may have this many octets: 16, 32, .. 128 (RFC 2865, section 5.2).
+/// Returns whether a User-Password may have this many octets: 16, 32, .. 128 (RFC 2865, section 5.2).
 pub fn password_fits(len: usize) -> bool
     ensures { IsTrue result ↔ IsPasswordSize len }
 {

@@ -71,7 +71,7 @@ pub const SALTED_KINDS: [SaltedKind; 24] = [
     (Some(26928), 3, Salting::Salt),
 ];
 
-/// How a value of this kind begins, by a list.
+/// Returns how a value of this kind begins, by a list.
 fn salting_in(list: &[SaltedKind], vendor: Option<u32>, kind: u8) -> Option<Salting>
     ensures { result ≡ salting_in list.now vendor kind }
 {
@@ -83,7 +83,7 @@ fn salting_in(list: &[SaltedKind], vendor: Option<u32>, kind: u8) -> Option<Salt
     None
 }
 
-/// How a value of this kind begins, where it has a salted string. One pass over the list.
+/// Returns how a value of this kind begins, where it has a salted string. One pass over the list.
 #[tactic(auto, unfolding(crate::specs::SaltedKinds::salting_of))]
 pub(crate) fn salting_of(vendor: Option<u32>, kind: u8) -> Option<Salting>
     ensures { result ≡ salting_of vendor kind }

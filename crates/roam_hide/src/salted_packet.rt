@@ -10,7 +10,7 @@ use crate::vendor_specific::holds_salted;
 use roam_wire::attribute_type::VENDOR_SPECIFIC;
 use roam_wire::{Attr, View};
 
-/// Whether an attribute is of a kind with a salted string, or a Vendor-Specific that holds one.
+/// Returns whether an attribute is of a kind with a salted string, or a Vendor-Specific that holds one.
 fn is_salted(attribute: &Attr<'_>) -> bool
     ensures { result ≡ is_salted_attribute (shown attribute.now) }
 {
@@ -18,7 +18,7 @@ fn is_salted(attribute: &Attr<'_>) -> bool
         || (attribute.kind == VENDOR_SPECIFIC && holds_salted(attribute.value))
 }
 
-/// Whether a packet has an attribute with a salted string. One pass.
+/// Returns whether a packet has an attribute with a salted string. One pass.
 fn has_salted(view: &View<'_>) -> bool
     ensures { result ≡ is_salted view.now.attributes }
 {
@@ -30,8 +30,8 @@ fn has_salted(view: &View<'_>) -> bool
     false
 }
 
-/// Whether a packet has an attribute of a kind with a salted string, of whatever size, or a Vendor-Specific whose
-/// sub-attributes are well formed and hold one (`SALTED_KINDS`).
+/// Returns whether a packet has an attribute of a kind with a salted string, of whatever size, or a Vendor-Specific
+/// whose sub-attributes are well formed and hold one (`SALTED_KINDS`).
 pub fn salted(view: &View<'_>) -> bool
     ensures salted { IsTrue result ↔ IsSalted view.now }
     ensures test { result ≡ is_salted view.now.attributes }

@@ -10,7 +10,7 @@ use crate::blocks::rehide_blocks;
 use crate::hiding_key::HidingKey;
 use roam_md5::Hasher;
 
-/// What covers the first block of a salted string.
+/// Returns what covers the first block of a salted string.
 fn digest_of_salted(secret: &[u8], authenticator: &[u8; 16], salt: &[u8; 2]) -> [u8; 16]
     ensures { result ≡ md5 (secret.now ++ (authenticator.now ++ salt.now)) }
 {

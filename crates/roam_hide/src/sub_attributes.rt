@@ -18,14 +18,14 @@ use crate::salted_kinds::salting_of;
 use roam_wire::{Attr, Attrs};
 use std::ops::Range;
 
-/// Whether a vendor's sub-attribute has a salted string.
+/// Returns whether a vendor's sub-attribute has a salted string.
 fn is_salted_sub(sub: &Attr<'_>, vendor: u32) -> bool
     ensures { result ≡ is_salted_sub vendor (shown sub.now) }
 {
     salting_of(Some(vendor), sub.kind).is_some()
 }
 
-/// Whether the octets are a vendor's sub-attributes, one of them with a salted string.
+/// Returns whether the octets are a vendor's sub-attributes, one of them with a salted string.
 pub(crate) fn any_salted(octets: &[u8], vendor: u32) -> bool
     ensures { result ≡ option_map_or (list_any (is_salted_sub vendor)) (attributes_of octets.now) false }
 {

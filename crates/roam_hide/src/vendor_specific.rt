@@ -19,7 +19,7 @@ fn vendor_of(value: &[u8]) -> u32
     u32::from_be_bytes([value[0], value[1], value[2], value[3]])
 }
 
-/// What stands behind the vendor.
+/// Returns what stands behind the vendor.
 fn behind_vendor(value: &[u8]) -> &[u8]
     requires { 4 ≤ length value.now }
     ensures { result.now ≡ drop 4 value.now }
@@ -27,14 +27,14 @@ fn behind_vendor(value: &[u8]) -> &[u8]
     value.split_at(4).1
 }
 
-/// Whether a value has a vendor, and sub-attributes that are well formed.
+/// Returns whether a value has a vendor, and sub-attributes that are well formed.
 fn is_well_formed(value: &[u8]) -> bool
     ensures { result ≡ is_some (vendor_subs value.now) }
 {
     value.len() >= 4 && Attrs::read(behind_vendor(value)).is_some()
 }
 
-/// Whether a value has a vendor, and sub-attributes that are well formed, one of them with a salted string.
+/// Returns whether a value has a vendor, and sub-attributes that are well formed, one of them with a salted string.
 pub(crate) fn holds_salted(value: &[u8]) -> bool
     ensures { result ≡ holds_salted value.now }
 {

@@ -64,7 +64,7 @@ pub(crate) fn taken_apart<'c, R: Wait, A: Allocator + Copy, N: Opened>(
     })
 }
 
-/// Where the realms stand at the end, by index, into a list with room. Takes no memory.
+/// Returns where the realms stand at the end, by index, into a list with room. Takes no memory.
 pub(crate) fn starts_of<'c, A: Allocator + Copy, N: Opened>(
     config: &'c Config,
     closed: &Closed<'c, A, N>,

@@ -173,7 +173,7 @@ impl<'c, A: Allocator + Copy, N: Opened> Hub<'c, A, N> {
         kept.tick_if_due(call, seat, shard)
     }
 
-    /// Whether anything of a shard is due at a moment in milliseconds, as it stands. Waits for the shard's
+    /// Returns whether anything of a shard is due at a moment in milliseconds, as it stands. Waits for the shard's
     /// lock, records nothing, and takes no memory.
     ///
     /// # Errors

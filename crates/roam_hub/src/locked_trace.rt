@@ -88,7 +88,7 @@ impl<'c, A: Allocator + Copy, N: Opened> LockedTrace<'c, A, N> {
         }
     }
 
-    /// Whether it is of this shard, and goes on from what a seat has seen of it.
+    /// Returns whether it is of this shard, and goes on from what a seat has seen of it.
     fn goes_on(&self, seat: &Seat<A, N>, shard: u16) -> bool
         requires { shard < N.opening.config.shards }
         ensures shard { result ≡ true → self.now.front.shard ≡ shard }

@@ -15,9 +15,9 @@ use std::alloc::Allocator;
 use std::sync::Wait;
 
 impl<A: Allocator + Copy, N: Opened> Hub<'_, A, N> {
-    /// How a realm stands, in numbers, where its shard's history ends now: no earlier than the seat has seen it. None
-    /// where the realm isn't configured, or the lock holds another shard's trace. Waits for the shard's lock, records
-    /// nothing, and takes no memory.
+    /// Returns how a realm stands, in numbers, where its shard's history ends now: no earlier than the seat has seen
+    /// it. None where the realm isn't configured, or the lock holds another shard's trace. Waits for the shard's lock,
+    /// records nothing, and takes no memory.
     pub fn look<R: Wait>(&self, rt: &R, seat: &Seat<A, N>, realm: u16) -> Option<Gauges>
         ensures { IfSome result (StandsThen N.opening realm seat.now) }
     {
@@ -25,9 +25,9 @@ impl<A: Allocator + Copy, N: Opened> Hub<'_, A, N> {
         wait_for(rt, &self.locks[usize::from(shard)]).gauges(seat, shard, realm)
     }
 
-    /// What goes of a realm where another configuration is followed, in which these peers have other tables: as it
-    /// stands where its shard's history ends now. None as for `look`. Waits for the shard's lock, records nothing,
-    /// and takes no memory.
+    /// Returns what goes of a realm where another configuration is followed, in which these peers have other tables:
+    /// as it stands where its shard's history ends now. None as for `look`. Waits for the shard's lock, records
+    /// nothing, and takes no memory.
     pub fn losses<R: Wait>(
         &self,
         rt: &R,

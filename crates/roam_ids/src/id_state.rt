@@ -14,7 +14,7 @@ pub(crate) enum IdState {
 }
 
 impl IdState {
-    /// Whether the Identifier is in use.
+    /// Returns whether the Identifier is in use.
     pub(crate) fn is_used(self) -> bool
         ensures { result ≡ is_in_use self }
     {

@@ -108,7 +108,7 @@ impl Lane {
         }
     }
 
-    /// Whether all 256 Identifiers are in use, parked or out.
+    /// Returns whether all 256 Identifiers are in use, parked or out.
     pub fn is_full(&self) -> bool
         ensures { IsTrue result ↔ AllUsed (is_used self.now) }
     {

@@ -100,14 +100,14 @@ impl<A: Allocator> LazyLane<A> {
         self.lane[0].holder(id)
     }
 
-    /// Whether all 256 Identifiers are in use, parked or out.
+    /// Returns whether all 256 Identifiers are in use, parked or out.
     pub fn is_full(&self) -> bool
         ensures { IsTrue result ↔ AllUsed (is_used self.now) }
     {
         !self.lane.is_empty() && self.lane[0].is_full()
     }
 
-    /// Whether the lane isn't made: no Identifier is in use then.
+    /// Returns whether the lane isn't made: no Identifier is in use then.
     pub fn is_unmade(&self) -> bool
         ensures value { result ≡ true ↔ (self.now.made ≡ false) }
         ensures unused { result ≡ true → (id : ℕ) → ticket_at self.now id ≡ None }

@@ -52,14 +52,14 @@ pub(crate) fn mark(words: &mut [u64; 4], id: u8, used: bool)
     }
 }
 
-/// Whether each bit of each word is set.
+/// Returns whether each bit of each word is set.
 fn all_ones(words: &[u64; 4]) -> bool
     ensures { IsTrue result ↔ EachIndex words.now (λ k. slice_index words.now k ≡ u64.MAX) }
 {
     words.iter().all(|word| *word == u64::MAX)
 }
 
-/// Whether the bits of all 256 Identifiers are set.
+/// Returns whether the bits of all 256 Identifiers are set.
 pub(crate) fn all_marked(words: &[u64; 4]) -> bool
     ensures { IsTrue result ↔ AllUsed (is_marked words.now) }
 {

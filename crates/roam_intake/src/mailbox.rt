@@ -29,8 +29,7 @@ pub struct Letter<N: Opened> {
 // By hand, so that a proof sees one call wherever it ends, and the crates above prove nothing of it.
 impl<N: Opened> Drop for Letter<N> {
     fn drop(self) {
-        let Self { job, hub: _ } = self;
-        drop(job);
+        drop(self.into_job());
     }
 }
 
@@ -70,7 +69,7 @@ impl<N: Opened> Drop for Waiting<N> {
 }
 
 impl<N: Opened> Waiting<N> {
-    /// Whether so many more may wait.
+    /// Returns whether so many more may wait.
     fn takes(&self, more: usize) -> bool
         ensures { IsTrue result ↔ ((self.now.is_open ≡ true) × (deque_len self.now.letters + more ≤ 1024)) }
     {
@@ -155,7 +154,7 @@ impl<N: Opened> Mailbox<N> {
         self.waiting.lock(rt).close()
     }
 
-    /// Whether any waits.
+    /// Returns whether any waits.
     pub fn holds_any<R: Wait>(&self, rt: &R) -> bool {
         !self.waiting.lock(rt).letters.is_empty()
     }
@@ -165,7 +164,7 @@ impl<N: Opened> Mailbox<N> {
         self.ticked_at.store(now, Ordering::SeqCst);
     }
 
-    /// Whether the worker ticked its shard less than so many milliseconds ago.
+    /// Returns whether the worker ticked its shard less than so many milliseconds ago.
     pub fn is_ticked(&self, now: u64, within: u64) -> bool {
         now.saturating_sub(self.ticked_at.load(Ordering::SeqCst)) < within
     }

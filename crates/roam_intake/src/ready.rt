@@ -36,14 +36,14 @@ pub fn keep_ready(receivers: &[Receiver<'_>], ready: &mut Vec<usize>) {
     ready.retain(|at| receivers.get(*at).is_some_and(|receiver| receiver.is_ready));
 }
 
-/// Whether the receiver of this place is to be received from now.
+/// Returns whether the receiver of this place is to be received from now.
 fn is_due(receivers: &[Receiver<'_>], at: usize, now: u64) -> bool {
     receivers
         .get(at)
         .is_some_and(|receiver| receiver.is_due(now))
 }
 
-/// How long to wait, in milliseconds: not at all where a socket is to be received from, and a short time where
+/// Returns how long to wait, in milliseconds: not at all where a socket is to be received from, and a short time where
 /// one is to be tried again.
 pub fn wait_before(receivers: &[Receiver<'_>], ready: &[usize], now: u64) -> u64 {
     if ready.iter().any(|at| is_due(receivers, *at, now)) {

@@ -9,7 +9,7 @@ use std::os::unix::fs::OpenOptionsExt;
 use std::rt::Files;
 use std::{fs, io};
 
-/// Who may do what with the file: its owner alone reads and writes it.
+/// Returns who may do what with the file: its owner alone reads and writes it.
 fn mode() -> u32
     // The lower six bits are its group's and everybody's.
     ensures others { result % 64 ≡ 0 }

@@ -41,9 +41,7 @@ pub struct ThreadKits {
 // By hand, as that of `Kits`: so a proof sees one call wherever they end, and not each of their parts.
 impl Drop for ThreadKits {
     fn drop(self) {
-        let Self { timer, workers } = self;
-        drop(timer);
-        drop(workers);
+        drop(self.into_parts());
     }
 }
 
@@ -56,9 +54,7 @@ pub struct Kits {
 
 impl Drop for Kits {
     fn drop(self) {
-        let Self { wakers, threads } = self;
-        drop(wakers);
-        drop(threads);
+        drop(self.into_parts());
     }
 }
 
@@ -74,7 +70,7 @@ impl ThreadKits {
 }
 
 impl Kits {
-    /// What ends the waits, and what the threads are made of.
+    /// Returns what ends the waits, and what the threads are made of.
     pub fn into_parts(self) -> (Vec<Waker>, ThreadKits)
         ensures wakers { result.0 ≡ self.wakers }
         ensures threads { result.1 ≡ self.threads }
@@ -84,7 +80,7 @@ impl Kits {
     }
 }
 
-/// What one thread is made of.
+/// Returns what one thread is made of.
 fn make_kit(
     alloc: Global,
     polls: Polls,
@@ -106,7 +102,7 @@ fn make_kit(
     })
 }
 
-/// What so many workers wait with, where the server wants so many descriptors.
+/// Returns what so many workers wait with, where the server wants so many descriptors.
 fn worker_polls<R: Net>(
     rt: &R,
     alloc: Global,
@@ -122,7 +118,7 @@ fn worker_polls<R: Net>(
     Ok(polls)
 }
 
-/// What ends the wait of the timer, the first, and of each worker.
+/// Returns what ends the wait of the timer, the first, and of each worker.
 fn make_wakers(
     alloc: Global,
     timer: &Polls,
@@ -139,7 +135,7 @@ fn make_wakers(
     Ok(wakers)
 }
 
-/// What the worker of a number is made of, which waits for what comes to the sockets that it hears.
+/// Returns what the worker of a number is made of, which waits for what comes to the sockets that it hears.
 fn make_worker_kit(
     alloc: Global,
     polls: Polls,
@@ -153,7 +149,7 @@ fn make_worker_kit(
     make_kit(alloc, polls, told, RECEIVED)
 }
 
-/// What the workers are made of that wait with these.
+/// Returns what the workers are made of that wait with these.
 fn make_worker_kits(
     alloc: Global,
     polls: Vec<Polls>,
@@ -170,8 +166,8 @@ fn make_worker_kits(
     Ok(kits)
 }
 
-/// What the threads of a configuration are made of: a worker for each shard, which waits for what comes to the sockets
-/// that it hears, and the timer. The server wants so many descriptors.
+/// Returns what the threads of a configuration are made of: a worker for each shard, which waits for what comes to the
+/// sockets that it hears, and the timer. The server wants so many descriptors.
 pub fn make_kits<R: Net>(
     rt: &R,
     alloc: Global,

@@ -1,10 +1,10 @@
 //! What the threads of a configuration are made of that names no hub, the threads that outlast each configuration, and
 //! the one that tells notices and lines of exchanges that ended.
 //!
-//! All of it is there before a configuration is served, or follows another; `roam_threads` makes the threads of it once the
-//! hub is open. The logger takes what is told from the queues of the others, and hands it to a log that holds nobody up:
-//! where the log has no room, it is dropped and counted; how much is said as soon as there is room again. Nothing is
-//! proved of it but that it doesn't fail: what is told is code.
+//! All of it is there before a configuration is served, or follows another; `roam_threads` makes the threads of it once
+//! the hub is open. The logger takes what is told from the queues of the others, and hands it to a log that holds
+//! nobody up: where the log has no room, it is dropped and counted; how much is said as soon as there is room again.
+//! Nothing is proved of it but that it doesn't fail: what is told is code.
 #![tactic(auto)]
 
 mod behind;

@@ -175,7 +175,7 @@ impl<'s> Drop for ExchangeQueues<'s> {
     }
 }
 
-/// Whether the workers of all queues have ended.
+/// Returns whether the workers of all queues have ended.
 fn are_abandoned(queues: &mut [Consumer<Notice>]) -> bool {
     let mut all = true;
     for queue in queues.iter_mut() {

@@ -24,8 +24,8 @@ fn start_waiting<'s, E, R: Wait + Sync>(
     true
 }
 
-/// Whether so many threads can be started beside those that run. They have run all at once, and have ended, when it
-/// answers.
+/// Returns whether so many threads can be started beside those that run. They have run all at once, and have ended,
+/// when it answers.
 pub fn can_start<R: Threads + Wait + Sync>(rt: &R, count: usize) -> bool {
     let gate = Mutex::new(());
     let shared = &gate;

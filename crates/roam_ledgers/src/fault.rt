@@ -21,7 +21,7 @@ pub enum LedgerFault {
 }
 
 impl LedgerFault {
-    /// What is said of it.
+    /// Returns what is said of it.
     pub fn text(self) -> &'static str {
         match self {
             LedgerFault::Foreign => "no file of ledgers",

@@ -8,7 +8,7 @@ ghost use Rattle.roam_ledgers.specs.Shown.{shown_item, shown_session, shown_text
 use crate::fault::{LedgerFault, ReadError};
 use crate::item::{Item, SessionItem, Text};
 
-/// What stands behind the head.
+/// Returns what stands behind the head.
 #[tactic(auto, unfolding(crate::specs::Reading::head_at))]
 pub(crate) fn behind_head(octets: &[u8]) -> Result<&[u8], ReadError>
     ensures { Gives (λ rest. rest.now) result (head_at octets.now) }

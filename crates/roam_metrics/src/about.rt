@@ -40,7 +40,7 @@ impl About {
         }
     }
 
-    /// How long ago a moment was, in seconds.
+    /// Returns how long ago a moment was, in seconds.
     pub fn seconds_since(&self, moment: u64) -> u64
         ensures { result ≡ spec.seconds_since self.now.uptime moment }
     {

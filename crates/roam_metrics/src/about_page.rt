@@ -8,7 +8,7 @@ use crate::samples::{Label, MetricKind, push_header, push_sample};
 use roam_conf::{Config, Realm};
 use std::alloc::AllocError;
 
-/// What a reload came to, as a label says it.
+/// Returns what a reload came to, as a label says it.
 fn outcome(value: &str) -> Label<'_> {
     Label {
         name: "outcome",

@@ -5,12 +5,12 @@ use roam_counters::{CountedEvent, Process, Subject};
 
 /// What was counted.
 pub trait Counts {
-    /// How often an event was counted of a subject.
+    /// Returns how often an event was counted of a subject.
     fn event(&self, subject: Subject, event: CountedEvent) -> u64;
 
-    /// How often this was counted of the whole server.
+    /// Returns how often this was counted of the whole server.
     fn process(&self, process: Process) -> u64;
 
-    /// How this stands at the moment; none where that isn't known.
+    /// Returns how this stands at the moment; none where that isn't known.
     fn gauge(&self, gauge: Gauge) -> Option<u64>;
 }

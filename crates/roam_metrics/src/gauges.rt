@@ -61,7 +61,7 @@ impl OfGauges {
         }
     }
 
-    /// What it means.
+    /// Returns what it means.
     pub(crate) fn help(self) -> &'static str {
         match self {
             OfGauges::Waiting => "Requests that wait for a reply: as many Identifiers are in use.",
@@ -76,7 +76,7 @@ impl OfGauges {
         }
     }
 
-    /// What is told of a realm.
+    /// Returns what is told of a realm.
     fn of_realm(self, realm: u16) -> Option<Gauge> {
         match self {
             OfGauges::Waiting => Some(Gauge::Waiting(realm)),
@@ -86,7 +86,7 @@ impl OfGauges {
         }
     }
 
-    /// What is told of a home server: of its `auth` and of its `acct` endpoint.
+    /// Returns what is told of a home server: of its `auth` and of its `acct` endpoint.
     fn of_server(self, realm: u16, server: u8) -> [Option<Gauge>; 2] {
         match self {
             OfGauges::InUse => [
@@ -113,7 +113,7 @@ impl OfGauges {
         }
     }
 
-    /// What is told of a subject: of a realm one thing, of a home server one for each of its endpoints.
+    /// Returns what is told of a subject: of a realm one thing, of a home server one for each of its endpoints.
     pub(crate) fn gauges(self, subject: Subject) -> [Option<Gauge>; 2] {
         match subject {
             Subject::Realm(realm) => [self.of_realm(realm), None],

@@ -13,7 +13,7 @@ use crate::of_server::{OF_SERVER, OfServer};
 use crate::reply_families::{ANSWERED, ANSWERED_BY_TICK, NAKS, REFUSED, REPLIES, RETURNED};
 use crate::request_families::{
     ANSWERED_AGAIN, CAME, DROPPED, DROPPED_REPLIES, DROPPED_SESSIONS, FAILED_OVER, FORWARDED,
-    GIVEN_UP, LOCAL_REJECTS, REPLACED, SENT_AGAIN, TAKEN_OVER, WAITING,
+    GIVEN_UP, LOCAL_REJECTS, LOST_SESSIONS, REPLACED, SENT_AGAIN, TAKEN_OVER, WAITING,
 };
 use crate::samples::{Label, MetricKind, push_header, push_sample};
 use crate::times::push_times;
@@ -22,7 +22,7 @@ use roam_counters::Subject;
 use std::alloc::{AllocError, Global};
 
 /// What is told of realms, home servers and peers, in this order.
-static FAMILIES: [Family; 19] = [
+static FAMILIES: [Family; 20] = [
     CAME,
     FORWARDED,
     SENT_AGAIN,
@@ -35,6 +35,7 @@ static FAMILIES: [Family; 19] = [
     DROPPED,
     DROPPED_REPLIES,
     DROPPED_SESSIONS,
+    LOST_SESSIONS,
     LOCAL_REJECTS,
     REPLIES,
     RETURNED,

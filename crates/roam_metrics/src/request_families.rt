@@ -164,6 +164,15 @@ pub(crate) const DROPPED_SESSIONS: Family = Family {
     samples: &[("", CountedEvent::DroppedSession)],
 };
 
+pub(crate) const LOST_SESSIONS: Family = Family {
+    realm: "roam_realm_lost_sessions_total",
+    server: "roam_server_lost_sessions_total",
+    peer: "roam_peer_lost_sessions_total",
+    help: "Sessions for which there was no memory: the Accounting-Response was returned without them.",
+    label: None,
+    samples: &[("", CountedEvent::LostSession)],
+};
+
 pub(crate) const LOCAL_REJECTS: Family = Family {
     realm: "roam_realm_local_rejects_total",
     server: "roam_server_local_rejects_total",

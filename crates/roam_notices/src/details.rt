@@ -23,7 +23,7 @@ pub struct Details {
     pub charged: Value,
 }
 
-/// Whether two values have the same octets, or both aren't there.
+/// Returns whether two values have the same octets, or both aren't there.
 pub(crate) fn is_same(a: &Value, b: &Value) -> bool
     ensures { IsTrue result ↔ (octets_if a.now ≡ octets_if b.now) }
 {
@@ -34,7 +34,7 @@ pub(crate) fn is_same(a: &Value, b: &Value) -> bool
     }
 }
 
-/// Whether two requests of access servers say the same of where they come from.
+/// Returns whether two requests of access servers say the same of where they come from.
 fn is_of_same_place(a: &Details, b: &Details) -> bool
     ensures { IsTrue result ↔ spec.IsOfSamePlace a.now b.now }
 {
@@ -43,7 +43,7 @@ fn is_of_same_place(a: &Details, b: &Details) -> bool
         && is_same(&a.called, &b.called)
 }
 
-/// Whether they say the same of their session, and the same is charged.
+/// Returns whether they say the same of their session, and the same is charged.
 fn is_of_same_session(a: &Details, b: &Details) -> bool
     ensures { IsTrue result ↔ spec.IsOfSameSession a.now b.now }
 {
@@ -65,7 +65,7 @@ impl Details {
         }
     }
 
-    /// Whether both say the same.
+    /// Returns whether both say the same.
     pub(crate) fn are_same(&self, other: &Details) -> bool
         ensures { IsTrue result ↔ spec.AreSame self.now other.now }
     {

@@ -25,7 +25,7 @@ pub fn server_endpoint(config: &Config, realm: u16, link: Link) -> Option<Endpoi
     }
 }
 
-/// How often a request of a realm was sent to its link that may be sent there so often again.
+/// Returns how often a request of a realm was sent to its link that may be sent there so often again.
 fn tries_of(config: &Config, realm: u16, sends_left: u8) -> u8
     ensures { result ≡ spec.tries_of (shown config.now).realms realm sends_left }
 {

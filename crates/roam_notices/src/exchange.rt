@@ -93,7 +93,7 @@ impl ExchangeEnd {
 }
 
 impl ExchangeEnd {
-    /// Whether it ends a login or an order: not one of EAP's rounds, nor accounting.
+    /// Returns whether it ends a login or an order: not one of EAP's rounds, nor accounting.
     fn is_final(self) -> bool
         ensures { result ≡ spec.is_final self }
     {
@@ -108,7 +108,7 @@ impl ExchangeEnd {
         }
     }
 
-    /// Whether a line tells of it, where these are told.
+    /// Returns whether a line tells of it, where these are told.
     pub fn is_told(self, lines: ExchangeLines) -> bool
         ensures { result ≡ spec.is_told lines self }
     {

@@ -36,8 +36,8 @@ pub(crate) fn digit(number: u8) -> u8
     }
 }
 
-/// Whether an octet stands as itself between quotation marks: it is printable in ASCII, and neither a quotation mark
-/// nor a reverse solidus.
+/// Returns whether an octet stands as itself between quotation marks: it is printable in ASCII, and neither a
+/// quotation mark nor a reverse solidus.
 fn is_plain(octet: u8) -> bool
     ensures { result ≡ is_plain octet }
 {
@@ -55,7 +55,7 @@ fn push_octet(line: &mut Vec<u8>, octet: u8) -> Result<(), AllocError>
     }
 }
 
-/// Whether each octet of a value stands as itself.
+/// Returns whether each octet of a value stands as itself.
 fn are_plain(value: &[u8]) -> bool
     ensures { result ≡ list_all is_plain value.now }
 {

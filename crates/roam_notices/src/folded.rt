@@ -12,14 +12,14 @@ use std::marker::Model;
 /// How many lines tell of such ends within a second. All others stand in one line more.
 const LINES: usize = 8;
 
-/// Whether two requests of the same peer ended in the same way and for the same cause, in the same realm.
+/// Returns whether two requests of the same peer ended in the same way and for the same cause, in the same realm.
 fn end_alike(a: &Exchange, b: &Exchange) -> bool
     ensures { IsTrue result ↔ EndAlike a.now b.now }
 {
     a.outcome == b.outcome && a.why == b.why && a.realm == b.realm && a.peer == b.peer
 }
 
-/// Whether they did, and have the same User-Name, the same Calling-Station-Id and the same details.
+/// Returns whether they did, and have the same User-Name, the same Calling-Station-Id and the same details.
 fn is_alike(a: &Exchange, b: &Exchange) -> bool
     ensures { IsTrue result ↔ IsAlike a.now b.now }
 {

@@ -38,7 +38,7 @@ fn realm_at(place: Place) -> Option<u16>
 }
 
 impl Origin {
-    /// What of it is compared.
+    /// Returns what of it is compared.
     pub fn kind(self) -> OriginKind
         ensures { result ≡ spec.kind_of self }
     {

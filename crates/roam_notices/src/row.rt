@@ -41,7 +41,7 @@ impl Row {
         })
     }
 
-    /// Whether nothing was refused.
+    /// Returns whether nothing was refused.
     pub fn is_empty(&self) -> bool
         ensures { IsTrue result ↔ (self.now ≡ []) }
     {

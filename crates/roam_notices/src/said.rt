@@ -125,7 +125,7 @@ pub(crate) fn say(exchange: &mut Exchange, octets: &[u8], outcome: ExchangeEnd)
     }
 }
 
-/// What of an exchange a request says: nothing of who it is for and how it ended.
+/// Returns what of an exchange a request says: nothing of who it is for and how it ended.
 pub fn said_by(octets: &[u8], outcome: ExchangeEnd) -> Exchange
     ensures says { spec.IsSaidBy (reading octets.now) result }
     ensures outcome { result.outcome ≡ outcome }

@@ -30,7 +30,7 @@ fn peer_at(config: &Config, peer: Option<u16>) -> Sender<'_>
     }
 }
 
-/// Whose link it is.
+/// Returns whose link it is.
 fn at_link(config: &Config, link: Option<Link>) -> Sender<'_>
     ensures { shown_sender result ≡ who_at_link (shown config.now).peers link }
 {
@@ -41,7 +41,7 @@ fn at_link(config: &Config, link: Option<Link>) -> Sender<'_>
     }
 }
 
-/// Who sends from this endpoint to this place.
+/// Returns who sends from this endpoint to this place.
 fn at_place(config: &Config, place: Place, from: Endpoint) -> Sender<'_>
     ensures { shown_sender result ≡ who_sends (shown config.now) place from }
 {
@@ -56,7 +56,7 @@ fn at_place(config: &Config, place: Place, from: Endpoint) -> Sender<'_>
     }
 }
 
-/// Who sent what was refused.
+/// Returns who sent what was refused.
 pub(crate) fn sender_of(config: &Config, origin: Option<Origin>) -> Sender<'_>
     ensures { shown_sender result ≡ who_sent (shown config.now) origin }
 {

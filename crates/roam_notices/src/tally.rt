@@ -17,7 +17,7 @@ pub struct RefusalCount {
 }
 
 impl RefusalCount {
-    /// Whether it counts this kind.
+    /// Returns whether it counts this kind.
     pub fn is_of(&self, kind: OriginKind) -> bool
         ensures { IsTrue result ↔ IsOfKind kind self.now }
     {

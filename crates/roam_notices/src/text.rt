@@ -205,7 +205,7 @@ fn refusal_name(refusal: Refusal) -> &'static str
     }
 }
 
-/// What is wrong with the seal of a reply that was refused here.
+/// Returns what is wrong with the seal of a reply that was refused here.
 fn seal_hint(origin: Option<Origin>) -> &'static str
     ensures { result.now ≡ lines.seal_hint origin }
 {
@@ -216,7 +216,7 @@ fn seal_hint(origin: Option<Origin>) -> &'static str
     }
 }
 
-/// What is usually wrong where this is refused.
+/// Returns what is usually wrong where this is refused.
 fn hint(refusal: Refusal, origin: Option<Origin>) -> &'static str
     ensures { result.now ≡ lines.hint_text refusal origin }
 {

@@ -59,7 +59,7 @@ pub fn turned_away(refusal: Refusal, origin: Origin) -> Option<TurnedAway>
     })
 }
 
-/// Which refusal it is.
+/// Returns which refusal it is.
 fn fault_text(fault: ReplyFault) -> &'static str
     ensures { result.now ≡ spec.fault_text fault }
 {
@@ -69,7 +69,7 @@ fn fault_text(fault: ReplyFault) -> &'static str
     }
 }
 
-/// What to do.
+/// Returns what to do.
 fn advice(fault: ReplyFault) -> &'static str
     ensures { result.now ≡ spec.advice_text fault }
 {
@@ -84,7 +84,7 @@ fn advice(fault: ReplyFault) -> &'static str
     }
 }
 
-/// Who sent them: a home server, or an access server that answers a Disconnect- or CoA-Request.
+/// Returns who sent them: a home server, or an access server that answers a Disconnect- or CoA-Request.
 fn who(sender: Sender<'_>) -> &'static str
     ensures { result.now ≡ spec.who_text sender.entry }
 {

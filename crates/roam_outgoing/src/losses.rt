@@ -56,7 +56,7 @@ impl SharedLosses {
         add_to(&self.other, losses.other);
     }
 
-    /// How many were lost for this cause since this was asked last.
+    /// Returns how many were lost for this cause since this was asked last.
     pub fn take(&self, cause: LossCause) -> u64 {
         if self.of(cause).load(Ordering::SeqCst) == 0 {
             0

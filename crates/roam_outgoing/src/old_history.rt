@@ -82,7 +82,7 @@ impl OldHistory {
         self.times.fetch_add(1, Ordering::SeqCst);
     }
 
-    /// How often steps were let go of.
+    /// Returns how often steps were let go of.
     pub fn times(&self) -> u64 {
         self.times.load(Ordering::SeqCst)
     }

@@ -124,7 +124,7 @@ impl<'s> Outgoing<'s> {
         Ok(outgoing)
     }
 
-    /// Whether a socket had no room, and isn't known to have some again.
+    /// Returns whether a socket had no room, and isn't known to have some again.
     pub fn is_blocked(&self) -> bool {
         self.watched > 0 || self.is_unwatched
     }

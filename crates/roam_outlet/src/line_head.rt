@@ -66,7 +66,7 @@ fn moment<R: Clock>(rt: &R) -> Option<Timestamp> {
     Timestamp::from_millisecond(milliseconds).ok()
 }
 
-/// What stands before a line of this level.
+/// Returns what stands before a line of this level.
 pub fn head_of<R: Clock>(
     rt: &R,
     alloc: Global,
@@ -108,7 +108,7 @@ pub fn push_lines(text: &mut Vec<u8>, head: &[u8], message: &[u8]) -> Result<(),
     Ok(())
 }
 
-/// Whether standard error is the journal's: its device and number are those that the service manager names
+/// Returns whether standard error is the journal's: its device and number are those that the service manager names
 /// (systemd.exec(5), `JOURNAL_STREAM`).
 fn is_of_journal<R: Env + Files + AllocGlobal>(rt: &R) -> bool {
     let Ok(stream) = env::var(rt, "JOURNAL_STREAM") else {
@@ -125,7 +125,7 @@ fn is_of_journal<R: Env + Files + AllocGlobal>(rt: &R) -> bool {
     }
 }
 
-/// Who reads standard error.
+/// Returns who reads standard error.
 pub fn log_reader<R: Env + Files + AllocGlobal>(rt: &R) -> LogReader {
     if is_of_journal(rt) {
         LogReader::Journal

@@ -73,7 +73,7 @@ impl Outlet {
         Vec::with_capacity(alloc, ROOM)
     }
 
-    /// Whether there is room for one more.
+    /// Returns whether there is room for one more.
     pub fn has_room<R: Wait>(&self, rt: &R) -> bool {
         self.waiting.lock(rt).has_room()
     }
@@ -124,12 +124,12 @@ impl Outlet {
         self.waiting.lock(rt).note_written(lines);
     }
 
-    /// Whether all is written, and no line was dropped without a word.
+    /// Returns whether all is written, and no line was dropped without a word.
     fn is_all_told<R: Wait>(&self, rt: &R) -> bool {
         self.waiting.lock(rt).is_all_told()
     }
 
-    /// How many lines aren't written yet, or found no room.
+    /// Returns how many lines aren't written yet, or found no room.
     pub fn left<R: Wait>(&self, rt: &R) -> u64 {
         self.waiting.lock(rt).left()
     }

@@ -36,7 +36,7 @@ impl<R> KeepsFiles for ToOutlet<R> {
 }
 
 impl<R: Wait + Clock> Log for ToOutlet<R> {
-    /// Whether there is room for it too.
+    /// Returns whether there is room for it too.
     fn enabled(&self, metadata: &Metadata<'_>) -> bool {
         LevelFilter::Info.allows(metadata.level()) && self.outlet.has_room(&self.rt)
     }

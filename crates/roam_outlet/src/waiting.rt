@@ -23,7 +23,7 @@ pub struct Waiting {
     ghost in_room: { vec_len text ≤ 1048576 },
 }
 
-/// How many lines end in a text.
+/// Returns how many lines end in a text.
 pub fn lines_in(text: &[u8]) -> u64
     ensures { result ≡ length (places (is_byte 10) text.now) }
 {
@@ -31,7 +31,7 @@ pub fn lines_in(text: &[u8]) -> u64
 }
 
 impl Waiting {
-    /// Whether there is room for one more.
+    /// Returns whether there is room for one more.
     pub fn has_room(&self) -> bool
         ensures { IsTrue result ↔ (vec_len self.now.text + 32768 ≤ 1048576) }
     {
@@ -91,7 +91,7 @@ impl Waiting {
         self.in_hand = self.in_hand.saturating_sub(lines);
     }
 
-    /// Whether all is written, and no line was dropped without a word.
+    /// Returns whether all is written, and no line was dropped without a word.
     pub fn is_all_told(&self) -> bool
         ensures { IsTrue result
             ↔ ((vec_len self.now.text ≡ 0) × (self.now.in_hand ≡ 0) × (self.now.dropped ≡ 0)) }
@@ -99,7 +99,7 @@ impl Waiting {
         self.text.is_empty() && self.in_hand == 0 && self.dropped == 0
     }
 
-    /// How many lines aren't written yet, or found no room.
+    /// Returns how many lines aren't written yet, or found no room.
     pub fn left(&self) -> u64 {
         lines_in(self.text.as_slice())
             .saturating_add(self.in_hand)

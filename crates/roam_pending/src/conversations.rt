@@ -56,7 +56,7 @@ impl<A: Allocator> Standing<A> {
     }
 }
 
-/// Whether an entry keeps a peer's round of this State.
+/// Returns whether an entry keeps a peer's round of this State.
 pub fn is_round<A: Allocator>(entry: &Entry<A>, peer: u16, state: &[u8]) -> bool
     ensures { result ≡ is_round peer state.now (shown entry.now) }
 {

@@ -36,7 +36,7 @@ pub trait Entries<A: Allocator> {
     /// For how many more entries of a realm there is room without memory.
     ghost room_for: { Self → ℕ → ℕ };
 
-    /// How many entries the realm has.
+    /// Returns how many entries the realm has.
     fn len(&self, realm: u16) -> usize
         ensures len { result ≡ length (entries_of self.now realm) }
         ensures list { IsEntryList (entries_of self.now realm) };

@@ -26,7 +26,7 @@ pub enum Requester {
     Home(u8),
 }
 
-/// Whether two keys are the same.
+/// Returns whether two keys are the same.
 pub(crate) fn is_same_key(key: &Key, other: &Key) -> bool
     ensures { result ≡ same_key key.now other.now }
 {

@@ -18,7 +18,7 @@ use crate::entry::{Entry, Standing};
 use crate::key::{Key, is_same_key};
 use std::alloc::Allocator;
 
-/// How many entries have a lesser ticket: the place of that ticket where entries stand in order.
+/// Returns how many entries have a lesser ticket: the place of that ticket where entries stand in order.
 pub(crate) fn count_below<A: Allocator>(entries: &[Entry<A>], ticket: u64) -> usize
     ensures { result ≡ count_by (λ e. nat_lt e.ticket ticket) entries.now }
 {
@@ -50,7 +50,7 @@ pub(crate) fn deadline_of<A: Allocator>(standing: &Standing<A>) -> u64
     }
 }
 
-/// Whether it was answered.
+/// Returns whether it was answered.
 fn is_answered<A: Allocator>(standing: &Standing<A>) -> bool
     ensures { result ≡ stands_done (shown_standing standing.now) }
 {
@@ -60,7 +60,7 @@ fn is_answered<A: Allocator>(standing: &Standing<A>) -> bool
     }
 }
 
-/// Whether a ticket isn't the one that counts as gone.
+/// Returns whether a ticket isn't the one that counts as gone.
 fn is_another(except: Option<u64>, ticket: u64) -> bool
     ensures { result ≡ is_beside except ticket }
 {
@@ -70,7 +70,7 @@ fn is_another(except: Option<u64>, ticket: u64) -> bool
     }
 }
 
-/// Whether an entry is done, and not the one that counts as gone.
+/// Returns whether an entry is done, and not the one that counts as gone.
 fn is_done_besides<A: Allocator>(except: Option<u64>, entry: &Entry<A>) -> bool
     ensures { result ≡ is_done_beside except (shown entry.now) }
 {
@@ -104,14 +104,14 @@ pub(crate) fn done_in<A: Allocator>(entries: &[Entry<A>], except: Option<u64>) -
     None
 }
 
-/// Whether one due comes before another.
+/// Returns whether one due comes before another.
 fn is_before(due: &Due, other: &Due) -> bool
     ensures { result ≡ plain_is_before due.now other.now }
 {
     due.deadline < other.deadline || (due.deadline == other.deadline && due.ticket < other.ticket)
 }
 
-/// Whether a due comes after the last one, if there was one.
+/// Returns whether a due comes after the last one, if there was one.
 fn is_after(last: Option<Due>, due: &Due) -> bool
     ensures { result ≡ plain_is_after last due.now }
 {
@@ -121,7 +121,7 @@ fn is_after(last: Option<Due>, due: &Due) -> bool
     }
 }
 
-/// When an entry is due, if it is, and after the last one.
+/// Returns when an entry is due, if it is, and after the last one.
 fn due_alone<A: Allocator>(entry: &Entry<A>, now: u64, last: Option<Due>) -> Option<Due>
     ensures { result ≡ plain_due_alone now last (shown entry.now) }
 {
@@ -164,7 +164,7 @@ pub(crate) fn due_in<A: Allocator>(entries: &[Entry<A>], now: u64, last: Option<
     first
 }
 
-/// When an entry is due, if that is after the last one.
+/// Returns when an entry is due, if that is after the last one.
 fn due_past<A: Allocator>(entry: &Entry<A>, last: Option<Due>) -> Option<Due>
     ensures { result ≡ plain_due_past last (shown entry.now) }
 {

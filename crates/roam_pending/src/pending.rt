@@ -66,7 +66,7 @@ impl<A: Allocator> Pending<A> {
         self.realm
     }
 
-    /// How many entries are held.
+    /// Returns how many entries are held.
     pub fn len(&self) -> usize
         ensures len { result ≡ length self.now.entries }
         ensures list { IsEntryList self.now.entries }
@@ -74,7 +74,7 @@ impl<A: Allocator> Pending<A> {
         self.entries.len()
     }
 
-    /// Whether no entry is held.
+    /// Returns whether no entry is held.
     pub fn is_empty(&self) -> bool
         ensures { IsTrue result ↔ (self.now.entries ≡ []) }
     {

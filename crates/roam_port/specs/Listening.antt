@@ -1,5 +1,5 @@
 -- What is heard at a socket, and how many of its receives failed in a row (ours).
-use Rattle.std.specs.Prelude.{◌≡◌, ◌==◌, ℕ, ◌+◌, min, List, Option, None, if◌then◌else◌}
+use Rattle.std.specs.Prelude.{◌≡◌, ◌==◌, ℕ, ◌+◌, min, true, List, Option, None, if◌then◌else◌}
 use Rattle.roam_conf.specs.declared.place.Place.{Place}
 use Rattle.roam_route.specs.Admission.{Arrival}
 use Rattle.roam_route.specs.Shown.{shown_arrival}
@@ -26,7 +26,7 @@ faults_after_fault faults = min FAULTS_TO_GIVE_UP (faults + 1)
 -- what a receive leaves of that count, and what is heard by it: a datagram that came is never lost
 abbrev pub IsHeard : PortCall → Place → ℕ → ℕ → PlainHeard → Type 0
 IsHeard (came octets from) at old new h =
-    (new ≡ 0) × (h ≡ datagram (record { at = at; from = from; octets = octets; seconds = None }))
+    (new ≡ 0) × (h ≡ datagram (record { at = at; from = from; octets = octets; seconds = None; keeps_session = true }))
 IsHeard nothing_came at old new h = (new ≡ 0) × (h ≡ nothing)
 IsHeard receive_failed at old new h =
     (new ≡ faults_after_fault old)

@@ -56,7 +56,7 @@ impl Account {
         }
     }
 
-    /// What was counted since an earlier account.
+    /// Returns what was counted since an earlier account.
     pub fn since(self, earlier: Account) -> Account
         ensures { result ≡ since self earlier }
     {

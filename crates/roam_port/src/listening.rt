@@ -43,6 +43,7 @@ pub fn listen<P: Port, A: Allocator>(
                 from,
                 octets: Octets::from_vec(octets),
                 seconds: None,
+                keeps_session: true,
             })
         }
     }

@@ -50,7 +50,7 @@ impl Losses {
         }
     }
 
-    /// What was counted since.
+    /// Returns what was counted since.
     pub fn since(self, earlier: Losses) -> Losses
         ensures { result ≡ losses_since self earlier }
     {

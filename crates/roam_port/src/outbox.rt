@@ -89,14 +89,14 @@ impl<A: Allocator> Outbox<A> {
     ghost use Rattle.roam_port.specs.Outbox.{IsFullAt, IsTriedAgain, Puts, PutsSending, SendsAll, SendsLast};
     ghost use Rattle.roam_port.specs.Outbox.{account_of, is_idle_at, port_count, standing_at, told_of, waits_at};
 
-    /// How many ports there are.
+    /// Returns how many ports there are.
     pub fn port_count(&self) -> usize
         ensures { result ≡ port_count self.now }
     {
         self.queues.len()
     }
 
-    /// How the packets stand that wait for the port of this number; none where there is no such port.
+    /// Returns how the packets stand that wait for the port of this number; none where there is no such port.
     pub fn standing_of(&self, socket: usize) -> Option<Standing>
         ensures { result ≡ standing_at self.now socket }
     {
@@ -106,7 +106,7 @@ impl<A: Allocator> Outbox<A> {
         }
     }
 
-    /// How many packets wait for the port of this number.
+    /// Returns how many packets wait for the port of this number.
     pub fn waiting_at(&self, socket: usize) -> usize
         ensures { result ≡ length (waits_at self.now socket) }
     {
@@ -116,7 +116,7 @@ impl<A: Allocator> Outbox<A> {
         }
     }
 
-    /// Whether as many packets wait for the port of a place as may. For a port that isn't there, none may.
+    /// Returns whether as many packets wait for the port of a place as may. For a port that isn't there, none may.
     pub fn is_full_at(&self, place: Place) -> bool
         ensures { IsTrue result ↔ IsFullAt self.now (socket_number place) }
     {
@@ -149,7 +149,7 @@ impl<A: Allocator> Outbox<A> {
         self.listed.push_reserved(socket);
     }
 
-    /// Whether no packet waits for a port.
+    /// Returns whether no packet waits for a port.
     fn is_idle_at(&self, socket: usize) -> bool
         ensures { result ≡ is_idle_at self.now socket }
     {
@@ -247,7 +247,7 @@ impl<A: Allocator> Outbox<A> {
         self.account
     }
 
-    /// What was counted of them since this was asked last.
+    /// Returns what was counted of them since this was asked last.
     pub fn take_account(&mut self) -> Account
         ensures value { result ≡ since (account_of self.old) (told_of self.old) }
         ensures told { told_of self.new ≡ account_of self.old }

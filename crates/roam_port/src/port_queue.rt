@@ -62,21 +62,21 @@ impl<A: Allocator> PortQueue<A> {
         })
     }
 
-    /// Whether none waits.
+    /// Returns whether none waits.
     pub fn is_idle(&self) -> bool
         ensures { result ≡ is_idle self.now.standing }
     {
         matches!(self.standing, Standing::Idle)
     }
 
-    /// Whether packets are handed to the port at the next sending.
+    /// Returns whether packets are handed to the port at the next sending.
     pub fn is_listed(&self) -> bool
         ensures { result ≡ is_listed self.now.standing }
     {
         matches!(self.standing, Standing::Listed)
     }
 
-    /// Whether packets stand aside.
+    /// Returns whether packets stand aside.
     pub fn is_aside(&self) -> bool
         ensures { result ≡ is_aside self.now.standing }
     {
@@ -91,7 +91,7 @@ impl<A: Allocator> PortQueue<A> {
         self.standing = Standing::Listed;
     }
 
-    /// Whether as many packets wait as may.
+    /// Returns whether as many packets wait as may.
     pub fn is_full(&self) -> bool
         ensures { IsTrue result ↔ (length self.now.waiting.items ≡ self.now.share) }
     {

@@ -12,7 +12,7 @@ pub const LEAST_SHARE: usize = 32;
 /// How many places the ports share, where they are not so many that each has the least share.
 pub const PLACES: usize = 65536;
 
-/// How many packets may wait for each port, of so many ports.
+/// Returns how many packets may wait for each port, of so many ports.
 pub fn share_of(ports: usize) -> usize
     ensures value { result ≡ spec.share_of ports }
     ensures least { LEAST_SHARE ≤ result }

@@ -26,7 +26,7 @@ pub fn socket_of(place: Place) -> usize
     }
 }
 
-/// Which of the places of its number a place is.
+/// Returns which of the places of its number a place is.
 pub fn nth_of(place: Place) -> usize
     ensures { result ≡ place_nth place }
 {
@@ -57,7 +57,7 @@ pub fn place_of(socket: usize, nth: u16) -> Place
     }
 }
 
-/// How many numbers the sockets of a configuration are among: two for each realm, also where it takes no
+/// Returns how many numbers the sockets of a configuration are among: two for each realm, also where it takes no
 /// reverse requests.
 pub fn socket_numbers(config: &Config) -> usize
     ensures value { result ≡ 2 * length (shown config.now).realms + 2 }
@@ -66,7 +66,7 @@ pub fn socket_numbers(config: &Config) -> usize
     2 * config.realms.len() + 2
 }
 
-/// How many sockets a realm has.
+/// Returns how many sockets a realm has.
 fn sockets_of(realm: &Realm) -> usize
     ensures value { result ≡ length (realm_endpoints (shown_realm realm.now)) }
     ensures bound { result ≤ 24 }
@@ -77,7 +77,7 @@ fn sockets_of(realm: &Realm) -> usize
     realm.out.len() + realm.reverse.len()
 }
 
-/// How many sockets realms have
+/// Returns how many sockets realms have
 fn sockets_of_all(realms: &[Realm]) -> usize
     requires { length realms.now ≤ 1024 }
     ensures value { result ≡ length (flat_map realm_endpoints (map shown_realm realms.now)) }
@@ -90,7 +90,7 @@ fn sockets_of_all(realms: &[Realm]) -> usize
     count
 }
 
-/// How many sockets a configuration wants.
+/// Returns how many sockets a configuration wants.
 pub fn socket_count(config: &Config) -> usize
     ensures value { result ≡ length (socket_endpoints (shown config.now)) }
     ensures bound { result ≤ 24592 }
@@ -105,7 +105,7 @@ fn endpoint_at(own: &[Endpoint], nth: u16) -> Option<Endpoint>
     own.get(usize::from(nth)).copied()
 }
 
-/// Where a realm's `out` of a place is bound; none where it is gone, or has no such `out`.
+/// Returns where a realm's `out` of a place is bound; none where it is gone, or has no such `out`.
 fn own_out(realm: &Realm, nth: u16) -> Option<Endpoint>
     ensures { result ≡ own_out nth (shown_realm realm.now) }
 {
@@ -116,7 +116,7 @@ fn own_out(realm: &Realm, nth: u16) -> Option<Endpoint>
     }
 }
 
-/// Where its `reverse` of a place is bound, where it has such a one.
+/// Returns where its `reverse` of a place is bound, where it has such a one.
 fn own_reverse(realm: &Realm, nth: u16) -> Option<Endpoint>
     ensures { result ≡ own_reverse nth (shown_realm realm.now) }
 {
@@ -127,7 +127,7 @@ fn own_reverse(realm: &Realm, nth: u16) -> Option<Endpoint>
     }
 }
 
-/// Where the socket of a place is bound; none where the realm isn't configured, or there is no such place.
+/// Returns where the socket of a place is bound; none where the realm isn't configured, or there is no such place.
 pub fn endpoint_of(config: &Config, place: Place) -> Option<Endpoint>
     ensures { result ≡ socket_endpoint (shown config.now) place }
 {

@@ -78,7 +78,7 @@ fn print_endpoints<W: Write>(
     Ok(())
 }
 
-/// What a change of this key takes of a peer.
+/// Returns what a change of this key takes of a peer.
 fn taken_by(key: PeerKey) -> &'static str {
     match key {
         PeerKey::Gone => "loses its requests and sessions",

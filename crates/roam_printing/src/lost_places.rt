@@ -8,7 +8,7 @@ use roam_reload::is_same_out;
 use std::io;
 use std::io::Write;
 
-/// Whether one of a realm's `out` is what it was.
+/// Returns whether one of a realm's `out` is what it was.
 pub(crate) fn keeps_an_out(before: &Realm, after: &Realm) -> bool {
     for out in 0..before.out.len() {
         if is_same_out(before, after, out as u8) {
@@ -49,7 +49,7 @@ pub(crate) fn print_lost_outs<W: Write>(
     Ok(())
 }
 
-/// Whether what came at one of a realm's `reverse` is answered from another endpoint then, or from none.
+/// Returns whether what came at one of a realm's `reverse` is answered from another endpoint then, or from none.
 pub(crate) fn loses_reverse(before: &Realm, after: &Realm) -> bool {
     for (nth, reverse) in before.reverse.iter().enumerate() {
         if after.reverse.get(nth) != Some(reverse) {

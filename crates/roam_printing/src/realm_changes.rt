@@ -11,7 +11,7 @@ use roam_reload::{
 use std::io;
 use std::io::Write;
 
-/// Whether a peer went or has another table.
+/// Returns whether a peer went or has another table.
 fn is_other_peer(old: &Peer, new: Option<&Peer>) -> bool {
     match new {
         Some(new) => peer_difference(old, new).is_some(),
@@ -19,7 +19,7 @@ fn is_other_peer(old: &Peer, new: Option<&Peer>) -> bool {
     }
 }
 
-/// How many peers of a realm went or have another table.
+/// Returns how many peers of a realm went or have another table.
 fn changed_peers(old: &Config, new: &Config, realm: u16) -> usize {
     let mut count = 0usize;
     for (index, peer) in old.peers.iter().enumerate() {
@@ -30,7 +30,7 @@ fn changed_peers(old: &Config, new: &Config, realm: u16) -> usize {
     count
 }
 
-/// Whether the server of a place isn't the same any more, wherever it stands. (No realm has more than 256.)
+/// Returns whether the server of a place isn't the same any more, wherever it stands. (No realm has more than 256.)
 fn is_other_server(old: &Realm, new: &Realm, place: usize) -> bool {
     match u8::try_from(place) {
         Ok(place) => server_then(old, new, place).is_none(),
@@ -38,7 +38,7 @@ fn is_other_server(old: &Realm, new: &Realm, place: usize) -> bool {
     }
 }
 
-/// How many servers of a realm aren't the same any more.
+/// Returns how many servers of a realm aren't the same any more.
 fn changed_servers(old: &Realm, new: &Realm) -> usize {
     let mut count = 0usize;
     for place in 0..old.servers.len() {
@@ -49,7 +49,7 @@ fn changed_servers(old: &Realm, new: &Realm) -> usize {
     count
 }
 
-/// How many keys of a realm's table have another value.
+/// Returns how many keys of a realm's table have another value.
 fn changed_keys(old: &Realm, new: &Realm) -> usize {
     let mut count = 0usize;
     for key in REALM_KEYS {

@@ -169,7 +169,7 @@ fn state_peer(text: &mut StatedText, peer: &Peer) {
     state_items(text, "reply_without", peer.reply_without.as_slice());
 }
 
-/// What becomes of a realm's accounting requests, as a word.
+/// Returns what becomes of a realm's accounting requests, as a word.
 fn accounting_word(accounting: Accounting) -> &'static str {
     match accounting {
         Accounting::Forwarded => "forward",

@@ -89,7 +89,7 @@ fn print_hidden<W: Write>(writer: &mut W, stations: StationForm) -> io::Result<(
     )
 }
 
-/// What is said of a fault.
+/// Returns what is said of a fault.
 fn text_of(alloc: Global, fault: Fault<'_>, lines: &Lines) -> Vec<u8> {
     let mut text = Vec::new(alloc);
     let _is_said = fault.tell_with(lines, &mut text);

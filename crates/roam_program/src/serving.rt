@@ -18,8 +18,8 @@ use roam_conf_reader::{Settings, read_config, read_settings};
 use roam_diagnosis::{Lines, diagnose};
 use roam_keeping::KeepsFiles;
 use roam_serve::{
-    Build, ControlSocket, Manner, Open, ServeFault, ServeOptions, SocketPath, Watch,
-    descriptors_wanted, reason_of, serve, with_drawn_seed,
+    Build, ControlSocket, Manner, ServeFault, ServeOptions, SocketPath, Watch, descriptors_wanted,
+    reason_of, serve, with_drawn_seed,
 };
 use roam_words::{Fault, TextFile};
 use std::net::Net;
@@ -76,7 +76,6 @@ fn serve_watched<
         watch,
         manner,
         milliseconds,
-        gate: &Open,
     };
     serve(rt, rt.alloc(), config, options, source)
 }

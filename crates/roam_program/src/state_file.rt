@@ -23,7 +23,7 @@ fn state_of(alloc: Global, settings: &Settings) -> Result<Option<StateFile>, All
     }
 }
 
-/// How a configuration of these settings is served.
+/// Returns how a configuration of these settings is served.
 pub(crate) fn manner_of(
     alloc: Global,
     settings: &Settings,

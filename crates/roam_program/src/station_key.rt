@@ -27,8 +27,8 @@ fn key_beside<R: Files + AllocGlobal>(rt: &R, path: &str) -> Option<StationKey> 
     }
 }
 
-/// How lines have a station, by the settings of the configuration of this path: where a hash is wanted and no key can
-/// be read, not at all.
+/// Returns how lines have a station, by the settings of the configuration of this path: where a hash is wanted and no
+/// key can be read, not at all.
 pub(crate) fn stations_of<R: Files + AllocGlobal>(
     rt: &R,
     path: &str,

@@ -29,7 +29,7 @@ impl Model for KeptWords {
     ghost invariant = { λ w. w.generator.key ≡ key_of w.seed };
 }
 
-/// Whether the generator, which is of this seed, stands at a position of a stream.
+/// Returns whether the generator, which is of this seed, stands at a position of a stream.
 fn stands_at(generator: &ChaCha20Rng, stream: u64, position: u128) -> bool
     ensures { IsTrue result → (seed : List ℕ) → generator.now.key ≡ key_of seed
         → generator.now ≡ standing_at seed stream position }

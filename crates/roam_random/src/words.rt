@@ -47,7 +47,7 @@ pub fn request_authenticator(seed: [u8; 32], stream: u64, position: u128) -> [u8
     next_four(&mut generator)
 }
 
-/// Where the next four words begin: four words further, modulo 2^68.
+/// Returns where the next four words begin: four words further, modulo 2^68.
 pub fn next_position(position: u128) -> u128
     ensures { result ≡ next_position position }
 {

@@ -35,7 +35,7 @@ fn one_if(is_so: bool) -> u16
     if is_so { 1 } else { 0 }
 }
 
-/// How many Identifiers of a lane are in use: under so many a request waits.
+/// Returns how many Identifiers of a lane are in use: under so many a request waits.
 fn in_use<A: Allocator>(lane: &LazyLane<A>) -> u16
     ensures { result ≡ used_below lane.now 256 }
 {
@@ -50,14 +50,14 @@ fn in_use<A: Allocator>(lane: &LazyLane<A>) -> u16
 }
 
 impl<A: Allocator + Copy> RealmNumbers<A> {
-    /// How many sessions are open. Takes no memory.
+    /// Returns how many sessions are open. Takes no memory.
     fn session_count(&self) -> usize
         ensures { result ≡ length self.now.sessions.sessions }
     {
         self.sessions.len()
     }
 
-    /// How a link rests, by its place among those of the servers. One that isn't there is awake.
+    /// Returns how a link rests, by its place among those of the servers. One that isn't there is awake.
     fn rest_at(&self, place: usize) -> Rest {
         match self.rests.get(place) {
             Some(rest) => *rest,
@@ -65,7 +65,7 @@ impl<A: Allocator + Copy> RealmNumbers<A> {
         }
     }
 
-    /// How a realm stands that has so many entries, and so many `out`. Takes no memory.
+    /// Returns how a realm stands that has so many entries, and so many `out`. Takes no memory.
     pub fn gauges(&self, entries: usize, outs: usize) -> Gauges
         ensures entries { result.entries ≡ entries }
         ensures sessions { result.sessions ≡ length self.now.sessions.sessions }

@@ -13,7 +13,7 @@ use roam_random::request_authenticator;
 /// The stream of random words from which the key of hashes is: no realm's, whose streams are their indexes.
 pub const HASH_STREAM: u64 = 1 << 32;
 
-/// What keys the hashes of a broker's maps: the first words of a stream of its seed that no realm draws from.
+/// Returns what keys the hashes of a broker's maps: the first words of a stream of its seed that no realm draws from.
 pub fn hash_key(config: &Config) -> HashKey
     ensures { result ≡ keyed (request_authenticator_at (shown config.now).seed HASH_STREAM 0) }
 {

@@ -17,7 +17,7 @@ use crate::service::{ServersFrom, Service};
 use roam_conf::{Endpoint, Link};
 use std::alloc::Allocator;
 
-/// Whether a link is the one where an Identifier becomes free.
+/// Returns whether a link is the one where an Identifier becomes free.
 fn is_freed(freed: Option<Link>, link: Link) -> bool
     ensures { result ≡ is_freed freed link }
 {
@@ -28,7 +28,7 @@ fn is_freed(freed: Option<Link>, link: Link) -> bool
 }
 
 impl<A: Allocator + Copy> RealmNumbers<A> {
-    /// Whether an Identifier is free toward a link.
+    /// Returns whether an Identifier is free toward a link.
     fn has_free(&self, settings: &RealmSettings<'_>, link: Link) -> bool
         requires link { IsLink settings.now link }
         requires count { length self.now.lanes.items ≡ link_count settings.now }
@@ -37,7 +37,7 @@ impl<A: Allocator + Copy> RealmNumbers<A> {
         !self.lanes[settings.place_of(link)].is_full()
     }
 
-    /// Whether a link has a free Identifier, or is `freed`.
+    /// Returns whether a link has a free Identifier, or is `freed`.
     pub(crate) fn is_open(
         &self,
         settings: &RealmSettings<'_>,
@@ -51,7 +51,7 @@ impl<A: Allocator + Copy> RealmNumbers<A> {
         is_freed(freed, link) || self.has_free(settings, link)
     }
 
-    /// Whether a link has a free Identifier, or is `freed`, and doesn't stand back at a moment, if one
+    /// Returns whether a link has a free Identifier, or is `freed`, and doesn't stand back at a moment, if one
     /// is given.
     fn is_ready(
         &self,
@@ -68,8 +68,8 @@ impl<A: Allocator + Copy> RealmNumbers<A> {
         !self.stands_back(settings, at, link) && self.is_open(settings, freed, link)
     }
 
-    /// Whether a way leads to an endpoint by the `out` of a place, and its link has a free Identifier, or is `freed`,
-    /// and doesn't stand back at a moment, if one is given.
+    /// Returns whether a way leads to an endpoint by the `out` of a place, and its link has a free Identifier, or is
+    /// `freed`, and doesn't stand back at a moment, if one is given.
     fn is_ready_way(
         &self,
         settings: &RealmSettings<'_>,
@@ -197,7 +197,7 @@ impl<A: Allocator + Copy> RealmNumbers<A> {
         None
     }
 
-    /// Whether a way leads to an endpoint by the `out` of a place, and its link is sought.
+    /// Returns whether a way leads to an endpoint by the `out` of a place, and its link is sought.
     fn is_sought_way(
         &self,
         settings: &RealmSettings<'_>,

@@ -25,7 +25,7 @@ pub enum Wanted {
     Untried,
 }
 
-/// Whether two links lead to one end.
+/// Returns whether two links lead to one end.
 fn is_same_end(a: Link, b: Link) -> bool
     ensures { result ≡ same_end a b }
 {
@@ -38,7 +38,7 @@ fn is_same_end(a: Link, b: Link) -> bool
 }
 
 impl<A: Allocator + Copy> RealmNumbers<A> {
-    /// How a link rests: a peer's `coa` never does.
+    /// Returns how a link rests: a peer's `coa` never does.
     fn rest_of(&self, settings: &RealmSettings<'_>, link: Link) -> Rest
         requires link { IsLink settings.now link }
         ensures { result ≡ rest_of settings.now self.now.rests.items link }
@@ -51,7 +51,7 @@ impl<A: Allocator + Copy> RealmNumbers<A> {
         }
     }
 
-    /// Whether a link stands back at a moment, if one is given.
+    /// Returns whether a link stands back at a moment, if one is given.
     pub(crate) fn stands_back(
         &self,
         settings: &RealmSettings<'_>,
@@ -67,7 +67,7 @@ impl<A: Allocator + Copy> RealmNumbers<A> {
         self.rest_of(settings, link).is_resting(now)
     }
 
-    /// How many signs of life a link has given, modulo 2^64.
+    /// Returns how many signs of life a link has given, modulo 2^64.
     pub fn signs_of(&self, settings: &RealmSettings<'_>, link: Link) -> u64
         requires link { IsLink settings.now link }
         ensures { result ≡ signs_of settings.now self.now.rests.items link }
@@ -75,7 +75,7 @@ impl<A: Allocator + Copy> RealmNumbers<A> {
         self.rest_of(settings, link).signs
     }
 
-    /// Whether a link has a moment until which it rests, in the past or not.
+    /// Returns whether a link has a moment until which it rests, in the past or not.
     fn has_moment(&self, settings: &RealmSettings<'_>, link: Link) -> bool
         requires link { IsLink settings.now link }
         ensures { result ≡ has_moment settings.now self.now.rests.items link }
@@ -83,7 +83,7 @@ impl<A: Allocator + Copy> RealmNumbers<A> {
         self.rest_of(settings, link).until.is_some()
     }
 
-    /// Whether a link is one that is wanted.
+    /// Returns whether a link is one that is wanted.
     fn is_wanted(&self, settings: &RealmSettings<'_>, wanted: Wanted, link: Link) -> bool
         requires link { IsLink settings.now link }
         ensures { result ≡ is_wanted settings.now self.now.rests.items wanted link }
@@ -95,7 +95,7 @@ impl<A: Allocator + Copy> RealmNumbers<A> {
         }
     }
 
-    /// Whether a link is wanted, and has a free Identifier, or is `freed`.
+    /// Returns whether a link is wanted, and has a free Identifier, or is `freed`.
     pub(crate) fn is_sought(
         &self,
         settings: &RealmSettings<'_>,

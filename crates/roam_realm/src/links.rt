@@ -14,7 +14,7 @@ use crate::service::Service;
 use roam_conf::{Endpoint, Link};
 
 impl RealmSettings<'_> {
-    /// How many outgoing sockets the realm has: 1 to 16.
+    /// Returns how many outgoing sockets the realm has: 1 to 16.
     pub fn out_count(&self) -> usize
         ensures count { result ≡ length self.now.realm.out }
         ensures some { 1 ≤ result }
@@ -23,14 +23,14 @@ impl RealmSettings<'_> {
         self.realm().out.len()
     }
 
-    /// Whether the realm's `out` of this place sends to an endpoint.
+    /// Returns whether the realm's `out` of this place sends to an endpoint.
     pub fn is_way(&self, out: usize, endpoint: Endpoint) -> bool
         ensures { result ≡ is_way self.now.realm.out out endpoint }
     {
         self.realm().is_way(out, endpoint)
     }
 
-    /// Where a server takes the requests of a service, if it does.
+    /// Returns where a server takes the requests of a service, if it does.
     pub(crate) fn service_at(&self, service: Service, server: u8) -> Option<Endpoint>
         requires { server < length self.now.realm.servers }
         ensures { (s : ServerView) → slice_get self.now.realm.servers server ≡ Some s
@@ -42,7 +42,7 @@ impl RealmSettings<'_> {
         }
     }
 
-    /// Where a peer takes reverse requests, if it does.
+    /// Returns where a peer takes reverse requests, if it does.
     pub(crate) fn coa_of(&self, peer: u16) -> Option<Endpoint>
         requires { peer < length self.now.peers }
         ensures { result ≡ coa_of self.now peer }
@@ -50,7 +50,7 @@ impl RealmSettings<'_> {
         self.peer(peer).coa
     }
 
-    /// Where what goes to a link arrives, by whichever `out`.
+    /// Returns where what goes to a link arrives, by whichever `out`.
     fn end_of(&self, link: Link) -> Option<Endpoint>
         requires { IsLink self.now link }
         ensures { result ≡ end_of self.now.peers self.now.realm link }
@@ -83,7 +83,7 @@ impl RealmSettings<'_> {
         }
     }
 
-    /// How many places there are for the ends of links.
+    /// Returns how many places there are for the ends of links.
     pub fn end_count(&self) -> usize
         ensures count { result ≡ server_link_count self.now + length self.now.peers }
         ensures few { result ≤ 1040 }
@@ -91,7 +91,7 @@ impl RealmSettings<'_> {
         2 * self.server_count() + self.peer_count()
     }
 
-    /// How many places there are for links: at each end one for each `out`.
+    /// Returns how many places there are for links: at each end one for each `out`.
     pub fn link_count(&self) -> usize
         ensures count { result ≡ link_count self.now }
         ensures few { result ≤ 16640 }
@@ -99,7 +99,7 @@ impl RealmSettings<'_> {
         self.end_count() * self.out_count()
     }
 
-    /// Whether a link's end is the realm's.
+    /// Returns whether a link's end is the realm's.
     fn has_end(&self, link: Link) -> bool
         ensures { IsTrue result ↔ (end_place self.now link < server_link_count self.now + length self.now.peers)
             × IsEnd self.now link }
@@ -112,7 +112,7 @@ impl RealmSettings<'_> {
         }
     }
 
-    /// Whether a link is the realm's.
+    /// Returns whether a link is the realm's.
     pub fn has_link(&self, link: Link) -> bool
         ensures { IsTrue result ↔ IsLink self.now link }
     {

@@ -69,7 +69,7 @@ impl<'c> RealmSettings<'c> {
         self.config.seed
     }
 
-    /// How often a packet is sent to one server.
+    /// Returns how often a packet is sent to one server.
     pub fn tries(&self) -> u8
         ensures { result ≡ self.now.realm.tries }
     {
@@ -97,68 +97,69 @@ impl<'c> RealmSettings<'c> {
         self.realm().rest
     }
 
-    /// How many requests have to be given up at a link before it rests.
+    /// Returns how many requests have to be given up at a link before it rests.
     pub(crate) fn rest_after(&self) -> u16
         ensures { result ≡ self.now.realm.rest_after }
     {
         self.realm().rest_after
     }
 
-    /// What keys the hashes of its ledger.
+    /// Returns what keys the hashes of its ledger.
     pub fn hash_key(&self) -> HashKey {
         hash_key(self.config)
     }
 
-    /// How many sessions the ledger holds at most.
+    /// Returns how many sessions the ledger holds at most.
     pub fn max_sessions(&self) -> u32
         ensures { result ≡ self.now.realm.max_sessions }
     {
         self.realm().max_sessions
     }
 
-    /// Whether its reverse requests name sessions of its own ledger, which then keeps the names of access servers.
+    /// Returns whether its reverse requests name sessions of its own ledger, which then keeps the names of access
+    /// servers.
     pub fn own_sessions(&self) -> bool
         ensures { result ≡ self.now.realm.own_sessions }
     {
         self.realm().own_sessions
     }
 
-    /// How many requests may be pending.
+    /// Returns how many requests may be pending.
     pub fn max_pending(&self) -> u16
         ensures { result ≡ self.now.realm.max_pending }
     {
         self.realm().max_pending
     }
 
-    /// How many requests for one name may wait for a service, if there is a limit.
+    /// Returns how many requests for one name may wait for a service, if there is a limit.
     pub fn share(&self) -> Option<u16>
         ensures { result ≡ self.now.realm.share }
     {
         self.realm().share
     }
 
-    /// How many requests of one peer may wait, if there is a limit.
+    /// Returns how many requests of one peer may wait, if there is a limit.
     pub fn peer_share(&self) -> Option<u16>
         ensures { result ≡ self.now.realm.peer_share }
     {
         self.realm().peer_share
     }
 
-    /// Whether of an Access-Accept own names alone are returned.
+    /// Returns whether of an Access-Accept own names alone are returned.
     pub fn own_names(&self) -> bool
         ensures { result ≡ self.now.realm.own_names }
     {
         self.realm().own_names
     }
 
-    /// Whether a request that goes on with a conversation goes to the server that has that.
+    /// Returns whether a request that goes on with a conversation goes to the server that has that.
     pub fn keeps_conversations(&self) -> bool
         ensures { result ≡ self.now.realm.conversations }
     {
         self.realm().conversations
     }
 
-    /// How many home servers the realm has: at most 8.
+    /// Returns how many home servers the realm has: at most 8.
     pub fn server_count(&self) -> usize
         ensures count { result ≡ length self.now.realm.servers }
         ensures few { result ≤ 8 }
@@ -166,7 +167,7 @@ impl<'c> RealmSettings<'c> {
         self.realm().servers.len()
     }
 
-    /// How many peers are configured: at most 1,024.
+    /// Returns how many peers are configured: at most 1,024.
     pub fn peer_count(&self) -> usize
         ensures count { result ≡ length self.now.peers }
         ensures few { result ≤ 1024 }
@@ -213,7 +214,7 @@ impl<'c> RealmSettings<'c> {
         }
     }
 
-    /// Whether a reply from a link has to have a Message-Authenticator, where its code may have one.
+    /// Returns whether a reply from a link has to have a Message-Authenticator, where its code may have one.
     pub fn seal_required(&self, link: Link) -> bool
         requires { IsLink self.now link }
         ensures { result ≡ seal_required self.now link }

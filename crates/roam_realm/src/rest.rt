@@ -16,7 +16,7 @@ pub struct Rest {
     pub signs: u64,
 }
 
-/// How many requests were given up once one more was: at most 256.
+/// Returns how many requests were given up once one more was: at most 256.
 fn one_more(count: u16) -> u16
     ensures { result ≡ one_more count }
 {
@@ -35,7 +35,7 @@ impl Rest {
         }
     }
 
-    /// Whether it rests at a moment.
+    /// Returns whether it rests at a moment.
     pub(crate) fn is_resting(self, now: u64) -> bool
         ensures { result ≡ is_resting now self }
     {

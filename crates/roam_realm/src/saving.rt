@@ -29,7 +29,7 @@ fn octets_of<'a>(text: Option<Text<'a>>) -> Option<&'a [u8]>
     }
 }
 
-/// Whether a peer is here and has a name.
+/// Returns whether a peer is here and has a name.
 fn is_named(peer: &Peer, name: &[u8]) -> bool
     ensures { result ≡ (not (shown_peer peer.now).gone && bytes_eq (shown_peer peer.now).name name.now) }
 {
@@ -62,7 +62,7 @@ fn text_if_any(octets: Option<&[u8]>) -> Option<Option<Text<'_>>>
     }
 }
 
-/// What a file of ledgers has of a session, by the name of its peer: nothing where it has no room for a part.
+/// Returns what a file of ledgers has of a session, by the name of its peer: nothing where it has no room for a part.
 fn item_of<'a>(peers: &'a [Peer], parts: SessionParts<'a>) -> Option<SessionItem<'a>>
     ensures { IfSome result (λ item. saved_session (map shown_peer peers.entry.now) (shown_parts parts.entry)
         ≡ Some (shown_session item)) }

@@ -43,7 +43,7 @@ fn only_without(removal: Removal<'_>) -> Shaping<'_>
 }
 
 impl<'c> RealmSettings<'c> {
-    /// Which attributes of replies don't pass to a peer.
+    /// Returns which attributes of replies don't pass to a peer.
     fn reply_removal(&self, peer: u16, keeps_session: bool) -> Removal<'_>
         requires { peer < length self.now.peers }
         ensures { removed_by result ≡ (if keeps_session then without_sessions (reply_removed self.now peer)
@@ -56,7 +56,7 @@ impl<'c> RealmSettings<'c> {
         }
     }
 
-    /// Which attributes of Access replies don't pass to the sender of a request: to a home server all do.
+    /// Returns which attributes of Access replies don't pass to the sender of a request: to a home server all do.
     pub fn removal_for(&self, requester: Requester) -> Removal<'_>
         requires { IsRequester self.now requester }
         ensures { removed_by result ≡ removed_for self.now requester }
@@ -67,7 +67,7 @@ impl<'c> RealmSettings<'c> {
         }
     }
 
-    /// How a peer's requests are forwarded.
+    /// Returns how a peer's requests are forwarded.
     pub fn shaping_from(&self, peer: u16) -> Shaping<'_>
         requires { peer < length self.now.peers }
         ensures shaping { shown_shaping result ≡ shaping_from self.now peer }
@@ -76,7 +76,7 @@ impl<'c> RealmSettings<'c> {
         request_shaping(self.peer(peer), self.realm())
     }
 
-    /// How a home server's request of this code is forwarded to a link.
+    /// Returns how a home server's request of this code is forwarded to a link.
     fn shaping_to(&self, code: u8, link: Link) -> Shaping<'_>
         requires { IsLink self.now link }
         ensures shaping { shown_shaping result ≡ shaping_to self.now code link }
@@ -90,7 +90,7 @@ impl<'c> RealmSettings<'c> {
         }
     }
 
-    /// How a request of this sender and code is forwarded to a link.
+    /// Returns how a request of this sender and code is forwarded to a link.
     pub fn shaping_of(&self, requester: Requester, code: u8, link: Link) -> Shaping<'_>
         requires requester { IsRequester self.now requester }
         requires link { IsLink self.now link }

@@ -9,3 +9,4 @@ pub mod SlotLemmas
 pub mod NumberLemmas
 pub mod SourceLemmas
 pub mod HoldsLemmas
+pub mod PlaceLemmas

@@ -25,7 +25,7 @@ pub enum AfterReload {
     Away,
 }
 
-/// Whether the realm of an index is here.
+/// Returns whether the realm of an index is here.
 pub fn is_here(config: &Config, realm: u16) -> bool
     ensures { result ≡ is_here (shown config.now) realm }
 {
@@ -35,14 +35,14 @@ pub fn is_here(config: &Config, realm: u16) -> bool
     }
 }
 
-/// Whether the realm of an index goes on when `new` follows `old`.
+/// Returns whether the realm of an index goes on when `new` follows `old`.
 pub fn is_carried(old: &Config, new: &Config, realm: u16) -> bool
     ensures { IsTrue result ↔ IsCarried (shown old.now) (shown new.now) realm }
 {
     is_here(old, realm) && is_here(new, realm)
 }
 
-/// Whether it goes on, and nothing that it depends on has changed.
+/// Returns whether it goes on, and nothing that it depends on has changed.
 pub fn is_untouched(old: &Config, new: &Config, realm: u16) -> bool
     ensures { IsTrue result ↔ IsUntouched (shown old.now) (shown new.now) realm }
 {
@@ -59,7 +59,7 @@ pub fn is_untouched(old: &Config, new: &Config, realm: u16) -> bool
         && other_peer(old.peers.as_slice(), new.peers.as_slice()).is_none()
 }
 
-/// What becomes of the realm of an index when `new` follows `old`.
+/// Returns what becomes of the realm of an index when `new` follows `old`.
 pub fn after_reload(old: &Config, new: &Config, realm: u16) -> AfterReload
     ensures { IsAfterReload (shown old.now) (shown new.now) realm result }
 {

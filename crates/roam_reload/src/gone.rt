@@ -7,7 +7,7 @@ ghost use Rattle.roam_reload.specs.Numbers.{gone_peer, gone_realm};
 use roam_conf::{Endpoint, Peer, Realm, SharedSecret};
 use std::alloc::{AllocError, Global};
 
-/// What stands where a peer went: its name and address, which nothing means any more.
+/// Returns what stands where a peer went: its name and address, which nothing means any more.
 pub(crate) fn gone_peer(alloc: Global, peer: &Peer) -> Result<Peer, AllocError>
     ensures { IfOk result (λ gone. shown_peer gone ≡ gone_peer (shown_peer peer.now)) }
 {
@@ -41,7 +41,7 @@ fn copies_of(alloc: Global, endpoints: &[Endpoint]) -> Result<Vec<Endpoint>, All
     Ok(copies)
 }
 
-/// What stands where a realm went: its name, which nothing means any more, without sockets and servers.
+/// Returns what stands where a realm went: its name, which nothing means any more, without sockets and servers.
 pub(crate) fn gone_realm(alloc: Global, realm: &Realm) -> Result<Realm, AllocError>
     ensures { IfOk result (λ gone. shown_realm gone ≡ gone_realm (shown_realm realm.now)) }
 {

@@ -1,6 +1,6 @@
 //! Why a configuration may not follow another.
 
-ghost use Rattle.std.specs.Prelude.{◌≡◌, IfNone, IfSome, map};
+ghost use Rattle.std.specs.Prelude.{◌≡◌, IfNone, IfSome, IsTrue, None, map};
 ghost use Rattle.std.specs.List.{find, flat_map};
 ghost use Rattle.std.specs.Option.{option_or};
 ghost use Rattle.roam_conf.specs.Parts.{shown_realm};
@@ -39,14 +39,55 @@ fn moved_of(endpoints: &[Endpoint], kind: PlaceKind, new: &Config) -> Option<End
     None
 }
 
+/// Returns whether the realm of an index has the same `out` in the new configuration: none of them has moved then.
+fn keeps_out(old: &Realm, nth: usize, new: &Config) -> bool
+    ensures { IsTrue result → find (is_moved (shown new.now) kind.Out) old.now.out.items ≡ None }
+{
+    match new.realms.get(nth) {
+        Some(realm) => !realm.gone && realm.out == old.out,
+        None => false,
+    }
+}
+
+/// Returns whether it has the same `reverse` there: none of them has moved then.
+fn keeps_reverse(old: &Realm, nth: usize, new: &Config) -> bool
+    ensures { IsTrue result → find (is_moved (shown new.now) kind.Reverse) old.now.reverse.items ≡ None }
+{
+    match new.realms.get(nth) {
+        Some(realm) => !realm.gone && realm.reverse == old.reverse,
+        None => false,
+    }
+}
+
+/// The first `out` of the realm of an index that is at a place of another kind.
+fn moved_out_of(old: &Realm, nth: usize, new: &Config) -> Option<Endpoint>
+    ensures { result ≡ find (is_moved (shown new.now) kind.Out) old.now.out.items }
+{
+    // A file has thousands of places, and few of them change: each of the others costs one comparison.
+    if keeps_out(old, nth, new) {
+        return None;
+    }
+    moved_of(old.out.as_slice(), PlaceKind::Out, new)
+}
+
+/// The first `reverse` of the realm of an index that is at a place of another kind.
+fn moved_reverse_of(old: &Realm, nth: usize, new: &Config) -> Option<Endpoint>
+    ensures { result ≡ find (is_moved (shown new.now) kind.Reverse) old.now.reverse.items }
+{
+    if keeps_reverse(old, nth, new) {
+        return None;
+    }
+    moved_of(old.reverse.as_slice(), PlaceKind::Reverse, new)
+}
+
 /// The first `out` of those realms that are here which is at a place of another kind.
 fn moved_out(realms: &[Realm], new: &Config) -> Option<Endpoint>
     ensures { result ≡ find (is_moved (shown new.now) kind.Out)
         (flat_map (λ realm. realm.out) (here (map shown_realm realms.now))) }
 {
-    for realm in realms {
+    for (nth, realm) in realms.iter().enumerate() {
         if !realm.gone {
-            if let Some(moved) = moved_of(realm.out.as_slice(), PlaceKind::Out, new) {
+            if let Some(moved) = moved_out_of(realm, nth, new) {
                 return Some(moved);
             }
         }
@@ -59,9 +100,9 @@ fn moved_reverse(realms: &[Realm], new: &Config) -> Option<Endpoint>
     ensures { result ≡ find (is_moved (shown new.now) kind.Reverse)
         (flat_map (λ realm. realm.reverse) (here (map shown_realm realms.now))) }
 {
-    for realm in realms {
+    for (nth, realm) in realms.iter().enumerate() {
         if !realm.gone {
-            if let Some(moved) = moved_of(realm.reverse.as_slice(), PlaceKind::Reverse, new) {
+            if let Some(moved) = moved_reverse_of(realm, nth, new) {
                 return Some(moved);
             }
         }
@@ -96,7 +137,7 @@ fn moved_endpoint(old: &Config, new: &Config) -> Option<Endpoint>
     moved_of_realms(old.realms.as_slice(), new)
 }
 
-/// Why the new configuration may not follow the old one, if it may not.
+/// Returns why the new configuration may not follow the old one, if it may not.
 pub fn hindrance_of(old: &Config, new: &Config) -> Option<Hindrance>
     ensures none { IfNone result (MayFollow (shown old.now) (shown new.now)) }
     ensures some { IfSome result (Hinders (shown old.now) (shown new.now)) }

@@ -9,14 +9,14 @@ ghost use Rattle.roam_reload.specs.Kept.{same_out, same_outs, same_server, same_
 
 use roam_conf::{Endpoint, Peer, Realm, Server, is_same_endpoint};
 
-/// Whether one that was here still is.
+/// Returns whether one that was here still is.
 fn stays(old: &Peer, new: &Peer) -> bool
     ensures { result ≡ stays (shown_peer old.now).gone (shown_peer new.now).gone }
 {
     old.gone || !new.gone
 }
 
-/// Whether both are equal, or neither is there.
+/// Returns whether both are equal, or neither is there.
 fn is_same_if_any(a: Option<Endpoint>, b: Option<Endpoint>) -> bool
     ensures { result ≡ both_or_none same_endpoint a b }
 {
@@ -27,14 +27,14 @@ fn is_same_if_any(a: Option<Endpoint>, b: Option<Endpoint>) -> bool
     }
 }
 
-/// Whether the requests of a peer stay.
+/// Returns whether the requests of a peer stay.
 fn keeps_requests(old: &Peer, new: &Peer) -> bool
     ensures { result ≡ keeps_requests (shown_peer old.now) (shown_peer new.now) }
 {
     stays(old, new) && old.ip.leading() == new.ip.leading() && old.secret == new.secret
 }
 
-/// Whether what waits at a peer's `coa` stays.
+/// Returns whether what waits at a peer's `coa` stays.
 fn keeps_coa(old: &Peer, new: &Peer) -> bool
     ensures { result ≡ keeps_coa (shown_peer old.now) (shown_peer new.now) }
 {
@@ -48,7 +48,7 @@ fn peer_at(peers: &[Peer], peer: u16) -> Option<&Peer>
     peers.get(usize::from(peer))
 }
 
-/// Whether the requests of the peer of an index stay.
+/// Returns whether the requests of the peer of an index stay.
 pub fn peer_keeps_requests(old: &[Peer], new: &[Peer], peer: u16) -> bool
     ensures { result ≡ of_peer keeps_requests (map shown_peer old.now) (map shown_peer new.now) peer }
 {
@@ -59,7 +59,7 @@ pub fn peer_keeps_requests(old: &[Peer], new: &[Peer], peer: u16) -> bool
     }
 }
 
-/// Whether what waits at the `coa` of the peer of an index stays.
+/// Returns whether what waits at the `coa` of the peer of an index stays.
 pub fn peer_keeps_coa(old: &[Peer], new: &[Peer], peer: u16) -> bool
     ensures { result ≡ of_peer keeps_coa (map shown_peer old.now) (map shown_peer new.now) peer }
 {
@@ -70,7 +70,7 @@ pub fn peer_keeps_coa(old: &[Peer], new: &[Peer], peer: u16) -> bool
     }
 }
 
-/// Whether the sessions of the peer of an index stay.
+/// Returns whether the sessions of the peer of an index stay.
 pub fn peer_keeps_sessions(old: &[Peer], new: &[Peer], peer: u16) -> bool
     ensures { result ≡ of_peer keeps_sessions (map shown_peer old.now) (map shown_peer new.now) peer }
 {
@@ -81,7 +81,7 @@ pub fn peer_keeps_sessions(old: &[Peer], new: &[Peer], peer: u16) -> bool
     }
 }
 
-/// Whether two tables are of the same server.
+/// Returns whether two tables are of the same server.
 fn is_same_server(a: &Server, b: &Server) -> bool
     ensures { result ≡ same_server (shown_server a.now) (shown_server b.now) }
 {
@@ -95,7 +95,7 @@ fn server_at(servers: &[Server], server: u8) -> Option<&Server>
     servers.get(usize::from(server))
 }
 
-/// Whether the same server, or none, stands at a place in both.
+/// Returns whether the same server, or none, stands at a place in both.
 fn stands_there(old: &[Server], new: &[Server], server: u8) -> bool
     ensures { result ≡ both_or_none same_server (slice_get (map shown_server old.now) server)
         (slice_get (map shown_server new.now) server) }
@@ -107,7 +107,7 @@ fn stands_there(old: &[Server], new: &[Server], server: u8) -> bool
     }
 }
 
-/// Whether all servers stand where they stood.
+/// Returns whether all servers stand where they stood.
 pub fn has_same_servers(old: &Realm, new: &Realm) -> bool
     ensures { result ≡ same_servers (shown_realm old.now).servers (shown_realm new.now).servers }
 {
@@ -158,7 +158,7 @@ fn out_at(realm: &Realm, out: u8) -> Option<Endpoint>
     }
 }
 
-/// Whether what a realm forwards by the `out` of this place leaves from the same endpoint.
+/// Returns whether what a realm forwards by the `out` of this place leaves from the same endpoint.
 pub fn is_same_out(old: &Realm, new: &Realm, out: u8) -> bool
     ensures { result ≡ same_out (shown_realm old.now) (shown_realm new.now) out }
 {
@@ -169,7 +169,7 @@ pub fn is_same_out(old: &Realm, new: &Realm, out: u8) -> bool
     }
 }
 
-/// Whether it does by each of them.
+/// Returns whether it does by each of them.
 pub fn has_same_outs(old: &Realm, new: &Realm) -> bool
     ensures { result ≡ same_outs (shown_realm old.now) (shown_realm new.now) }
 {

@@ -23,7 +23,7 @@ pub enum PlaceKind {
     Reverse,
 }
 
-/// Whether an endpoint is one of these.
+/// Returns whether an endpoint is one of these.
 fn is_among(endpoints: &[Endpoint], endpoint: Endpoint) -> bool
     ensures { result ≡ is_among endpoints.now endpoint }
 {
@@ -35,7 +35,7 @@ fn is_among(endpoints: &[Endpoint], endpoint: Endpoint) -> bool
     false
 }
 
-/// Whether an endpoint is an `out` of a realm that is here.
+/// Returns whether an endpoint is an `out` of a realm that is here.
 #[tactic(auto, using(crate::proofs::KindLemmas::of_realms))]
 fn is_out(realms: &[Realm], endpoint: Endpoint) -> bool
     ensures { result ≡ is_among (flat_map (λ realm. realm.out) (here (map shown_realm realms.now))) endpoint }
@@ -48,7 +48,7 @@ fn is_out(realms: &[Realm], endpoint: Endpoint) -> bool
     false
 }
 
-/// Whether an endpoint is a `reverse` of a realm that is here.
+/// Returns whether an endpoint is a `reverse` of a realm that is here.
 #[tactic(auto, using(crate::proofs::KindLemmas::of_realms))]
 fn is_reverse(realms: &[Realm], endpoint: Endpoint) -> bool
     ensures { result ≡ is_among (flat_map (λ realm. realm.reverse) (here (map shown_realm realms.now))) endpoint }
@@ -61,7 +61,7 @@ fn is_reverse(realms: &[Realm], endpoint: Endpoint) -> bool
     false
 }
 
-/// Whether an endpoint is one of the broker's own places of a kind.
+/// Returns whether an endpoint is one of the broker's own places of a kind.
 fn is_at(config: &Config, kind: PlaceKind, endpoint: Endpoint) -> bool
     ensures { result ≡ is_among (endpoints_of (shown config.now) kind) endpoint }
 {
@@ -73,7 +73,7 @@ fn is_at(config: &Config, kind: PlaceKind, endpoint: Endpoint) -> bool
     }
 }
 
-/// Whether an endpoint is a place of another kind than this.
+/// Returns whether an endpoint is a place of another kind than this.
 pub(crate) fn is_moved(config: &Config, kind: PlaceKind, endpoint: Endpoint) -> bool
     ensures { result ≡ is_moved (shown config.now) kind endpoint }
 {

@@ -25,7 +25,7 @@ fn slots_of(alloc: Global, peers: Vec<Peer>) -> Result<Vec<Option<Peer>>, AllocE
     Ok(slots)
 }
 
-/// Whether a slot has the table of the same peer.
+/// Returns whether a slot has the table of the same peer.
 fn holds(slot: &Option<Peer>, peer: &Peer) -> bool
     ensures { result ≡ slot_holds (same_peer_name (shown_peer peer.now)) (option_map shown_peer slot.now) }
 {
@@ -62,7 +62,7 @@ fn take_table(slots: &mut Vec<Option<Peer>>, peer: &Peer) -> Option<Peer>
     }
 }
 
-/// What stands at the index of an older peer: its new table, or nothing any more.
+/// Returns what stands at the index of an older peer: its new table, or nothing any more.
 fn table_then(alloc: Global, slots: &mut Vec<Option<Peer>>, peer: &Peer) -> Result<Peer, AllocError>
     ensures table { IfOk result (λ next. shown_peer next
         ≡ unwrap_or (find (same_peer_name (shown_peer peer.now)) (left_in (peers_in slots.old.items)))

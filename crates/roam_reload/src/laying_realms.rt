@@ -25,7 +25,7 @@ fn slots_of(alloc: Global, realms: Vec<Realm>) -> Result<Vec<Option<Realm>>, All
     Ok(slots)
 }
 
-/// Whether a slot has the table of the same realm.
+/// Returns whether a slot has the table of the same realm.
 fn holds(slot: &Option<Realm>, realm: &Realm) -> bool
     ensures { result ≡ slot_holds (same_realm_name (shown_realm realm.now)) (option_map shown_realm slot.now) }
 {
@@ -62,7 +62,7 @@ fn take_table(slots: &mut Vec<Option<Realm>>, realm: &Realm) -> Option<Realm>
     }
 }
 
-/// What stands at the index of an older realm: its new table, or nothing any more.
+/// Returns what stands at the index of an older realm: its new table, or nothing any more.
 fn table_then(
     alloc: Global,
     slots: &mut Vec<Option<Realm>>,

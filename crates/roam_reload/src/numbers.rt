@@ -7,21 +7,21 @@ ghost use Rattle.roam_reload.specs.Numbers.{KeepAt, KeepEach, KeepsNumbers, same
 
 use roam_conf::{Config, Peer, Realm, is_same_name};
 
-/// Whether two tables are of one peer that is here in both.
+/// Returns whether two tables are of one peer that is here in both.
 pub(crate) fn is_same_peer(a: &Peer, b: &Peer) -> bool
     ensures { result ≡ same_peer_name (shown_peer a.now) (shown_peer b.now) }
 {
     !a.gone && !b.gone && a.name.as_str() == b.name.as_str()
 }
 
-/// Whether two tables are of one realm that is here in both.
+/// Returns whether two tables are of one realm that is here in both.
 pub(crate) fn is_same_realm(a: &Realm, b: &Realm) -> bool
     ensures { result ≡ same_realm_name (shown_realm a.now) (shown_realm b.now) }
 {
     !a.gone && !b.gone && is_same_name(a.name.as_bytes(), b.name.as_bytes())
 }
 
-/// Whether the index of an old peer is the same peer's in both, or its place is empty.
+/// Returns whether the index of an old peer is the same peer's in both, or its place is empty.
 fn keeps_peer(old: &[Peer], new: &[Peer], i: usize) -> bool
     requires { i < length old.now }
     ensures { IsTrue result
@@ -34,7 +34,7 @@ fn keeps_peer(old: &[Peer], new: &[Peer], i: usize) -> bool
     }
 }
 
-/// Whether each index is the same peer's in both, or its place is empty.
+/// Returns whether each index is the same peer's in both, or its place is empty.
 fn keeps_peers(old: &[Peer], new: &[Peer]) -> bool
     ensures { IsTrue result
         ↔ KeepEach same_peer_name (λ peer. peer.gone) (map shown_peer old.now) (map shown_peer new.now) }
@@ -47,7 +47,7 @@ fn keeps_peers(old: &[Peer], new: &[Peer]) -> bool
     true
 }
 
-/// Whether the index of an old realm is the same realm's in both, or its place is empty.
+/// Returns whether the index of an old realm is the same realm's in both, or its place is empty.
 fn keeps_realm(old: &[Realm], new: &[Realm], i: usize) -> bool
     requires { i < length old.now }
     ensures { IsTrue result
@@ -60,7 +60,7 @@ fn keeps_realm(old: &[Realm], new: &[Realm], i: usize) -> bool
     }
 }
 
-/// Whether each index is the same realm's in both, or its place is empty.
+/// Returns whether each index is the same realm's in both, or its place is empty.
 fn keeps_realms(old: &[Realm], new: &[Realm]) -> bool
     ensures { IsTrue result
         ↔ KeepEach same_realm_name (λ realm. realm.gone) (map shown_realm old.now) (map shown_realm new.now) }
@@ -73,7 +73,7 @@ fn keeps_realms(old: &[Realm], new: &[Realm]) -> bool
     true
 }
 
-/// Whether each index is the same realm's and the same peer's in both, or its place is empty.
+/// Returns whether each index is the same realm's and the same peer's in both, or its place is empty.
 pub(crate) fn keeps_numbers(old: &Config, new: &Config) -> bool
     ensures { IsTrue result ↔ KeepsNumbers (shown old.now) (shown new.now) }
 {

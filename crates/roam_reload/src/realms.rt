@@ -110,7 +110,7 @@ pub fn realm_difference(old: &Realm, new: &Realm) -> Option<RealmKey>
     }
 }
 
-/// Whether two tables of a realm differ in a key.
+/// Returns whether two tables of a realm differ in a key.
 pub fn is_other_in(old: &Realm, new: &Realm, key: RealmKey) -> bool
     ensures { IsTrue result ↔ RealmsDiffer (shown_realm old.now) (shown_realm new.now) key }
 {

@@ -55,7 +55,7 @@ fn source_of(realm: &Realm, home: u8) -> Option<SourceRef<'_>>
     }
 }
 
-/// Whether both sources are there and the same, or neither is.
+/// Returns whether both sources are there and the same, or neither is.
 fn is_same_source(old: Option<SourceRef<'_>>, new: Option<SourceRef<'_>>) -> bool
     ensures { result
         ≡ both_or_none same_source (option_map shown_source old.entry) (option_map shown_source new.entry) }
@@ -69,14 +69,14 @@ fn is_same_source(old: Option<SourceRef<'_>>, new: Option<SourceRef<'_>>) -> boo
     }
 }
 
-/// Whether a realm takes reverse requests.
+/// Returns whether a realm takes reverse requests.
 fn takes_reverse(realm: &Realm) -> bool
     ensures { result ≡ takes_reverse (shown_realm realm.now) }
 {
     !realm.reverse.is_empty()
 }
 
-/// Whether a realm takes reverse requests no more.
+/// Returns whether a realm takes reverse requests no more.
 fn closes_reverse(old: &Realm, new: &Realm) -> bool
     ensures { result ≡ closes_reverse (shown_realm old.now) (shown_realm new.now) }
 {

@@ -54,7 +54,7 @@ fn status_of(request: &View<'_>) -> Option<u32>
     number_in(request.first(ACCT_STATUS_TYPE)?)
 }
 
-/// What a status says of the session of an id, if there is one.
+/// Returns what a status says of the session of an id, if there is one.
 fn said_of_session<'a>(peer: u16, nas: NasRef<'a>, status: u32, id: Option<Short<'a>>) -> Said<'a>
     ensures { said_of result
         ≡ change_by_id peer (shown_nas nas.entry) status (option_map shown_short id.entry) }
@@ -70,8 +70,8 @@ fn said_of_session<'a>(peer: u16, nas: NasRef<'a>, status: u32, id: Option<Short
     }
 }
 
-/// What an Accounting-Request of a peer says of its sessions, where names of access servers count or not. Its first
-/// Acct-Status-Type, its first Acct-Session-Id and those names alone decide.
+/// Returns what an Accounting-Request of a peer says of its sessions, where names of access servers count or not. Its
+/// first Acct-Status-Type, its first Acct-Session-Id and those names alone decide.
 #[tactic(auto, unfolding(crate::specs::Sessions::change_by_request))]
 pub(crate) fn said_by<'a>(own: bool, peer: u16, request: &View<'a>) -> Said<'a>
     ensures { said_of result ≡ change_by_request own peer request.now.attributes }

@@ -76,7 +76,7 @@ pub(crate) fn counted_nas<'a>(own: bool, request: &View<'a>) -> NasRef<'a>
 }
 
 impl<'a> SessionRef<'a> {
-    /// What is asked for this session alone, but for sessions that have further names.
+    /// Returns what is asked for this session alone, but for sessions that have further names.
     pub(crate) fn asked(self) -> AskedRef<'a>
         ensures { shown_asked result ≡ asked_for (shown_session self.entry) }
     {
@@ -87,7 +87,7 @@ impl<'a> SessionRef<'a> {
         }
     }
 
-    /// What is asked for this session by some of its parts; nothing where it hasn't one of them.
+    /// Returns what is asked for this session by some of its parts; nothing where it hasn't one of them.
     pub(crate) fn narrowed(self, mask: Mask) -> Option<AskedRef<'a>>
         ensures { option_map shown_asked result ≡ narrow mask (shown_session self.entry) }
     {
@@ -115,7 +115,7 @@ impl<'a> SessionRef<'a> {
         })
     }
 
-    /// Whether it has a name that isn't asked for.
+    /// Returns whether it has a name that isn't asked for.
     fn has_more(self, mask: Mask) -> bool
         ensures { result ≡ has_more mask (shown_session self.entry) }
     {
@@ -124,7 +124,8 @@ impl<'a> SessionRef<'a> {
             || (!mask.ipv6 && self.nas.ipv6.is_some())
     }
 
-    /// What is asked for this session in the groups by some of its parts. By its id and all of its names it is in none.
+    /// Returns what is asked for this session in the groups by some of its parts. By its id and all of its names it is
+    /// in none.
     pub(crate) fn grouped(self, mask: Mask) -> Option<AskedRef<'a>>
         ensures { option_map shown_asked result ≡ grouped_as mask (shown_session self.entry) }
     {

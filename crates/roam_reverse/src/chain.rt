@@ -96,7 +96,7 @@ impl<A: Allocator + Copy> Chain<A> {
         }
     }
 
-    /// How many sessions there are.
+    /// Returns how many sessions there are.
     pub(crate) fn len(&self) -> usize
         ensures { result ≡ session_count self.now }
     {
@@ -117,7 +117,7 @@ impl<A: Allocator + Copy> Chain<A> {
         self.whole.oldest(new.whole.as_slice())
     }
 
-    /// How many sessions agree with what is asked, which names an id.
+    /// Returns how many sessions agree with what is asked, which names an id.
     pub(crate) fn count(&self, asked: AskedRef<'_>) -> usize
         ensures { IsSound self.now → is_some (shown_asked asked.entry).id ≡ true
             → result ≡ length (filter (agrees (shown_asked asked.entry)) (sessions_of self.now)) }
@@ -231,7 +231,7 @@ impl<A: Allocator + Copy> Chain<A> {
         self.of_peer.oldest(asked)
     }
 
-    /// How many sessions agree with what is asked, which names no id.
+    /// Returns how many sessions agree with what is asked, which names no id.
     pub(crate) fn count_of_peer(&self, asked: AskedRef<'_>) -> usize
         ensures { IsSound self.now → is_some (shown_asked asked.entry).id ≡ false
             → result ≡ length (filter (agrees (shown_asked asked.entry)) (sessions_of self.now)) }

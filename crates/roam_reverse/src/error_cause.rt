@@ -36,7 +36,7 @@ pub const OTHER_PROXY_PROCESSING_ERROR: u32 = 505;
 /// The request names several sessions at once.
 pub const MULTIPLE_SESSION_SELECTION: u32 = 508;
 
-/// Whether the realm that a User-Name names, if it names one, is this realm.
+/// Returns whether the realm that a User-Name names, if it names one, is this realm.
 fn is_realm(realm: u16, named: Option<u16>) -> bool
     ensures { result ≡ is_realm realm named }
 {
@@ -46,7 +46,7 @@ fn is_realm(realm: u16, named: Option<u16>) -> bool
     }
 }
 
-/// Why a request isn't forwarded for its User-Name, if it has one that names another realm or none.
+/// Returns why a request isn't forwarded for its User-Name, if it has one that names another realm or none.
 fn cause_by_user(realm: u16, named: Option<u16>, user: Option<&[u8]>) -> Option<u32>
     ensures { result ≡ cause_by_user realm named (option_map (λ value. value.now) user.entry) }
 {
@@ -56,7 +56,7 @@ fn cause_by_user(realm: u16, named: Option<u16>, user: Option<&[u8]>) -> Option<
     Some(REQUEST_NOT_ROUTABLE)
 }
 
-/// Why a request to a peer of a realm without `own_sessions` isn't forwarded for what it names, if it isn't.
+/// Returns why a request to a peer of a realm without `own_sessions` isn't forwarded for what it names, if it isn't.
 fn cause_by_name<A: Allocator + Copy>(
     realm: u16,
     named: Option<u16>,
@@ -86,7 +86,7 @@ fn cause_by_name<A: Allocator + Copy>(
     Some(SESSION_CONTEXT_NOT_FOUND)
 }
 
-/// Why a request isn't forwarded that has several User-Names or several Acct-Session-Ids.
+/// Returns why a request isn't forwarded that has several User-Names or several Acct-Session-Ids.
 fn cause_by_count(request: &View<'_>) -> Option<u32>
     ensures { result ≡ cause_by_count request.now.attributes }
 {
@@ -96,7 +96,7 @@ fn cause_by_count(request: &View<'_>) -> Option<u32>
     None
 }
 
-/// Why a request to a peer isn't forwarded for the sessions that it means, where that isn't just one.
+/// Returns why a request to a peer isn't forwarded for the sessions that it means, where that isn't just one.
 fn cause_by_meant<A: Allocator + Copy>(
     peer: u16,
     request: &View<'_>,
@@ -119,7 +119,7 @@ fn cause_by_meant<A: Allocator + Copy>(
     }
 }
 
-/// Why a request to a peer of a realm with `own_sessions` isn't forwarded for what it names, if it isn't.
+/// Returns why a request to a peer of a realm with `own_sessions` isn't forwarded for what it names, if it isn't.
 fn cause_by_session<A: Allocator + Copy>(
     realm: u16,
     named: Option<u16>,
@@ -139,7 +139,8 @@ fn cause_by_session<A: Allocator + Copy>(
     cause_by_meant(peer, request, sessions)
 }
 
-/// Why a request to a peer isn't forwarded for what it names, by whether that must be one of the realm's own sessions.
+/// Returns why a request to a peer isn't forwarded for what it names, by whether that must be one of the realm's own
+/// sessions.
 fn cause_by_names<A: Allocator + Copy>(
     own: bool,
     realm: u16,
@@ -158,7 +159,7 @@ fn cause_by_names<A: Allocator + Copy>(
     }
 }
 
-/// Whether a realm's reverse requests must name one of its own sessions.
+/// Returns whether a realm's reverse requests must name one of its own sessions.
 fn names_sessions(config: &Config, realm: u16) -> bool
     ensures { result ≡ names_sessions (slice_get (shown config.now).realms realm) }
 {
@@ -168,7 +169,7 @@ fn names_sessions(config: &Config, realm: u16) -> bool
     }
 }
 
-/// Why a request isn't forwarded for a salted string, if it holds one.
+/// Returns why a request isn't forwarded for a salted string, if it holds one.
 fn cause_by_salt(request: &View<'_>) -> Option<u32>
     ensures { result ≡ cause_by_salt request.now.attributes }
 {

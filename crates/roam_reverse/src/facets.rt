@@ -70,7 +70,7 @@ pub(crate) struct FacetRows<A: Allocator> {
     pub(crate) by_all: Option<Vec<u8, A>>,
 }
 
-/// What is asked for by these names of the access server, and by the id or not.
+/// Returns what is asked for by these names of the access server, and by the id or not.
 fn mask(address: bool, identifier: bool, ipv6: bool, id: bool) -> Mask
     ensures { result ≡ record { address = address; identifier = identifier; ipv6 = ipv6; id = id } }
 {
@@ -235,7 +235,7 @@ impl<A: Allocator + Copy> Facets<A> {
         }
     }
 
-    /// How many sessions of these groups agree with what is asked, which names an id just where the groups do.
+    /// Returns how many sessions of these groups agree with what is asked, which names an id just where the groups do.
     pub(crate) fn count(&self, asked: AskedRef<'_>) -> usize
         ensures { (F : ℕ → Option Session) → AreFaceted F self.now
             → is_some (shown_asked asked.entry).id ≡ self.now.with_id

@@ -39,7 +39,7 @@ impl<A: Allocator + Copy> Groups<A> {
         }
     }
 
-    /// How many numbers a group has.
+    /// Returns how many numbers a group has.
     pub(crate) fn count(&self, row: &[u8]) -> usize
         ensures { result ≡ count_of (groups_of self.now) row.now }
     {

@@ -83,14 +83,14 @@ impl<A: Allocator + Copy> Sessions<A> {
         self.limit = limit;
     }
 
-    /// How many sessions are open. Takes no memory.
+    /// Returns how many sessions are open. Takes no memory.
     pub fn len(&self) -> usize
         ensures { result ≡ length self.now.sessions }
     {
         self.table.len()
     }
 
-    /// Whether a session is open. Takes no memory.
+    /// Returns whether a session is open. Takes no memory.
     pub(crate) fn has(&self, session: SessionRef<'_>) -> bool
         ensures found { result ≡ has_session (shown_session session.entry) self.now.sessions }
         ensures ledger { IsLedger self.now.limit self.now.sessions }
@@ -98,14 +98,14 @@ impl<A: Allocator + Copy> Sessions<A> {
         self.table.find(session).is_some()
     }
 
-    /// Whether a session is open that is to be opened. Takes no memory.
+    /// Returns whether a session is open that is to be opened. Takes no memory.
     fn holds(&self, new: &NewSession<A>) -> bool
         ensures { result ≡ has_session (kept_session new.now.session) self.now.sessions }
     {
         self.table.holds(new)
     }
 
-    /// How many sessions agree with what is asked, which names an id. Takes no memory.
+    /// Returns how many sessions agree with what is asked, which names an id. Takes no memory.
     pub(crate) fn count(&self, asked: AskedRef<'_>) -> usize
         requires { is_some (shown_asked asked).id ≡ true }
         ensures { result ≡ length (filter (agrees (shown_asked asked.entry)) self.now.sessions) }
@@ -287,7 +287,7 @@ impl<A: Allocator + Copy> Sessions<A> {
         self.limit = limit;
     }
 
-    /// How many sessions of a peer are open. Takes no memory.
+    /// Returns how many sessions of a peer are open. Takes no memory.
     pub fn count_of(&self, peer: u16) -> usize
         ensures { result ≡ count_of_peer peer self.now.sessions }
     {

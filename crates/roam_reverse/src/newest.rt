@@ -9,7 +9,7 @@ ghost use Rattle.roam_reverse.specs.Stands.{IsSound, session_at, session_count, 
 use crate::chain::Chain;
 use std::alloc::Allocator;
 
-/// How many tickets come before a ticket.
+/// Returns how many tickets come before a ticket.
 fn count_below(tickets: &[u64], ticket: u64) -> usize
     ensures { result ≡ count_by (λ t. nat_lt t ticket) tickets.now }
 {
@@ -56,7 +56,7 @@ fn one_below(tickets: &[u64], first: usize, end: u64) -> Option<(usize, u64)>
 }
 
 impl<A: Allocator + Copy> Chain<A> {
-    /// How many sessions were opened before a ticket.
+    /// Returns how many sessions were opened before a ticket.
     fn count_before(&self, ticket: u64) -> usize
         ensures { result ≡ length (listed (session_at self.now) 0 ticket) }
     {

@@ -47,7 +47,7 @@ fn put_part(buffer: &mut [u8; 1024], at: usize, part: Option<Short<'_>>) -> usiz
     at + 1 + size
 }
 
-/// How many octets a part takes.
+/// Returns how many octets a part takes.
 fn part_len(part: Option<Short<'_>>) -> usize
     ensures value { result ≡ length (part_text (option_map shown_short part.entry)) }
     ensures bound { result ≤ 254 }

@@ -32,7 +32,7 @@ impl<A: Allocator + Copy> KeptShort<A> {
 }
 
 impl<A: Allocator> KeptShort<A> {
-    /// Where they lie.
+    /// Returns where they lie.
     pub(crate) fn lend(&self) -> Short<'_>
         ensures { shown_short result ≡ kept_octets self.now }
     {
@@ -53,7 +53,7 @@ impl ShortArray {
         ShortArray { octets, len }
     }
 
-    /// Where they lie.
+    /// Returns where they lie.
     pub(crate) fn lend(&self) -> Short<'_>
         ensures { shown_short result ≡ short_octets self.now }
     {

@@ -30,7 +30,14 @@ use Rattle.roam_route.proofs.SenderLemmas.{realm_of_within}
 
 -- the arrival of a packet without padding, and without the wall clock's seconds
 abbrev pub without_padding : Arrival → Packet → Arrival
-without_padding a p = record { at = a.at; from = a.from; octets = packet_text p; seconds = None }
+without_padding a p =
+    record {
+      at = a.at;
+      from = a.from;
+      octets = packet_text p;
+      seconds = None;
+      keeps_session = a.keeps_session;
+    }
 
 -- ---- what is admitted of a packet
 

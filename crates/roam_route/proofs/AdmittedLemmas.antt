@@ -189,6 +189,7 @@ sent_right config a p job (Some s) from of h =
         sender = from ∙ ap (λ (x : Side). Some x) (sym is.side_is);
         octets = is.octets_are;
         named = is.named_is;
+        keeps_session = is.kept_is;
       },
       subst (λ (x : Side). IsRightRequest config a.seconds a.at x p job.realm) (sym is.side_is) right.1,
     )
@@ -205,6 +206,7 @@ admitted_is_right config a p job read of = (
         side_is = refl;
         octets_are = of_packet.octets;
         named_is = of_packet.named;
+        kept_is = of_packet.keeps_session;
       } in
       as_sent config a p read
       ∙ ap (sent_admission config a p) of_packet.sender

@@ -31,6 +31,16 @@ use Rattle.roam_route.specs.declared.job.Side.{Side}
 use Rattle.roam_route.specs.declared.job.Side.TheVariants as side
 use Rattle.roam_route.specs.OwnPart.{own}
 
+-- a datagram that arrived, of its parts
+abbrev pub came : Place → Endpoint → List ℕ → Option ℕ → Bool → Arrival
+came at from octets seconds kept = record {
+  at = at;
+  from = from;
+  octets = octets;
+  seconds = seconds;
+  keeps_session = kept;
+}
+
 -- what is checked gives the same where what follows does, and nothing where that gives nothing
 pub own-checked : (realm : ℕ) (b : Bool) (why : Refusal) (x y : Admission) → own realm x ≡ own realm y →
     own realm (checked b why x) ≡ own realm (checked b why y)
@@ -173,27 +183,28 @@ none-access realm k cause config secret a s p most asks differs =
 
 -- at another realm's places nothing is the realm's
 pub out-none : (realm : ℕ) (config : ConfigView) (k nth : ℕ) (from : Endpoint) (octets : List ℕ) (seconds : Option ℕ)
+    (kept : Bool)
     (p : Packet) (s : Option Side) →
     (k == realm) ≡ false
     → own realm
-    (sent_admission config (record { at = place.Out k nth; from = from; octets = octets; seconds = seconds }) p s)
+    (sent_admission config (came (place.Out k nth) from octets seconds kept) p s)
     ≡ None
-out-none realm config k nth from octets seconds p None differs = refl
-out-none realm config k nth from octets seconds p (Some s) differs =
-    let a : Arrival = record { at = place.Out k nth; from = from; octets = octets; seconds = seconds } in
+out-none realm config k nth from octets seconds kept p None differs = refl
+out-none realm config k nth from octets seconds kept p (Some s) differs =
+    let a : Arrival = came (place.Out k nth) from octets seconds kept in
     none-checked realm (is_taken (place.Out k nth) s p.code) refusal.WrongCode (job_of a s p k None)
     (none-given realm k a s p None differs)
 
 pub reverse-none : (realm : ℕ) (config : ConfigView) (k nth : ℕ) (from : Endpoint) (octets : List ℕ)
-    (seconds : Option ℕ)
+    (seconds : Option ℕ) (kept : Bool)
     (p : Packet) (o : Option ℕ) →
     (k == realm) ≡ false
     → own realm
-    (sent_admission config (record { at = place.Reverse k nth; from = from; octets = octets; seconds = seconds }) p
+    (sent_admission config (came (place.Reverse k nth) from octets seconds kept) p
     (option_map (λ i. side.Home i) o)) ≡ None
-reverse-none realm config k nth from octets seconds p None differs = refl
-reverse-none realm config k nth from octets seconds p (Some i) differs =
-    let a : Arrival = record { at = place.Reverse k nth; from = from; octets = octets; seconds = seconds } in
+reverse-none realm config k nth from octets seconds kept p None differs = refl
+reverse-none realm config k nth from octets seconds kept p (Some i) differs =
+    let a : Arrival = came (place.Reverse k nth) from octets seconds kept in
     let secret = home_secret config k i in
     none-checked realm (is_taken (place.Reverse k nth) (side.Home i) p.code) refusal.WrongCode
     (request_admission config secret a (side.Home i) p)

@@ -1,5 +1,5 @@
 -- What is prepared of an arrival, and what holds of each event.
-use Rattle.std.proofs.Common.{◌≡◌, ◌<◌, ℕ, true, List, [], length, drop, Option, Some, None, IsSome, inl, inr, refl, sym, ap, subst, ◌∙◌, arith}
+use Rattle.std.proofs.Common.{◌≡◌, ◌<◌, ℕ, Bool, false, true, List, [], length, drop, Option, Some, None, IsSome, inl, inr, refl, sym, ap, subst, ◌∙◌, arith}
 use Rattle.std.specs.Prelude.{Result, Ok, Err, IfOk, nat_lt}
 use Rattle.std.specs.Option.{option_map_or}
 use Rattle.std.proofs.lemmas.Bool.{cases_Bool}
@@ -11,9 +11,10 @@ use Rattle.roam_wire.specs.declared.refusal.Refusal.TheVariants as refusal
 use Rattle.roam_wire.proofs.PacketLemmas.{IsPacketText-front, IsPacketText-packet_text, ReadsAs-packet_text, ReadsAs-follows, length-packet_text, packet_of-packet_text}
 use Rattle.roam_wire.proofs.ReadingLemmas.{reading-ok}
 use Rattle.roam_conf.specs.Config.{ConfigView}
+use Rattle.roam_conf.specs.declared.place.Place.{Place}
 use Rattle.roam_conf.specs.declared.place.Place.TheVariants as place
-use Rattle.roam_route.specs.Admission.{Arrival, PlainJob, admitted, sender, sent_admission, read_admission, admission, is_taken}
-use Rattle.roam_route.specs.Events.{arrival_of, IsEvent, IsPrepared, IsForwardable, IsNamed, EventHasRealm, EventIsSound}
+use Rattle.roam_route.specs.Admission.{Arrival, PlainJob, admitted, job_of, refused, sender, sent_admission, read_admission, admission, is_taken}
+use Rattle.roam_route.specs.Events.{arrival_of, IsEvent, IsPrepared, IsForwardable, IsNamed, EventHasRealm, EventIsSound, EventWithoutSession, without_session}
 use Rattle.roam_route.specs.Shown.{IsAdmission, shown_job}
 use Rattle.roam_route.specs.declared.job.Prepared.{Prepared}
 use Rattle.roam_route.specs.declared.job.Prepared.TheVariants as prepared
@@ -167,3 +168,63 @@ event_sound config job octets is =
       forwardable = subst (IsForwardable config job.realm job.side) (sym same) h.forwardable;
       named = subst (λ (x : Packet). IsNamed config job.side x job.named) (sym same) h.names;
     }
+
+-- ---- without a session
+
+-- the arrival of a job's octets at this place, whether its session is kept or not
+abbrev came_at : PlainJob → Place → Bool → Arrival
+came_at job at kept = record {
+  at = at;
+  from = job.from;
+  octets = job.octets;
+  seconds = None;
+  keeps_session = kept;
+}
+
+-- the job that a packet from there gives
+abbrev given_at : PlainJob → ℕ → ℕ → Side → Packet → PlainJob
+given_at job k nth s p = record {
+  realm = k;
+  place = place.Out k nth;
+  from = job.from;
+  side = s;
+  octets = packet_text p;
+  named = None;
+  keeps_session = job.keeps_session;
+}
+
+same_job : (one other : PlainJob) → admitted one ≡ admitted other → one ≡ other
+same_job one other is = cc is
+
+-- what a packet gives that came at an `out`, it gives without its session too
+unkept_sent : (config : ConfigView) (job : PlainJob) (k nth : ℕ) (p : Packet) (o : Option Side)
+    → sent_admission config (came_at job (place.Out k nth) job.keeps_session) p o ≡ admitted job
+    → sent_admission config (came_at job (place.Out k nth) false) p o ≡ admitted (without_session job)
+unkept_sent config job k nth p None is = absurd (cc is)
+unkept_sent config job k nth p (Some s) is =
+    elim (cases_Bool (is_taken (place.Out k nth) s p.code)) [
+      | inl taken ↦
+          let given : job_of (came_at job (place.Out k nth) job.keeps_session) s p k None ≡ admitted job =
+          rw taken at is in
+          let unkept : admitted (without_session (given_at job k nth s p)) ≡ admitted (without_session job) =
+          ap (λ (j : PlainJob). admitted (without_session j)) (same_job (given_at job k nth s p) job given) in
+          rw taken unkept
+      | inr isnt ↦ absurd (let k : refused refusal.WrongCode ≡ admitted job = rw isnt at is in cc k)
+    ]
+
+unkept_read : (config : ConfigView) (job : PlainJob) (k nth : ℕ) (read : Result Packet Refusal)
+    → read_admission config (came_at job (place.Out k nth) job.keeps_session) read ≡ admitted job
+    → read_admission config (came_at job (place.Out k nth) false) read ≡ admitted (without_session job)
+unkept_read config job k nth (Err why) is = absurd (cc is)
+unkept_read config job k nth (Ok p) is =
+    unkept_sent config job k nth p
+    (sender config (came_at job (place.Out k nth) job.keeps_session) (place.Out k nth)) is
+
+pub event_unkept : EventWithoutSession
+unfolding admission
+event_unkept config job k nth at is =
+    let read = reading job.octets in
+    let here : read_admission config (came_at job (place.Out k nth) job.keeps_session) read ≡ admitted job =
+    subst (λ (x : Place). read_admission config (came_at job x job.keeps_session) read ≡ admitted job) at is in
+    subst (λ (x : Place). read_admission config (came_at job x false) read ≡ admitted (without_session job)) (sym at)
+    (unkept_read config job k nth read here)

@@ -28,7 +28,7 @@ use Rattle.roam_route.specs.Admission.{Arrival, Admission, sender, checked, acco
 use Rattle.roam_route.specs.declared.job.Side.{Side}
 use Rattle.roam_route.specs.declared.job.Side.TheVariants as side
 use Rattle.roam_route.specs.OwnPart.{AnswerAlike, OwnAnswersDecided, answered}
-use Rattle.roam_route.proofs.AlikeLemmas.{LooksAlike, access_by, asked, asker-found, counted, realm-same, seal-same, secret-same}
+use Rattle.roam_route.proofs.AlikeLemmas.{came, LooksAlike, access_by, asked, asker-found, counted, realm-same, seal-same, secret-same}
 
 -- what is checked is answered nowhere, where what follows isn't
 none-checked : (b : Bool) (why : Refusal) (x : Admission) → answered x ≡ None → answered (checked b why x) ≡ None
@@ -103,24 +103,22 @@ named-same one other a s p (Some realm) =
     ∙ sym (not-answered (sent_length other s p realm) a s p realm (Some realm))
 
 -- at a realm's sockets nothing is
-out-none : (config : ConfigView) (k nth : ℕ) (from : Endpoint) (octets : List ℕ) (seconds : Option ℕ) (p : Packet)
-    (s : Option Side)
-    → answered
-    (sent_admission config (record { at = place.Out k nth; from = from; octets = octets; seconds = seconds }) p s)
-    ≡ None
-out-none config k nth from octets seconds p None = refl
-out-none config k nth from octets seconds p (Some s) =
-    let a : Arrival = record { at = place.Out k nth; from = from; octets = octets; seconds = seconds } in
+out-none : (config : ConfigView) (k nth : ℕ) (from : Endpoint) (octets : List ℕ) (seconds : Option ℕ) (kept : Bool)
+    (p : Packet) (s : Option Side)
+    → answered (sent_admission config (came (place.Out k nth) from octets seconds kept) p s) ≡ None
+out-none config k nth from octets seconds kept p None = refl
+out-none config k nth from octets seconds kept p (Some s) =
+    let a : Arrival = came (place.Out k nth) from octets seconds kept in
     none-checked (is_taken (place.Out k nth) s p.code) refusal.WrongCode (job_of a s p k None) refl
 
-reverse-none : (config : ConfigView) (k nth : ℕ) (from : Endpoint) (octets : List ℕ) (seconds : Option ℕ) (p : Packet)
-    (o : Option ℕ)
+reverse-none : (config : ConfigView) (k nth : ℕ) (from : Endpoint) (octets : List ℕ) (seconds : Option ℕ) (kept : Bool)
+    (p : Packet) (o : Option ℕ)
     → answered
-    (sent_admission config (record { at = place.Reverse k nth; from = from; octets = octets; seconds = seconds }) p
+    (sent_admission config (came (place.Reverse k nth) from octets seconds kept) p
     (option_map (λ i. side.Home i) o)) ≡ None
-reverse-none config k nth from octets seconds p None = refl
-reverse-none config k nth from octets seconds p (Some i) =
-    let a : Arrival = record { at = place.Reverse k nth; from = from; octets = octets; seconds = seconds } in
+reverse-none config k nth from octets seconds kept p None = refl
+reverse-none config k nth from octets seconds kept p (Some i) =
+    let a : Arrival = came (place.Reverse k nth) from octets seconds kept in
     let secret = home_secret config k i in
     none-checked (is_taken (place.Reverse k nth) (side.Home i) p.code) refusal.WrongCode
     (request_admission config secret a (side.Home i) p)
@@ -254,46 +252,46 @@ module _ (one other : ConfigView) (same : AnswerAlike one other) where
       (checked is_taken_there refusal.WrongCode y)
       (answered-checked is_taken_there refusal.WrongCode x y (peer-same a i p))
 
-  auth-same : (nth : ℕ) (from : Endpoint) (octets : List ℕ) (seconds : Option ℕ) (p : Packet) (o : Option ℕ)
-      → let a : Arrival =
-      record { at = (place.Auth nth); from = from; octets = octets; seconds = seconds } in
+  auth-same : (nth : ℕ) (from : Endpoint) (octets : List ℕ) (seconds : Option ℕ) (kept : Bool) (p : Packet)
+      (o : Option ℕ) →
+      let a : Arrival = came (place.Auth nth) from octets seconds kept in
       answered (sent_admission one a p (option_map (λ i. side.Peer i) o))
       ≡ answered (sent_admission other a p (option_map (λ i. side.Peer i) o))
-  auth-same nth from octets seconds p None = refl
-  auth-same nth from octets seconds p (Some i) =
-      let a : Arrival = record { at = (place.Auth nth); from = from; octets = octets; seconds = seconds } in
+  auth-same nth from octets seconds kept p None = refl
+  auth-same nth from octets seconds kept p (Some i) =
+      let a : Arrival = came (place.Auth nth) from octets seconds kept in
       judged-same a i p (p.code == STATUS_SERVER) (is_taken (place.Auth nth) (side.Peer i) p.code)
 
-  acct-same : (nth : ℕ) (from : Endpoint) (octets : List ℕ) (seconds : Option ℕ) (p : Packet) (o : Option ℕ)
-      → let a : Arrival =
-      record { at = (place.Acct nth); from = from; octets = octets; seconds = seconds } in
+  acct-same : (nth : ℕ) (from : Endpoint) (octets : List ℕ) (seconds : Option ℕ) (kept : Bool) (p : Packet)
+      (o : Option ℕ) →
+      let a : Arrival = came (place.Acct nth) from octets seconds kept in
       answered (sent_admission one a p (option_map (λ i. side.Peer i) o))
       ≡ answered (sent_admission other a p (option_map (λ i. side.Peer i) o))
-  acct-same nth from octets seconds p None = refl
-  acct-same nth from octets seconds p (Some i) =
-      let a : Arrival = record { at = (place.Acct nth); from = from; octets = octets; seconds = seconds } in
+  acct-same nth from octets seconds kept p None = refl
+  acct-same nth from octets seconds kept p (Some i) =
+      let a : Arrival = came (place.Acct nth) from octets seconds kept in
       judged-same a i p (p.code == STATUS_SERVER) (is_taken (place.Acct nth) (side.Peer i) p.code)
 
-  place-same : (at : Place) (from : Endpoint) (octets : List ℕ) (seconds : Option ℕ) (p : Packet) → let a : Arrival =
-      record { at = at; from = from; octets = octets; seconds = seconds } in
+  place-same : (at : Place) (from : Endpoint) (octets : List ℕ) (seconds : Option ℕ) (kept : Bool) (p : Packet) →
+      let a : Arrival = came at from octets seconds kept in
       answered (sent_admission one a p (sender one a at)) ≡ answered (sent_admission other a p (sender other a at))
-  place-same (place.Auth nth) from octets seconds p =
+  place-same (place.Auth nth) from octets seconds kept p =
       rw (asker-found one other alike one.auth other.auth nth from.ip same.auth)
-      (auth-same nth from octets seconds p (asker_at other.auth other.peers nth from.ip))
-  place-same (place.Acct nth) from octets seconds p =
+      (auth-same nth from octets seconds kept p (asker_at other.auth other.peers nth from.ip))
+  place-same (place.Acct nth) from octets seconds kept p =
       rw (asker-found one other alike one.acct other.acct nth from.ip same.acct)
-      (acct-same nth from octets seconds p (asker_at other.acct other.peers nth from.ip))
-  place-same (place.Out k nth) from octets seconds p =
-      out-none one k nth from octets seconds p (option_map (λ l. side.Link l) (link_in one k nth from))
-      ∙ sym (out-none other k nth from octets seconds p (option_map (λ l. side.Link l) (link_in other k nth from)))
-  place-same (place.Reverse k nth) from octets seconds p =
-      reverse-none one k nth from octets seconds p (home_in one k nth from.ip)
-      ∙ sym (reverse-none other k nth from octets seconds p (home_in other k nth from.ip))
+      (acct-same nth from octets seconds kept p (asker_at other.acct other.peers nth from.ip))
+  place-same (place.Out k nth) from octets seconds kept p =
+      out-none one k nth from octets seconds kept p (option_map (λ l. side.Link l) (link_in one k nth from))
+      ∙ sym (out-none other k nth from octets seconds kept p (option_map (λ l. side.Link l) (link_in other k nth from)))
+  place-same (place.Reverse k nth) from octets seconds kept p =
+      reverse-none one k nth from octets seconds kept p (home_in one k nth from.ip)
+      ∙ sym (reverse-none other k nth from octets seconds kept p (home_in other k nth from.ip))
 
   read-same : (a : Arrival) (read : Result Packet Refusal) →
       answered (read_admission one a read) ≡ answered (read_admission other a read)
   read-same a (Err why) = refl
-  read-same a (Ok p) = place-same a.at a.from a.octets a.seconds p
+  read-same a (Ok p) = place-same a.at a.from a.octets a.seconds a.keeps_session p
 
 pub own_answers_decided : OwnAnswersDecided
 unfolding admission

@@ -32,7 +32,7 @@ use Rattle.roam_route.specs.Admission.{Arrival, Admission, sender, checked, acco
 use Rattle.roam_route.specs.declared.job.Side.{Side}
 use Rattle.roam_route.specs.declared.job.Side.TheVariants as side
 use Rattle.roam_route.specs.OwnPart.{own, HaveSamePart, OwnPartDecides}
-use Rattle.roam_route.proofs.AlikeLemmas.{LooksAlike, access_by, and-false, asked, asker-found, either-none, none-access, none-accounted, none-reversed, not-unnamed, own-checked, realm-same, seal-same, secret-same, sent-own, out-none, reverse-none, counted, own-access_by}
+use Rattle.roam_route.proofs.AlikeLemmas.{came, LooksAlike, access_by, and-false, asked, asker-found, either-none, none-access, none-accounted, none-reversed, not-unnamed, own-checked, realm-same, seal-same, secret-same, sent-own, out-none, reverse-none, counted, own-access_by}
 
 module _ (one other : ConfigView) (realm : ℕ) (same : HaveSamePart one other realm) where
   alike : LooksAlike one other
@@ -250,19 +250,19 @@ module _ (one other : ConfigView) (realm : ℕ) (same : HaveSamePart one other r
   home-found : (nth : ℕ) (ip : Address) → home_in one realm nth ip ≡ home_in other realm nth ip
   home-found nth ip = rw same.entry refl
 
-  place-same : (at : Place) (from : Endpoint) (octets : List ℕ) (seconds : Option ℕ) (p : Packet) → let a : Arrival =
-      record { at = at; from = from; octets = octets; seconds = seconds } in
+  place-same : (at : Place) (from : Endpoint) (octets : List ℕ) (seconds : Option ℕ) (kept : Bool) (p : Packet) →
+      let a : Arrival = came at from octets seconds kept in
       own realm (sent_admission one a p (sender one a at)) ≡ own realm (sent_admission other a p (sender other a at))
-  place-same (place.Auth nth) from octets seconds p =
-      let a : Arrival = record { at = (place.Auth nth); from = from; octets = octets; seconds = seconds } in
+  place-same (place.Auth nth) from octets seconds kept p =
+      let a : Arrival = came (place.Auth nth) from octets seconds kept in
       rw (asker-found one other alike one.auth other.auth nth from.ip same.auth)
       (known-same a p (sender other a (place.Auth nth)) (λ k m is. absurd (cc is)))
-  place-same (place.Acct nth) from octets seconds p =
-      let a : Arrival = record { at = (place.Acct nth); from = from; octets = octets; seconds = seconds } in
+  place-same (place.Acct nth) from octets seconds kept p =
+      let a : Arrival = came (place.Acct nth) from octets seconds kept in
       rw (asker-found one other alike one.acct other.acct nth from.ip same.acct)
       (known-same a p (sender other a (place.Acct nth)) (λ k m is. absurd (cc is)))
-  place-same (place.Out k nth) from octets seconds p =
-      let a : Arrival = record { at = place.Out k nth; from = from; octets = octets; seconds = seconds } in
+  place-same (place.Out k nth) from octets seconds kept p =
+      let a : Arrival = came (place.Out k nth) from octets seconds kept in
       elim (cases_Bool (k == realm)) [
         | inl yes' ↦ (
             let here : k ≡ realm = (Decides-eqb k realm).0 yes' in
@@ -272,11 +272,11 @@ module _ (one other : ConfigView) (realm : ℕ) (same : HaveSamePart one other r
             (ap (λ o. option_map (λ l. side.Link l) o) (link-found nth from)) in
             known-same a p (sender one a (place.Out k nth)) (λ j m is. absurd (cc is))
             ∙ ap (λ (s : Option Side). own realm (sent_admission other a p s)) found_by)
-        | inr no' ↦ out-none realm one k nth from octets seconds p (sender one a (place.Out k nth)) no'
-            ∙ sym (out-none realm other k nth from octets seconds p (sender other a (place.Out k nth)) no')
+        | inr no' ↦ out-none realm one k nth from octets seconds kept p (sender one a (place.Out k nth)) no'
+            ∙ sym (out-none realm other k nth from octets seconds kept p (sender other a (place.Out k nth)) no')
       ]
-  place-same (place.Reverse k nth) from octets seconds p =
-      let a : Arrival = record { at = place.Reverse k nth; from = from; octets = octets; seconds = seconds } in
+  place-same (place.Reverse k nth) from octets seconds kept p =
+      let a : Arrival = came (place.Reverse k nth) from octets seconds kept in
       elim (cases_Bool (k == realm)) [
         | inl yes' ↦ (
             let here : k ≡ realm = (Decides-eqb k realm).0 yes' in
@@ -286,14 +286,14 @@ module _ (one other : ConfigView) (realm : ℕ) (same : HaveSamePart one other r
             (ap (λ o. option_map (λ i. side.Home i) o) (home-found nth from.ip)) in
             known-same a p (sender one a (place.Reverse k nth)) (λ j m is. (let at : k ≡ j = cc is in sym at ∙ here))
             ∙ ap (λ (s : Option Side). own realm (sent_admission other a p s)) found_by)
-        | inr no' ↦ reverse-none realm one k nth from octets seconds p (home_in one k nth from.ip) no'
-            ∙ sym (reverse-none realm other k nth from octets seconds p (home_in other k nth from.ip) no')
+        | inr no' ↦ reverse-none realm one k nth from octets seconds kept p (home_in one k nth from.ip) no'
+            ∙ sym (reverse-none realm other k nth from octets seconds kept p (home_in other k nth from.ip) no')
       ]
 
   read-same : (a : Arrival) (read : Result Packet Refusal) →
       own realm (read_admission one a read) ≡ own realm (read_admission other a read)
   read-same a (Err why) = refl
-  read-same a (Ok p) = place-same a.at a.from a.octets a.seconds p
+  read-same a (Ok p) = place-same a.at a.from a.octets a.seconds a.keeps_session p
 
 pub own_part_decides : OwnPartDecides
 unfolding admission

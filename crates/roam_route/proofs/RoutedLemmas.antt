@@ -61,6 +61,7 @@ pub record IsJob (a : Arrival) (s : Side) (p : Packet) (named : Option ℕ) (job
   pub side_is : job.side ≡ s
   pub octets_are : job.octets ≡ packet_text p
   pub named_is : job.named ≡ named
+  pub kept_is : job.keeps_session ≡ a.keeps_session
 
 -- the job that is given
 abbrev given : Arrival → Side → Packet → ℕ → Option ℕ → PlainJob
@@ -71,12 +72,14 @@ given a s p realm named = record {
   side = s;
   octets = packet_text p;
   named = named;
+  keeps_session = a.keeps_session;
 }
 
 given_is : (a : Arrival) (s : Side) (p : Packet) (realm : ℕ) (named : Option ℕ) (job : PlainJob)
     → job.realm ≡ realm → IsJob a s p named job → given a s p realm named ≡ job
 given_is a s p realm named job here is =
-    rw (sym here, sym is.place_is, sym is.from_is, sym is.side_is, sym is.octets_are, sym is.named_is) refl
+    rw (sym here, sym is.place_is, sym is.from_is, sym is.side_is, sym is.octets_are, sym is.named_is, sym is.kept_is)
+    refl
 
 pub given_by : (a : Arrival) (s : Side) (p : Packet) (realm : ℕ) (named : Option ℕ) (job : PlainJob)
     → (job_of a s p realm named ≡ admitted job) ↔ ((job.realm ≡ realm) × IsJob a s p named job)
@@ -90,6 +93,7 @@ given_by a s p realm named job = (
           side_is = ap (λ (j : PlainJob). j.side) (sym same);
           octets_are = ap (λ (j : PlainJob). j.octets) (sym same);
           named_is = ap (λ (j : PlainJob). j.named) (sym same);
+          kept_is = ap (λ (j : PlainJob). j.keeps_session) (sym same);
         },
       )
       ),

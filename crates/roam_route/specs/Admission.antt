@@ -152,6 +152,7 @@ job_of a s p realm names =
       side = s;
       octets = packet_text p;
       named = names;
+      keeps_session = a.keeps_session;
     })
 
 -- a request of a realm, where the packet that is forwarded for it has at most 4096 octets
@@ -285,8 +286,7 @@ read_admission config a (Ok p) = sent_admission config a p (sender config a a.at
 
 -- ## Admission
 -- What one arrival gives: a refusal, the first of the refusals 1 to 5, 28, 6 to 8, 24, 9, 29, 25, 26 and 10 whose cause
--- holds; a local
--- answer: a local reject, for an Access-Request that has too many hops, names no realm that takes its peer's requests
+-- holds; a local answer: a local reject, for an Access-Request that has too many hops, names no realm that takes its peer's requests
 -- or whose password can't be carried, looked at between 8 and 9, the answer to a Status-Server, or to an
 -- Accounting-Request that isn't forwarded; or an event of a realm: a request from a peer or a home server, or a
 -- reply from a link. It is one function of the configuration and the

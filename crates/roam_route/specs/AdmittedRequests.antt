@@ -139,13 +139,14 @@ pub record IsRightRequest (config : ConfigView) (seconds : Option ℕ) (at : Pla
   pub size : sent_length config s p realm ≤ MAX_PACKET_LENGTH
 
 -- a job is a packet's: from the place, the source and the sender of the arrival, with the packet's octets
--- without padding, and the realm that its User-Name names
+-- without padding, the realm that its User-Name names, and whether the arrival's session is kept
 pub record IsJobOf (config : ConfigView) (a : Arrival) (p : Packet) (job : PlainJob) : Type 0 where
   pub place : job.place ≡ a.at
   pub from : job.from ≡ a.from
   pub sender : sender config a a.at ≡ Some job.side
   pub octets : job.octets ≡ packet_text p
   pub named : job.named ≡ realm_of config p.attributes
+  pub keeps_session : job.keeps_session ≡ a.keeps_session
 
 -- a job came from a peer or a home server, so it is a request; what a link sends is a reply
 abbrev pub IsOfRequest : Side → Type 0

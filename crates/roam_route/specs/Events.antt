@@ -1,11 +1,12 @@
 -- The events that a configuration gives to its realms. Ours.
-use Rattle.std.specs.Prelude.{◌≡◌, ℕ, ◌<◌, true, length, Option, None}
+use Rattle.std.specs.Prelude.{◌≡◌, ℕ, ◌<◌, false, true, length, Option, None}
 use Rattle.roam_wire.specs.Packet.{AreOctets, Packet, packet_length}
 use Rattle.roam_wire.specs.Reading.{IsPacketText, packet_of}
 use Rattle.roam_conf.specs.Config.{ConfigView}
 use Rattle.roam_conf.specs.Lookup.{IsLinkIn, homes_in}
 use Rattle.roam_fwd.specs.Forwarded.{CanBeForwarded}
 use Rattle.roam_fwd.specs.Shaped.{CanBeShaped}
+use Rattle.roam_conf.specs.declared.place.Place.TheVariants as place
 use Rattle.roam_route.specs.declared.job.Prepared.{Prepared}
 use Rattle.roam_route.specs.declared.job.Prepared.TheVariants as prepared
 use Rattle.roam_route.specs.declared.job.Side.{Side}
@@ -15,9 +16,17 @@ use Rattle.roam_route.specs.Shapings.{shaping_of}
 use Rattle.roam_route.specs.Shown.{shown_job, shown_out}
 use Rattle.roam_route.specs.UserName.{realm_of}
 
--- the arrival of a job's own octets, from its source at its place, with no wall clock: what was admitted isn't stale
+-- the arrival of a job's own octets, from its source at its place, with no wall clock: what was admitted isn't stale;
+-- its session is kept where the job's is
 abbrev pub arrival_of : PlainJob → Arrival
-arrival_of job = record { at = job.place; from = job.from; octets = job.octets; seconds = None }
+arrival_of job =
+    record {
+      at = job.place;
+      from = job.from;
+      octets = job.octets;
+      seconds = None;
+      keeps_session = job.keeps_session;
+    }
 
 -- ## Event of a realm
 -- A job is an event of a configuration where the arrival of its own octets is admitted as just this job. Then,
@@ -77,3 +86,12 @@ EventHasRealm = (config : ConfigView) (job : PlainJob) → IsEvent config job �
 abbrev pub EventIsSound : Type 0
 EventIsSound = (config : ConfigView) (job : PlainJob) → AreOctets job.octets → IsEvent config job →
     IsSoundEvent config job
+
+-- a job without the session that a reply opens, changes or ends
+abbrev pub without_session : PlainJob → PlainJob
+without_session job = record job { keeps_session = false }
+
+-- where what came from a link is an event, it is one without its session too
+abbrev pub EventWithoutSession : Type 0
+EventWithoutSession = (config : ConfigView) (job : PlainJob) (realm nth : ℕ) → job.place ≡ place.Out realm nth →
+    IsEvent config job → IsEvent config (without_session job)

@@ -14,7 +14,14 @@ use Rattle.roam_route.specs.Admission.{Arrival, PlainJob, PlainOut, Admission, r
 
 -- a datagram
 abbrev pub shown_arrival : {A : Type 0} → Datagram A → Arrival
-shown_arrival d = record { at = d.at; from = d.from; octets = d.octets; seconds = d.seconds }
+shown_arrival d =
+    record {
+      at = d.at;
+      from = d.from;
+      octets = d.octets;
+      seconds = d.seconds;
+      keeps_session = d.keeps_session;
+    }
 
 -- an event of a realm
 abbrev pub shown_job : {A : Type 0} → Job A → PlainJob
@@ -26,6 +33,7 @@ shown_job j =
       side = j.side;
       octets = j.octets;
       named = j.named;
+      keeps_session = j.keeps_session;
     }
 
 -- a packet that leaves

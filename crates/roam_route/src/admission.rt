@@ -25,8 +25,8 @@ use roam_conf::{Config, Place};
 use roam_wire::{Refusal, View};
 use std::alloc::Allocator;
 
-/// What a request gives: its attributes are counted, its signature is looked at, then its seal, its hops, and where it
-/// goes.
+/// Returns what a request gives: its attributes are counted, its signature is looked at, then its seal, its hops, and
+/// where it goes.
 fn request<A: Allocator + Copy>(
     config: &Config,
     packet: &SentPacket<'_, A>,
@@ -56,7 +56,7 @@ fn request<A: Allocator + Copy>(
     route_request(config, packet, secret)
 }
 
-/// What a packet gives whose sender is known, and whose code is taken: a reply goes to the realm of
+/// Returns what a packet gives whose sender is known, and whose code is taken: a reply goes to the realm of
 /// its place as it is, and is judged there.
 fn admit_packet<A: Allocator + Copy>(
     config: &Config,
@@ -88,7 +88,7 @@ fn admit_packet<A: Allocator + Copy>(
     }
 }
 
-/// What a Status-Server gives: the local answer, where it has few attributes and is sealed over its own
+/// Returns what a Status-Server gives: the local answer, where it has few attributes and is sealed over its own
 /// Authenticator (RFC 5997, section 3).
 fn status<A: Allocator + Copy>(
     packet: &SentPacket<'_, A>,
@@ -115,7 +115,7 @@ fn status<A: Allocator + Copy>(
     Ok(Prepared::Answered(LocalAnswer::Status(status_code(at)), out))
 }
 
-/// What a Status-Server of a sender gives: of a peer alone it is answered.
+/// Returns what a Status-Server of a sender gives: of a peer alone it is answered.
 fn status_from<A: Allocator + Copy>(
     config: &Config,
     packet: &SentPacket<'_, A>,
@@ -133,7 +133,7 @@ fn status_from<A: Allocator + Copy>(
     }
 }
 
-/// What a packet gives whose sender is known: a Status-Server is answered, and of the others the code is
+/// Returns what a packet gives whose sender is known: a Status-Server is answered, and of the others the code is
 /// looked at first.
 fn sent<A: Allocator + Copy>(
     config: &Config,
@@ -156,7 +156,7 @@ fn sent<A: Allocator + Copy>(
     admit_packet(config, packet)
 }
 
-/// What an arrival gives: the event of a realm, with the packet's octets, or a local answer, or the
+/// Returns what an arrival gives: the event of a realm, with the packet's octets, or a local answer, or the
 /// first of `Short` to `TooLong` whose cause holds, where `TooManyAttributes` stands behind `WrongCode`,
 /// `TooManyHops` between `MissingMessageAuthenticator` and `NoRealm`, and `Stale`, `NotForPeer` and
 /// `AccountingDropped` behind that.

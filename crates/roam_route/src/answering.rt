@@ -22,7 +22,7 @@ use roam_wire::writing::{
 use roam_wire::{MAX_PACKET_LENGTH, NoMemory, Octets, PacketBuf, Refusal, View};
 use std::alloc::Allocator;
 
-/// How many octets a local answer to a request has: the header, a Message-Authenticator, the request's
+/// Returns how many octets a local answer to a request has: the header, a Message-Authenticator, the request's
 /// Proxy-States.
 fn answer_len(request: &View<'_>) -> usize
     ensures size { result ≡ answer_length request.now }
@@ -101,7 +101,7 @@ pub(crate) fn status_code(at: Place) -> u8
     }
 }
 
-/// What answers a Status-Server at a place: an Access-Accept, or at `acct` an Accounting-Response, with a
+/// Returns what answers a Status-Server at a place: an Access-Accept, or at `acct` an Accounting-Response, with a
 /// Message-Authenticator and the request's Proxy-States, sealed and signed for the peer with this secret
 /// (RFC 5997, section 3; RFC 3579, section 3.2). It is no longer than the request, which has a
 /// Message-Authenticator itself, and so never too long. `NoMemory` where a growth was refused.
@@ -119,7 +119,7 @@ pub fn status_answer<A: Allocator>(
     answer(alloc, status_code(at), request, secret)
 }
 
-/// How many octets the Message-Authenticator takes with which an Accounting-Request is answered.
+/// Returns how many octets the Message-Authenticator takes with which an Accounting-Request is answered.
 fn answering_seal_len(request: &View<'_>) -> usize
     ensures { result ≡ length (attributes_text (answering_seal request.now)) }
 {
@@ -130,7 +130,7 @@ fn answering_seal_len(request: &View<'_>) -> usize
     }
 }
 
-/// How many octets the answer to an Accounting-Request has that isn't forwarded.
+/// Returns how many octets the answer to an Accounting-Request has that isn't forwarded.
 fn accounting_answer_len(request: &View<'_>) -> usize
     requires sealed { HasAtMostOneMessageAuthenticator request.now }
     ensures size { result ≡ packet_length (unsealed_accounting_answer request.now) }

@@ -17,7 +17,7 @@ use roam_wire::attribute_type::{
 };
 use roam_wire::code::ACCESS_REQUEST;
 
-/// Whether a request is signed where its code says that it is (RFC 2866, section 3; RFC 5176, section
+/// Returns whether a request is signed where its code says that it is (RFC 2866, section 3; RFC 5176, section
 /// 2.3).
 pub(crate) fn is_rightly_signed(request: &View<'_>, secret: &Secret) -> bool
     requires secret { IsSecret secret.now }
@@ -26,7 +26,7 @@ pub(crate) fn is_rightly_signed(request: &View<'_>, secret: &Secret) -> bool
     request.code() == ACCESS_REQUEST || request_ok(request, secret.octets())
 }
 
-/// Whether a request is well sealed over an Authenticator (RFC 3579, section 3.2).
+/// Returns whether a request is well sealed over an Authenticator (RFC 3579, section 3.2).
 pub(crate) fn is_sealed_over(request: &View<'_>, secret: &Secret, authenticator: [u8; 16]) -> bool
     requires secret { IsSecret secret.now }
     ensures { result ≡ is_well_sealed secret.now (authenticator ∷ []) request.now }
@@ -34,7 +34,7 @@ pub(crate) fn is_sealed_over(request: &View<'_>, secret: &Secret, authenticator:
     message_ok(request, secret, authenticator)
 }
 
-/// Whether a request is well sealed: over its own Authenticator in an Access-Request, over zeros in
+/// Returns whether a request is well sealed: over its own Authenticator in an Access-Request, over zeros in
 /// any other (RFC 3579, section 3.2).
 pub(crate) fn is_rightly_sealed(request: &View<'_>, secret: &Secret) -> bool
     requires secret { IsSecret secret.now }
@@ -47,7 +47,7 @@ pub(crate) fn is_rightly_sealed(request: &View<'_>, secret: &Secret) -> bool
     }
 }
 
-/// Whether an Access-Request has a Message-Authenticator where it must: with an EAP-Message (RFC
+/// Returns whether an Access-Request has a Message-Authenticator where it must: with an EAP-Message (RFC
 /// 3579, section 3.1), and where its sender is required to seal.
 pub(crate) fn has_needed_seal(request: &View<'_>, required: bool) -> bool
     ensures { result ≡ has_needed_seal required request.now }
@@ -57,14 +57,14 @@ pub(crate) fn has_needed_seal(request: &View<'_>, required: bool) -> bool
         || (request.count(EAP_MESSAGE) == 0 && !required)
 }
 
-/// Whether a packet has a Message-Authenticator.
+/// Returns whether a packet has a Message-Authenticator.
 pub(crate) fn has_seal(request: &View<'_>) -> bool
     ensures { result ≡ has_seal request.now }
 {
     request.count(MESSAGE_AUTHENTICATOR) > 0
 }
 
-/// Whether more proxies forwarded a request than may, where there is a limit: each adds a Proxy-State
+/// Returns whether more proxies forwarded a request than may, where there is a limit: each adds a Proxy-State
 /// (RFC 2865, section 5.33).
 pub(crate) fn has_too_many_hops(request: &View<'_>, most: Option<u8>) -> bool
     ensures { result ≡ has_too_many_hops most request.now }
@@ -75,7 +75,7 @@ pub(crate) fn has_too_many_hops(request: &View<'_>, most: Option<u8>) -> bool
     }
 }
 
-/// Whether a request has no more attributes than may be, where there is a limit.
+/// Returns whether a request has no more attributes than may be, where there is a limit.
 pub(crate) fn has_few_attributes(request: &View<'_>, most: Option<u16>) -> bool
     ensures { result ≡ has_few_attributes most request.now }
 {
@@ -85,7 +85,7 @@ pub(crate) fn has_few_attributes(request: &View<'_>, most: Option<u16>) -> bool
     }
 }
 
-/// Whether a request that is forwarded hasn't too many hops: an Access-Request that has is answered by a
+/// Returns whether a request that is forwarded hasn't too many hops: an Access-Request that has is answered by a
 /// local reject.
 pub(crate) fn has_few_hops(request: &View<'_>, most: Option<u8>) -> bool
     ensures { result ≡ has_few_hops most request.now }
@@ -93,7 +93,7 @@ pub(crate) fn has_few_hops(request: &View<'_>, most: Option<u8>) -> bool
     request.code() == ACCESS_REQUEST || !has_too_many_hops(request, most)
 }
 
-/// Whether a User-Password has a size that it can't have (RFC 2865, section 5.2).
+/// Returns whether a User-Password has a size that it can't have (RFC 2865, section 5.2).
 fn is_of_wrong_size(password: Option<&[u8]>) -> bool
     ensures { result ≡ option_map_or (λ value. not (password_fits value))
         (option_map (λ value. value.now) password.entry) false }
@@ -104,7 +104,7 @@ fn is_of_wrong_size(password: Option<&[u8]>) -> bool
     }
 }
 
-/// Whether an Access-Request's passwords can't be carried: both User-Password and CHAP-Password,
+/// Returns whether an Access-Request's passwords can't be carried: both User-Password and CHAP-Password,
 /// two User-Passwords, or one of another size (RFC 2865, sections 4.1 and 5.2).
 pub(crate) fn has_bad_password(request: &View<'_>) -> bool
     ensures { result ≡ has_bad_password request.now }
@@ -115,7 +115,7 @@ pub(crate) fn has_bad_password(request: &View<'_>) -> bool
         || is_of_wrong_size(request.first(USER_PASSWORD))
 }
 
-/// Whether a request has no User-Name.
+/// Returns whether a request has no User-Name.
 pub(crate) fn is_unnamed(request: &View<'_>) -> bool
     ensures { result ≡ is_unnamed request.now.attributes }
 {

@@ -16,6 +16,9 @@ pub struct Datagram<A: Allocator> {
     /// The wall clock's seconds since the beginning of 1970 when it arrived, where they are known: a reverse request
     /// may be too old.
     pub seconds: Option<u64>,
+    /// Whether the session is kept that an Accounting-Response opens, changes or ends. `true` of what comes from a
+    /// socket; `false` where there was no memory for the session, and the reply is taken without it.
+    pub keeps_session: bool,
 }
 
 /// A packet that leaves.

@@ -16,14 +16,14 @@ fn seconds_in(value: &[u8]) -> Option<u32>
     Some(u32::from_be_bytes([*a, *b, *c, *d]))
 }
 
-/// When a request was sent first, by its first Event-Timestamp.
+/// Returns when a request was sent first, by its first Event-Timestamp.
 fn sent_at(request: &View<'_>) -> Option<u32>
     ensures { result ≡ sent_at request.now.attributes }
 {
     seconds_in(request.first(EVENT_TIMESTAMP)?)
 }
 
-/// Whether two times are at most so many seconds apart.
+/// Returns whether two times are at most so many seconds apart.
 fn are_near(most: u16, seconds: u64, sent: u32) -> bool
     ensures { result ≡ are_near most seconds sent }
 {
@@ -32,8 +32,8 @@ fn are_near(most: u16, seconds: u64, sent: u32) -> bool
     seconds <= sent + most && sent <= seconds.saturating_add(most)
 }
 
-/// Whether a reverse request isn't stale: where there is a limit, and the wall clock's seconds came with the request,
-/// its first Event-Timestamp is at most so far from them.
+/// Returns whether a reverse request isn't stale: where there is a limit, and the wall clock's seconds came with the
+/// request, its first Event-Timestamp is at most so far from them.
 pub(crate) fn is_fresh(most: Option<u16>, seconds: Option<u64>, request: &View<'_>) -> bool
     ensures { result ≡ is_fresh most seconds request.now.attributes }
 {

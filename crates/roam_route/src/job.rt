@@ -34,6 +34,8 @@ pub struct Job<A: Allocator> {
     /// The index of the realm that the first User-Name of a request names; none where it names none,
     /// and in a reply.
     pub named: Option<u16>,
+    /// Whether the session is kept that a reply opens, changes or ends, as of the datagram.
+    pub keeps_session: bool,
 }
 
 /// What an arrival gives, unless it is refused.

@@ -7,7 +7,7 @@ ghost use Rattle.roam_route.specs.AccountingLaws.{AccountingAnswerIsSigned, Acco
 ghost use Rattle.roam_route.specs.AccountingLaws.{AccountingAnswerReads};
 ghost use Rattle.roam_route.specs.AdmittedRequests.{AdmittedIsRight, ForwardedHasFewHops, OtherCodeIsRefused};
 ghost use Rattle.roam_route.specs.AdmittedRequests.{RefusedFailsFirst, UnknownIsRefused, UnreadIsRefused};
-ghost use Rattle.roam_route.specs.Events.{EventHasRealm, EventIsSound};
+ghost use Rattle.roam_route.specs.Events.{EventHasRealm, EventIsSound, EventWithoutSession};
 ghost use Rattle.roam_route.specs.NameLaws.{LastAtSignDecides, NameWithoutAtSign};
 ghost use Rattle.roam_route.specs.OwnPart.{OwnAnswersDecided, OwnPartDecides};
 ghost use Rattle.roam_route.specs.RejectLaws.{RejectCarriesProxyStates, RejectHasLength, RejectHasSealFirst};
@@ -24,10 +24,12 @@ pub fn names()
 {}
 
 /// What the event of a realm is: its realm and its sender are configured, its octets are a packet's
-/// of a code that is taken, and what is a request can be forwarded.
+/// of a code that is taken, and what is a request can be forwarded. What came from a link is an event without its
+/// session too.
 pub fn events()
     ensures realm { EventHasRealm }
     ensures sound { EventIsSound }
+    ensures without_session { EventWithoutSession }
 {}
 
 /// Which requests a realm is given: just those whose code belongs to their place and sender, that are signed

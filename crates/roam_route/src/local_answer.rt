@@ -56,7 +56,7 @@ impl LocalAnswer {
     }
 }
 
-/// What is wrong with what follows the `@`, where it means this realm.
+/// Returns what is wrong with what follows the `@`, where it means this realm.
 fn cause_of_part(part: Option<&[u8]>, realm: Option<u16>) -> Option<RejectCause>
     ensures { result ≡ causes.cause_of_part (shown_value part.entry) realm }
 {
@@ -67,7 +67,7 @@ fn cause_of_part(part: Option<&[u8]>, realm: Option<u16>) -> Option<RejectCause>
     }
 }
 
-/// What is wrong with a User-Name that means this realm.
+/// Returns what is wrong with a User-Name that means this realm.
 fn cause_of_name(name: Option<&[u8]>, realm: Option<u16>) -> Option<RejectCause>
     ensures { result ≡ causes.cause_of_name (shown_value name.entry) realm }
 {
@@ -77,7 +77,7 @@ fn cause_of_name(name: Option<&[u8]>, realm: Option<u16>) -> Option<RejectCause>
     }
 }
 
-/// What is wrong with a realm that doesn't take the requests of a sender.
+/// Returns what is wrong with a realm that doesn't take the requests of a sender.
 fn cause_of_asking(config: &Config, side: Side, realm: Option<u16>) -> Option<RejectCause>
     ensures { result ≡ causes.cause_of_asking (shown config.now) side realm }
 {
@@ -93,7 +93,7 @@ fn cause_of_asking(config: &Config, side: Side, realm: Option<u16>) -> Option<Re
     }
 }
 
-/// Why the broker rejects an Access-Request of a sender by itself, where it does.
+/// Returns why the broker rejects an Access-Request of a sender by itself, where it does.
 pub(crate) fn reject_cause(
     config: &Config,
     side: Side,

@@ -53,6 +53,7 @@ pub(crate) fn job_of<A: Allocator + Copy>(
         side: packet.side,
         octets,
         named: names,
+        keeps_session: packet.datagram.keeps_session,
     }))
 }
 
@@ -114,8 +115,8 @@ fn rejected_for<A: Allocator + Copy>(
     Ok(Prepared::Answered(LocalAnswer::Rejected(why), out))
 }
 
-/// Whether an Access-Request is answered by a local reject: the realm that it names, if it names one, doesn't take
-/// the sender's requests, its passwords can't be carried, or it has too many hops.
+/// Returns whether an Access-Request is answered by a local reject: the realm that it names, if it names one, doesn't
+/// take the sender's requests, its passwords can't be carried, or it has too many hops.
 fn is_rejected<A: Allocator>(
     config: &Config,
     packet: &SentPacket<'_, A>,
@@ -129,7 +130,7 @@ fn is_rejected<A: Allocator>(
         || has_too_many_hops(&packet.view, config.max_hops)
 }
 
-/// Whether a realm is named that takes the requests of a sender.
+/// Returns whether a realm is named that takes the requests of a sender.
 fn is_asked(config: &Config, side: Side, realm: Option<u16>) -> bool
     ensures { result ≡ is_some (taking (shown config.now) side realm) }
 {
@@ -154,7 +155,7 @@ fn accounting_answered<A: Allocator + Copy>(
     Ok(Prepared::Answered(LocalAnswer::Response, out))
 }
 
-/// What an Accounting-Request gives that names its realm, or none.
+/// Returns what an Accounting-Request gives that names its realm, or none.
 fn accounted<A: Allocator + Copy>(
     config: &Config,
     packet: &SentPacket<'_, A>,
@@ -196,7 +197,7 @@ fn reversed<A: Allocator + Copy>(
     forwarded_for(config, packet, own, realm)
 }
 
-/// What a request gives that is rightly signed and sealed: it goes to the realm of its place where
+/// Returns what a request gives that is rightly signed and sealed: it goes to the realm of its place where
 /// it came from a home server, else to the one that it names. An Access-Request that names none that takes its
 /// peer's requests, whose passwords can't be carried, or that has too many hops is answered by a local reject; an
 /// Accounting-Request may be answered by the broker itself.

@@ -24,7 +24,7 @@ fn operator_name(peer: &Peer) -> Option<&[u8]>
     }
 }
 
-/// What a peer and a realm have done to a request of that peer. Takes no memory.
+/// Returns what a peer and a realm have done to a request of that peer. Takes no memory.
 #[tactic(auto, unfolding(roam_filter::specs::Removal::removed_by))]
 pub fn request_shaping<'a>(peer: &'a Peer, realm: &'a Realm) -> Shaping<'a>
     ensures shaping { shown_shaping result ≡ request_shaping (shown_peer peer.now) (shown_realm realm.now) }
@@ -73,7 +73,7 @@ fn realm_at(config: &Config, realm: u16) -> Option<&Realm>
     }
 }
 
-/// What a peer and a realm of these indexes have done to a request.
+/// Returns what a peer and a realm of these indexes have done to a request.
 fn shaping_of(config: &Config, peer: u16, realm: u16) -> Shaping<'_>
     ensures shaping { shown_shaping result ≡ shaping_of (shown config.now) peer realm }
     ensures name { HasShortName (shown_shaping result) }
@@ -81,7 +81,7 @@ fn shaping_of(config: &Config, peer: u16, realm: u16) -> Shaping<'_>
     shaping_between(peer_at(config, peer), realm_at(config, realm))
 }
 
-/// Whether a realm is sent at most 4096 octets for a sender's request.
+/// Returns whether a realm is sent at most 4096 octets for a sender's request.
 pub(crate) fn fits_sent(config: &Config, side: Side, request: &View<'_>, realm: u16) -> bool
     ensures { IsTrue result ↔ (sent_length (shown config.now) side request.now realm ≤ 4096) }
 {

@@ -32,7 +32,7 @@ fn side_of_peer(peer: Option<u16>) -> Option<Side>
     }
 }
 
-/// Who the source of a datagram is at its place; none where the broker shares no secret with it there,
+/// Returns who the source of a datagram is at its place; none where the broker shares no secret with it there,
 /// or where the place's realm isn't configured.
 pub(crate) fn sender<A: Allocator>(config: &Config, datagram: &Datagram<A>) -> Option<Side>
     ensures value { result
@@ -73,7 +73,7 @@ pub(crate) fn secret_of_home(config: &Config, realm: u16, server: u8) -> &Secret
     config.realms[usize::from(realm)].secret_of_home(server)
 }
 
-/// Whether a peer is to seal an Access-Request: each, or each that has a Proxy-State, which an attack on an
+/// Returns whether a peer is to seal an Access-Request: each, or each that has a Proxy-State, which an attack on an
 /// unsealed one needs (CVE-2024-3596).
 fn wants_seal(peer: &Peer, request: &View<'_>) -> bool
     ensures { result ≡ wants_seal (shown_peer peer.now) request.now }
@@ -81,7 +81,7 @@ fn wants_seal(peer: &Peer, request: &View<'_>) -> bool
     peer.require_seal || (peer.limit_proxy_state && request.count(PROXY_STATE) > 0)
 }
 
-/// Whether a sender is a peer that is required to seal an Access-Request.
+/// Returns whether a sender is a peer that is required to seal an Access-Request.
 pub(crate) fn seal_required(config: &Config, side: Side, request: &View<'_>) -> bool
     requires { (i : ℕ) → side ≡ Side.Peer i → i < vec_len config.now.peers }
     ensures { result ≡ seal_required (shown config.now) side request.now }
@@ -92,7 +92,7 @@ pub(crate) fn seal_required(config: &Config, side: Side, request: &View<'_>) -> 
     }
 }
 
-/// Whether a realm takes the requests of a sender.
+/// Returns whether a realm takes the requests of a sender.
 pub(crate) fn takes_of(config: &Config, realm: u16, side: Side) -> bool
     ensures { result ≡ takes_of (shown config.now) realm side }
 {
@@ -102,7 +102,7 @@ pub(crate) fn takes_of(config: &Config, realm: u16, side: Side) -> bool
     }
 }
 
-/// What becomes of a realm's accounting.
+/// Returns what becomes of a realm's accounting.
 pub(crate) fn accounting_of(config: &Config, realm: u16) -> Accounting
     ensures { result ≡ accounting_in (shown config.now) realm }
 {
@@ -112,21 +112,21 @@ pub(crate) fn accounting_of(config: &Config, realm: u16) -> Accounting
     }
 }
 
-/// Whether a code is a Disconnect- or CoA-Request (RFC 5176, section 2.3).
+/// Returns whether a code is a Disconnect- or CoA-Request (RFC 5176, section 2.3).
 pub fn is_reverse_request(code: u8) -> bool
     ensures { result ≡ is_reverse_request code }
 {
     code == DISCONNECT_REQUEST || code == COA_REQUEST
 }
 
-/// Whether a code is an access server's reply to such a request (RFC 5176, section 2.3).
+/// Returns whether a code is an access server's reply to such a request (RFC 5176, section 2.3).
 fn is_reverse_reply(code: u8) -> bool
     ensures { result ≡ is_reverse_reply code }
 {
     code == DISCONNECT_ACK || code == DISCONNECT_NAK || code == COA_ACK || code == COA_NAK
 }
 
-/// Whether a link sends this code.
+/// Returns whether a link sends this code.
 fn is_code_of_link(link: Link, code: u8) -> bool
     ensures { result ≡ is_code_of_link link code }
 {
@@ -137,7 +137,7 @@ fn is_code_of_link(link: Link, code: u8) -> bool
     }
 }
 
-/// Whether a code is taken at a place from a sender.
+/// Returns whether a code is taken at a place from a sender.
 pub(crate) fn is_taken(at: Place, side: Side, code: u8) -> bool
     ensures { result ≡ is_taken at side code }
 {
@@ -150,7 +150,7 @@ pub(crate) fn is_taken(at: Place, side: Side, code: u8) -> bool
     }
 }
 
-/// Whether a packet is a Status-Server that is answered: one that a peer sent to where its requests are
+/// Returns whether a packet is a Status-Server that is answered: one that a peer sent to where its requests are
 /// taken, where the configuration has it answered (RFC 5997, section 3).
 pub(crate) fn is_status_request(config: &Config, at: Place, side: Side, code: u8) -> bool
     ensures { result ≡ is_status_request (shown config.now) at side code }

@@ -8,7 +8,7 @@ use roam_conf::Config;
 use roam_wire::View;
 use roam_wire::attribute_type::USER_NAME;
 
-/// What follows the last `@` of a name; none where there is no `@`. Takes no memory.
+/// Returns what follows the last `@` of a name; none where there is no `@`. Takes no memory.
 pub fn realm_part(name: &[u8]) -> Option<&[u8]>
     ensures { option_map (λ part. part.now) result ≡ realm_part name.now }
 {

@@ -45,7 +45,7 @@ fn add<N: Opened>(ended: &mut Ended<N>, end: WorkerEnd<N>) -> Result<(), ServeFa
     Ok(())
 }
 
-/// What the workers gave back, in lists in which there is room for it.
+/// Returns what the workers gave back, in lists in which there is room for it.
 fn gather<N: Opened>(results: Results<N>) -> Result<Ended<N>, ServeFault>
     ensures gave_up { IfOk result (λ e. IsTrue e.has_given_up
         ↔ Contains (endings_of results.ends.items) ending.GaveUp) }

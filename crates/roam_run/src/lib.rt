@@ -8,13 +8,13 @@
 //!   configuration that follows may | `serve_over`: `ends`, `may`; `close_and_audit`: `ends`;
 //!   `Source::following`
 //! - each call by which the threads ask a hub is the hub's own, with its contract: so what is proved of them over any
-//!   hub with these calls is proved over this one | `GatedHub`
+//!   hub with these calls is proved over this one | `PausableHub`
 #![tactic(auto)]
 
 mod audit;
 mod crew;
-mod gated_hub;
 mod given_back;
+mod hub_calls;
 mod open_hub;
 mod opening;
 mod parts;
@@ -27,8 +27,8 @@ pub use parts::{Means, Served, ServerParts, Unserved};
 
 // What stands above takes these from here, and lists this crate alone of those that it goes over.
 pub use roam_attendant::{
-    Configured, Following, FreshMeans, Handover, HubEnd, KeepEnd, Keeping, Manner, Next, NoSource,
-    Source, StateFile, Watch, declined_for, out_of_memory, stopping, tell_what_went, widen_all,
+    Configured, Following, FreshMeans, Handover, HubEnd, KeepEnd, Keeping, Manner, Next, Source,
+    StateFile, Watch, declined_for, out_of_memory, stopping, tell_what_went, widen_all,
 };
 pub use roam_counting::Counters;
 pub use roam_kits::{

@@ -8,9 +8,8 @@ ghost use Rattle.roam_hub.specs.Pausing.{ArePaused, opening_over};
 ghost use Rattle.roam_run.specs.Closed.{EndSomewhere, EndsOf, IsUnserved, MayGoOn};
 ghost use Rattle.roam_sockets.specs.Faults.{IsAfterBinding};
 
-use crate::audit::close_after;
+use crate::audit::{PausableHub, close_after};
 use crate::crew::{Crew, Prepared, Signals};
-use crate::gated_hub::GatedHub;
 use crate::opening::OpenHub;
 use crate::parts::{Left, Means, Served, ServerParts, Unserved};
 use crate::room::RunResult;
@@ -18,7 +17,7 @@ use crate::running::{Run, run_threads};
 use log::Log;
 use mio::Waker;
 use roam_attendant::{Attendant, Configured, Source};
-use roam_hub::{Blanks, Gate, Opened};
+use roam_hub::{Blanks, Opened};
 use roam_intake::Mailbox;
 use roam_shard::Paused;
 use roam_sockets::ServeFault;
@@ -34,13 +33,12 @@ use std::time::Clock;
 fn run<
     'c,
     R: Threads + Wait + Clock + Net + RandomSource + Log + Sync,
-    G: Gate + Sync,
     N: Opened + Send + Sync,
     S: Source,
 >(
-    parts: &mut ServerParts<'_, R, G, S>,
+    parts: &mut ServerParts<'_, R, S>,
     configured: &'c Configured,
-    hub: &GatedHub<'_, 'c, G, N>,
+    hub: &PausableHub<'c, N>,
     crew: Crew<N>,
     wakers: Vec<Waker>,
     mailboxes: Vec<Mailbox<N>>,
@@ -97,10 +95,9 @@ fn run_hub<
     'c,
     N: Opened + Send + Sync,
     R: Threads + Wait + Clock + Net + RandomSource + Log + Sync,
-    G: Gate + Sync,
     S: Source,
 >(
-    parts: &mut ServerParts<'_, R, G, S>,
+    parts: &mut ServerParts<'_, R, S>,
     configured: &'c Configured,
     open: OpenHub<'c, N>,
     means: Means,
@@ -118,13 +115,7 @@ fn run_hub<
         mailboxes,
     } = open;
     let (wakers, crew) = Crew::new(seat, room, means);
-    let run = {
-        let gated = GatedHub {
-            hub: &hub.hub,
-            gate: parts.gate,
-        };
-        run(parts, configured, &gated, crew, wakers, mailboxes)
-    };
+    let run = run(parts, configured, &hub, crew, wakers, mailboxes);
     close_after(parts.rt, hub, run)
 }
 
@@ -136,10 +127,9 @@ fn run_hub<
 pub fn serve_over<
     N: Opened + Send + Sync,
     R: Threads + Wait + Clock + Net + RandomSource + Log + Sync,
-    G: Gate + Sync,
     S: Source,
 >(
-    parts: &mut ServerParts<'_, R, G, S>,
+    parts: &mut ServerParts<'_, R, S>,
     configured: &Configured,
     shards: Vec<Paused<Global>>,
     blanks: Blanks<Global>,

@@ -20,10 +20,9 @@ use std::time::Instant;
 
 /// What outlasts each configuration that a server serves.
 #[derive(Drop)]
-pub struct ServerParts<'s, R, G, S> {
+pub struct ServerParts<'s, R, S> {
     pub rt: &'s R,
     pub alloc: Global,
-    pub gate: &'s G,
     pub losses: &'s SharedLosses,
     pub watch: Option<Watch<'s>>,
     pub old_history: &'s OldHistory,
@@ -50,16 +49,7 @@ pub struct Means {
 // By hand, so that a proof sees one call wherever they end, and not each of their parts.
 impl Drop for Means {
     fn drop(self) {
-        let Self {
-            kits,
-            outboxes,
-            rests,
-            handover,
-        } = self;
-        drop(kits);
-        drop(outboxes);
-        drop(rests);
-        drop(handover);
+        drop(self.into_parts());
     }
 }
 
@@ -116,7 +106,7 @@ pub struct Served {
 }
 
 impl<N: Opened> Left<N> {
-    /// What is left for the next hub: its shards, and how the time under the configuration ended.
+    /// Returns what is left for the next hub: its shards, and how the time under the configuration ended.
     pub fn served(self) -> Served
         requires ends { EndsOf N.opening (recorded self.closed.audited.report) self.closed.shards.items }
         ensures ends { EndSomewhere N.opening result.shards.items }

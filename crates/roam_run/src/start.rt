@@ -18,7 +18,7 @@ use std::sync::Wait;
 use std::thread::{JoinHandle, Scope, SpawnError, Threads};
 use std::time::Clock;
 
-/// Whether a thread has started that nobody joins by its handle. What wasn't started ends here, by one call.
+/// Returns whether a thread has started that nobody joins by its handle. What wasn't started ends here, by one call.
 fn has_started<T: Drop, F: Drop>(started: Result<JoinHandle<T>, SpawnError<F>>) -> bool {
     started.is_ok()
 }
@@ -90,7 +90,7 @@ pub fn start_all<
     ticks && work && logs
 }
 
-/// How a reload went, by what is answered.
+/// Returns how a reload went, by what is answered.
 fn reload_end(course: Course) -> ReloadEnd {
     match course {
         Course::Done => ReloadEnd::Done,
@@ -131,7 +131,7 @@ fn tell_start<R: Wait + Clock + Log, H, N: Opened>(
     }
 }
 
-/// Where all threads have started, tells that the configuration is served, and answers who asks for something until
+/// Tells that the configuration is served, where all threads have started, and answers who asks for something until
 /// they end or another one is to follow.
 pub fn attend<R: Threads + Wait + Clock + Net + Log + Sync, H: HubCalls<N>, N: Opened, S: Source>(
     have_started: bool,

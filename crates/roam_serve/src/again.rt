@@ -12,8 +12,8 @@ use std::net::Net;
 use std::time::Clock;
 
 /// Makes once more what is made for a configuration, and fills up the outboxes.
-pub fn take_again<R: Net, G, S>(
-    parts: &ServerParts<'_, R, G, S>,
+pub fn take_again<R: Net, S>(
+    parts: &ServerParts<'_, R, S>,
     configured: &Configured,
     outboxes: &mut Vec<Outbox<Global>>,
 ) -> Result<FreshMeans, ServeFault>
@@ -38,19 +38,19 @@ pub fn end_after(milliseconds: Option<u64>, now: u64) -> Option<u64>
 }
 
 /// Has the server's time begin now, where it serves for some time alone.
-pub fn begin_time<R: Clock, G, S>(parts: &mut ServerParts<'_, R, G, S>) {
+pub fn begin_time<R: Clock, S>(parts: &mut ServerParts<'_, R, S>) {
     parts.end = end_after(parts.milliseconds, now(parts.rt, parts.start, 0));
 }
 
-/// Whether the server's time is over.
-pub fn is_time_over<R: Clock, G, S>(parts: &ServerParts<'_, R, G, S>) -> bool {
+/// Returns whether the server's time is over.
+pub fn is_time_over<R: Clock, S>(parts: &ServerParts<'_, R, S>) -> bool {
     match parts.stopping.or_earlier(parts.end) {
         Some(end) => end <= now(parts.rt, parts.start, 0),
         None => false,
     }
 }
 
-/// What was told of servers, or where that isn't known this.
+/// Returns what was told of servers, or where that isn't known this.
 pub fn told_or(told: Option<Rests>, fresh: Rests) -> Rests {
     match told {
         Some(rests) => rests,

@@ -76,14 +76,14 @@ fn empty_shards(alloc: Global, config: &Config) -> Result<Vec<Paused<Global>>, S
 }
 
 /// Puts the file of a path aside, and tells why nothing is read from it.
-fn leave<R: Log, G, S: Source>(parts: &mut ServerParts<'_, R, G, S>, path: &str, why: &str) {
+fn leave<R: Log, S: Source>(parts: &mut ServerParts<'_, R, S>, path: &str, why: &str) {
     let is_aside = parts.source.put_aside(path);
     tell_unread(parts.rt, path, why, is_aside);
 }
 
 /// The octets that the file of a path holds, where there are any. Where they can't be read that is told, and the file
 /// is put aside.
-fn kept<R: Log, G, S: Source>(parts: &mut ServerParts<'_, R, G, S>, path: &str) -> Option<Vec<u8>> {
+fn kept<R: Log, S: Source>(parts: &mut ServerParts<'_, R, S>, path: &str) -> Option<Vec<u8>> {
     match parts.source.kept(path) {
         Ok(octets) => octets,
         Err(why) => {
@@ -95,8 +95,8 @@ fn kept<R: Log, G, S: Source>(parts: &mut ServerParts<'_, R, G, S>, path: &str) 
 
 /// Tells how many sessions of how many were taken up from the file of a path. Where some weren't, the file is kept as
 /// it is, under another name too.
-fn tell_taken<R: Log, G, S: Source>(
-    parts: &mut ServerParts<'_, R, G, S>,
+fn tell_taken<R: Log, S: Source>(
+    parts: &mut ServerParts<'_, R, S>,
     path: &str,
     taken: u64,
     sessions: u64,
@@ -110,8 +110,8 @@ fn tell_taken<R: Log, G, S: Source>(
 
 /// The shards that take up what the file of a path holds, where that are ledgers. Where they aren't, that is told, and
 /// it is put aside.
-fn begin_from<R: Log, G, S: Source>(
-    parts: &mut ServerParts<'_, R, G, S>,
+fn begin_from<R: Log, S: Source>(
+    parts: &mut ServerParts<'_, R, S>,
     config: &Config,
     path: &str,
     octets: &[u8],
@@ -135,8 +135,8 @@ fn begin_from<R: Log, G, S: Source>(
 }
 
 /// The shards that take up what the file of a path has of their realms, where there is one.
-fn begin_with<R: Log, G, S: Source>(
-    parts: &mut ServerParts<'_, R, G, S>,
+fn begin_with<R: Log, S: Source>(
+    parts: &mut ServerParts<'_, R, S>,
     config: &Config,
     path: &str,
 ) -> Result<Vec<Paused<Global>>, ServeFault>
@@ -152,8 +152,8 @@ fn begin_with<R: Log, G, S: Source>(
 
 /// The shards with which a server begins, by number: each realm is at its first start, and has the sessions that a file
 /// of ledgers has of it, where there is one.
-fn beginning<R: Log, G, S: Source>(
-    parts: &mut ServerParts<'_, R, G, S>,
+fn beginning<R: Log, S: Source>(
+    parts: &mut ServerParts<'_, R, S>,
     configured: &Configured,
 ) -> Result<Vec<Paused<Global>>, ServeFault>
     ensures ok { IfOk result (λ shards. (items : List SavedItem)
@@ -168,8 +168,8 @@ fn beginning<R: Log, G, S: Source>(
 }
 
 /// Has a server begin: returns its shards, by number, and has its time begin when it has them.
-pub fn begin<R: Clock + Log, G, S: Source>(
-    parts: &mut ServerParts<'_, R, G, S>,
+pub fn begin<R: Clock + Log, S: Source>(
+    parts: &mut ServerParts<'_, R, S>,
     configured: &Configured,
 ) -> Result<Vec<Paused<Global>>, ServeFault>
     ensures ok { IfOk result (λ shards. (items : List SavedItem)

@@ -109,8 +109,8 @@ fn handed_over(reply: Reply, other: Configured) -> Handover {
 /// Has the server go on with the configuration that is to follow. Where something would be lost to which nobody agreed,
 /// as the realms stand now that nobody serves, or where memory is wanting, it goes on with the one of before, of which
 /// nothing changes then. What goes by it is counted and told.
-pub fn change<R: Log, G, S>(
-    parts: &ServerParts<'_, R, G, S>,
+pub fn change<R: Log, S>(
+    parts: &ServerParts<'_, R, S>,
     configured: &mut Configured,
     shards: &mut Vec<Paused<Global>>,
     next: Next,

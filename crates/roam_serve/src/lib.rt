@@ -1,22 +1,22 @@
 //! The server: its start, and its end.
 //!
-//! A worker for each shard, a timer and a logger serve a configuration (`roam_workers`), and what they do is counted and
-//! told. One configuration is served (`roam_run`) after the other, each over the shards of the one before it. There is one hub
-//! for each: it is closed and audited at that one's end, and the hub of the next one goes on with its shards. What can't be
-//! started is tried again, and who asks meanwhile is told so. Beside them are threads that outlast each configuration
-//! (`roam_kits`): one frees stored steps, and some answer over HTTP (`roam_control`).
+//! A worker for each shard, a timer and a logger serve a configuration (`roam_workers`), and what they do is counted
+//! and told. One configuration is served (`roam_run`) after the other, each over the shards of the one before it. There
+//! is one hub for each: it is closed and audited at that one's end, and the hub of the next one goes on with its
+//! shards. What can't be started is tried again, and who asks meanwhile is told so. Beside them are threads that
+//! outlast each configuration (`roam_kits`): one frees stored steps, and some answer over HTTP (`roam_control`).
 //!
 //! What is decided here stands in small functions; the loops round them are the threads.
 //!
 //! # Proved
 //!
-//! - what a server did that ends without a fault: of each shard such spans of one history, from the opening of a hub whose
-//!   realms begin, with no more than the sessions that a file of ledgers has of them | `serve`: `served`
+//! - what a server did that ends without a fault: of each shard such spans of one history, from the opening of a hub
+//!   whose realms begin, with no more than the sessions that a file of ledgers has of them | `serve`: `served`
 //! - over all changes of the configuration these are spans each of which goes on where the one before it ended. Which
-//!   spans, nobody outside could compare: the clauses below it pin them, that what is handed on are the states in which the
-//!   audited histories end | `serve_all`: `ok`; `change`
-//! - a configuration follows to which nobody agreed only where no realm loses anything of the state in which it stands when
-//!   nobody serves any more; and it is declined for that only where one does | `change`: `way`
+//!   spans, nobody outside could compare: the clauses below it pin them, that what is handed on are the states in which
+//!   the audited histories end | `serve_all`: `ok`; `change`
+//! - a configuration follows to which nobody agreed only where no realm loses anything of the state in which it stands
+//!   when nobody serves any more; and it is declined for that only where one does | `change`: `way`
 //! - of a server's faults, an endpoint that can't be bound is one of its configuration | `serve`: `err`
 #![tactic(auto)]
 
@@ -29,8 +29,7 @@ mod taken_up;
 mod unserved;
 
 pub use roam_desk::{Build, FileOrder};
-pub use roam_hub::Open;
-pub use roam_run::{Following, KeepEnd, Keeping, Manner, NoSource, Source, StateFile, Watch};
+pub use roam_run::{Following, KeepEnd, Keeping, Manner, Source, StateFile, Watch};
 pub use roam_sockets::{
     ControlSocket, Reason, ServeFault, SocketPath, descriptors_wanted, reason_of, with_drawn_seed,
 };

@@ -9,7 +9,6 @@ use crate::serving::serve_all;
 use log::Log;
 use roam_conf::{Config, ExchangeLines};
 use roam_desk::{Build, Office, Stopping};
-use roam_hub::Gate;
 use roam_port::socket_numbers;
 use roam_run::{
     Behind, CAUSES, Configured, Counters, Handover, Manner, Means, Notice, OldHistory, Rests,
@@ -27,14 +26,12 @@ use std::time::{Clock, Instant};
 
 /// How a server serves.
 #[derive(Drop)]
-pub struct ServeOptions<'s, G> {
+pub struct ServeOptions<'s> {
     /// Where what its threads do is counted, and who may ask for that; none where nobody watches it.
     pub watch: Option<Watch<'s>>,
     pub manner: Manner,
     /// For how many milliseconds it serves, once it has sockets and ledgers; none where that has no end.
     pub milliseconds: Option<u64>,
-    /// Called while a lock is held.
-    pub gate: &'s G,
 }
 
 /// The socket at which the counts are asked for, where there is one. Tells where it can't be had.
@@ -57,7 +54,7 @@ fn listener<R: Log>(rt: &R, config: &Config, watch: Option<Watch<'_>>) -> Option
     }
 }
 
-/// Which program serves, as whoever watches it is told.
+/// Returns which program serves, as whoever watches it is told.
 fn build_of(watch: Option<Watch<'_>>) -> Build {
     match watch {
         Some(watch) => watch.build,
@@ -76,12 +73,8 @@ fn tell_losses<R: Log>(rt: &R, config: &Config, losses: &SharedLosses) {
 }
 
 /// Serves a configuration, and each one that follows, until the server ends, and tells what wasn't told.
-fn serve_to_end<
-    R: Threads + Wait + Clock + Net + RandomSource + Log + Sync,
-    G: Gate + Sync,
-    S: Source,
->(
-    parts: &mut ServerParts<'_, R, G, S>,
+fn serve_to_end<R: Threads + Wait + Clock + Net + RandomSource + Log + Sync, S: Source>(
+    parts: &mut ServerParts<'_, R, S>,
     mut configured: Configured,
     means: Means,
 ) -> Result<(), ServeFault>
@@ -97,13 +90,9 @@ fn serve_to_end<
 }
 
 /// The same, where the threads have started that outlast each configuration.
-fn serve_started<
-    R: Threads + Wait + Clock + Net + RandomSource + Log + Sync,
-    G: Gate + Sync,
-    S: Source,
->(
+fn serve_started<R: Threads + Wait + Clock + Net + RandomSource + Log + Sync, S: Source>(
     have_started: bool,
-    parts: &mut ServerParts<'_, R, G, S>,
+    parts: &mut ServerParts<'_, R, S>,
     configured: Configured,
     means: Means,
 ) -> Result<(), ServeFault>
@@ -117,12 +106,8 @@ fn serve_started<
 }
 
 /// Serves a configuration, and each one that follows, with the threads that outlast them.
-fn serve_with<
-    R: Threads + Wait + Clock + Net + RandomSource + Log + Sync,
-    G: Gate + Sync,
-    S: Source,
->(
-    parts: &mut ServerParts<'_, R, G, S>,
+fn serve_with<R: Threads + Wait + Clock + Net + RandomSource + Log + Sync, S: Source>(
+    parts: &mut ServerParts<'_, R, S>,
     listener: Option<&TcpListener>,
     configured: Configured,
     means: Means,
@@ -159,7 +144,7 @@ fn serve_with<
     )
 }
 
-/// What is counted by the threads of the first configuration; nothing where nobody watches the server.
+/// Returns what is counted by the threads of the first configuration; nothing where nobody watches the server.
 fn first_counters(
     alloc: Global,
     config: &Config,
@@ -173,7 +158,7 @@ fn first_counters(
     }
 }
 
-/// What the threads of the first configuration are made of.
+/// Returns what the threads of the first configuration are made of.
 fn first_means<R: Net>(
     rt: &R,
     alloc: Global,
@@ -198,23 +183,18 @@ fn first_means<R: Net>(
 
 /// How a server serves whose sockets are bound, since when, and for how long.
 #[derive(Drop)]
-struct Serving<'s, G> {
+struct Serving<'s> {
     watch: Option<Watch<'s>>,
-    gate: &'s G,
     start: Instant,
     milliseconds: Option<u64>,
 }
 
 /// Serves a configuration whose sockets are bound, and each one that follows.
-fn serve_bound<
-    R: Threads + Wait + Clock + Net + RandomSource + Log + Sync,
-    G: Gate + Sync,
-    S: Source,
->(
+fn serve_bound<R: Threads + Wait + Clock + Net + RandomSource + Log + Sync, S: Source>(
     rt: &R,
     alloc: Global,
     configured: Configured,
-    serving: Serving<'_, G>,
+    serving: Serving<'_>,
     source: &mut S,
 ) -> Result<(), ServeFault>
     ensures served { IfOk result (λ u. HasServedAll (shown configured.config)) }
@@ -222,7 +202,6 @@ fn serve_bound<
 {
     let Serving {
         watch,
-        gate,
         start,
         milliseconds,
     } = serving;
@@ -237,7 +216,6 @@ fn serve_bound<
     let mut parts = ServerParts {
         rt,
         alloc,
-        gate,
         losses: &losses,
         watch,
         old_history: &old_history,
@@ -258,15 +236,11 @@ fn serve_bound<
 ///
 /// The first of `Clock`, `Bind`, `Descriptors`, `Memory`, `Wait`, `Thread`, `Receive` and `Audit` that comes up.
 /// `Bind` names an endpoint of the configuration. `Ok` comes of an audit alone.
-pub fn serve<
-    R: Threads + Wait + Clock + Net + RandomSource + Log + Sync,
-    G: Gate + Sync,
-    S: Source,
->(
+pub fn serve<R: Threads + Wait + Clock + Net + RandomSource + Log + Sync, S: Source>(
     rt: &R,
     alloc: Global,
     config: Config,
-    options: ServeOptions<'_, G>,
+    options: ServeOptions<'_>,
     source: &mut S,
 ) -> Result<(), ServeFault>
     ensures served { IfOk result (λ u. HasServedAll (shown config)) }
@@ -276,7 +250,6 @@ pub fn serve<
         watch,
         manner,
         milliseconds,
-        gate,
     } = options;
     let Ok(start) = Instant::now(rt) else {
         return Err(ServeFault::Clock);
@@ -292,7 +265,6 @@ pub fn serve<
     };
     let serving = Serving {
         watch,
-        gate,
         start,
         milliseconds,
     };

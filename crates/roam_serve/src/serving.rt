@@ -14,7 +14,7 @@ use crate::beginning::begin;
 use crate::changing::{Changed, Ready, Way, change};
 use crate::unserved::is_stopped;
 use log::Log;
-use roam_hub::{Blanks, Gate};
+use roam_hub::Blanks;
 use roam_port::Outbox;
 use roam_run::{
     Configured, FreshMeans, Handover, HubEnd, Means, Notice, Rests, Served, ServerParts, Source,
@@ -56,12 +56,8 @@ fn not_started(
 }
 
 /// Serves a configuration once, over shards that stand under it.
-fn serve_once<
-    R: Threads + Wait + Clock + Net + RandomSource + Log + Sync,
-    G: Gate + Sync,
-    S: Source,
->(
-    parts: &mut ServerParts<'_, R, G, S>,
+fn serve_once<R: Threads + Wait + Clock + Net + RandomSource + Log + Sync, S: Source>(
+    parts: &mut ServerParts<'_, R, S>,
     configured: &Configured,
     shards: Vec<Paused<Global>>,
     blanks: Blanks<Global>,
@@ -72,7 +68,7 @@ fn serve_once<
     ensures ok { IfOk result (IsServedOn (shown configured.now.config) shards.items) }
     ensures err { IfErr result IsAfterBinding }
 {
-    match serve_over::<Brand, R, G, S>(parts, configured, shards, blanks, means) {
+    match serve_over::<Brand, R, S>(parts, configured, shards, blanks, means) {
         Ok(served) => Ok(served),
         Err(Unserved::Fault(fault)) => Err(fault),
         Err(Unserved::Closed(shards, means)) => {
@@ -84,12 +80,8 @@ fn serve_once<
 }
 
 /// Serves a configuration once more, where what serves couldn't be started before.
-fn serve_again<
-    R: Threads + Wait + Clock + Net + RandomSource + Log + Sync,
-    G: Gate + Sync,
-    S: Source,
->(
-    parts: &mut ServerParts<'_, R, G, S>,
+fn serve_again<R: Threads + Wait + Clock + Net + RandomSource + Log + Sync, S: Source>(
+    parts: &mut ServerParts<'_, R, S>,
     configured: &Configured,
     shards: Vec<Paused<Global>>,
     mut outboxes: Vec<Outbox<Global>>,
@@ -121,12 +113,8 @@ fn serve_again<
 }
 
 /// Serves a configuration until what serves could be started: nothing of what stands is lost where it can't be at once.
-fn serve_until_started<
-    R: Threads + Wait + Clock + Net + RandomSource + Log + Sync,
-    G: Gate + Sync,
-    S: Source,
->(
-    parts: &mut ServerParts<'_, R, G, S>,
+fn serve_until_started<R: Threads + Wait + Clock + Net + RandomSource + Log + Sync, S: Source>(
+    parts: &mut ServerParts<'_, R, S>,
     configured: &Configured,
     first: Served,
 ) -> Result<Served, ServeFault>
@@ -153,8 +141,8 @@ fn serve_until_started<
 
 /// Serves on where what serves couldn't be started before. Who asks is answered first, and it is over where the server
 /// is asked to stop.
-fn serve_on<R: Threads + Wait + Clock + Net + RandomSource + Log + Sync, G: Gate + Sync, S: Source>(
-    parts: &mut ServerParts<'_, R, G, S>,
+fn serve_on<R: Threads + Wait + Clock + Net + RandomSource + Log + Sync, S: Source>(
+    parts: &mut ServerParts<'_, R, S>,
     configured: &Configured,
     served: Served,
 ) -> Result<Served, ServeFault>
@@ -197,12 +185,8 @@ fn serve_on<R: Threads + Wait + Clock + Net + RandomSource + Log + Sync, G: Gate
 
 /// Serves for the first time after a change: the configuration that follows; that of before, where the other was
 /// declined; where memory is wanting nothing yet.
-fn serve_changed<
-    R: Threads + Wait + Clock + Net + RandomSource + Log + Sync,
-    G: Gate + Sync,
-    S: Source,
->(
-    parts: &mut ServerParts<'_, R, G, S>,
+fn serve_changed<R: Threads + Wait + Clock + Net + RandomSource + Log + Sync, S: Source>(
+    parts: &mut ServerParts<'_, R, S>,
     configured: &Configured,
     shards: Vec<Paused<Global>>,
     changed: Changed,
@@ -243,12 +227,8 @@ fn serve_changed<
 /// # Errors
 ///
 /// The first configuration's threads that can't be started end it; those of another one are tried again.
-pub(crate) fn serve_all<
-    R: Threads + Wait + Clock + Net + RandomSource + Log + Sync,
-    G: Gate + Sync,
-    S: Source,
->(
-    parts: &mut ServerParts<'_, R, G, S>,
+pub(crate) fn serve_all<R: Threads + Wait + Clock + Net + RandomSource + Log + Sync, S: Source>(
+    parts: &mut ServerParts<'_, R, S>,
     configured: &mut Configured,
     means: Means,
 ) -> Result<u64, ServeFault>

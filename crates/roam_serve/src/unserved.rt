@@ -5,8 +5,8 @@ use roam_run::{ServerParts, Source, stopping};
 use roam_sockets::ServeFault;
 use std::sync::Wait;
 
-/// What is said of the fault for which nothing serves.
-fn words_of<R, G, S: Source>(parts: &mut ServerParts<'_, R, G, S>, fault: ServeFault) -> Vec<u8> {
+/// Returns what is said of the fault for which nothing serves.
+fn words_of<R, S: Source>(parts: &mut ServerParts<'_, R, S>, fault: ServeFault) -> Vec<u8> {
     let mut words = parts.source.words_of(fault);
     let _is_said = words
         .extend_from_slice(b"what serves can't be started: tried again\n")
@@ -16,8 +16,8 @@ fn words_of<R, G, S: Source>(parts: &mut ServerParts<'_, R, G, S>, fault: ServeF
 
 /// Answers who asks at a desk: that the server stops, or else so, with the fault for which nothing serves. Answers
 /// whether it stops.
-fn stops_by<R: Wait, G, S: Source>(
-    parts: &mut ServerParts<'_, R, G, S>,
+fn stops_by<R: Wait, S: Source>(
+    parts: &mut ServerParts<'_, R, S>,
     desk: &Desk,
     course: Course,
     fault: ServeFault,
@@ -39,8 +39,8 @@ fn stops_by<R: Wait, G, S: Source>(
 
 /// Answers who asks at either desk while nothing serves for this fault. Answers whether the server is asked to stop,
 /// which it can at once: nobody is there who could answer what waits.
-pub fn is_stopped<R: Wait, G, S: Source>(
-    parts: &mut ServerParts<'_, R, G, S>,
+pub fn is_stopped<R: Wait, S: Source>(
+    parts: &mut ServerParts<'_, R, S>,
     fault: ServeFault,
 ) -> bool {
     let office = parts.office;

@@ -8,7 +8,7 @@ use roam_route::Out;
 use roam_wire::{NoMemory, Refusal};
 use std::alloc::Allocator;
 
-/// What an arrival is answered with that wasn't prepared: its refusal, or it is lost for want of
+/// Returns what an arrival is answered with that wasn't prepared: its refusal, or it is lost for want of
 /// memory. Takes no memory.
 pub(crate) fn lost_or_refused<A: Allocator>(alloc: A, why: Refusal) -> Result<Answer<A>, NoMemory>
     ensures { IsLostOrRefused result why }

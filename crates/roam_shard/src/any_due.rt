@@ -14,7 +14,7 @@ use roam_realm::RealmNumbers;
 use roam_tables::Tables;
 use std::alloc::Allocator;
 
-/// Whether an entry of a realm is due, where the realm is one of the shard's own.
+/// Returns whether an entry of a realm is due, where the realm is one of the shard's own.
 fn own_due<A: Allocator + Copy>(
     entries: &Tables<A>,
     own: &Option<RealmNumbers<A>>,
@@ -32,7 +32,7 @@ fn own_due<A: Allocator + Copy>(
     entries.due_after(realm, now, None).is_some()
 }
 
-/// Whether an entry of one of the shard's realms is due. Takes no memory.
+/// Returns whether an entry of one of the shard's realms is due. Takes no memory.
 pub(crate) fn any_due<A: Allocator + Copy>(
     entries: &Tables<A>,
     numbers: &[Option<RealmNumbers<A>>],
@@ -52,7 +52,7 @@ pub(crate) fn any_due<A: Allocator + Copy>(
     false
 }
 
-/// Whether each entry of a realm that is due was answered, where the realm is one of the shard's own.
+/// Returns whether each entry of a realm that is due was answered, where the realm is one of the shard's own.
 fn own_only_done<A: Allocator + Copy>(
     entries: &Tables<A>,
     own: &Option<RealmNumbers<A>>,
@@ -65,7 +65,7 @@ fn own_only_done<A: Allocator + Copy>(
     own.is_none() || only_done_due(entries, realm, now)
 }
 
-/// Whether each entry of the shard's realms that is due was answered. Takes no memory.
+/// Returns whether each entry of the shard's realms that is due was answered. Takes no memory.
 pub(crate) fn all_done<A: Allocator + Copy>(
     entries: &Tables<A>,
     numbers: &[Option<RealmNumbers<A>>],

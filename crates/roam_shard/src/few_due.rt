@@ -13,7 +13,7 @@ use roam_realm::RealmNumbers;
 use roam_tables::Tables;
 use std::alloc::Allocator;
 
-/// How many entries of a realm are due; none where they are more than so many. It looks at no more of them.
+/// Returns how many entries of a realm are due; none where they are more than so many. It looks at no more of them.
 fn few_of<A: Allocator + Copy>(entries: &Tables<A>, realm: u16, now: u64, limit: u64) -> Option<u64>
     ensures few { IfSome result (λ n. n ≡ length (due_list now (entries_in entries.now realm))) }
     ensures limit { IfSome result (λ n. n ≤ limit) }
@@ -51,7 +51,7 @@ fn own_few<A: Allocator + Copy>(
     few_of(entries, realm, now, limit)
 }
 
-/// Whether at most so many entries of the shard's realms are due. Takes no memory.
+/// Returns whether at most so many entries of the shard's realms are due. Takes no memory.
 pub(crate) fn all_few<A: Allocator + Copy>(
     entries: &Tables<A>,
     numbers: &[Option<RealmNumbers<A>>],
@@ -75,8 +75,8 @@ pub(crate) fn all_few<A: Allocator + Copy>(
 }
 
 impl<A: Allocator + Copy> Shard<'_, A> {
-    /// Whether at most so many entries of the shard's realms are due at a moment in milliseconds. It looks at no
-    /// more of them. Takes no memory.
+    /// Returns whether at most so many entries of the shard's realms are due at a moment in milliseconds. It looks at
+    /// no more of them. Takes no memory.
     pub fn has_few_due(&self, now: u64, limit: u64) -> bool
         ensures few { result ≡ true → due_count now self.now.states ≤ limit }
         ensures more { result ≡ false → NothingDue now self.now.states → ⊥ }

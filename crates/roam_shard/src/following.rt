@@ -50,7 +50,7 @@ struct Succession<'o, 'n> {
     shard: u16,
 }
 
-/// Whether a realm is one of the shard's, and goes on.
+/// Returns whether a realm is one of the shard's, and goes on.
 fn goes_on(change: Succession<'_, '_>, realm: u16) -> bool
     ensures { IsTrue result
         ↔ GoesOn (shown change.entry.from.now) (shown change.entry.to.now) change.entry.shard realm }

@@ -32,7 +32,7 @@ pub(crate) fn handle_job<A: Allocator + Copy, E: Entries<A>>(
         (λ s. event_happening lines realm.old.settings.now s (event_of now (shown_job job.now))) }
 {
     match job.side {
-        Side::Link(link) => realm.on_reply(now, link, octets, lines),
+        Side::Link(link) => realm.on_reply(now, link, octets, lines, job.keeps_session),
         Side::Peer(_) | Side::Home(_) => {
             let asked = request_of_job(realm.settings, job, octets);
             realm.on_request(now, asked)

@@ -32,7 +32,7 @@ pub(crate) fn numbers_at<A: Allocator>(
 }
 
 impl<A: Allocator + Copy> Shard<'_, A> {
-    /// How a realm stands; none where it isn't one of the shard's own.
+    /// Returns how a realm stands; none where it isn't one of the shard's own.
     pub fn gauges(&self, realm: u16) -> Option<Gauges>
         ensures stands { IfSome result (StandsAs (state_at self.now.states realm)) }
         ensures there { IsOwn self.now.opening realm → IsSome result }
@@ -44,8 +44,8 @@ impl<A: Allocator + Copy> Shard<'_, A> {
         Some(numbers.gauges(self.entries.len(realm), settings.out_count()))
     }
 
-    /// What goes of a realm where another configuration is followed, in which these peers have other tables; none
-    /// where it isn't one of the shard's own.
+    /// Returns what goes of a realm where another configuration is followed, in which these peers have other tables;
+    /// none where it isn't one of the shard's own.
     pub fn losses(&self, realm: u16, next: &Config, changed: &[u16]) -> Option<Loss>
         requires { AreChanged self.now.opening.config.peers (shown next.now).peers changed.now }
         ensures { IfSome result (IsLoss self.now.opening.config (shown next.now) realm

@@ -19,7 +19,7 @@ pub struct Opening<'c, A: Allocator> {
     pub starts: Vec<Start, A>,
 }
 
-/// Where the realms of a first broker begin: each at place 0 of its random words, and ticket 0.
+/// Returns where the realms of a first broker begin: each at place 0 of its random words, and ticket 0.
 pub fn first_starts<A: Allocator>(alloc: A, config: &Config) -> Result<Vec<Start, A>, NoMemory>
     ensures starts { IfOk result (λ starts. starts.items ≡ fresh_starts (shown config.now)) }
     ensures good { IfOk result (λ starts. AreStarts (shown config.now) starts.items) }

@@ -14,8 +14,8 @@ use roam_realm::{RealmNumbers, RealmSettings, Start};
 use roam_wire::NoMemory;
 use std::alloc::Allocator;
 
-/// Where a realm that doesn't go on begins: where its numbers stand, or where there are none, at place 0 of its random
-/// words and ticket 0.
+/// Returns where a realm that doesn't go on begins: where its numbers stand, or where there are none, at place 0 of
+/// its random words and ticket 0.
 pub(crate) fn begin_at<A: Allocator + Copy>(
     numbers: &[Option<RealmNumbers<A>>],
     realm: u16,

@@ -66,7 +66,7 @@ impl<A: Allocator + Copy> Shard<'_, A> {
     }
 }
 
-/// Whether a realm is here and has a name, without ASCII case.
+/// Returns whether a realm is here and has a name, without ASCII case.
 fn has_name(realm: &Realm, name: &[u8]) -> bool
     ensures { result ≡ (not (shown_realm realm.now).gone
         && str_eq_ignore_ascii_case (shown_realm realm.now).name name.now) }

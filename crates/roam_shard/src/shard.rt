@@ -96,14 +96,14 @@ impl<'c, A: Allocator + Copy> Shard<'c, A> {
         })
     }
 
-    /// How the shard began. Takes no memory.
+    /// Returns how the shard began. Takes no memory.
     pub fn opening(&self) -> &Opening<'c, A>
         ensures { shown_opening result.now ≡ self.now.opening }
     {
         &self.opening
     }
 
-    /// Where a realm of the shard would begin that went on from here, if no request were pending: its
+    /// Returns where a realm of the shard would begin that went on from here, if no request were pending: its
     /// place in the stream of random words, and its next ticket. Takes no memory.
     pub fn start(&self, realm: u16) -> Start
         requires configured { realm < length self.now.opening.config.realms }
@@ -118,7 +118,7 @@ impl<'c, A: Allocator + Copy> Shard<'c, A> {
         numbers.start()
     }
 
-    /// Whether a tick at a moment in milliseconds has anything to do: an entry of one of the shard's
+    /// Returns whether a tick at a moment in milliseconds has anything to do: an entry of one of the shard's
     /// realms is due. Takes no memory.
     pub fn is_due(&self, now: u64) -> bool
         ensures { result ≡ false ↔ NothingDue now self.now.states }

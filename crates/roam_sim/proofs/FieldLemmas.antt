@@ -109,25 +109,26 @@ datagram_part text octets is =
       | inr decodes ↦ digits_part text octets decodes
     ]
 
-no_octets : (now : Option (ℕ × Option ℕ)) (at : Option Place) (from : Option Endpoint) → arrival now at from None ≡ None
-no_octets None at from = refl
-no_octets (Some x) None from = refl
-no_octets (Some x) (Some y) None = refl
-no_octets (Some x) (Some y) (Some z) = refl
+no_octets : (kept : Bool) (now : Option (ℕ × Option ℕ)) (at : Option Place) (from : Option Endpoint) →
+    arrival kept now at from None ≡ None
+no_octets kept None at from = refl
+no_octets kept (Some x) None from = refl
+no_octets kept (Some x) (Some y) None = refl
+no_octets kept (Some x) (Some y) (Some z) = refl
 
-arrival_of_at : (now at from text : List ℕ) (octets : Option (List ℕ)) (rest : List (List ℕ)) →
+arrival_of_at : (kept : Bool) (now at from text : List ℕ) (octets : Option (List ℕ)) (rest : List (List ℕ)) →
     datagram_in text ≡ octets → parts 32 text ≡ rest →
-    arrival_of (now ∷ at ∷ from ∷ rest) ≡ arrival (times_in now) (place_in at) (endpoint_in from) octets
-arrival_of_at now at from text (Some octets) rest is cut = rw (← cut, datagram_part text octets is, is) refl
-arrival_of_at now at from text None [] is cut = sym (no_octets _ _ _)
-arrival_of_at now at from text None (x ∷ []) is cut = rw (one_part 32 text x cut, is) refl
-arrival_of_at now at from text None (x ∷ y ∷ more) is cut = sym (no_octets _ _ _)
+    arrival_of kept (now ∷ at ∷ from ∷ rest) ≡ arrival kept (times_in now) (place_in at) (endpoint_in from) octets
+arrival_of_at kept now at from text (Some octets) rest is cut = rw (← cut, datagram_part text octets is, is) refl
+arrival_of_at kept now at from text None [] is cut = sym (no_octets kept _ _ _)
+arrival_of_at kept now at from text None (x ∷ []) is cut = rw (one_part 32 text x cut, is) refl
+arrival_of_at kept now at from text None (x ∷ y ∷ more) is cut = sym (no_octets kept _ _ _)
 
 -- what follows the third field of an arrival is a datagram, or no arrival is read
-pub arrival_of-parts : (now at from text : List ℕ) →
-    arrival_of (now ∷ at ∷ from ∷ parts 32 text)
-    ≡ arrival (times_in now) (place_in at) (endpoint_in from) (datagram_in text)
-arrival_of-parts now at from text = arrival_of_at now at from text _ _ refl refl
+pub arrival_of-parts : (kept : Bool) (now at from text : List ℕ) →
+    arrival_of kept (now ∷ at ∷ from ∷ parts 32 text)
+    ≡ arrival kept (times_in now) (place_in at) (endpoint_in from) (datagram_in text)
+arrival_of-parts kept now at from text = arrival_of_at kept now at from text _ _ refl refl
 
 decodes_from_some : (text octets : List ℕ) → decode_of text ≡ Ok octets → IsOk (decode_of text)
 decodes_from_some text octets is = rw is refl

@@ -1,5 +1,5 @@
 -- Lines as the format's description has them.
-use Rattle.std.proofs.Common.{◌≡◌, [], ◌∷◌, None, Some, Err, refl}
+use Rattle.std.proofs.Common.{◌≡◌, false, true, [], ◌∷◌, None, Some, Err, refl}
 use Rattle.std.specs.Prelude.{codes}
 use Rattle.std.specs.Fmt.{digits}
 use Rattle.hex.specs.Hex.{decode_pairs, encode_with}
@@ -18,13 +18,15 @@ tick_line : line_states (codes "T 1000 2") ≡ states (ticks 1000 2)
 unfolding line_states parts decimal_in is_decimal
 tick_line = refl
 
--- a datagram of two octets, at the outgoing socket of realm 1, without and with the wall clock's seconds
+-- a datagram of two octets, at the outgoing socket of realm 1, without and with the wall clock's seconds, and without
+-- its session
 arrival_line : line_states (codes "A 0 out:1 192.0.2.1:5000 0aFF")
     ≡ states (arrives 0 (record {
       at = place.Out 1 0;
       from = record { ip = record { ip = V4 (record { octets = 192 ∷ 0 ∷ 2 ∷ 1 ∷ [] }) }; port = 5000 };
       octets = 10 ∷ 255 ∷ [];
       seconds = None;
+      keeps_session = true;
     }))
 unfolding line_states parts decimal_in is_decimal times_in place_in endpoint_in host_in read_ipv4 read_octet
     read_number datagram_in decode_pairs
@@ -36,10 +38,23 @@ timed_line : line_states (codes "A 0/1700000000 out:1 192.0.2.1:5000 0aFF")
       from = record { ip = record { ip = V4 (record { octets = 192 ∷ 0 ∷ 2 ∷ 1 ∷ [] }) }; port = 5000 };
       octets = 10 ∷ 255 ∷ [];
       seconds = Some 1700000000;
+      keeps_session = true;
     }))
 unfolding line_states parts decimal_in is_decimal times_in place_in endpoint_in host_in read_ipv4 read_octet
     read_number datagram_in decode_pairs
 timed_line = refl
+
+lost_line : line_states (codes "L 0 out:1 192.0.2.1:5000 0aFF")
+    ≡ states (arrives 0 (record {
+      at = place.Out 1 0;
+      from = record { ip = record { ip = V4 (record { octets = 192 ∷ 0 ∷ 2 ∷ 1 ∷ [] }) }; port = 5000 };
+      octets = 10 ∷ 255 ∷ [];
+      seconds = None;
+      keeps_session = false;
+    }))
+unfolding line_states parts decimal_in is_decimal times_in place_in endpoint_in host_in read_ipv4 read_octet
+    read_number datagram_in decode_pairs
+lost_line = refl
 
 -- a carriage return is part of the last field
 carriage_return : line_states (codes "T 0 0\r") ≡ faulty

@@ -1,5 +1,5 @@
 -- What a script states: its events in order, or the number of its first faulty line. Ours.
-use Rattle.std.specs.Prelude.{ℕ, ◌+◌, ◌-◌, ◌^◌, ◌==◌, ◌&&◌, ◌||◌, nat_lt, nat_le, if◌then◌else◌, List, [], ◌∷◌, length, slice_index, codes, Option, Some, None, option_map, Result, Ok, Err}
+use Rattle.std.specs.Prelude.{ℕ, ◌+◌, ◌-◌, ◌^◌, ◌==◌, ◌&&◌, ◌||◌, nat_lt, nat_le, if◌then◌else◌, Bool, true, false, List, [], ◌∷◌, length, slice_index, codes, Option, Some, None, option_map, Result, Ok, Err}
 use Rattle.std.specs.Option.{option_or}
 use Rattle.std.specs.Result.{result_ok}
 use Rattle.std.specs.Str.{bytes_eq}
@@ -86,18 +86,24 @@ datagram_in text =
     else if nat_lt 0 (length text) && nat_le (length text) 131070 then result_ok (decode_of text)
     else None
 
--- an arrival, if all that it consists of is there
+-- an arrival, if all that it consists of is there, whose session is kept or not
 abbrev pub arrival :
-    Option (ℕ × Option ℕ) → Option Place → Option Endpoint → Option (List ℕ) → Option PlainEvent
-arrival (Some times) (Some at) (Some from) (Some octets) =
-    Some (arrives times.0 (record { at = at; from = from; octets = octets; seconds = times.1 }))
-arrival _ _ _ _ = None
+    Bool → Option (ℕ × Option ℕ) → Option Place → Option Endpoint → Option (List ℕ) → Option PlainEvent
+arrival keeps_session (Some times) (Some at) (Some from) (Some octets) =
+    Some (arrives times.0 (record {
+      at = at;
+      from = from;
+      octets = octets;
+      seconds = times.1;
+      keeps_session = keeps_session;
+    }))
+arrival keeps_session _ _ _ _ = None
 
 -- what follows the letter of an arrival: `now place ip:port hex`, or `now/seconds place ip:port hex`
-abbrev pub arrival_of : List (List ℕ) → Option PlainEvent
-arrival_of (now ∷ at ∷ from ∷ octets ∷ []) =
-    arrival (times_in now) (place_in at) (endpoint_in from) (datagram_in octets)
-arrival_of _ = None
+abbrev pub arrival_of : Bool → List (List ℕ) → Option PlainEvent
+arrival_of keeps_session (now ∷ at ∷ from ∷ octets ∷ []) =
+    arrival keeps_session (times_in now) (place_in at) (endpoint_in from) (datagram_in octets)
+arrival_of keeps_session _ = None
 
 -- a tick, if both its numbers are there
 abbrev pub tick : Option ℕ → Option ℕ → Option PlainEvent
@@ -112,7 +118,8 @@ tick_of _ = None
 -- the event that the fields of a line state
 abbrev pub event_of : List (List ℕ) → Option PlainEvent
 event_of (letter ∷ fields) =
-    if bytes_eq letter (codes "A") then arrival_of fields
+    if bytes_eq letter (codes "A") then arrival_of true fields
+    else if bytes_eq letter (codes "L") then arrival_of false fields
     else if bytes_eq letter (codes "T") then tick_of fields
     else None
 event_of [] = None
@@ -142,10 +149,10 @@ lines_state number (line ∷ lines) = line_before (line_states line) number (lin
 
 -- ## Script
 -- Lines that end with a line feed, the last with or without it. Empty lines and lines that begin with `#` are
--- skipped; every other line is an arrival, `A now place ip:port hex`, or a tick, `T now shard`, with fields
--- parted by one space, or it is faulty. Behind the moment of an arrival may stand `/` and the wall clock's seconds.
--- A script states the list of its events, in order, or the number of its first faulty line, counted from 1 with the
--- skipped ones.
+-- skipped; every other line is an arrival, `A now place ip:port hex`, or `L` in place of `A` where its session isn't
+-- kept, or a tick, `T now shard`, with fields parted by one space, or it is faulty. Behind the moment of an arrival may
+-- stand `/` and the wall clock's seconds. A script states the list of its events, in order, or the number of its first
+-- faulty line, counted from 1 with the skipped ones.
 -- Source: ours
 -- Rules out: a line that is half read; a fault of a line that isn't there
 -- Stands in: `roam_sim` `Script.antt`: `script_states`, `line_states`; `read_script`

@@ -6,7 +6,7 @@ ghost use Rattle.roam_sim.specs.Script as spec;
 
 use roam_conf::{Place, decimal};
 
-/// What stands before the first colon, and after it.
+/// Returns what stands before the first colon, and after it.
 fn cut_at_colon(text: &str) -> Option<(&str, &str)>
     ensures { MatchOption result (parts 58 text.now ≡ text.now ∷ [])
         (λ cut. parts 58 text.now ≡ cut.0.now ∷ parts 58 cut.1.now) }
@@ -24,7 +24,7 @@ pub(crate) fn index(text: &str) -> Option<u16>
     }
 }
 
-/// Which of several sockets of a kind it is, where it isn't the first.
+/// Returns which of several sockets of a kind it is, where it isn't the first.
 fn nth(text: &str) -> Option<u16>
     ensures { result ≡ spec.nth_in text.now }
 {

@@ -1,7 +1,7 @@
 //! Reading a script: an event a line.
 
 ghost use Rattle.std.specs.Prelude.{◌≡◌, ◌↔◌, Ok, Err, IfOk, OnErr, IsOk, IsErrOf, IsSome, IsTrue, MatchOption, None};
-ghost use Rattle.std.specs.Prelude.{ℕ, [], ◌∷◌, option_map};
+ghost use Rattle.std.specs.Prelude.{ℕ, Bool, [], ◌∷◌, option_map};
 ghost use Rattle.std.specs.List.{AllPass};
 ghost use Rattle.std.specs.Result.{result_ok};
 ghost use Rattle.hex.specs.Hex.{decode_of, is_hex_digit};
@@ -22,7 +22,7 @@ use std::alloc::Allocator;
 /// The most hexadecimal digits of a datagram: two for each of 65,535 octets.
 const MOST_DIGITS: usize = 131_070;
 
-/// What stands before the first space, and after it.
+/// Returns what stands before the first space, and after it.
 fn cut_at_space(text: &str) -> Option<(&str, &str)>
     ensures { MatchOption result (parts 32 text.now ≡ text.now ∷ [])
         (λ cut. parts 32 text.now ≡ cut.0.now ∷ parts 32 cut.1.now) }
@@ -37,7 +37,7 @@ fn moment(text: &str) -> Option<u64>
     decimal(text, 0, u64::MAX)
 }
 
-/// What stands before the first slash, and after it.
+/// Returns what stands before the first slash, and after it.
 fn cut_at_slash(text: &str) -> Option<(&str, &str)>
     ensures { MatchOption result (parts 47 text.now ≡ text.now ∷ [])
         (λ cut. parts 47 text.now ≡ cut.0.now ∷ parts 47 cut.1.now) }
@@ -62,7 +62,7 @@ fn times(text: &str) -> Option<(u64, Option<u64>)>
     }
 }
 
-/// Whether octets are hexadecimal digits.
+/// Returns whether octets are hexadecimal digits.
 fn are_digits(octets: &[u8]) -> bool
     ensures { IsTrue result ↔ AllPass is_hex_digit octets.now }
 {
@@ -74,7 +74,7 @@ fn are_digits(octets: &[u8]) -> bool
     true
 }
 
-/// Whether a text is an even number of hexadecimal digits.
+/// Returns whether a text is an even number of hexadecimal digits.
 fn is_decodable(text: &str) -> bool
     ensures { IsTrue result ↔ IsOk (decode_of text.now) }
 {
@@ -111,7 +111,7 @@ fn datagram<A: Allocator>(alloc: A, text: &str) -> Result<Option<Octets<A>>, NoM
     decoded(alloc, text)
 }
 
-/// What follows the letter of a tick.
+/// Returns what follows the letter of a tick.
 #[tactic(auto, using(crate::proofs::FieldLemmas::last_fields))]
 fn tick<A: Allocator>(fields: &str) -> Option<Event<A>>
     ensures { option_map shown_event result ≡ spec.tick_of (parts 32 fields.now) }
@@ -123,17 +123,18 @@ fn tick<A: Allocator>(fields: &str) -> Option<Event<A>>
     }
 }
 
-/// An arrival, by what stands in its four fields.
+/// An arrival, by what stands in its four fields, and whether its session is kept.
 fn arrival<A: Allocator>(
     alloc: A,
+    keeps_session: bool,
     now: &str,
     at: &str,
     from: &str,
     octets: &str,
 ) -> Result<Option<Event<A>>, NoMemory>
-    ensures ok { IfOk result (λ e. option_map shown_event e ≡ spec.arrival (spec.times_in now.now)
+    ensures ok { IfOk result (λ e. option_map shown_event e ≡ spec.arrival keeps_session (spec.times_in now.now)
         (spec.place_in at.now) (endpoint_in from.now) (spec.datagram_in octets.now)) }
-    ensures memory { OnErr result (IsSome (spec.arrival (spec.times_in now.now)
+    ensures memory { OnErr result (IsSome (spec.arrival keeps_session (spec.times_in now.now)
         (spec.place_in at.now) (endpoint_in from.now) (spec.datagram_in octets.now))) }
 {
     match (times(now), place(at), Endpoint::from_text(from)) {
@@ -144,6 +145,7 @@ fn arrival<A: Allocator>(
                     from,
                     octets,
                     seconds,
+                    keeps_session,
                 };
                 Ok(Some(Event::Arrive { now, datagram }))
             }
@@ -155,7 +157,7 @@ fn arrival<A: Allocator>(
 
 /// The four fields that follow the letter of an arrival; the last is all that follows the third.
 fn four_fields(fields: &str) -> Option<(&str, &str, &str, &str)>
-    ensures { MatchOption result (spec.arrival_of (parts 32 fields.now) ≡ None)
+    ensures { MatchOption result ((keeps_session : Bool) → spec.arrival_of keeps_session (parts 32 fields.now) ≡ None)
         (λ f. parts 32 fields.now ≡ f.0.now ∷ f.1.now ∷ f.2.now ∷ parts 32 f.3.now) }
 {
     let (now, rest) = cut_at_space(fields)?;
@@ -164,14 +166,19 @@ fn four_fields(fields: &str) -> Option<(&str, &str, &str, &str)>
     Some((now, at, from, octets))
 }
 
-/// What follows the letter of an arrival.
+/// Returns what follows the letter of an arrival, whose session is kept or not.
 #[tactic(auto, using(crate::proofs::FieldLemmas::last_fields))]
-fn arrival_of<A: Allocator>(alloc: A, fields: &str) -> Result<Option<Event<A>>, NoMemory>
-    ensures ok { IfOk result (λ e. option_map shown_event e ≡ spec.arrival_of (parts 32 fields.now)) }
-    ensures memory { OnErr result (IsSome (spec.arrival_of (parts 32 fields.now))) }
+fn arrival_of<A: Allocator>(
+    alloc: A,
+    keeps_session: bool,
+    fields: &str,
+) -> Result<Option<Event<A>>, NoMemory>
+    ensures ok { IfOk result (λ e. option_map shown_event e
+        ≡ spec.arrival_of keeps_session (parts 32 fields.now)) }
+    ensures memory { OnErr result (IsSome (spec.arrival_of keeps_session (parts 32 fields.now))) }
 {
     match four_fields(fields) {
-        Some((now, at, from, octets)) => arrival(alloc, now, at, from, octets),
+        Some((now, at, from, octets)) => arrival(alloc, keeps_session, now, at, from, octets),
         None => Ok(None),
     }
 }
@@ -184,7 +191,9 @@ fn event<A: Allocator>(alloc: A, line: &str) -> Result<Option<Event<A>>, NoMemor
     match cut_at_space(line) {
         Some((letter, fields)) => {
             if letter == "A" {
-                arrival_of(alloc, fields)
+                arrival_of(alloc, true, fields)
+            } else if letter == "L" {
+                arrival_of(alloc, false, fields)
             } else if letter == "T" {
                 Ok(tick(fields))
             } else {
@@ -195,7 +204,7 @@ fn event<A: Allocator>(alloc: A, line: &str) -> Result<Option<Event<A>>, NoMemor
     }
 }
 
-/// What a line is, without its line feed. Memory is wanted for a line that states an event alone.
+/// Returns what a line is, without its line feed. Memory is wanted for a line that states an event alone.
 #[tactic(auto, unfolding(crate::specs::Script::line_states))]
 fn read_line<A: Allocator>(alloc: A, line: &str) -> Result<ScriptLine<A>, NoMemory>
     ensures ok { IfOk result (λ l. shown_line l ≡ spec.line_states line.now) }
@@ -213,7 +222,7 @@ fn read_line<A: Allocator>(alloc: A, line: &str) -> Result<ScriptLine<A>, NoMemo
 /// The events that a script states, in its order.
 ///
 /// Each line is an event: `A now place ip:port hex` is a datagram that arrives, `A now/seconds ..` one with the wall
-/// clock's seconds, `T now shard` a tick.
+/// clock's seconds, `L now ..` one whose session isn't kept, `T now shard` a tick.
 /// Lines that are empty or begin with `#` are skipped, and the last line may lack its line feed.
 ///
 /// # Errors

@@ -32,7 +32,7 @@ struct SocketFile {
 }
 
 impl SocketFile {
-    /// Whether both are one file.
+    /// Returns whether both are one file.
     fn is_same(self, other: SocketFile) -> bool
         ensures { IsTrue result ↔ ((self.device ≡ other.device) × (self.number ≡ other.number)) }
     {
@@ -75,7 +75,7 @@ fn socket_at<R: Files>(rt: &R, path: &str) -> io::Result<Option<SocketFile>> {
     }
 }
 
-/// Whether nobody listens at a path where a socket is.
+/// Returns whether nobody listens at a path where a socket is.
 fn is_silent<R: Net>(rt: &R, path: &str) -> bool {
     match UnixStream::connect(rt, path) {
         Ok(_) => false,

@@ -34,7 +34,7 @@ pub fn receivers<'s>(
     Ok(receivers)
 }
 
-/// Whether it is a socket from which a worker sends: the one of its place, or of several its own.
+/// Returns whether it is a socket from which a worker sends: the one of its place, or of several its own.
 fn is_own(bound: &BoundSocket, worker: usize) -> bool
     ensures { IsTrue result ↔ IsOwn worker bound.now }
 {

@@ -32,8 +32,8 @@ fn shared_places(config: &Config) -> u32
     (config.auth.len() + config.acct.len()) as u32
 }
 
-/// How many descriptors a server wants in all that serves one configuration and changes to another: those of both, and
-/// what it has beside them, connections that ask it among it.
+/// Returns how many descriptors a server wants in all that serves one configuration and changes to another: those of
+/// both, and what it has beside them, connections that ask it among it.
 pub fn descriptors_wanted(old: &Config, new: &Config) -> u32
     ensures { result ≡ spec.descriptors_wanted (shown old.now) (shown new.now) }
 {

@@ -84,7 +84,7 @@ pub fn reason_of(error: &io::Error) -> Reason {
 }
 
 impl Reason {
-    /// Whether the process has as many descriptors as it may.
+    /// Returns whether the process has as many descriptors as it may.
     pub fn is_want_of_descriptors(self) -> bool
         ensures { IsTrue result ↔ (self.0 ≡ 24) }
     {

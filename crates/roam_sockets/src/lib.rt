@@ -33,6 +33,7 @@ mod place_sockets;
 mod polls;
 mod receiver;
 mod seed;
+mod sinks;
 mod socket;
 mod workers;
 
@@ -49,4 +50,5 @@ pub use place_sockets::PlaceSockets;
 pub use polls::{Polls, make_polls, make_waker};
 pub use receiver::{RECEIVED, Receiver, WAIT_AFTER_FAULT};
 pub use seed::with_drawn_seed;
+pub use sinks::Sinks;
 pub use socket::Socket;

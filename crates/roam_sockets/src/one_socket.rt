@@ -12,14 +12,14 @@ use std::io;
 use std::net::{Net, UdpSocket};
 use std::os::fd::AsRawFd;
 
-/// Whether the address stands for each of this machine's of its kind.
+/// Returns whether the address stands for each of this machine's of its kind.
 fn is_every(ip: Address) -> bool
     ensures { result ≡ is_every ip }
 {
     ip.number() == 0
 }
 
-/// Whether what is sent to one of two endpoints may come to a socket at the other.
+/// Returns whether what is sent to one of two endpoints may come to a socket at the other.
 pub(crate) fn overlaps(a: Endpoint, b: Endpoint) -> bool
     ensures { result ≡ overlap a b }
 {
@@ -38,7 +38,7 @@ pub fn open_beside(open: &[BoundSocket], endpoint: Endpoint) -> Option<Endpoint>
     None
 }
 
-/// Whether a configuration has a socket of a number at an endpoint.
+/// Returns whether a configuration has a socket of a number at an endpoint.
 fn is_wanted_of(config: &Config, number: usize, endpoint: Endpoint) -> bool
     requires { number < 131072 }
 {
@@ -52,7 +52,7 @@ fn is_wanted_of(config: &Config, number: usize, endpoint: Endpoint) -> bool
     false
 }
 
-/// Whether a configuration has a socket at an endpoint.
+/// Returns whether a configuration has a socket at an endpoint.
 fn is_wanted(config: &Config, endpoint: Endpoint) -> bool {
     for number in 0..socket_numbers(config) {
         if is_wanted_of(config, number, endpoint) {

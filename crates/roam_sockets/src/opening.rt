@@ -50,7 +50,7 @@ pub(crate) fn bind_beside(endpoint: Endpoint) -> io::Result<UdpSocket> {
     Ok(socket)
 }
 
-/// Whether a socket can be bound to the endpoint of which several are to be bound: nobody else has one there.
+/// Returns whether a socket can be bound to the endpoint of which several are to be bound: nobody else has one there.
 pub(crate) fn is_free<R: Net>(rt: &R, endpoint: Endpoint) -> io::Result<()> {
     bind(rt, endpoint)?;
     Ok(())

@@ -78,6 +78,13 @@ pub fn bind_to(fd: RawFd, endpoint: Endpoint) -> bool {
     unsafe { libc::net::bind(fd, &address, size) == 0 }
 }
 
+/// Connects a socket to a sender's endpoint: from then on the system gives it what that sender sends to where it is
+/// bound, and nothing else. Returns whether it was connected.
+pub fn connect_to(fd: RawFd, sender: Endpoint) -> bool {
+    let (address, size) = address_octets(sender);
+    unsafe { libc::net::connect(fd, &address, size) == 0 }
+}
+
 /// Returns the number that an option of a socket has, or 0 where the system doesn't say.
 fn option_of(fd: RawFd, name: i32) -> u32
     requires name { SockOption (pos 1) name }

@@ -80,7 +80,7 @@ impl<'s> PlaceSockets<'s> {
         }
     }
 
-    /// Whether the system is asked to tell when that one has room for a packet.
+    /// Returns whether the system is asked to tell when that one has room for a packet.
     pub fn is_watched(&self) -> bool {
         self.is_watched
     }

@@ -53,7 +53,7 @@ fn fault_of(error: &io::Error, wanted: u32) -> ServeFault
     }
 }
 
-/// What a thread waits with, where the server wants so many descriptors.
+/// Returns what a thread waits with, where the server wants so many descriptors.
 pub fn make_polls<R: Net>(rt: &R, wanted: u32) -> Result<Polls, ServeFault>
     ensures { IfErr result IsAfterBinding }
 {
@@ -63,7 +63,7 @@ pub fn make_polls<R: Net>(rt: &R, wanted: u32) -> Result<Polls, ServeFault>
     }
 }
 
-/// What ends the wait of a thread, from another one.
+/// Returns what ends the wait of a thread, from another one.
 pub fn make_waker(polls: &Polls, wanted: u32) -> Result<Waker, ServeFault>
     ensures { IfErr result IsAfterBinding }
 {

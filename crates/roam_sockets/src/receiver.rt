@@ -44,7 +44,7 @@ impl<'s> Receiver<'s> {
         }
     }
 
-    /// Whether it is to be received from now.
+    /// Returns whether it is to be received from now.
     pub fn is_due(&self, now: u64) -> bool
         ensures ready { IsTrue result → IsTrue self.now.is_ready }
         ensures due { IsTrue result → IfSome self.now.retry_at (λ moment. moment ≤ now) }

@@ -23,7 +23,7 @@ pub enum Failed {
     Wrong,
 }
 
-/// What it says of a socket that a receive failed so.
+/// Returns what it says of a socket that a receive failed so.
 fn said_by(kind: ErrorKind) -> Failed
     ensures { result ≡ spec.said_by kind }
 {
@@ -34,7 +34,7 @@ fn said_by(kind: ErrorKind) -> Failed
     }
 }
 
-/// Why a packet isn't sent, where the send failed so.
+/// Returns why a packet isn't sent, where the send failed so.
 fn send_fault_of(kind: ErrorKind) -> SendFault
     ensures { result ≡ spec.send_fault_of kind }
 {

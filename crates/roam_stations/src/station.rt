@@ -35,7 +35,7 @@ fn bare(alloc: Global, station: &[u8]) -> Result<Vec<u8>, AllocError>
     Ok(octets)
 }
 
-/// Whether an octet is a hexadecimal digit, in small letters.
+/// Returns whether an octet is a hexadecimal digit, in small letters.
 fn is_digit(octet: u8) -> bool
     ensures { result ≡ is_digit octet }
 {
@@ -48,7 +48,7 @@ fn are_digits(octets: &[u8]) -> bool
     octets.iter().all(|octet| is_digit(*octet))
 }
 
-/// Whether such octets are those of a MAC address.
+/// Returns whether such octets are those of a MAC address.
 fn is_mac(octets: &[u8]) -> bool
     ensures { result ≡ is_mac octets.now }
 {

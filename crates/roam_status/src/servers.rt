@@ -41,7 +41,7 @@ pub enum Standing {
 }
 
 impl Seen {
-    /// How it stands.
+    /// Returns how it stands.
     pub fn standing(self) -> Standing
         ensures { result ≡ spec.standing_of self }
     {

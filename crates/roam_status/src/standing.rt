@@ -14,7 +14,7 @@ pub enum StatusForm {
     Json,
 }
 
-/// How a server of this configuration stands, in this form.
+/// Returns how a server of this configuration stands, in this form.
 ///
 /// # Errors
 ///

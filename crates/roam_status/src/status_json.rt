@@ -47,7 +47,7 @@ impl Display for TotalsText {
     }
 }
 
-/// What stands before an item of an array.
+/// Returns what stands before an item of an array.
 fn comma(at: usize) -> &'static str {
     if at == 0 { "" } else { "," }
 }
@@ -205,7 +205,7 @@ fn write_head(out: &mut String, config: &Config, about: &About) -> Result<(), Al
     write!(out, "}},\"shards\":{shards},\"realms\":[")
 }
 
-/// How a server of this configuration stands, as JSON.
+/// Returns how a server of this configuration stands, as JSON.
 pub fn status_json<C: Counts>(
     alloc: Global,
     config: &Config,

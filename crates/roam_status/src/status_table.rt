@@ -274,7 +274,7 @@ fn write_head(
     out.extend_from_slice(b"\n")
 }
 
-/// How a server of this configuration stands, as tables.
+/// Returns how a server of this configuration stands, as tables.
 pub fn status_table<C: Counts>(
     alloc: Global,
     config: &Config,

@@ -97,7 +97,7 @@ fn push_row(out: &mut Vec<u8>, row: &Row) -> Result<(), AllocError>
     push(out, b"\n")
 }
 
-/// How wide the cell of this place is of a row.
+/// Returns how wide the cell of this place is of a row.
 fn cell_width(row: &Row, at: usize) -> usize
     ensures { result ≡ spec.cell_width at row.now }
 {
@@ -107,7 +107,7 @@ fn cell_width(row: &Row, at: usize) -> usize
     }
 }
 
-/// How wide the column of this place is to be, so that each row's cell there fits.
+/// Returns how wide the column of this place is to be, so that each row's cell there fits.
 #[tactic(auto, using(crate::proofs::FitLemmas::fits_more))]
 fn width_of(rows: &[Row], at: usize) -> usize
     ensures { All (spec.Fits at result) rows.now }

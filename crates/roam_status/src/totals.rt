@@ -22,7 +22,7 @@ pub struct Totals {
     pub refused: u64,
 }
 
-/// How often all of a family was counted.
+/// Returns how often all of a family was counted.
 fn sum_of<C: Counts>(counts: &C, subject: Subject, family: &Family) -> u64 {
     let mut sum = 0u64;
     for (_, event) in family.samples {
@@ -80,7 +80,7 @@ impl Service {
         }
     }
 
-    /// How long it rests.
+    /// Returns how long it rests.
     fn rest(self, realm: u16, server: u8) -> Gauge {
         match self {
             Service::Auth => Gauge::AuthRest(realm, server),
@@ -88,7 +88,7 @@ impl Service {
         }
     }
 
-    /// How many requests it left without an answer.
+    /// Returns how many requests it left without an answer.
     fn unanswered(self, realm: u16, server: u8) -> Gauge {
         match self {
             Service::Auth => Gauge::AuthUnanswered(realm, server),
@@ -96,7 +96,7 @@ impl Service {
         }
     }
 
-    /// How many Identifiers are in use toward it.
+    /// Returns how many Identifiers are in use toward it.
     pub fn in_use(self, realm: u16, server: u8) -> Gauge {
         match self {
             Service::Auth => Gauge::AuthInUse(realm, server),
@@ -104,7 +104,7 @@ impl Service {
         }
     }
 
-    /// How many of its replies came, and how many were taken.
+    /// Returns how many of its replies came, and how many were taken.
     fn count_replies<C: Counts>(self, counts: &C, subject: Subject) -> (u64, u64) {
         let mut came = 0u64;
         let mut taken = 0u64;
@@ -115,7 +115,7 @@ impl Service {
         (came, taken)
     }
 
-    /// How many packets were sent there.
+    /// Returns how many packets were sent there.
     fn count_asked<C: Counts>(self, counts: &C, subject: Subject) -> u64 {
         let kind = self.request();
         counts
@@ -139,7 +139,7 @@ impl Service {
         ]
     }
 
-    /// What was seen of it.
+    /// Returns what was seen of it.
     pub fn seen<C: Counts>(self, counts: &C, realm: u16, server: u8) -> Seen {
         let subject = Subject::Server(realm, server);
         let (replied, taken) = self.count_replies(counts, subject);

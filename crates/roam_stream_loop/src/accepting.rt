@@ -3,7 +3,7 @@
 use crate::readiness::{Readiness, is_for_later};
 use crate::shared::Shared;
 use crate::stream_loop::StreamLoop;
-use crate::system::{System, bind_datagrams};
+use crate::system::{System, bind_datagrams, is_want};
 use crate::taken::{Taken, endpoint_of};
 use crate::tokens::{SocketKind, SocketName};
 use log::Log;
@@ -135,6 +135,9 @@ impl StreamLoop {
                 Ok((tcp, from)) => self.take(system, tcp, endpoint_of(from), at),
                 Err(error) => {
                     listening.has_connections = !is_for_later(&error);
+                    if is_want(&error) {
+                        self.shared.refuse(system.rt, StreamFault::Socket, at, at);
+                    }
                     return;
                 }
             }

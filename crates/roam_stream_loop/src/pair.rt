@@ -139,14 +139,20 @@ impl Pair {
         }
     }
 
-    /// Takes the datagram that was received, of so many octets: a request of the realm.
+    /// Takes the datagram that was received, of so many octets: a request of the realm, for which it dials where there
+    /// is no connection.
     pub fn take_request<R: Net + Log>(
         &mut self,
         system: &System<'_, R>,
         shared: &mut Shared,
         size: usize,
     ) {
-        let put = match self.connect(system, shared) {
+        let connected = if shared.has_request(size) {
+            self.connect(system, shared)
+        } else {
+            Err(StreamFault::Place)
+        };
+        let put = match connected {
             Ok(()) => self.put_request(shared, size),
             Err(fault) => Err(fault),
         };

@@ -5,7 +5,7 @@ use crate::telling::Telling;
 use crate::why::Why;
 use log::Log;
 use roam_address::Endpoint;
-use roam_streams::{StreamConfig, StreamFault};
+use roam_streams::{StreamConfig, StreamFault, is_request_packet};
 use std::alloc::{AllocError, Global};
 use std::net::SocketAddr;
 
@@ -56,6 +56,14 @@ impl Shared {
             counts,
             telling: Telling::new(counts),
         })
+    }
+
+    /// Returns whether the datagram that was received, of so many octets, is a request that goes to a home server.
+    pub fn has_request(&self, size: usize) -> bool {
+        match self.buffer.get(..size) {
+            Some(datagram) => is_request_packet(datagram),
+            None => false,
+        }
     }
 
     /// Counts and tells that something was refused.

@@ -6,6 +6,7 @@ ghost use Rattle.roam_stream_program.specs.StreamWords.{summary_of};
 
 use crate::stream_words::StreamCommand;
 use log::Log;
+use roam_diagnosis::{Lines, diagnose_streams};
 use roam_stream_loop::stream;
 use roam_stream_reader::read_streams;
 use roam_streams::StreamConfig;
@@ -33,83 +34,89 @@ fn print_summary<W: Write>(writer: &mut W, config: &StreamConfig) -> Result<(), 
     finish(writer)
 }
 
-/// Reads what streams are asked for, and prints how much that is.
+/// Reads what a file asks for. `lines` are then where its fault stands.
 ///
 /// # Errors
 ///
-/// `Refused`, `Memory`, and nothing is printed; `Write`.
-fn check_text<'a, W: Write>(
+/// `Refused`, `Memory`.
+fn config_of<'a>(
     alloc: Global,
     file: &TextFile<'a>,
-    writer: &mut W,
-) -> Result<(), Fault<'a>> {
-    match read_streams(alloc, file.text.as_str()) {
-        Ok(config) => print_summary(writer, &config),
-        Err(fault) => Err(Fault::of_configuration(file.path, fault)),
+    lines: &mut Lines,
+) -> Result<StreamConfig, Fault<'a>> {
+    let text = file.text.as_str();
+    match read_streams(alloc, text) {
+        Ok(config) => Ok(config),
+        Err(fault) => {
+            *lines = diagnose_streams(alloc, file.path, text, fault);
+            Err(Fault::of_configuration(file.path, fault))
+        }
     }
 }
 
-/// Checks the file of a path.
+/// Reads what the file of a path asks for. `lines` are then where its fault stands.
+fn read_config<'a, R: Files + AllocGlobal>(
+    rt: &R,
+    configuration: &'a str,
+    lines: &mut Lines,
+) -> Result<StreamConfig, Fault<'a>> {
+    match TextFile::read(rt, configuration) {
+        Ok(file) => config_of(rt.alloc(), &file, lines),
+        Err(fault) => Err(fault),
+    }
+}
+
+/// Checks the file of a path, and prints how much there is in it.
 fn check_file<'a, R: Files + AllocGlobal, W: Write>(
     rt: &R,
     configuration: &'a str,
     out: &mut W,
+    lines: &mut Lines,
 ) -> Result<(), Fault<'a>> {
-    match TextFile::read(rt, configuration) {
+    match read_config(rt, configuration, lines) {
+        Ok(config) => print_summary(out, &config),
         Err(fault) => Err(fault),
-        Ok(file) => check_text(rt.alloc(), &file, out),
     }
 }
 
-/// Takes and dials connections by a text, for so many milliseconds or without end.
-fn stream_text<'a, R: AllocGlobal + Wait + Clock + Net + Log>(
-    rt: &R,
-    file: &TextFile<'a>,
-    milliseconds: Option<u64>,
-) -> Result<(), Fault<'a>> {
-    let config = match read_streams(rt.alloc(), file.text.as_str()) {
-        Ok(config) => config,
-        Err(fault) => return Err(Fault::of_configuration(file.path, fault)),
-    };
-    match stream(rt, rt.alloc(), &config, milliseconds) {
-        Ok(()) => Ok(()),
-        Err(fault) => Err(Fault::of_server(fault)),
-    }
-}
-
-/// Takes and dials connections by the file of a path.
+/// Takes and dials connections by the file of a path, for so many milliseconds or without end.
 fn stream_file<'a, R: Files + AllocGlobal + Wait + Clock + Net + Log>(
     rt: &R,
     configuration: &'a str,
     milliseconds: Option<u64>,
+    lines: &mut Lines,
 ) -> Result<(), Fault<'a>> {
-    match TextFile::read(rt, configuration) {
+    match read_config(rt, configuration, lines) {
+        Ok(config) => match stream(rt, rt.alloc(), &config, milliseconds) {
+            Ok(()) => Ok(()),
+            Err(fault) => Err(Fault::of_server(fault)),
+        },
         Err(fault) => Err(fault),
-        Ok(file) => stream_text(rt, &file, milliseconds),
     }
 }
 
-/// Does what the words ask for.
+/// Does what the words ask for. `lines` are then where the fault of a file stands.
 fn run<'a, R: Files + AllocGlobal + Wait + Clock + Net + Log, S: AsStr, W: Write>(
     rt: &R,
     words: &'a [S],
     out: &mut W,
+    lines: &mut Lines,
 ) -> Result<(), Fault<'a>> {
     match StreamCommand::from_words(words) {
         None => Err(Fault::Usage),
-        Some(StreamCommand::Check { configuration }) => check_file(rt, configuration, out),
+        Some(StreamCommand::Check { configuration }) => check_file(rt, configuration, out, lines),
         Some(
             StreamCommand::Stream {
                 configuration,
                 milliseconds,
             },
-        ) => stream_file(rt, configuration, milliseconds),
+        ) => stream_file(rt, configuration, milliseconds, lines),
     }
 }
 
 /// Does what the words after the program's name ask for that is about streams, and answers the status with which the
-/// program ends: 0, or that of the fault that prevents it, whose text goes to `err`. Whether `err` takes it changes
-/// nothing.
+/// program ends: 0, or that of the fault that prevents it, whose text goes to `err`; behind the text of a file's fault
+/// come the lines that say where it stands, ten at most. Whether `err` takes them changes nothing.
 pub fn stream_command<
     R: Files + AllocGlobal + Wait + Clock + Net + Log,
     S: AsStr,
@@ -118,8 +125,9 @@ pub fn stream_command<
 >(rt: &R, words: &[S], out: &mut W, err: &mut E) -> u8
     ensures status { result ≤ 4 }
 {
-    match run(rt, words, out) {
+    let mut lines = Lines::new(rt.alloc());
+    match run(rt, words, out, &mut lines) {
         Ok(()) => 0,
-        Err(fault) => fault.tell(err).status,
+        Err(fault) => fault.tell_with(&lines, err).status,
     }
 }

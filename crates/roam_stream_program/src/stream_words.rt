@@ -26,7 +26,7 @@ pub enum StreamCommand<'a> {
     },
 }
 
-/// What two words ask for.
+/// Returns what two words ask for.
 fn of_two_words<'a>(word: &str, configuration: &'a str) -> Option<StreamCommand<'a>>
     ensures { MatchOption result (AsksNothing (word.now ∷ configuration.now ∷ []))
         (λ c. Asks (word.now ∷ configuration.now ∷ []) (shown c)) }
@@ -40,7 +40,7 @@ fn of_two_words<'a>(word: &str, configuration: &'a str) -> Option<StreamCommand<
     }
 }
 
-/// What `streams` and two words ask for.
+/// Returns what `streams` and two words ask for.
 fn of_streams<'a>(configuration: &'a str, last: &str) -> Option<StreamCommand<'a>>
     ensures { MatchOption result (AsksNothing (codes "streams" ∷ configuration.now ∷ last.now ∷ []))
         (λ c. Asks (codes "streams" ∷ configuration.now ∷ last.now ∷ []) (shown c)) }
@@ -54,7 +54,7 @@ fn of_streams<'a>(configuration: &'a str, last: &str) -> Option<StreamCommand<'a
     }
 }
 
-/// What `check` and two words ask for.
+/// Returns what `check` and two words ask for.
 fn of_check<'a>(option: &str, configuration: &'a str) -> Option<StreamCommand<'a>>
     ensures { MatchOption result (AsksNothing (codes "check" ∷ option.now ∷ configuration.now ∷ []))
         (λ c. Asks (codes "check" ∷ option.now ∷ configuration.now ∷ []) (shown c)) }
@@ -65,7 +65,7 @@ fn of_check<'a>(option: &str, configuration: &'a str) -> Option<StreamCommand<'a
     }
 }
 
-/// What three words ask for.
+/// Returns what three words ask for.
 fn of_three_words<'a>(word: &str, second: &'a str, last: &'a str) -> Option<StreamCommand<'a>>
     ensures { MatchOption result (AsksNothing (word.now ∷ second.now ∷ last.now ∷ []))
         (λ c. Asks (word.now ∷ second.now ∷ last.now ∷ []) (shown c)) }

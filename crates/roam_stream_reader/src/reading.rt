@@ -135,7 +135,7 @@ pub fn read_streams(alloc: Global, text: &str) -> Result<StreamConfig, ConfFault
         return Err(ConfFault::Missing);
     }
     let config = config_from(alloc, &table)?;
-    if some_stand_twice(alloc, &config)? {
+    if some_stand_twice(alloc, &table, &config)? {
         return Err(ConfFault::DuplicateEndpoint);
     }
     Ok(config)

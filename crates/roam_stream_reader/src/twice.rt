@@ -1,9 +1,11 @@
 //! Endpoints that stand twice.
 
+use crate::endpoints::endpoint_at;
 use roam_address::Endpoint;
 use roam_conf_reader::ConfFault;
 use roam_streams::StreamConfig;
 use std::alloc::Global;
+use toml::Table;
 
 /// Returns whether an endpoint is one of these.
 fn is_among(endpoints: &[Endpoint], endpoint: Endpoint) -> bool {
@@ -26,13 +28,16 @@ fn add_each(all: &mut Vec<Endpoint>, more: &[Endpoint]) -> Result<bool, ConfFaul
     Ok(false)
 }
 
-/// Adds the broker's endpoints and those of all home servers. Returns whether one of them was there.
-fn add_others(all: &mut Vec<Endpoint>, config: &StreamConfig) -> Result<bool, ConfFault> {
-    if let Some(broker) = config.broker {
-        if add_each(all, &[broker.auth, broker.acct])? {
-            return Ok(true);
-        }
+/// Adds the broker's endpoint at a key, where there is one. Returns whether it was there.
+fn add_at(all: &mut Vec<Endpoint>, table: &Table, key: &str) -> Result<bool, ConfFault> {
+    match endpoint_at(table, key)? {
+        Some(endpoint) => add_each(all, &[endpoint]),
+        None => Ok(false),
     }
+}
+
+/// Adds the endpoints of all home servers. Returns whether one of them was there.
+fn add_servers(all: &mut Vec<Endpoint>, config: &StreamConfig) -> Result<bool, ConfFault> {
     for server in config.servers.iter() {
         if add_each(all, server.at.as_slice())? {
             return Ok(true);
@@ -54,9 +59,21 @@ fn some_reverse_is_among(all: &[Endpoint], config: &StreamConfig) -> bool {
 }
 
 /// Returns whether two are equal among `take`, `auth`, `acct` and all `at`, or a `reverse` is one of these.
-pub(crate) fn some_stand_twice(alloc: Global, config: &StreamConfig) -> Result<bool, ConfFault> {
+///
+/// # Errors
+///
+/// `Memory`.
+pub(crate) fn some_stand_twice(
+    alloc: Global,
+    table: &Table,
+    config: &StreamConfig,
+) -> Result<bool, ConfFault> {
     let mut all = Vec::new(alloc);
-    if add_each(&mut all, config.take.as_slice())? || add_others(&mut all, config)? {
+    if add_each(&mut all, config.take.as_slice())?
+        || add_at(&mut all, table, "auth")?
+        || add_at(&mut all, table, "acct")?
+        || add_servers(&mut all, config)?
+    {
         return Ok(true);
     }
     Ok(some_reverse_is_among(all.as_slice(), config))

@@ -70,7 +70,7 @@ fn is_request(code: u8) -> bool
 }
 
 /// Returns whether octets are a request that goes to a home server.
-fn is_request_packet(datagram: &[u8]) -> bool
+pub fn is_request_packet(datagram: &[u8]) -> bool
     ensures { IsTrue result ↔ IsRequest datagram.now }
 {
     is_packet(datagram) && is_request(datagram[0])

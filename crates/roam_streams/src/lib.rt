@@ -30,7 +30,7 @@ mod stream_config;
 mod stream_fault;
 mod taken_stream;
 
-pub use dialed_stream::{Destination, DialedStream};
+pub use dialed_stream::{Destination, DialedStream, is_request_packet};
 pub use front::{Front, front_of, is_packet};
 pub use identifier_waits::{IdentifierWaits, Way};
 pub use laws::{cutting, repeating, sending, spacing, writing};

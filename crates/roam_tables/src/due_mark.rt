@@ -25,7 +25,7 @@ fn deadline_of<A: Allocator>(standing: &Standing<A>) -> u64
     }
 }
 
-/// Whether it was answered.
+/// Returns whether it was answered.
 fn stands_done<A: Allocator>(standing: &Standing<A>) -> bool
     ensures { result ≡ stands_done (shown_standing standing.now) }
 {

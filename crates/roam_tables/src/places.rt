@@ -8,7 +8,7 @@ ghost use Rattle.roam_tables.specs.Private.Runs.{IsExactOrder, IsNextPlaceOf, Is
 use std::alloc::Allocator;
 use std::collections::VecDeque;
 
-/// Whether an item is the first of those that stand in a run.
+/// Returns whether an item is the first of those that stand in a run.
 fn is_first<T: Ord, A: Allocator>(items: &VecDeque<T, A>, item: &T) -> bool
     requires { IsExactOrder T.cmp }
     ensures { result ≡ true → IsAt T.cmp items.now.items item.now 0 }
@@ -19,7 +19,7 @@ fn is_first<T: Ord, A: Allocator>(items: &VecDeque<T, A>, item: &T) -> bool
     }
 }
 
-/// Whether an item comes after all that stand in a run.
+/// Returns whether an item comes after all that stand in a run.
 fn is_after_all<T: Ord, A: Allocator>(items: &VecDeque<T, A>, item: &T) -> bool
     requires order { IsExactOrder T.cmp }
     requires rises { Rises T.cmp items.now.items }
@@ -31,8 +31,8 @@ fn is_after_all<T: Ord, A: Allocator>(items: &VecDeque<T, A>, item: &T) -> bool
     }
 }
 
-/// Where an item stands, or where it belongs. Most are at an end, and a search reads places all over a long run: so the
-/// ends are looked at first.
+/// Returns where an item stands, or where it belongs. Most are at an end, and a search reads places all over a long
+/// run: so the ends are looked at first.
 pub(crate) fn place_of<T: Ord, A: Allocator>(
     items: &VecDeque<T, A>,
     item: &T,
@@ -50,7 +50,7 @@ pub(crate) fn place_of<T: Ord, A: Allocator>(
     items.binary_search(item)
 }
 
-/// Where what comes after the last one begins.
+/// Returns where what comes after the last one begins.
 pub(crate) fn start_after<T: Ord + Copy, A: Allocator>(
     items: &VecDeque<T, A>,
     last: Option<T>,

@@ -27,7 +27,7 @@ pub(crate) struct RealmQueues<A: Allocator> {
     pub tickets: Run<u64, A>,
 }
 
-/// Whether a ticket isn't the one that counts as gone.
+/// Returns whether a ticket isn't the one that counts as gone.
 fn is_beside(except: Option<u64>, ticket: u64) -> bool
     ensures { result ≡ is_beside except ticket }
 {
@@ -38,7 +38,7 @@ fn is_beside(except: Option<u64>, ticket: u64) -> bool
 }
 
 impl<A: Allocator> RealmQueues<A> {
-    /// How many entries the runs have.
+    /// Returns how many entries the runs have.
     pub fn len(&self) -> usize
         ensures is { result ≡ held self.now }
         ensures fits { held self.now + 1 < 2 ^ 64 }

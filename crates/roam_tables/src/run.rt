@@ -160,7 +160,7 @@ fn make_room<T, A: Allocator>(row: &mut VecDeque<T, A>, most: usize) -> Result<(
 }
 
 impl<T: Ord + Copy, A: Allocator> Run<T, A> {
-    /// How many items it has.
+    /// Returns how many items it has.
     pub fn len(&self) -> usize
         ensures is { result ≡ length self.now.items }
         ensures fits { length self.now.items < 2 ^ 63 }

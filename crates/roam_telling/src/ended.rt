@@ -12,7 +12,7 @@ use roam_wire::attribute_type::MESSAGE_AUTHENTICATOR;
 use roam_wire::{Refusal, View};
 use std::alloc::Global;
 
-/// What is told of a reverse request that is answered by a NAK at once.
+/// Returns what is told of a reverse request that is answered by a NAK at once.
 pub fn nak_of(datagram: &Datagram<Global>, realm: u16) -> Exchange
     ensures { said.IsSaidBy (reading datagram.now.octets) result }
 {
@@ -22,7 +22,7 @@ pub fn nak_of(datagram: &Datagram<Global>, realm: u16) -> Exchange
     exchange
 }
 
-/// What is told of a request that the broker rejects by itself for this cause.
+/// Returns what is told of a request that the broker rejects by itself for this cause.
 pub fn local_reject_of(config: &Config, datagram: &Datagram<Global>, why: RejectCause) -> Exchange
     ensures said { said.IsSaidBy (reading datagram.now.octets) result }
     ensures why { result.why ≡ Some why }
@@ -33,8 +33,8 @@ pub fn local_reject_of(config: &Config, datagram: &Datagram<Global>, why: Reject
     exchange
 }
 
-/// What is told of an Accounting-Request that the broker answers by itself: as of one that a home server answered, but
-/// that there is none, and no realm where it has no name.
+/// Returns what is told of an Accounting-Request that the broker answers by itself: as of one that a home server
+/// answered, but that there is none, and no realm where it has no name.
 pub fn local_response_of(config: &Config, datagram: &Datagram<Global>) -> Exchange {
     let octets = datagram.octets.as_slice();
     let mut exchange = said_by(octets, ExchangeEnd::Response);
@@ -45,7 +45,7 @@ pub fn local_response_of(config: &Config, datagram: &Datagram<Global>) -> Exchan
     exchange
 }
 
-/// Where a reply was refused for its seal: whether it has one.
+/// Returns the origin of a reply that is refused for its Message-Authenticator, with whether it has one.
 fn seal_origin(datagram: &Datagram<Global>) -> Origin
     ensures { result ≡ origins.seal_origin datagram.now.at datagram.now.from (reading datagram.now.octets) }
 {
@@ -57,8 +57,8 @@ fn seal_origin(datagram: &Datagram<Global>) -> Origin
     }
 }
 
-/// Where a datagram came that was refused so, or wasn't: of a reply that is refused for its seal it is said whether
-/// it has one.
+/// Returns where a datagram came from that was refused so, or wasn't. Of a reply that is refused for its
+/// Message-Authenticator it says whether it has one.
 pub fn origin_of(datagram: &Datagram<Global>, refusal: Option<Refusal>) -> Origin
     ensures { result
         ≡ origins.origin_of datagram.now.at datagram.now.from datagram.now.octets refusal }

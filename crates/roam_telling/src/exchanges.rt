@@ -122,7 +122,7 @@ pub fn queue_of_lines(
 }
 
 impl Exchanges {
-    /// Whether a line tells of exchanges that end so.
+    /// Returns whether a line tells of exchanges that end so.
     pub fn are_told(&self, outcome: ExchangeEnd) -> bool
         ensures { result ≡ is_told self.now.told outcome }
     {
@@ -247,7 +247,8 @@ impl Exchanges {
         0
     }
 
-    /// Whether the logger is to be woken at this moment: a line was put, and it was known so many milliseconds ago.
+    /// Returns whether the logger is to be woken at this moment: a line was put, and it was known so many milliseconds
+    /// ago.
     pub fn take_due(&mut self, now: u64, within: u64) -> bool {
         if !self.queue.is_waiting {
             return false;
@@ -269,7 +270,7 @@ impl Exchanges {
         }
     }
 
-    /// How many lines were dropped of which that isn't said yet.
+    /// Returns how many lines were dropped of which that isn't said yet.
     pub fn dropped(&self) -> u64 {
         self.queue.dropped
     }

@@ -66,7 +66,7 @@ pub(crate) fn rest_notice(realm: u16, link: Link, answering: Answering) -> Notic
     }
 }
 
-/// Why packets were lost, in words.
+/// Returns why packets were lost, in words.
 fn words_of(cause: LossCause) -> &'static str {
     match cause {
         LossCause::FullRing => "by a full ring",

@@ -128,8 +128,8 @@ impl Notices {
         self.put(rest_notice(realm, link, answering))
     }
 
-    /// Where a reply is refused by this that shows that its server is there, says so, once a minute of each server at
-    /// most. Never waits. Answers whether it will be told.
+    /// Says that a reply was refused for a reason that shows that its server is there, once a minute of each server at
+    /// most. Never waits. Returns whether it will be told.
     pub fn turned_away(&mut self, refusal: Refusal, origin: Origin, now: u64) -> bool
         ensures put { IsTrue result → IsSomeAnd (turned_away refusal origin) (λ replies.
             sent self.new.queue ≡ sent self.old.queue ++ Notice.TurnedAway replies ∷ []) }
@@ -227,7 +227,7 @@ impl Notices {
         }
     }
 
-    /// Whether a notice was put since this was asked last.
+    /// Returns whether a notice was put since this was asked last.
     pub fn take_waiting(&mut self) -> bool
         ensures value { result ≡ self.old.is_waiting }
         ensures taken { IsFalse self.new.is_waiting }

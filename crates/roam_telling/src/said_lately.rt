@@ -29,7 +29,7 @@ pub struct SaidLately {
     rows: [Said; SERVERS],
 }
 
-/// Whether it was said of a server within the last minute.
+/// Returns whether it was said of a server within the last minute.
 fn is_recent(said: &Said, replies: &TurnedAway, now: u64) -> bool
     ensures { result ≡ is_recent replies.now now said.now }
 {
@@ -52,7 +52,7 @@ impl SaidLately {
         }
     }
 
-    /// Whether it was said of a server within the last minute.
+    /// Returns whether it was said of a server within the last minute.
     fn has(&self, replies: &TurnedAway, now: u64) -> bool
         ensures { result ≡ list_any (is_recent replies.now now) self.now.rows }
     {
@@ -91,8 +91,8 @@ impl SaidLately {
         };
     }
 
-    /// Whether it is to be said now of a server: it wasn't within the last minute, and of fewer than so many others it
-    /// was. It is noted then, until a minute is over, and no other is forgotten.
+    /// Returns whether it is to be said now of a server: it wasn't within the last minute, and of fewer than so many
+    /// others it was. It is noted then, until a minute is over, and no other is forgotten.
     pub fn take_turn(&mut self, replies: &TurnedAway, now: u64) -> bool
         ensures again { IsTrue (list_any (is_recent replies.now now) self.old.rows) → IsFalse result }
         ensures stays { IsFalse result → self.new ≡ self.old }

@@ -62,7 +62,7 @@ impl Queues<'_> {
     }
 }
 
-/// What the thread of a number counts by.
+/// Returns what the thread of a number counts by.
 fn counting_of<'s, 'c, H, N: Opened>(
     shared: &'s Shared<'s, 'c, H, N>,
     number: usize,
@@ -109,8 +109,8 @@ impl<'s, 'c, H, N: Opened> Builder<'s, 'c, H, N> {
         }
     }
 
-    /// What the thread of this number has, a worker or the timer. The packets that still wait in its outbox are sent,
-    /// where there is room for them now.
+    /// Returns what the thread of this number has, a worker or the timer. The packets that still wait in its outbox
+    /// are sent, where there is room for them now.
     fn equip(&mut self, number: usize, part: Part<N>) -> Result<Equipped<'s, 'c, H, N>, ServeFault>
         ensures { IfErr result IsAfterBinding }
     {
@@ -118,6 +118,8 @@ impl<'s, 'c, H, N: Opened> Builder<'s, 'c, H, N> {
         let numbers = socket_numbers(shared.config);
         let workers = usize::from(shared.config.shards);
         let ports = ports(shared.alloc, self.sockets, numbers, number, workers)?;
+        let counting = counting_of(shared, number)?;
+        let counts = counting.counts;
         let Part { seat, outbox, kit } = part;
         let Kit {
             polls,
@@ -129,8 +131,6 @@ impl<'s, 'c, H, N: Opened> Builder<'s, 'c, H, N> {
             buffer,
         } = kit;
         self.queues.take(queue, lines)?;
-        let counting = counting_of(shared, number)?;
-        let counts = counting.counts;
         let poll = polls.room;
         let room = RoomEvents { poll, events };
         let outgoing = Outgoing::new(shared.alloc, outbox, ports, shared.losses, counts, room)?;
@@ -145,7 +145,7 @@ impl<'s, 'c, H, N: Opened> Builder<'s, 'c, H, N> {
             now: 0,
             seconds: None,
             free_again_at: 0,
-            junk: Junk::none(),
+            junk: Junk::none(shared.alloc),
         };
         Ok(Equipped {
             context,

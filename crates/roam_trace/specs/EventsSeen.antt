@@ -5,6 +5,12 @@ use Rattle.roam_trace.specs.declared.look.EventRef.{EventRef}
 use Rattle.roam_trace.specs.declared.look.EventRef.TheVariants as event
 
 abbrev pub shown_event_ref : EventRef → PlainEvent
-shown_event_ref (event.Arrived now at from octets) =
-    arrives now (record { at = at; from = from; octets = octets.now; seconds = None })
+shown_event_ref (event.Arrived now at from octets keeps_session) =
+    arrives now (record {
+      at = at;
+      from = from;
+      octets = octets.now;
+      seconds = None;
+      keeps_session = keeps_session;
+    })
 shown_event_ref (event.Ticked now shard) = ticks now shard

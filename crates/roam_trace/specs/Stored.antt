@@ -10,6 +10,12 @@ HasNoClock (arrives now a) = a.seconds ≡ None
 HasNoClock (ticks now shard) = Unit {0}
 
 abbrev pub shown_stored : {A : Type 0} → StoredEvent A → PlainEvent
-shown_stored (stored.Arrived at from now octets) =
-    arrives now (record { at = at; from = from; octets = octets; seconds = None })
+shown_stored (stored.Arrived at from keeps_session now octets) =
+    arrives now (record {
+      at = at;
+      from = from;
+      octets = octets;
+      seconds = None;
+      keeps_session = keeps_session;
+    })
 shown_stored (stored.Ticked shard now) = ticks now shard

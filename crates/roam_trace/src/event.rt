@@ -20,6 +20,7 @@ pub(crate) fn event_of<A: Allocator>(now: u64, job: Job<A>) -> Event<A>
         from: job.from,
         octets: job.octets,
         seconds: None,
+        keeps_session: job.keeps_session,
     };
     Event::Arrive { now, datagram }
 }
@@ -34,6 +35,7 @@ pub fn job_event<A: Allocator>(alloc: A, now: u64, job: &Job<A>) -> Result<Event
         from: job.from,
         octets,
         seconds: None,
+        keeps_session: job.keeps_session,
     };
     Ok(Event::Arrive { now, datagram })
 }
@@ -50,5 +52,6 @@ pub fn copy_of<A: Allocator>(alloc: A, job: &Job<A>) -> Result<Job<A>, NoMemory>
         side: job.side,
         octets,
         named: job.named,
+        keeps_session: job.keeps_session,
     })
 }

@@ -30,6 +30,8 @@ pub enum EventRef<'s> {
         at: Place,
         from: Endpoint,
         octets: &'s [u8],
+        /// Whether its session was kept.
+        keeps_session: bool,
     },
     /// A shard's timer fired.
     Ticked {
@@ -48,6 +50,7 @@ impl<A: Allocator> Step<A> {
             StoredEvent::Arrived {
                 at,
                 from,
+                keeps_session,
                 now,
                 octets,
             } => EventRef::Arrived {
@@ -55,6 +58,7 @@ impl<A: Allocator> Step<A> {
                 at: *at,
                 from: *from,
                 octets: octets.as_slice(),
+                keeps_session: *keeps_session,
             },
             StoredEvent::Ticked { shard, now } => EventRef::Ticked {
                 now: *now,

@@ -48,7 +48,7 @@ impl<A: Allocator> Step<A> {
         }
     }
 
-    /// Whether it is the step of this event. Takes no memory.
+    /// Returns whether it is the step of this event. Takes no memory.
     pub fn is_of(&self, event: &Event<A>) -> bool
         ensures { IsTrue result ↔ (self.now ≡ shown_event event.now) }
     {

@@ -18,6 +18,7 @@ pub(crate) enum StoredEvent<A: Allocator> {
     Arrived {
         at: Place,
         from: Endpoint,
+        keeps_session: bool,
         /// In milliseconds.
         now: u64,
         octets: Octets<A>,
@@ -42,11 +43,13 @@ impl<A: Allocator> StoredEvent<A> {
                     at,
                     from,
                     octets,
+                    keeps_session,
                     ..
                 } = datagram;
                 StoredEvent::Arrived {
                     at,
                     from,
+                    keeps_session,
                     now,
                     octets,
                 }
@@ -55,7 +58,7 @@ impl<A: Allocator> StoredEvent<A> {
         }
     }
 
-    /// Whether it is this event. Takes no memory.
+    /// Returns whether it is this event. Takes no memory.
     pub(crate) fn is(&self, event: &Event<A>) -> bool
         ensures { IsTrue result ↔ (shown_stored self.now ≡ shown_event event.now) }
     {
@@ -64,6 +67,7 @@ impl<A: Allocator> StoredEvent<A> {
                 StoredEvent::Arrived {
                     at,
                     from,
+                    keeps_session,
                     now,
                     octets,
                 },
@@ -75,6 +79,7 @@ impl<A: Allocator> StoredEvent<A> {
                 now == other
                     && *at == datagram.at
                     && *from == datagram.from
+                    && *keeps_session == datagram.keeps_session
                     && datagram.seconds.is_none()
                     && octets.as_slice() == datagram.octets.as_slice()
             }

@@ -104,7 +104,7 @@ impl<'c, A: Allocator + Copy> Traced<'c, A> {
         }
     }
 
-    /// How many steps there were: those that were let go of, and the stored ones. Takes no memory.
+    /// Returns how many steps there were: those that were let go of, and the stored ones. Takes no memory.
     pub fn len(&self) -> u64
         ensures value { result ≡ self.now.gone + length self.now.events }
         ensures fits { length self.now.events ≤ self.now.limit }
@@ -120,7 +120,7 @@ impl<'c, A: Allocator + Copy> Traced<'c, A> {
         self.steps.as_slice()
     }
 
-    /// How many octets the datagrams of the stored steps have; as many as 64 bits hold.
+    /// Returns how many octets the datagrams of the stored steps have; as many as 64 bits hold.
     /// Takes no memory.
     pub fn octets(&self) -> u64
         ensures { result ≡ min (octets_in self.now.events) (2 ^ 64 - 1) }
@@ -128,28 +128,28 @@ impl<'c, A: Allocator + Copy> Traced<'c, A> {
         self.octets
     }
 
-    /// How the shard began. Takes no memory.
+    /// Returns how the shard began. Takes no memory.
     pub fn opening(&self) -> &Opening<'c, A>
         ensures { shown_opening result.now ≡ self.now.opening }
     {
         self.shard.opening()
     }
 
-    /// Whether a tick at a moment in milliseconds has anything to do. Takes no memory.
+    /// Returns whether a tick at a moment in milliseconds has anything to do. Takes no memory.
     pub fn is_due(&self, now: u64) -> bool
         ensures { result ≡ false ↔ NothingDue now self.now.states }
     {
         self.shard.is_due(now)
     }
 
-    /// Whether no step more can be stored.
+    /// Returns whether no step more can be stored.
     fn is_full(&self) -> bool
         ensures { result ≡ true ↔ length self.now.events ≡ self.now.limit }
     {
         self.steps.len() >= self.limit
     }
 
-    /// Whether one step more may be stored.
+    /// Returns whether one step more may be stored.
     fn check(&self) -> Result<(), TraceFault>
         ensures full { IsErrOf result TraceFault.TraceFull
             ↔ (length self.now.events ≡ self.now.limit) }

@@ -22,7 +22,7 @@ pub fn split_attribute(octets: &[u8]) -> Option<(Attr<'_>, &[u8])>
     Some((Attr { kind: *kind, value }, rest))
 }
 
-/// Whether the octets are attributes, one behind another.
+/// Returns whether the octets are attributes, one behind another.
 pub fn are_attributes(octets: &[u8]) -> bool
     ensures { IsTrue result ↔ IsSome (attributes_of octets.now) }
 {

@@ -30,7 +30,7 @@ pub const COA_ACK: u8 = 44;
 
 pub const COA_NAK: u8 = 45;
 
-/// Whether a code is Access-Accept, Access-Reject or Access-Challenge (RFC 2865, section 4).
+/// Returns whether a code is Access-Accept, Access-Reject or Access-Challenge (RFC 2865, section 4).
 pub fn is_access_reply(code: u8) -> bool
     ensures { result ≡ is_access_reply code }
 {

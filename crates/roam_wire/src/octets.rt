@@ -48,7 +48,7 @@ impl<A: Allocator> Octets<A> {
         self.octets.as_slice()
     }
 
-    /// How many there are.
+    /// Returns how many there are.
     pub fn len(&self) -> usize
         ensures { result ≡ length self.now }
     {

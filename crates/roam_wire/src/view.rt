@@ -157,7 +157,7 @@ impl<'a> View<'a> {
         None
     }
 
-    /// How many attributes of a Type the packet has. One pass.
+    /// Returns how many attributes of a Type the packet has. One pass.
     pub fn count(&self, kind: u8) -> usize
         ensures { result ≡ count_of kind self.now.attributes }
     {

@@ -86,7 +86,7 @@ pub fn append_attribute<A: Allocator>(out: &mut Vec<u8, A>, attribute: Attr<'_>)
     append_octets(out, attribute.value);
 }
 
-/// How many octets a packet's Proxy-States take. One pass.
+/// Returns how many octets a packet's Proxy-States take. One pass.
 pub fn proxy_states_len(request: &View<'_>) -> usize
     ensures all { result ≡ length (attributes_text (only_kind PROXY_STATE request.now.attributes)) }
     ensures few { result ≤ 4076 }

@@ -91,7 +91,7 @@ pub enum Command<'a> {
     Version,
 }
 
-/// What one word asks for.
+/// Returns what one word asks for.
 fn of_one_word<'a>(word: &str) -> Option<Command<'a>>
     ensures { MatchOption result (AsksNothing (word.now ∷ []))
         (λ c. Asks (word.now ∷ []) (shown c)) }
@@ -103,7 +103,7 @@ fn of_one_word<'a>(word: &str) -> Option<Command<'a>>
     }
 }
 
-/// What `check` and one word ask for.
+/// Returns what `check` and one word ask for.
 fn of_check<'a>(configuration: &'a str) -> Option<Command<'a>>
     ensures { MatchOption result (AsksNothing (codes "check" ∷ configuration.now ∷ []))
         (λ c. Asks (codes "check" ∷ configuration.now ∷ []) (shown c)) }
@@ -114,7 +114,7 @@ fn of_check<'a>(configuration: &'a str) -> Option<Command<'a>>
     }
 }
 
-/// What `serve` and one word ask for.
+/// Returns what `serve` and one word ask for.
 fn of_serve<'a>(configuration: &'a str) -> Option<Command<'a>>
     ensures { MatchOption result (AsksNothing (codes "serve" ∷ configuration.now ∷ []))
         (λ c. Asks (codes "serve" ∷ configuration.now ∷ []) (shown c)) }
@@ -128,7 +128,7 @@ fn of_serve<'a>(configuration: &'a str) -> Option<Command<'a>>
     }
 }
 
-/// What two words ask for.
+/// Returns what two words ask for.
 fn of_two_words<'a>(word: &str, configuration: &'a str) -> Option<Command<'a>>
     ensures { MatchOption result (AsksNothing (word.now ∷ configuration.now ∷ []))
         (λ c. Asks (word.now ∷ configuration.now ∷ []) (shown c)) }
@@ -141,7 +141,7 @@ fn of_two_words<'a>(word: &str, configuration: &'a str) -> Option<Command<'a>>
     }
 }
 
-/// What `check` and two words ask for.
+/// Returns what `check` and two words ask for.
 fn of_check_of_two<'a>(first: &'a str, last: &'a str) -> Command<'a>
     ensures { Asks (codes "check" ∷ first.now ∷ last.now ∷ []) (shown result) }
 {
@@ -156,7 +156,7 @@ fn of_check_of_two<'a>(first: &'a str, last: &'a str) -> Command<'a>
     }
 }
 
-/// What `serve` and two words ask for.
+/// Returns what `serve` and two words ask for.
 fn of_serve_for<'a>(first: &'a str, last: &'a str) -> Option<Command<'a>>
     ensures { MatchOption result (AsksNothing (codes "serve" ∷ first.now ∷ last.now ∷ []))
         (λ c. Asks (codes "serve" ∷ first.now ∷ last.now ∷ []) (shown c)) }
@@ -176,7 +176,7 @@ fn of_serve_for<'a>(first: &'a str, last: &'a str) -> Option<Command<'a>>
     }
 }
 
-/// What three words ask for.
+/// Returns what three words ask for.
 fn of_three_words<'a>(word: &str, configuration: &'a str, last: &'a str) -> Option<Command<'a>>
     ensures { MatchOption result (AsksNothing (word.now ∷ configuration.now ∷ last.now ∷ []))
         (λ c. Asks (word.now ∷ configuration.now ∷ last.now ∷ []) (shown c)) }
@@ -193,7 +193,7 @@ fn of_three_words<'a>(word: &str, configuration: &'a str, last: &'a str) -> Opti
     }
 }
 
-/// What `serve`, `--seed-of-file` and two words ask for.
+/// Returns what `serve`, `--seed-of-file` and two words ask for.
 fn of_serve_with_its_seed<'a>(configuration: &'a str, last: &str) -> Option<Command<'a>>
     ensures { MatchOption result
         (AsksNothing (codes "serve" ∷ seed_of_file ∷ configuration.now ∷ last.now ∷ []))
@@ -208,7 +208,7 @@ fn of_serve_with_its_seed<'a>(configuration: &'a str, last: &str) -> Option<Comm
     }
 }
 
-/// What `serve` and three words ask for.
+/// Returns what `serve` and three words ask for.
 fn of_serve_words<'a>(option: &str, configuration: &'a str, last: &str) -> Option<Command<'a>>
     ensures { MatchOption result
         (AsksNothing (codes "serve" ∷ option.now ∷ configuration.now ∷ last.now ∷ []))
@@ -220,7 +220,7 @@ fn of_serve_words<'a>(option: &str, configuration: &'a str, last: &str) -> Optio
     }
 }
 
-/// What four words ask for.
+/// Returns what four words ask for.
 fn of_four_words<'a>(
     word: &str,
     option: &'a str,

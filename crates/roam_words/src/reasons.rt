@@ -7,7 +7,7 @@ ghost use Rattle.roam_words.specs.Report as spec;
 use std::io;
 use std::io::Write;
 
-/// What the system says of the error of a number, if this is known here.
+/// Returns what the system says of the error of a number, if this is known here.
 pub fn words_of(reason: u32) -> Option<&'static str>
     ensures { MatchOption result (spec.words_of reason ≡ None) (λ words. spec.words_of reason ≡ Some words.now) }
 {

@@ -5,7 +5,8 @@ ghost use Rattle.std.specs.Prelude.{◌≡◌, ◌⊎◌, ◌↔◌, ◌<◌, �
 use std::alloc::{AllocError, Global};
 use std::str;
 
-/// Whether a character may stand there as it is: all but control characters, of which a line feed and a tab may.
+/// Returns whether a character may stand there as it is: all but control characters, of which a line feed and a tab
+/// may.
 fn is_plain(code: u32) -> bool
     ensures { IsTrue result ↔ ((code ≡ 9) ⊎ ((code ≡ 10) ⊎ (((32 ≤ code) × (code < 127)) ⊎ (160 ≤ code)))) }
 {
@@ -48,7 +49,8 @@ fn push_octets(shown: &mut Vec<u8>, octets: &[u8]) -> Result<(), AllocError> {
     Ok(())
 }
 
-/// What may be shown of octets: control characters but line feeds and tabs are escaped, and so is all that is no text.
+/// Returns what may be shown of octets: control characters but line feeds and tabs are escaped, and so is all that is
+/// no text.
 pub fn shown(alloc: Global, octets: &[u8]) -> Result<Vec<u8>, AllocError> {
     let mut shown = Vec::new(alloc);
     match str::from_utf8(octets) {

@@ -6,7 +6,7 @@ ghost use Rattle.roam_words.specs.CommandLine.{IsCommandWord, IsUnknown};
 
 use std::convert::AsStr;
 
-/// Whether a command begins with a word.
+/// Returns whether a command begins with a word.
 fn is_command_word(word: &str) -> bool
     ensures { IsTrue result ↔ IsCommandWord word.now }
 {

@@ -1,5 +1,5 @@
 -- What becomes of a datagram, from what each call of the way says.
-use Rattle.std.proofs.Common.{◌≡◌, ◌⊎◌, inl, inr, ℕ, ◌%◌, Result, Ok, Err, refl, ap, sym, subst, ◌∙◌}
+use Rattle.std.proofs.Common.{◌≡◌, ◌⊎◌, inl, inr, ℕ, ◌%◌, Bool, false, true, Result, Ok, Err, refl, ap, sym, subst, ◌∙◌}
 use Rattle.std.specs.declared.alloc.Global.{Global}
 use Rattle.roam_wire.specs.declared.refusal.Refusal.{Refusal}
 use Rattle.roam_wire.specs.declared.refusal.Refusal.TheVariants as refusal
@@ -7,7 +7,10 @@ use Rattle.roam_conf.specs.Config.{ConfigView}
 use Rattle.roam_conf.specs.declared.exchange_lines.ExchangeLines.{ExchangeLines}
 use Rattle.roam_exchange.specs.HappeningsShown.{shown_happening}
 use Rattle.roam_route.specs.Admission.{Arrival, PlainJob, admission, admitted, refused, answered_here}
-use Rattle.roam_route.specs.Events.{arrival_of}
+use Rattle.roam_conf.specs.declared.place.Place.{Place}
+use Rattle.roam_conf.specs.declared.place.Place.TheVariants as place
+use Rattle.roam_route.proofs.EventLemmas.{event_unkept}
+use Rattle.roam_route.specs.Events.{IsEvent, arrival_of, without_session}
 use Rattle.roam_route.specs.Shown.{IsAdmission, WantsMemory, shown_job, shown_out}
 use Rattle.roam_route.specs.declared.datagram.Out.{Out}
 use Rattle.roam_route.specs.declared.job.Job.{Job}
@@ -23,8 +26,9 @@ use Rattle.roam_counters.specs.declared.datagrams.Handling.TheVariants as handli
 use Rattle.roam_counters.specs.Arrivals.{arrival_increments}
 use Rattle.roam_counters.specs.OwnCounts.{CountsView, raised_all}
 use Rattle.roam_counters.specs.declared.turn.CountedTurn.{CountedTurn}
-use Rattle.roam_counting.specs.Packets.{turn_of}
-use Rattle.roam_workers.specs.Handlings.{AtWork, came, HasFailed, IsAnswered, IsHandled, IsRefused, refused_as, refused_counts}
+use Rattle.roam_counting.specs.Packets.{code_of, turn_of}
+use Rattle.roam_workers.specs.Handlings.{AtWork, came, given_as, HasFailed, IsAnswered, IsHandled, IsRefused, refused_as, refused_counts}
+use Rattle.roam_workers.specs.Requests.{is_of_session, may_lose_session}
 
 -- the job that was handed in first is the one that was answered, at the same moment
 pub answered_so :
@@ -145,3 +149,41 @@ pub came-so : (first second third : CountsView) (turn : CountedTurn) (job : Plai
     → second ≡ raised_all first (arrival_increments turn) → third ≡ second → third ≡ came first job
 came-so first second third turn job is counted same =
     same ∙ counted ∙ ap (λ (t : CountedTurn). raised_all first (arrival_increments t)) is
+
+-- without its session a reply is an event too
+unkept-at : (config : ConfigView) (job : PlainJob) (at : Place) → job.place ≡ at
+    → is_of_session at (code_of job.octets) ≡ true → IsEvent config job → IsEvent config (without_session job)
+unkept-at config job (place.Out k nth) is may event = event_unkept config job k nth is event
+unkept-at config job (place.Auth nth) is may event = absurd (let bad : false ≡ true = may in cc)
+unkept-at config job (place.Acct nth) is may event = absurd (let bad : false ≡ true = may in cc)
+unkept-at config job (place.Reverse k nth) is may event = absurd (let bad : false ≡ true = may in cc)
+
+pub unkept : (config : ConfigView) (job back : PlainJob) → back ≡ job → may_lose_session job ≡ true
+    → IsEvent config job → IsEvent config (without_session back)
+unkept config job back same may event =
+    subst (λ (j : PlainJob). IsEvent config (without_session j)) (sym same)
+    (unkept-at config job job.place refl may event)
+
+-- what a reply without its session was answered with, after a call that wasn't recorded
+pub given_so :
+    (o : HubOpening) (lines : ExchangeLines) (now now2 : ℕ) (job back : PlainJob) (old middle new : SeatView)
+    (a : Answered Global) (is_lost : Bool) → now ≡ now2 → back ≡ job → middle.tallies ≡ old.tallies
+    → (is_lost ≡ true) × IsAnswered o lines now (without_session back) middle new a
+    → IsAnswered o lines now2 (given_as job is_lost) old new a
+given_so o lines now now2 job back old middle new a is_lost moment same tallies h =
+    let there : IsAnswered o lines now2 (without_session job) middle new a =
+    subst (λ (n : ℕ). IsAnswered o lines n (without_session job) middle new a) moment
+    (subst (λ (j : PlainJob). IsAnswered o lines now (without_session j) middle new a) same h.1) in
+    let from : IsAnswered o lines now2 (without_session job) old new a = record {
+      before = there.before;
+      none_before = there.none_before ∙ tallies;
+      call = there.call;
+      happened = there.happened;
+      shard_is = there.shard_is;
+    } in
+    subst (λ (b : Bool). IsAnswered o lines now2 (given_as job b) old new a) (sym h.0) from
+
+-- a job is of its realm, with its session or without it
+pub realm_given : (job : PlainJob) (is_lost : Bool) → (given_as job is_lost).realm ≡ job.realm
+realm_given job true = refl
+realm_given job false = refl

@@ -16,7 +16,7 @@ use Rattle.roam_counters.specs.declared.datagrams.Handling.TheVariants as handli
 use Rattle.roam_counters.specs.declared.increments.Increment.{Increment}
 use Rattle.roam_counting.specs.Counting.{wait_of}
 use Rattle.roam_counting.specs.Packets.{turn_of}
-use Rattle.roam_workers.specs.Handlings.{AtWork, FailedCounts, IsHandled, IsJobHandled, IsJobTaken}
+use Rattle.roam_workers.specs.Handlings.{AtWork, FailedCounts, IsHandled, IsJobHandled, IsJobTaken, given_as}
 use Rattle.roam_workers.specs.Ticks.{HasNotTicked, Ticks}
 use Rattle.roam_outgoing.proofs.SendingLemmas.{puts_both, puts_same}
 use Rattle.roam_outgoing.specs.Sending.{PutsEach}
@@ -94,7 +94,8 @@ taken-counts : (o : HubOpening) (lines : ExchangeLines) (now : ℕ) (job : Plain
 taken-counts o lines now job old new is =
     twice old.counts (raised_all old.counts (arrival_increments (turn_of job))) new.counts
     (arrival_increments (turn_of job))
-    (job_increments (turn_of job) (shown_happening is.answered.happening) now (wait_of o.config job.realm))
+    (job_increments (turn_of (given_as job is.is_lost)) (shown_happening is.answered.happening) now
+    (wait_of o.config job.realm))
     refl is.counts
 
 job-counts :

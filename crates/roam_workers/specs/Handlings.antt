@@ -1,10 +1,10 @@
 -- What becomes of a datagram that a worker takes. Ours.
-use Rattle.std.specs.Prelude.{◌≡◌, ◌⊎◌, ℕ, ◌%◌, [], ◌∷◌, true}
+use Rattle.std.specs.Prelude.{◌≡◌, ◌⊎◌, ℕ, ◌%◌, [], ◌∷◌, Bool, false, true}
 use Rattle.std.specs.declared.alloc.Global.{Global}
 use Rattle.roam_wire.specs.declared.refusal.Refusal.{Refusal}
 use Rattle.roam_wire.specs.declared.refusal.Refusal.TheVariants as refusal
 use Rattle.roam_route.specs.Admission.{Arrival, PlainJob, PlainOut, admission, admitted, refused, answered_here}
-use Rattle.roam_route.specs.Events.{arrival_of}
+use Rattle.roam_route.specs.Events.{arrival_of, without_session}
 use Rattle.roam_route.specs.RejectCauses.{code_of}
 use Rattle.roam_route.specs.Shown.{WantsMemory}
 use Rattle.roam_route.specs.declared.local_answer.LocalAnswer.{LocalAnswer}
@@ -30,7 +30,7 @@ use Rattle.roam_exchange.specs.Turn.{shown_outs}
 use Rattle.roam_outgoing.specs.Sending.{PutsEach, outbox_in}
 use Rattle.roam_outgoing.specs.declared.outgoing.Outgoing.{Outgoing}
 use Rattle.roam_port.specs.declared.outbox.Outbox.{Outbox}
-use Rattle.roam_workers.specs.Requests.{is_request}
+use Rattle.roam_workers.specs.Requests.{is_request, may_lose_session}
 
 -- one that is refused before it comes to a realm: for want of memory it failed
 abbrev pub refused_as : Refusal → Handling
@@ -63,18 +63,27 @@ pub record IsAnswered (o : HubOpening) (lines : ExchangeLines) (now : ℕ) (job 
 abbrev pub came : CountsView → PlainJob → CountsView
 came counts job = raised_all counts (arrival_increments (turn_of job))
 
--- a realm's rules took a job: it was answered, and the seat counts no other call. The counts rose by the job's arrival
--- and by what happened, and the packets of the answer were given to be sent, each once
+-- a job as the hub was given it: as it came, or without its session, for which there was no memory
+abbrev pub given_as : PlainJob → Bool → PlainJob
+given_as job false = job
+given_as job true = without_session job
+
+-- a realm's rules took a job, an Accounting-Response maybe without its session: it was answered, and the seat counts no
+-- other call. The counts rose by the job's arrival and by what happened, a session that is lost among it, and the
+-- packets of the answer were given to be sent, each once
 pub record IsJobTaken (o : HubOpening) (lines : ExchangeLines) (now : ℕ) (job : PlainJob) (old new : AtWork)
     : Type 0 where
+  pub is_lost : Bool
+  pub may_lose : is_lost ≡ true → may_lose_session job ≡ true
   pub after : SeatView
   pub answered : Answered Global
-  pub answer : IsAnswered o lines now job old.seat after answered
+  pub answer : IsAnswered o lines now (given_as job is_lost) old.seat after answered
   pub none_after : new.seat.tallies ≡ after.tallies
   pub counts :
       new.counts
       ≡ raised_all (came old.counts job)
-      (job_increments (turn_of job) (shown_happening answered.happening) now (wait_of o.config job.realm))
+      (job_increments (turn_of (given_as job is_lost)) (shown_happening answered.happening) now
+      (wait_of o.config job.realm))
   pub sends : PutsEach (shown_outs answered.answer.outs) old.outbox new.outbox
 
 -- the call for a job wasn't recorded: the seat counts none, the counts rose by its arrival and by that, and nothing is
@@ -133,8 +142,8 @@ pub record HasFailed (o : HubOpening) (d : Arrival) (old new : AtWork) : Type 0 
   pub outbox : new.outbox ≡ old.outbox
 
 -- ## What becomes of a datagram
--- One of five: a realm's rules took it, by one call that the seat counts and whose step is the arrival's; or it
--- gives an
+-- One of five: a realm's rules took it, by one call that the seat counts and whose step is the arrival's, or, of an
+-- Accounting-Response for whose session there was no memory, the arrival's without its session; or it gives an
 -- answer of the broker's own, or is refused, each by admission alone, and the seat has seen nothing; or it failed,
 -- where
 -- admission passes it, and the seat counts nothing; or it is a request, by its code, and is dropped.
@@ -142,8 +151,9 @@ pub record HasFailed (o : HubOpening) (d : Arrival) (old new : AtWork) : Type 0 
 -- before it end, by the answer, or by the refusal. The packets of the call's answer, or the broker's own answer, are
 -- given to be sent, in order, each once, and else nothing is.
 -- Source: ours
--- Rules out: a datagram that is dropped without a count; a job that admission doesn't give; a count that rises by what
--- no history has; an answer whose packets aren't sent, or sent twice, or are others
+-- Rules out: a datagram that is dropped without a count; a session that is lost without a count; a job that admission
+-- doesn't give; a count that rises by what no history has; an answer whose packets aren't sent, or sent twice, or are
+-- others
 -- Stands in: `roam_workers` `Handlings.antt`: `IsHandled`, `IsTaken`; `WorkerContext::arrive`
 --
 abbrev pub IsHandled : HubOpening → ExchangeLines → ℕ → Arrival → AtWork → AtWork → Handling → Type 0

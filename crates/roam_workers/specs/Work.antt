@@ -26,7 +26,7 @@ use Rattle.roam_counting.specs.Packets.{turn_of}
 use Rattle.roam_intake.specs.Letters.{IsAdmitted}
 use Rattle.roam_outgoing.specs.Sending.{PutsEach}
 use Rattle.roam_port.specs.declared.outbox.Outbox.{Outbox}
-use Rattle.roam_workers.specs.Handlings.{AtWork, FailedCounts, IsHandled, IsJobHandled, IsJobTaken}
+use Rattle.roam_workers.specs.Handlings.{AtWork, FailedCounts, IsHandled, IsJobHandled, IsJobTaken, given_as}
 use Rattle.roam_workers.specs.Ticks.{HasNotTicked, Ticks}
 
 -- one thing that a thread does: it takes a datagram, of which this becomes; or a job that was handed on; or it ticks a
@@ -82,7 +82,8 @@ abbrev pub taken_by : (o : HubOpening) (lines : ExchangeLines) (now : ℕ) (job 
     → IsJobTaken o lines now job old new → List (Option Increment)
 taken_by o lines now job old new taken =
     arrival_increments (turn_of job)
-    ++ job_increments (turn_of job) (shown_happening taken.answered.happening) now (wait_of o.config job.realm)
+    ++ job_increments (turn_of (given_as job taken.is_lost)) (shown_happening taken.answered.happening) now
+    (wait_of o.config job.realm)
 
 abbrev pub job_by :
     (o : HubOpening) (lines : ExchangeLines) (now : ℕ) (job : PlainJob) (old new : AtWork) (handling : Handling)

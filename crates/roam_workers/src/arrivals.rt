@@ -1,32 +1,34 @@
 //! What a worker does with a datagram that came.
 
-ghost use Rattle.std.specs.Prelude.{◌≡◌, IfNone, IfOk, IfSome, IsTrue, OnErr, true};
+ghost use Rattle.std.specs.Prelude.{◌≡◌, IfNone, IfSome, IsTrue, true};
 ghost use Rattle.roam_route.specs.Admission.{admission, admitted};
 ghost use Rattle.roam_route.specs.Events.{IsEvent};
 ghost use Rattle.roam_route.specs.Shown.{shown_arrival, shown_job};
 ghost use Rattle.roam_counting.specs.Counting.{counts_in};
 ghost use Rattle.roam_intake.specs.Letters.{jobs_of};
 ghost use Rattle.roam_workers.specs.Handlings as handlings;
-ghost use Rattle.roam_workers.specs.Handlings.{IsAnswered, IsHandled, IsJobHandled, at_work};
+ghost use Rattle.roam_workers.specs.Handlings.{IsHandled, IsJobHandled, at_work};
 ghost use Rattle.roam_workers.specs.Mail.{ArrivesHere, IsHandedOn, at_mail};
 ghost use Rattle.roam_workers.specs.Requests.{is_request};
 
-use crate::asked::AskedAt;
+use crate::answering::given_as;
 use crate::codes::is_request;
 use crate::context::WorkerContext;
 use crate::hub_calls::HubCalls;
-use roam_calls::{Answered, Opened, Refused};
+use roam_calls::Opened;
+use roam_conf::{Config, Endpoint, Place};
 use roam_counters::Handling;
 use roam_counting::turn_of;
 use roam_intake::Mail;
 use roam_notices::Origin;
+use roam_port::endpoint_of;
 use roam_route::{Datagram, Job, Prepared, prepare};
 use roam_telling::origin_of;
 use roam_wire::Refusal;
 use std::alloc::Global;
 use std::sync::Wait;
 
-/// What becomes of a datagram that is refused before it comes to a realm: for want of memory it failed.
+/// Returns what becomes of a datagram that is refused before it comes to a realm: for want of memory it failed.
 fn refused_as(refusal: Refusal) -> Handling
     ensures { result ≡ handlings.refused_as refusal }
 {
@@ -36,7 +38,16 @@ fn refused_as(refusal: Refusal) -> Handling
     }
 }
 
-/// What is told of where a job came from that is refused: more than that, where its datagram is there and has it.
+/// Returns the endpoint of a place at which several sockets share a port: that of `auth` or `acct`.
+fn shared_endpoint(config: &Config, place: Place) -> Option<Endpoint> {
+    match place {
+        Place::Auth(_) | Place::Acct(_) => endpoint_of(config, place),
+        _ => None,
+    }
+}
+
+/// Returns what is told of where a job came from that is refused: more than that, where its datagram is there and has
+/// it.
 fn origin_in(
     arrived: Origin,
     datagram: Option<&Datagram<Global>>,
@@ -81,6 +92,18 @@ impl<H: HubCalls<N>, N: Opened> WorkerContext<'_, '_, H, N> {
                 || self.junk.passes_over(datagram.from.ip, self.now, received))
     }
 
+    /// Notes that a datagram is dropped unread.
+    fn pass_over(&mut self, datagram: &Datagram<Global>)
+        ensures kept { (self.new.seat ≡ self.old.seat) × (self.new.datagrams ≡ self.old.datagrams)
+            × (self.new.now ≡ self.old.now)
+            × (counts_in self.new.counting ≡ counts_in self.old.counting)
+            × (self.new.outgoing ≡ self.old.outgoing) }
+    {
+        if let Some(endpoint) = shared_endpoint(self.shared.config, datagram.at) {
+            self.junk.pass_over(endpoint, datagram.from, self.now);
+        }
+    }
+
     /// Takes a datagram, and answers what became of it, unless its job is handed on. A server that is asked to stop
     /// takes no request, nor is one taken whose sender is passed over.
     fn handle<R: Wait>(
@@ -101,6 +124,7 @@ impl<H: HubCalls<N>, N: Opened> WorkerContext<'_, '_, H, N> {
         ensures kept { self.new.datagrams ≡ self.old.datagrams }
     {
         if self.is_dropped(datagram) {
+            self.pass_over(datagram);
             return Some(Handling::Dropped);
         }
         match prepare(alloc, self.shared.config, datagram) {
@@ -175,11 +199,12 @@ impl<H: HubCalls<N>, N: Opened> WorkerContext<'_, '_, H, N> {
         let turn = turn_of(&job);
         let arrived = Origin::Datagram(job.place, job.from);
         self.counting.came(turn);
-        match self.answer(rt, job) {
-            Ok(answered) => {
+        match self.answer_or_lose(rt, job) {
+            Ok((answered, is_lost)) => {
                 self.shared.rest.wake();
+                let given = given_as(turn, is_lost);
                 self.counting
-                    .gave(config, turn, &answered.happening, self.now);
+                    .gave(config, given, &answered.happening, self.now);
                 self.end_by(turn.realm, datagram, &answered);
                 let origin = origin_in(arrived, datagram, answered.answer.refusal);
                 self.finish(rt, answered, origin);
@@ -191,40 +216,5 @@ impl<H: HubCalls<N>, N: Opened> WorkerContext<'_, '_, H, N> {
                 Handling::Failed
             }
         }
-    }
-
-    /// Gives a job to the hub. Where the history is full, or memory is wanting, that of its shard is let go of, and
-    /// the same job handed in again.
-    fn answer<R: Wait>(&mut self, rt: &R, job: Job<Global>) -> Result<Answered<Global>, Refusal>
-        requires { IsEvent N.opening.config (shown_job job) }
-        ensures answered { IfOk result (IsAnswered N.opening self.old.shared.now.told_exchanges self.old.now
-            (shown_job job) self.old.seat self.new.seat) }
-        ensures failed { OnErr result (self.new.seat.tallies ≡ self.old.seat.tallies) }
-        ensures kept { (self.new.datagrams ≡ self.old.datagrams) × (self.new.now ≡ self.old.now)
-            × (counts_in self.new.counting ≡ counts_in self.old.counting)
-            × (self.new.outgoing ≡ self.old.outgoing) }
-    {
-        let shared = self.shared;
-        let shard = shared.config.shard_of(job.realm);
-        let mut job = job;
-        let mut is_second = false;
-        for _ in rt.forever() {
-            let asked = AskedAt {
-                rt,
-                moment: self.now,
-                lines: shared.told_exchanges,
-            };
-            match shared.hub.answer(asked, &mut self.seat, job) {
-                Ok(answered) => return Ok(answered),
-                Err(Refused { fault, job: same }) => {
-                    if !self.remedy(rt, shard, fault, is_second) {
-                        return Err(fault.refusal());
-                    }
-                    job = same;
-                    is_second = true;
-                }
-            }
-        }
-        unreachable!()
     }
 }

@@ -1,13 +1,19 @@
-//! Which datagrams are requests.
+//! Which datagrams are requests, and which jobs may lose their session.
 
 ghost use Rattle.std.specs.Prelude.{◌≡◌};
+ghost use Rattle.roam_route.specs.Shown.{shown_job};
 ghost use Rattle.roam_workers.specs.Requests as requests;
 
+use roam_conf::Place;
+use roam_route::Job;
 use roam_wire::code::{
-    ACCESS_REQUEST, ACCOUNTING_REQUEST, COA_REQUEST, DISCONNECT_REQUEST, STATUS_SERVER,
+    ACCESS_REQUEST, ACCOUNTING_REQUEST, ACCOUNTING_RESPONSE, COA_REQUEST, DISCONNECT_REQUEST,
+    STATUS_SERVER,
 };
+use std::alloc::Global;
 
-/// Whether a datagram is a request, by its code (RFC 2865 section 3, RFC 5997 section 3, RFC 5176 section 2.3).
+/// Returns whether a datagram is a request, by its code (RFC 2865 section 3, RFC 5997 section 3, RFC 5176 section
+/// 2.3).
 pub fn is_request(octets: &[u8]) -> bool
     ensures { result ≡ requests.is_request octets.now }
 {
@@ -20,5 +26,15 @@ pub fn is_request(octets: &[u8]) -> bool
                 || *code == COA_REQUEST
         }
         None => false,
+    }
+}
+
+/// Returns whether a job may be taken without its session: an Accounting-Response that came from a home server.
+pub(crate) fn may_lose_session(job: &Job<Global>) -> bool
+    ensures { result ≡ requests.may_lose_session (shown_job job.now) }
+{
+    match (job.place, job.octets.as_slice()) {
+        (Place::Out(_, _), [code, ..]) => *code == ACCOUNTING_RESPONSE,
+        _ => false,
     }
 }

@@ -11,7 +11,6 @@ ghost use Rattle.roam_outgoing.specs.Sending.{PutsEach, outbox_in};
 ghost use Rattle.roam_workers.specs.Handlings.{at_work};
 ghost use Rattle.roam_workers.specs.Ticks.{HasNotTicked, Ticks};
 
-use crate::asked::AskedAt;
 use crate::ending::{Ending, WorkerEnd};
 use crate::hub_calls::HubCalls;
 use crate::junk::Junk;
@@ -62,13 +61,14 @@ impl<'s, 'c, H, N: Opened> Drop for WorkerContext<'s, 'c, H, N> {
             now: _,
             seconds: _,
             free_again_at: _,
-            junk: _,
+            junk,
         } = self;
         drop(seat);
         drop(outgoing);
         drop(notices);
         drop(exchanges);
         drop(counting);
+        drop(junk);
     }
 }
 
@@ -83,8 +83,8 @@ pub enum Remedy {
     Refuse,
 }
 
-/// What is done about a call that isn't recorded, where so many were tried. A history that is full is let go of
-/// as often as it takes; where memory is wanting, it is let go of once.
+/// Returns what is done about a call that isn't recorded, where so many were tried. A history that is full is let go
+/// of as often as it takes; where memory is wanting, it is let go of once.
 pub fn remedy_for(fault: HubFault, is_second: bool) -> Remedy
     ensures { result ≡ remedies.remedy_for fault is_second }
 {
@@ -140,12 +140,11 @@ impl<H: HubCalls<N>, N: Opened> WorkerContext<'_, '_, H, N> {
         let shared = self.shared;
         let mut is_second = false;
         for _ in rt.forever() {
-            let asked = AskedAt {
-                rt,
-                moment: self.now,
-                lines: shared.told_exchanges,
-            };
-            match shared.hub.tick_if_due(asked, &mut self.seat, shard) {
+            let (now, lines) = (self.now, shared.told_exchanges);
+            match shared
+                .hub
+                .tick_if_due(rt, now, lines, &mut self.seat, shard)
+            {
                 Ok(Some(ticked)) => return self.ticked(rt, shard, ticked),
                 Ok(None) => return false,
                 Err(fault) => {
@@ -161,8 +160,8 @@ impl<H: HubCalls<N>, N: Opened> WorkerContext<'_, '_, H, N> {
         unreachable!()
     }
 
-    /// Whether nothing is due within so many milliseconds in any shard, as they stand, and no packet waits for a
-    /// socket.
+    /// Returns whether nothing is due within so many milliseconds in any shard, as they stand, and no packet waits for
+    /// a socket.
     pub fn can_rest<R: Wait>(&mut self, rt: &R, milliseconds: u64) -> bool
         ensures looks { HasNotTicked (at_work self.old.seat self.old.counting self.old.outgoing)
             (at_work self.new.seat self.new.counting self.new.outgoing) }
@@ -254,7 +253,7 @@ impl<H: HubCalls<N>, N: Opened> WorkerContext<'_, '_, H, N> {
             now: _,
             seconds: _,
             free_again_at: _,
-            junk: _,
+            junk,
         } = self;
         let end = WorkerEnd {
             ending,
@@ -267,6 +266,7 @@ impl<H: HubCalls<N>, N: Opened> WorkerContext<'_, '_, H, N> {
         drop(notices);
         drop(exchanges);
         drop(counting);
+        drop(junk);
         end
     }
 }

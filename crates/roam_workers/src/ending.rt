@@ -46,7 +46,7 @@ pub struct Ended<N: Opened> {
     pub rests: Option<Rests>,
 }
 
-/// Whether a worker gave up a socket, after one more has ended.
+/// Returns whether a worker gave up a socket, after one more has ended.
 pub fn has_given_up_after(has_given_up: bool, ending: Ending) -> bool
     ensures { IsTrue result ↔ (IsTrue has_given_up ⊎ (ending ≡ Ending.GaveUp)) }
 {

@@ -19,7 +19,7 @@ use std::collections::VecDeque;
 use std::mem;
 use std::sync::Wait;
 
-/// Whether the sockets of a place are heard by other workers than those of the shards of what comes there.
+/// Returns whether the sockets of a place are heard by other workers than those of the shards of what comes there.
 fn is_shared(place: Place) -> bool {
     match place {
         Place::Auth(_) | Place::Acct(_) => true,
@@ -28,12 +28,12 @@ fn is_shared(place: Place) -> bool {
 }
 
 impl<H, N: Opened> Shared<'_, '_, H, N> {
-    /// Whether a job is another worker's to give to the hub than the one of this number.
+    /// Returns whether a job is another worker's to give to the hub than the one of this number.
     pub(crate) fn is_anothers(&self, number: usize, job: &Job<Global>) -> bool {
         is_shared(job.place) && usize::from(self.config.shard_of(job.realm)) != number
     }
 
-    /// Whether a job waits for any worker that others received for its shard.
+    /// Returns whether a job waits for any worker that others received for its shard.
     pub(crate) fn does_mail_wait<R: Wait>(&self, rt: &R) -> bool {
         for mailbox in self.mailboxes {
             if mailbox.holds_any(rt) {
@@ -43,8 +43,8 @@ impl<H, N: Opened> Shared<'_, '_, H, N> {
         false
     }
 
-    /// How long the worker of a number waits that would wait so long, in milliseconds: not at all where others received
-    /// something for its shard, and else nobody hands it more until it comes back.
+    /// Returns how long the worker of a number waits that would wait so long, in milliseconds: not at all where others
+    /// received something for its shard, and else nobody hands it more until it comes back.
     pub(crate) fn wait_for_mail<R: Wait>(&self, rt: &R, number: usize, milliseconds: u64) -> u64 {
         match self.mailboxes.get(number) {
             Some(mailbox) if milliseconds > 0 && !mailbox.close(rt) => 0,

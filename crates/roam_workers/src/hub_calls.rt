@@ -9,10 +9,9 @@ ghost use Rattle.roam_calls.specs.Calls.{AreGone, Calls, IsLook, Sees, TicksIfDu
 ghost use Rattle.roam_calls.specs.Looks.{StandsThen, WouldLose};
 ghost use Rattle.roam_calls.specs.Written.{BeginsRealm, SavesThen};
 
-use crate::asked::AskedAt;
 use roam_calls::{Answered, Gauges, HubFault, Opened, Refused, Seat, Ticked};
 use roam_carry::Loss;
-use roam_conf::Config;
+use roam_conf::{Config, ExchangeLines};
 use roam_ledgers::Writing;
 use roam_route::Job;
 use roam_trace::Step;
@@ -25,7 +24,8 @@ pub const SESSIONS_AT_ONCE: usize = 256;
 
 /// What threads ask of a hub, which `N` says in proofs how it opened. Each call waits for the lock of one shard.
 pub trait HubCalls<N: Opened> {
-    /// Gives a job to the shard of its realm. With the answer comes what happened by the job. The seat counts the call.
+    /// Gives a job to the shard of its realm at a moment, in milliseconds. With the answer comes what happened by the
+    /// job, with the octets of its request where these lines tell of it. The seat counts the call.
     ///
     /// # Errors
     ///
@@ -33,30 +33,34 @@ pub trait HubCalls<N: Opened> {
     /// Nothing is recorded then, and the job comes back as it was.
     fn answer<R: Wait>(
         &self,
-        asked: AskedAt<'_, R>,
+        rt: &R,
+        moment: u64,
+        lines: ExchangeLines,
         seat: &mut Seat<Global, N>,
         job: Job<Global>,
     ) -> Result<Answered<Global>, Refused<Global>>
         requires { IsEvent N.opening.config (shown_job job) }
-        ensures { Calls N.opening asked.entry.lines (job.realm % N.opening.config.shards) asked.entry.moment
-            (shown_job job) seat.old seat.new result };
+        ensures { Calls N.opening lines (job.realm % N.opening.config.shards) moment (shown_job job)
+            seat.old seat.new result };
 
-    /// Ticks a shard where something is due there. The seat counts a tick.
+    /// Ticks a shard where something is due there at a moment. The seat counts a tick.
     ///
     /// # Errors
     ///
     /// `NoShard` just where there is no such shard, and as for `answer`. Nothing is recorded then.
     fn tick_if_due<R: Wait>(
         &self,
-        asked: AskedAt<'_, R>,
+        rt: &R,
+        moment: u64,
+        lines: ExchangeLines,
         seat: &mut Seat<Global, N>,
         shard: u16,
     ) -> Result<Option<Ticked<Global>>, HubFault>
-        ensures tick { TicksIfDue N.opening asked.entry.lines shard asked.entry.moment seat.old seat.new result }
+        ensures tick { TicksIfDue N.opening lines shard moment seat.old seat.new result }
         ensures no_shard { IsErrOf result HubFault.NoShard ↔ N.opening.config.shards ≤ shard };
 
-    /// Whether anything of a shard is due at a moment in milliseconds, as it stands. Records nothing, and takes no
-    /// memory.
+    /// Returns whether anything of a shard is due at a moment in milliseconds, as it stands. Records nothing, and
+    /// takes no memory.
     ///
     /// # Errors
     ///
@@ -93,13 +97,14 @@ pub trait HubCalls<N: Opened> {
         ensures err { OnErr result (seat.new ≡ seat.old) }
         ensures no_shard { IsErrOf result HubFault.NoShard ↔ N.opening.config.shards ≤ shard };
 
-    /// How a realm stands, in numbers, where its shard's history ends now: no earlier than the seat has seen it. None
-    /// where the realm isn't configured, or the lock holds another shard's trace. Records nothing, and takes no memory.
+    /// Returns how a realm stands, in numbers, where its shard's history ends now: no earlier than the seat has seen
+    /// it. None where the realm isn't configured, or the lock holds another shard's trace. Records nothing, and takes
+    /// no memory.
     fn look<R: Wait>(&self, rt: &R, seat: &Seat<Global, N>, realm: u16) -> Option<Gauges>
         ensures { IfSome result (StandsThen N.opening realm seat.now) };
 
-    /// What goes of a realm where another configuration is followed, in which these peers have other tables: as it
-    /// stands where its shard's history ends now. None as for `look`. Records nothing, and takes no memory.
+    /// Returns what goes of a realm where another configuration is followed, in which these peers have other tables:
+    /// as it stands where its shard's history ends now. None as for `look`. Records nothing, and takes no memory.
     fn losses<R: Wait>(
         &self,
         rt: &R,

@@ -6,8 +6,10 @@
 
 ghost use Rattle.std.specs.Prelude.{◌<◌};
 
-use roam_conf::Address;
+use roam_conf::{Address, Endpoint};
+use roam_sockets::Sinks;
 use roam_wire::Refusal;
+use std::alloc::Global;
 
 /// How many binary digits of a time in milliseconds tell when in a moment it is: a moment is 64 milliseconds.
 const MOMENT: u32 = 6;
@@ -18,6 +20,10 @@ const PATIENCE: u32 = 32;
 /// One in so many datagrams is looked at all the same.
 const LOOKED_AT: u64 = 16;
 
+/// Where so many datagrams of an address are passed over in a moment, the kernel drops for a while what comes from the
+/// port of each further one.
+const FLOOD: u32 = 256;
+
 /// So many senders are told apart at once. One that is met behind another one in its place isn't passed over.
 const SENDERS: u128 = 61;
 
@@ -27,12 +33,15 @@ struct Sender {
     address: Address,
     moment: u64,
     refused: u32,
+    passed_over: u32,
 }
 
 /// The senders of whose datagrams some were refused of late, at one thread.
-#[derive(Clone, Copy)]
+#[derive(Drop)]
 pub struct Junk {
     senders: [Option<Sender>; 61],
+    /// The sockets that nobody reads, for senders that flood.
+    sinks: Sinks,
 }
 
 /// Returns whether a refusal says that a datagram isn't what it should be, whoever sent it. A rule that refuses a right
@@ -61,9 +70,10 @@ fn place_of(address: Address) -> usize
 
 impl Junk {
     /// Returns that nothing was refused yet.
-    pub fn none() -> Junk {
+    pub fn none(alloc: Global) -> Junk {
         Junk {
             senders: [None; 61],
+            sinks: Sinks::none(alloc),
         }
     }
 
@@ -85,6 +95,7 @@ impl Junk {
                     address,
                     moment,
                     refused: 1,
+                    passed_over: 0,
                 });
             }
         }
@@ -101,5 +112,31 @@ impl Junk {
             }
             None => false,
         }
+    }
+
+    /// Counts that a datagram of a sender was passed over, and returns whether that floods.
+    fn floods(&mut self, address: Address) -> bool {
+        match &mut self.senders[place_of(address)] {
+            Some(sender) if sender.address == address => {
+                sender.passed_over = sender.passed_over.saturating_add(1);
+                sender.passed_over > FLOOD
+            }
+            _ => false,
+        }
+    }
+
+    /// Notes that a datagram was passed over that came to an endpoint of `auth` or `acct`, at a time in milliseconds.
+    /// Where its sender floods, nobody reads what it sends from that port for a while.
+    pub(crate) fn pass_over(&mut self, endpoint: Endpoint, sender: Endpoint, now: u64) {
+        let is_flood = self.floods(sender.ip);
+        if is_flood {
+            self.sinks.open(endpoint, sender, now);
+        }
+    }
+
+    /// Hears all senders again whose time is over, and returns how many milliseconds others have left.
+    pub(crate) fn time_left(&mut self, now: u64) -> u64 {
+        self.sinks.close_due(now);
+        self.sinks.time_left(now)
     }
 }

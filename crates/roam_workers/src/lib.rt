@@ -30,6 +30,8 @@
 //! - and it puts into its outbox the packets of the answers that it was given, and the broker's own answers, in order,
 //!   each once, and no other; what waits there at its end it gives back | `WorkerContext::finish`: `sends`;
 //!   `receive_on`, `tick_on`: `HasWorkedTo`; law `work_is_sent`
+//! - an Accounting-Response may be taken without its session, no other job; then the counts rise by a session that is
+//!   lost. That this is done where memory is still wanting, and once, is code | `WorkerContext::arrive`
 //! - which remedy there is for a call that a hub doesn't record: where the history is full it is let go of, each time;
 //!   out of memory it is, once; else the call is refused. That the same event is handed in again is the loop's code |
 //!   `remedy_for`
@@ -37,8 +39,8 @@
 //!   whose datagrams many were just refused, is code | `is_request`; `WorkerContext::arrive`
 #![tactic(auto)]
 
+mod answering;
 mod arrivals;
-mod asked;
 mod buffer;
 mod codes;
 mod context;
@@ -58,7 +60,6 @@ mod timer;
 mod told_losses;
 mod worker;
 
-pub use asked::AskedAt;
 pub use context::{Remedy, WorkerContext, remedy_for};
 pub use ending::{Ended, Ending, WorkerEnd, has_given_up_after};
 pub use hub_calls::{HubCalls, SESSIONS_AT_ONCE};

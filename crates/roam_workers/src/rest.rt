@@ -44,7 +44,7 @@ impl<'s> TimerRest<'s> {
     }
 }
 
-/// How long the timer waits until its next round, in milliseconds.
+/// Returns how long the timer waits until its next round, in milliseconds.
 pub(crate) fn wait_for(can_rest: bool) -> u64 {
     if can_rest { REST } else { TICK }
 }

@@ -21,7 +21,7 @@ impl Drop for Rests {
     }
 }
 
-/// What stands at a place, if there is one.
+/// Returns what stands at a place, if there is one.
 fn is_set(silent: &[bool; SERVER_LINKS], place: usize) -> bool {
     match silent.get(place) {
         Some(is_silent) => *is_silent,
@@ -29,7 +29,8 @@ fn is_set(silent: &[bool; SERVER_LINKS], place: usize) -> bool {
     }
 }
 
-/// What was told of a realm's servers, each at the place where it stands then: first those of `auth`, then of `acct`.
+/// Returns what was told of a realm's servers, each at the place where it stands then: first those of `auth`, then of
+/// `acct`.
 fn moved(old: &[bool; SERVER_LINKS], before: &Realm, after: &Realm) -> [bool; SERVER_LINKS] {
     let mut new = [false; SERVER_LINKS];
     let (were, are) = (before.servers.len(), after.servers.len());

@@ -22,7 +22,7 @@ use std::time::Instant;
 pub struct Shared<'s, 'c, H, N: Opened> {
     pub alloc: Global,
     pub config: &'c Config,
-    /// What answers: in a server the hub, each of whose calls passes a gate.
+    /// What answers: in a server the hub.
     pub hub: &'s H,
     /// What the logger sleeps on.
     pub logger: &'s Parker,
@@ -51,7 +51,7 @@ pub struct Shared<'s, 'c, H, N: Opened> {
 }
 
 impl<H, N: Opened> Shared<'_, '_, H, N> {
-    /// Whether all are to end.
+    /// Returns whether all are to end.
     pub fn is_over(&self) -> bool {
         self.stop.load(Ordering::SeqCst)
     }

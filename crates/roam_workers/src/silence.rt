@@ -93,7 +93,7 @@ pub fn tell_rests<R: Wait, H: HubCalls<N>, N: Opened>(
     }
 }
 
-/// Whether a request waits in any realm, no earlier than the seat has seen it.
+/// Returns whether a request waits in any realm, no earlier than the seat has seen it.
 pub fn does_any_wait<R: Wait, H: HubCalls<N>, N: Opened>(
     rt: &R,
     shared: &Shared<'_, '_, H, N>,

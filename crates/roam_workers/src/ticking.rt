@@ -39,7 +39,7 @@ impl<H: HubCalls<N>, N: Opened> WorkerContext<'_, '_, H, N> {
         }
     }
 
-    /// Whether the worker of a shard ticks it.
+    /// Returns whether the worker of a shard ticks it.
     fn is_left_to_worker(&self, shard: u16) -> bool {
         match self.shared.mailboxes.get(usize::from(shard)) {
             Some(mailbox) => mailbox.is_ticked(self.now, LEFT_TO_WORKER),
@@ -57,7 +57,8 @@ impl<H: HubCalls<N>, N: Opened> WorkerContext<'_, '_, H, N> {
         }
     }
 
-    /// Whether the worker of this shard is to tick it, since it didn't so for a while. It counts as ticked then.
+    /// Returns whether the worker of this shard is to tick it, since it didn't so for a while. It counts as ticked
+    /// then.
     fn is_own_due(&self, shard: u16) -> bool {
         match self.shared.mailboxes.get(usize::from(shard)) {
             Some(mailbox) if !mailbox.is_ticked(self.now, TICK) => {

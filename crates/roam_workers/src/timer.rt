@@ -63,7 +63,7 @@ impl<'s, 'c, H, N: Opened> Drop for Timer<'s, 'c, H, N> {
     }
 }
 
-/// Whether the server's time is over.
+/// Returns whether the server's time is over.
 fn is_time_over(now: u64, end: Option<u64>) -> bool
     ensures { MatchOption end (IsFalse result) (λ moment. IsTrue result ↔ (moment ≤ now)) }
 {
@@ -73,7 +73,7 @@ fn is_time_over(now: u64, end: Option<u64>) -> bool
     }
 }
 
-/// When the server's time is over, as far as that is known.
+/// Returns when the server's time is over, as far as that is known.
 fn end_of<H, N: Opened>(timer: &Timer<'_, '_, H, N>) -> Option<u64> {
     let shared = timer.context.shared;
     shared.stopping.or_earlier(shared.end)
@@ -90,7 +90,7 @@ fn tell_stop<H, N: Opened>(timer: &mut Timer<'_, '_, H, N>)
     }
 }
 
-/// Whether all is done where the server is asked to stop: no request waits, nor did so a while ago.
+/// Returns whether all is done where the server is asked to stop: no request waits, nor did so a while ago.
 fn has_done_all<R: Wait, H: HubCalls<N>, N: Opened>(rt: &R, timer: &mut Timer<'_, '_, H, N>) -> bool
     ensures kept { (timer.new.context.seat ≡ timer.old.context.seat)
         × (counts_in timer.new.context.counting ≡ counts_in timer.old.context.counting)
@@ -161,7 +161,7 @@ fn round<R: Wait + Clock, H: HubCalls<N>, N: Opened>(
     None
 }
 
-/// How long to wait where the server's time may be over before, in milliseconds.
+/// Returns how long to wait where the server's time may be over before, in milliseconds.
 fn until_end(wait: u64, now: u64, end: Option<u64>) -> u64
     ensures { MatchOption end (result ≡ wait) (λ moment. result ≡ min wait (moment - now)) }
 {

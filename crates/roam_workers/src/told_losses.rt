@@ -11,7 +11,7 @@ use roam_outgoing::CAUSES;
 /// Lost packets of one cause are told once in so many milliseconds.
 const BETWEEN_LOSSES: u64 = 60_000;
 
-/// Whether losses can be told again that were told last at this moment.
+/// Returns whether losses can be told again that were told last at this moment.
 fn may_tell(now: u64, last: Option<u64>) -> bool
     ensures { MatchOption last (IsTrue result) (λ moment. IsTrue result ↔ (moment + 60000 ≤ now)) }
 {

@@ -76,6 +76,7 @@ fn wait<R: Wait + Clock, H, N: Opened>(rt: &R, worker: &mut Worker<'_, '_, H, N>
     let now = worker.context.now;
     let wait = wait_before(receivers, worker.ready.as_slice(), now);
     let wait = wait.min(worker.context.notices.time_left(now));
+    let wait = wait.min(worker.context.junk.time_left(now));
     let wait = wait.min(worker.context.exchanges.time_left(now, LINES_WITHIN));
     let wait = worker.context.outgoing.wait_for_room(wait);
     let shared = worker.context.shared;

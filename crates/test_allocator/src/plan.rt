@@ -33,21 +33,21 @@ impl Plan {
         }
     }
 
-    /// Whether the last growth asked for is the one to be refused.
+    /// Returns whether the last growth asked for is the one to be refused.
     pub(crate) fn refuses_last(self) -> bool
         ensures { IsTrue result ↔ IsRefused self.nth self.asked }
     {
         0 < self.asked && self.asked == self.nth
     }
 
-    /// Whether the growth to be refused was asked for.
+    /// Returns whether the growth to be refused was asked for.
     pub(crate) fn has_refused(self) -> bool
         ensures { IsTrue result ↔ HasRefused self.nth self.asked }
     {
         0 < self.nth && self.nth <= self.asked
     }
 
-    /// Whether the growth to be refused is still to come.
+    /// Returns whether the growth to be refused is still to come.
     pub(crate) fn has_run_out(self) -> bool
         ensures { IsTrue result ↔ HasRunOut self.nth self.asked }
     {

@@ -34,12 +34,12 @@ impl<B: Allocator> Refusing<B> {
         self.plan.set(Plan::refuse(n));
     }
 
-    /// Whether a growth was refused since the last `refuse_nth`.
+    /// Returns whether a growth was refused since the last `refuse_nth`.
     pub fn was_refused(&self) -> bool {
         self.plan.get().has_refused()
     }
 
-    /// How many growths were asked for since the last `refuse_nth`, the refused one among them.
+    /// Returns how many growths were asked for since the last `refuse_nth`, the refused one among them.
     pub fn growths(&self) -> u64 {
         self.plan.get().asked
     }
@@ -55,7 +55,7 @@ impl<B: Allocator> Refusing<B> {
         EachGrowth::new(self)
     }
 
-    /// Whether a growth is to be refused that wasn't asked for.
+    /// Returns whether a growth is to be refused that wasn't asked for.
     pub(crate) fn has_run_out(&self) -> bool {
         self.plan.get().has_run_out()
     }

@@ -52,7 +52,7 @@ fn one_if_any<A: Allocator>(outs: &Outs<A>) -> usize
     if outs.is_empty() { 0 } else { 1 }
 }
 
-/// How many packets a realm sends at a tick that finds nothing pending there: 1 stands for some.
+/// Returns how many packets a realm sends at a tick that finds nothing pending there: 1 stands for some.
 pub fn sent_by_idle_tick<A: Allocator + Copy>(book: &mut Book<'_, A>, now: u64) -> usize
     requires { book.old.state.entries ≡ [] }
     ensures { result ≡ 0 }
@@ -116,7 +116,7 @@ pub fn octets_to_home<A: Allocator>(
     Ok(octets)
 }
 
-/// Whether a home server's reply answers what was forwarded to it.
+/// Returns whether a home server's reply answers what was forwarded to it.
 pub fn is_answer(reply: &View<'_>, forwarded: &View<'_>, secret: &[u8]) -> bool
     requires at_least_one { 1 ≤ length secret.now }
     requires at_most_64 { length secret.now ≤ 64 }

@@ -32,7 +32,7 @@ pub fn user_name(datagram: &[u8]) -> Option<&[u8]>
     }
 }
 
-/// Whether a reply answers a request: signed and well sealed for the request's Authenticator.
+/// Returns whether a reply answers a request: signed and well sealed for the request's Authenticator.
 pub fn answers(reply: &View<'_>, request: &View<'_>, secret: &[u8]) -> bool
     requires at_least_one { 1 ≤ length secret.now }
     requires at_most_64 { length secret.now ≤ 64 }
@@ -66,7 +66,7 @@ pub fn admit(lane: &mut Lane, ticket: u64) -> Option<u8>
     Some(id)
 }
 
-/// Whether an accounting request is signed by the peer of this address. That the peer's secret has
+/// Returns whether an accounting request is signed by the peer of this address. That the peer's secret has
 /// 1 to 64 octets is the configuration's invariant: nothing here tests it.
 pub fn is_signed_by_peer(config: &Config, ip: Address, request: &View<'_>) -> bool {
     match config.peer_by_ip(ip) {
@@ -75,7 +75,7 @@ pub fn is_signed_by_peer(config: &Config, ip: Address, request: &View<'_>) -> bo
     }
 }
 
-/// Whether an accounting request is signed with a peer's secret.
+/// Returns whether an accounting request is signed with a peer's secret.
 fn is_signed_by(peer: &Peer, request: &View<'_>) -> bool
     ensures { IsTrue result ↔ IsSignedRequest peer.now.secret request.now }
 {

@@ -8,7 +8,7 @@ use test_fixtures::configuration::{PLAIN_PEER, REALM, SECOND_SERVER, SERVER, TOP
 /// One realm with two servers.
 const TWO_SERVERS: [&str; 5] = [TOP, PLAIN_PEER, REALM, SERVER, SECOND_SERVER];
 
-/// What it says.
+/// Returns what it says.
 pub(crate) fn two_servers(alloc: Global) -> Option<Config> {
     match TWO_SERVERS.concat(alloc) {
         Ok(text) => read_config(alloc, &text).ok(),

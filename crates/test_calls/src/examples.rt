@@ -3,19 +3,20 @@
 //! An example answers whether it is right, or the first of its cases that is wrong.
 
 use crate::{
-    exchange_tests, fault_tests, last_ticket, line_tests, seat_tests, tick_room, told_tests,
+    exchange_tests, fault_tests, last_ticket, line_tests, seat_tests, system_tests, tick_room,
+    told_tests,
 };
 use std::alloc::Global;
 use std::sync::Wait;
 use std::time::Clock;
 
-/// What an example without cases answers: its name, unless it is right.
+/// Returns what an example without cases answers: its name, unless it is right.
 fn unless(is_right: bool, name: &'static str) -> Option<&'static str> {
     if is_right { None } else { Some(name) }
 }
 
 /// Of each example the first case that is wrong.
-fn wrong_cases<R: Wait + Clock>(rt: &R, alloc: Global) -> [Option<&'static str>; 10] {
+fn wrong_cases<R: Wait + Clock>(rt: &R, alloc: Global) -> [Option<&'static str>; 12] {
     [
         unless(
             last_ticket::last_ticket_is_given_once(alloc),
@@ -41,6 +42,14 @@ fn wrong_cases<R: Wait + Clock>(rt: &R, alloc: Global) -> [Option<&'static str>;
         unless(
             seat_tests::splits_are_refused(alloc),
             "each growth of a split is refused",
+        ),
+        unless(
+            system_tests::time_goes_on_with_the_clock(),
+            "time goes on with the clock",
+        ),
+        unless(
+            system_tests::seed_that_is_not_drawn_is_told(alloc),
+            "a seed that is not drawn is told",
         ),
     ]
 }

@@ -61,7 +61,7 @@ fn all_details() -> Details {
 const WHO: &[u8] =
     b"exchange result=accept request=access realm=\"b.example\" peer=\"north\" user=\"u@b.example\" station=";
 
-/// Whether this exchange's line ends so, behind the user.
+/// Returns whether this exchange's line ends so, behind the user.
 fn is_line(
     alloc: Global,
     config: &Config,

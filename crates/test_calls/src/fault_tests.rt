@@ -15,7 +15,7 @@ const FAULTS: [(AuditFault, &str); 2] = [
     ),
 ];
 
-/// Whether a fault is told so.
+/// Returns whether a fault is told so.
 fn is_told(alloc: Global, fault: AuditFault, text: &str) -> bool {
     match fault.to_string(alloc) {
         Ok(told) => told.as_str() == text,

@@ -151,7 +151,7 @@ fn push_script(over: &Refusing<Global>, config: &Config, text: &mut Vec<u8>) -> 
     true
 }
 
-/// Whether a realm whose next ticket is 2^63 - 1 answers so.
+/// Returns whether a realm whose next ticket is 2^63 - 1 answers so.
 pub(crate) fn last_ticket_is_given_once(alloc: Global) -> bool {
     let over = Refusing::new(alloc);
     let mut text = Vec::new(alloc);

@@ -1,5 +1,6 @@
 //! Tests of calls that no row makes: rows (`test_rows`) show what the broker answers to events. Beside two of a realm they
-//! are what is told of refusals, of exchanges and by the program, and the seats of callers.
+//! are what is told of refusals, of exchanges and by the program, the seats of callers, and a clock and a source of seeds
+//! that fail.
 #![tactic(auto)]
 
 #[cfg(test)]
@@ -18,6 +19,8 @@ mod line_tests;
 mod realm;
 #[cfg(test)]
 mod seat_tests;
+#[cfg(test)]
+mod system_tests;
 #[cfg(test)]
 mod tick_room;
 #[cfg(test)]

@@ -5,7 +5,7 @@ use roam_notices::{Origin, RefusalCount, RefusedText, Sender};
 use roam_wire::Refusal;
 use std::alloc::Global;
 
-/// Where it came from in the tests.
+/// Returns where it came from in the tests.
 fn source() -> Endpoint {
     Endpoint {
         ip: Address::from_ipv4_octets([198, 51, 100, 1]),
@@ -13,7 +13,7 @@ fn source() -> Endpoint {
     }
 }
 
-/// Whether these refusals are told so, where their place belongs to the realm `b.example` or to none.
+/// Returns whether these refusals are told so, where their place belongs to the realm `b.example` or to none.
 fn is_told(alloc: Global, tally: RefusalCount, line: &str) -> bool {
     let text = RefusedText {
         tally,

@@ -67,7 +67,7 @@ impl<'c, A: Allocator + Copy> Realm<'c, A> {
         }
     }
 
-    /// What an event gives, if there is memory for it, and an arrival is this realm's.
+    /// Returns what an event gives, if there is memory for it, and an arrival is this realm's.
     pub(crate) fn meets(&mut self, alloc: A, event: &Event<A>) -> Option<Answer<A>> {
         match event {
             Event::Arrive { now, datagram } => match self.job_of(alloc, datagram) {

@@ -35,7 +35,7 @@ fn seat_of<A: Allocator + Copy, N: Opened>(
     Seat::new(alloc, fronts)
 }
 
-/// What a seat counts of its first two shards, if it has them.
+/// Returns what a seat counts of its first two shards, if it has them.
 fn shown<A: Allocator, N: Opened>(seat: &Seat<A, N>) -> [Option<Tally>; 2] {
     let tallies = seat.tallies();
     [tallies.get(0).copied(), tallies.get(1).copied()]
@@ -53,7 +53,7 @@ fn note_all<A: Allocator, N: Opened>(seat: &mut Seat<A, N>, numbers: &[u64])
     }
 }
 
-/// What is counted where these numbers are noted; nothing where there is no seat.
+/// Returns what is counted where these numbers are noted; nothing where there is no seat.
 fn noted<N: Opened>(alloc: Global, blanks: Blanks<Global>, numbers: &[u64]) -> [Option<Tally>; 2]
     requires books { N.books ≡ books_of blanks }
     requires blanks { count_of blanks ≡ 2 }
@@ -141,7 +141,7 @@ fn split_refused<'r, N: Opened>(
     }
 }
 
-/// Whether each growth of a split is told that is refused, and both seats are there then.
+/// Returns whether each growth of a split is told that is refused, and both seats are there then.
 pub(crate) fn splits_are_refused(alloc: Global) -> bool {
     let over = Refusing::new(alloc);
     let one_call = Tally {

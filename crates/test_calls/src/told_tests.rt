@@ -42,7 +42,7 @@ fn tell_three<R: Wait + Clock>(rt: &R, outlet: &Outlet) {
     outlet.end(rt);
 }
 
-/// Whether what was told is written so, and nothing is left.
+/// Returns whether what was told is written so, and nothing is left.
 fn is_written<R: Wait + Clock>(rt: &R, alloc: Global, outlet: &Outlet) -> bool {
     let Ok(room) = Outlet::room(alloc) else {
         return false;
@@ -56,7 +56,7 @@ fn is_written<R: Wait + Clock>(rt: &R, alloc: Global, outlet: &Outlet) -> bool {
         && writer.taken.as_slice() == b"<6>INFO first\n<4>WARN second\n<4>WARN third\n".as_slice()
 }
 
-/// Whether a log writes each line once where writes fail.
+/// Returns whether a log writes each line once where writes fail.
 pub(crate) fn log_writes_each_line_once<R: Wait + Clock>(rt: &R, alloc: Global) -> bool {
     let Ok(outlet) = Outlet::new(alloc, LogReader::Journal) else {
         return false;
@@ -105,7 +105,7 @@ const SERVER_FAULTS: &[(ServeFault, u8, &str)] = &[
     (ServeFault::Memory, 3, "roam: out of memory\n"),
 ];
 
-/// Whether a server that ends by this fault has this status, and tells this.
+/// Returns whether a server that ends by this fault has this status, and tells this.
 fn is_told(alloc: Global, fault: ServeFault, status: u8, told: &str) -> bool {
     let mut err = Vec::new(alloc);
     let ended = Fault::of_server(fault).tell(&mut err);
@@ -122,7 +122,7 @@ pub(crate) fn first_untold(alloc: Global) -> Option<&'static str> {
     None
 }
 
-/// Whether a control socket that can't be had is told.
+/// Returns whether a control socket that can't be had is told.
 pub(crate) fn control_socket_is_told(alloc: Global) -> bool {
     is_told(
         alloc,

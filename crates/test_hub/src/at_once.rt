@@ -179,7 +179,7 @@ pub(crate) fn called_at_once<N: Opened + Send + Sync, R: Abort + Threads + Wait 
     }
 }
 
-/// Whether a receipt is of this shard and number, and has just this packet.
+/// Returns whether a receipt is of this shard and number, and has just this packet.
 fn is_receipt<N: Opened>(
     rt: &impl Abort,
     alloc: Global,
@@ -190,12 +190,12 @@ fn is_receipt<N: Opened>(
     sends(rt, alloc, &receipt.answer, packet) && receipt.shard == shard && receipt.number == number
 }
 
-/// How many steps a shard has at the end; none where it isn't there.
+/// Returns how many steps a shard has at the end; none where it isn't there.
 fn steps_of<N: Opened>(report: &Report<Global, N>, shard: usize) -> Option<usize> {
     report.steps.get(shard).map(|steps| steps.len())
 }
 
-/// Whether the realms go on so, where each forwarded one Access-Request: it took four words and a ticket.
+/// Returns whether the realms go on so, where each forwarded one Access-Request: it took four words and a ticket.
 fn go_on<N: Opened>(report: &Report<Global, N>) -> bool {
     let next = Start {
         place: 4,

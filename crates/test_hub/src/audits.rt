@@ -39,6 +39,7 @@ fn equal<N: Opened>(
                     .ok()
                     .expect(rt, "memory"),
                 seconds: datagram.seconds,
+                keeps_session: datagram.keeps_session,
             },
         },
         answer: Answer {
@@ -66,7 +67,7 @@ pub(crate) fn counting<N: Opened>(
     (same, other)
 }
 
-/// What an audit finds.
+/// Returns what an audit finds.
 pub(crate) fn found<N: Opened>(
     report: &Report<Global, N>,
     seats: &[Seat<Global, N>],
@@ -75,8 +76,8 @@ pub(crate) fn found<N: Opened>(
     report.audit(seats, receipts).err()
 }
 
-/// Whether an audit by both seats finds nothing with no receipts and with theirs, and the second one where it comes
-/// twice.
+/// Returns whether an audit by both seats finds nothing with no receipts and with theirs, and the second one where it
+/// comes twice.
 fn are_found_with<N: Opened>(
     rt: &impl Abort,
     alloc: Global,
@@ -97,7 +98,7 @@ fn are_found_with<N: Opened>(
     [with_none, with_receipts, with_one_twice] == [None, None, twice]
 }
 
-/// What an audit finds by one other seat that counted these calls, and by two.
+/// Returns what an audit finds by one other seat that counted these calls, and by two.
 fn found_by<N: Opened>(
     rt: &impl Abort,
     alloc: Global,
@@ -127,7 +128,7 @@ const COUNTED: [(&[(u16, u64)], &[(u16, u64)], Option<u16>); 5] = [
     (&[(0, 1), (0, 0)], &[], Some(0)),
 ];
 
-/// Whether the audits by other seats find that.
+/// Returns whether the audits by other seats find that.
 fn are_found<N: Opened>(
     rt: &impl Abort,
     alloc: Global,
@@ -145,8 +146,8 @@ fn are_found<N: Opened>(
     (seat, are_so)
 }
 
-/// Whether audits of a hub of two shards find what they are to, where two callers made a call of shard 0 each: by
-/// both seats, with no receipts, with theirs, and with the second one twice; then by seats that counted what these
+/// Returns whether audits of a hub of two shards find what they are to, where two callers made a call of shard 0 each:
+/// by both seats, with no receipts, with theirs, and with the second one twice; then by seats that counted what these
 /// say: call 0 alone; both calls, and one that nobody made, of shard 0 and of shard 1; both calls by one seat, in
 /// their order, and in the other one.
 pub(crate) fn audits<N: Opened + Send + Sync, R: Abort + Threads + Wait + Clock + Sync>(

@@ -71,6 +71,7 @@ pub(crate) fn datagram<A: Allocator + Copy>(
             .ok()
             .expect(rt, "memory"),
         seconds: None,
+        keeps_session: true,
     }
 }
 
@@ -109,7 +110,7 @@ impl<'h, 'c, A: Allocator + Copy, N: Opened> Caller<'h, 'c, A, N> {
     }
 }
 
-/// Whether just one packet is sent, of these octets in hexadecimal digits.
+/// Returns whether just one packet is sent, of these octets in hexadecimal digits.
 pub(crate) fn sends<A: Allocator + Copy>(
     rt: &impl Abort,
     alloc: A,

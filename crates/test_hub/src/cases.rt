@@ -40,8 +40,8 @@ enum Example {
     GrowthsOfAChange,
 }
 
-/// How many shards the hub of a case has, how many steps each stores, and the parts that its configuration has beside
-/// one realm of one server.
+/// Returns how many shards the hub of a case has, how many steps each stores, and the parts that its configuration has
+/// beside one realm of one server.
 fn setting(case: Case) -> (u16, u32, &'static [&'static str]) {
     match case {
         Case::FullAndGoesOn => (1, 1, &[]),
@@ -73,7 +73,7 @@ fn is_so_in<N: Opened + Send + Sync, R: Abort + Threads + Wait + Clock + Sync>(
     }
 }
 
-/// Whether all is as a case says.
+/// Returns whether all is as a case says.
 fn is_so<R: Abort + Threads + Wait + Clock + Sync>(rt: &R, alloc: Global, case: Case) -> bool {
     let (shards, limit, added) = setting(case);
     let config = config_of(rt, alloc, shards, limit, added);
@@ -82,7 +82,7 @@ fn is_so<R: Abort + Threads + Wait + Clock + Sync>(rt: &R, alloc: Global, case: 
     is_so_in::<Brand, R>(rt, alloc, &config, &starts, blanks, case)
 }
 
-/// Whether all is as an example says.
+/// Returns whether all is as an example says.
 fn is_example<R: Abort + Threads + Wait + Clock + Sync>(
     rt: &R,
     alloc: Global,
@@ -110,7 +110,7 @@ const EXAMPLES: [(&str, Example); 5] = [
     ("each growth of a change", Example::GrowthsOfAChange),
 ];
 
-/// What the first example says that isn't so.
+/// Returns what the first example says that isn't so.
 fn failing<R: Abort + Threads + Wait + Clock + Sync>(
     rt: &R,
     alloc: Global,

@@ -144,7 +144,7 @@ pub(crate) fn what_goes_on() -> [Exchange; 3] {
     ]
 }
 
-/// Whether it is answered by its packet.
+/// Returns whether it is answered by its packet.
 fn is_answered<A: Allocator + Copy, N: Opened, R: Abort + Wait>(
     rt: &R,
     alloc: A,
@@ -171,7 +171,7 @@ fn is_answered<A: Allocator + Copy, N: Opened, R: Abort + Wait>(
     }
 }
 
-/// Whether each of these is answered by its packet.
+/// Returns whether each of these is answered by its packet.
 pub(crate) fn are_answered<A: Allocator + Copy, N: Opened, R: Abort + Wait>(
     rt: &R,
     alloc: A,
@@ -213,7 +213,7 @@ pub(crate) fn paused<A: Allocator + Copy, N: Opened + Send + Sync, R: Abort + Wa
     shards
 }
 
-/// Whether each of these is answered by its packet in a hub over shards that were paused.
+/// Returns whether each of these is answered by its packet in a hub over shards that were paused.
 pub(crate) fn goes_on<A: Allocator + Copy, N: Opened + Send + Sync, R: Abort + Wait>(
     rt: &R,
     alloc: A,

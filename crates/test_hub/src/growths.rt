@@ -21,7 +21,7 @@ use test_allocator::Refusing;
 /// An allocator that refuses growths.
 pub(crate) type Over<'r> = &'r Refusing<Global>;
 
-/// Whether a hub is opened.
+/// Returns whether a hub is opened.
 fn opens<'r, N: Opened>(
     over: Over<'r>,
     config: &Config,
@@ -97,7 +97,7 @@ fn closed<'r, N: Opened + Send + Sync, R: Abort + Wait>(
     report.steps.first().map(|steps| steps.len())
 }
 
-/// Whether each growth of a hub's end is told that is refused, and its one step is there without.
+/// Returns whether each growth of a hub's end is told that is refused, and its one step is there without.
 fn close_is_refused<'r, R: Abort + Wait>(
     rt: &R,
     over: Over<'r>,
@@ -117,8 +117,8 @@ fn close_is_refused<'r, R: Abort + Wait>(
     true
 }
 
-/// Whether that holds of histories, of a hub's opening over one realm, and of its end. (Its calls are played with
-/// rows.)
+/// Returns whether that holds of histories, of a hub's opening over one realm, and of its end. (Its calls are played
+/// with rows.)
 pub(crate) fn are_refused<R: Abort + Wait>(rt: &R, alloc: Global) -> bool {
     let config = config_of(rt, alloc, 1, 1000, &[]);
     let starts = first_starts(alloc, &config).ok().expect(rt, "memory");

@@ -20,7 +20,7 @@ use std::process::Abort;
 use std::sync::Wait;
 use test_allocator::Refusing;
 
-/// Whether the first realm goes on under a configuration.
+/// Returns whether the first realm goes on under a configuration.
 fn stands<'r, R: Abort + Wait>(
     rt: &R,
     over: Over<'r>,
@@ -79,7 +79,7 @@ fn opens<'r, N: Opened + Send + Sync, R: Abort + Wait>(
     }
 }
 
-/// Whether that holds of each growth of a hub that is opened over shards.
+/// Returns whether that holds of each growth of a hub that is opened over shards.
 fn open_over_is_refused<'r, R: Abort + Wait>(
     rt: &R,
     over: Over<'r>,
@@ -100,7 +100,7 @@ fn open_over_is_refused<'r, R: Abort + Wait>(
     true
 }
 
-/// Whether each growth of the room for a pause is told that is refused.
+/// Returns whether each growth of the room for a pause is told that is refused.
 fn rooms_are_refused<'r, N: Opened>(over: Over<'r>, hub: &Hub<'_, Over<'r>, N>) -> bool {
     for n in over.each_growth() {
         over.refuse_nth(n);
@@ -111,7 +111,7 @@ fn rooms_are_refused<'r, N: Opened>(over: Over<'r>, hub: &Hub<'_, Over<'r>, N>) 
     true
 }
 
-/// Whether each growth of a pause is told that is refused, and the hub goes on then.
+/// Returns whether each growth of a pause is told that is refused, and the hub goes on then.
 fn pause_is_refused<'r, N: Opened + Send + Sync, R: Abort + Wait>(
     rt: &R,
     over: Over<'r>,
@@ -133,7 +133,7 @@ fn pause_is_refused<'r, N: Opened + Send + Sync, R: Abort + Wait>(
     begins && are_told && goes_on
 }
 
-/// Whether all that holds.
+/// Returns whether all that holds.
 pub(crate) fn are_refused<R: Abort + Wait>(rt: &R, alloc: Global) -> bool {
     let (old, new) = two_configurations(rt, alloc);
     let starts = first_starts(alloc, &old).ok().expect(rt, "memory");

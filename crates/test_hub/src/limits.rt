@@ -15,7 +15,7 @@ use std::marker::Brand;
 use std::process::Abort;
 use std::sync::Wait;
 
-/// Whether a hub that begins there sends Access-Request 8 as the second request of its realm.
+/// Returns whether a hub that begins there sends Access-Request 8 as the second request of its realm.
 fn goes_on<N: Opened + Send + Sync, R: Abort + Wait>(
     rt: &R,
     alloc: Global,

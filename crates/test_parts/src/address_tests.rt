@@ -66,7 +66,7 @@ const PRINTED: [(&str, &str); 37] = [
     ("255.255.255.255", "255.255.255.255"),
 ];
 
-/// Whether this is printed of something.
+/// Returns whether this is printed of something.
 pub(crate) fn is_printed_of<T: Display>(alloc: Global, it: &T, printed: &str) -> bool {
     match format!(in alloc; "{it}") {
         Ok(shown) => shown.as_str() == printed,
@@ -143,7 +143,8 @@ pub(crate) fn first_taken() -> Option<&'static str> {
     None
 }
 
-/// Whether addresses are equal just where they are the same. What stands for IPv4 is no address, however it comes.
+/// Returns whether addresses are equal just where they are the same. What stands for IPv4 is no address, however it
+/// comes.
 pub(crate) fn equality_is_of_the_address() -> bool {
     let octets = Address::from_ipv4_octets([192, 0, 2, 1]);
     let mapped = [0, 0, 0, 0, 0, 0xffff, 0xc000, 0x0201];

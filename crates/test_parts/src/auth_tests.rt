@@ -42,8 +42,8 @@ const DIGESTS: [[u8; 16]; 4] = [
     *b"\x1b\x09\x09\x46\xd2\x9e\xc5\x04\xdb\x18\xa4\x11\x48\x31\xe2\xe1",
 ];
 
-/// Whether the functions of this crate compute them for the vectors of RFC 2104 (appendix, the first two), and for the
-/// longest key and the shortest.
+/// Returns whether the functions of this crate compute them for the vectors of RFC 2104 (appendix, the first two), and
+/// for the longest key and the shortest.
 pub(crate) fn digests_are_those_of_the_rfcs() -> bool {
     let mut key = [0; 64];
     for i in 0..64usize {
@@ -58,7 +58,7 @@ pub(crate) fn digests_are_those_of_the_rfcs() -> bool {
     digests == DIGESTS
 }
 
-/// Whether a reply is signed, with this bit of this octet changed: over the request's Authenticator,
+/// Returns whether a reply is signed, with this bit of this octet changed: over the request's Authenticator,
 /// with another secret, over another Authenticator, over its own.
 fn reply_is_signed(place: usize, bit: u8) -> [bool; 4] {
     let mut room = [0; 160];
@@ -118,7 +118,7 @@ const PUBLISHED_REPLIES: [(&str, [u8; 16]); 6] = [
     ),
 ];
 
-/// Whether a reply is signed over this Authenticator, and not over its own.
+/// Returns whether a reply is signed over this Authenticator, and not over its own.
 fn is_signed_over(text: &str, over: [u8; 16]) -> [bool; 2] {
     let mut room = [0; 160];
     match View::read(octets(text, &mut room)) {
@@ -183,7 +183,7 @@ const SEALED: [(&str, [u8; 16], [u8; 16], usize); 6] = [
     ),
 ];
 
-/// What is right of a packet of which this bit of an octet is changed: the seal that is computed for
+/// Returns what is right of a packet of which this bit of an octet is changed: the seal that is computed for
 /// it, over zeros, is this; it is well sealed, or isn't; not for another secret, nor for another
 /// Authenticator.
 fn seal_facts(text: &str, over: [u8; 16], seal: [u8; 16], place: usize, bit: u8) -> [bool; 4] {

@@ -87,7 +87,7 @@ pub(crate) fn first_misnamed() -> Option<&'static str> {
     None
 }
 
-/// Whether a flow label and a zone are left out, and what stands for IPv4 is none.
+/// Returns whether a flow label and a zone are left out, and what stands for IPv4 is none.
 pub(crate) fn other_names_are_right() -> bool {
     let named = SocketAddrV6::new(Ipv6Addr::LOCALHOST, 1, 7, 3);
     let mapped = SocketAddrV6::new(Ipv6Addr::new(0, 0, 0, 0, 0, 0xffff, 1, 2), 1, 0, 0);

@@ -130,7 +130,7 @@ const PARTS: [&str; OF_PARTS] = [
     "ledgers are read and written again",
 ];
 
-/// Whether each of those is right, in that order.
+/// Returns whether each of those is right, in that order.
 fn parts(alloc: Global) -> [bool; OF_PARTS] {
     [
         address_tests::equality_is_of_the_address(),
@@ -163,7 +163,7 @@ const PORTS: [&str; OF_PORTS] = [
     "sockets are dealt out",
 ];
 
-/// Whether each of those is right, in that order.
+/// Returns whether each of those is right, in that order.
 fn ports(alloc: Global) -> [bool; OF_PORTS] {
     [
         listening_tests::hundred_faults_in_a_row_give_up(alloc),
@@ -184,7 +184,7 @@ fn ports(alloc: Global) -> [bool; OF_PORTS] {
 /// The file of ledgers.
 const FILES: [&str; OF_FILES] = ["a file is kept", "a folder that isn't there is told"];
 
-/// Whether each of those is right, in that order.
+/// Returns whether each of those is right, in that order.
 fn files(rt: &HostRuntime) -> [bool; OF_FILES] {
     [
         keeping_tests::file_is_kept(rt),

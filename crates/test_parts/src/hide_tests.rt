@@ -8,7 +8,7 @@ const H_AUTHENTICATOR: [u8; 16] = [
     0x76, 0xb8, 0xe0, 0xad, 0xa0, 0xf1, 0x3d, 0x90, 0x40, 0x5d, 0x6a, 0xe5, 0x53, 0x86, 0xbd, 0x28,
 ];
 
-/// Whether a password that is hidden by one key is this, hidden by the other.
+/// Returns whether a password that is hidden by one key is this, hidden by the other.
 fn is_password_anew(
     by_one: &str,
     one: HidingKey<'_>,

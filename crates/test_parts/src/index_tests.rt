@@ -61,7 +61,7 @@ fn prefixes(alloc: Global, texts: &[&str]) -> Option<Vec<Prefix>> {
     Some(prefixes)
 }
 
-/// What an index finds for each address.
+/// Returns what an index finds for each address.
 fn finds<A: Allocator + Copy>(index: &PrefixIndex<A>) -> bool {
     for &(text, place) in &LONGEST {
         match Address::from_text(text) {
@@ -84,7 +84,7 @@ const TWICE: [[&str; 3]; 4] = [
     ["::1", "::1", "::2"],
 ];
 
-/// Whether the prefixes of these texts are no list for an index: one of them stands twice.
+/// Returns whether the prefixes of these texts are no list for an index: one of them stands twice.
 fn is_refused(alloc: Global, texts: &[&str]) -> Option<bool> {
     match prefixes(alloc, texts) {
         Some(prefixes) => match PrefixIndex::new(alloc, prefixes.as_slice()) {
@@ -108,12 +108,12 @@ pub(crate) fn first_that_stands_twice(alloc: Global) -> Option<&'static str> {
 /// Prefixes of which two are of both kinds, or of two lengths.
 const NOT_TWICE: [&str; 4] = ["::/0", "0.0.0.0/0", "0.0.0.0/1", "::/1"];
 
-/// Whether those are no list in which a prefix stands twice.
+/// Returns whether those are no list in which a prefix stands twice.
 pub(crate) fn two_kinds_or_lengths_are_two(alloc: Global) -> bool {
     is_refused(alloc, &NOT_TWICE) == Some(false)
 }
 
-/// Whether an index is made that finds what it should, or an error comes, just where a growth is refused.
+/// Returns whether an index is made that finds what it should, or an error comes, just where a growth is refused.
 fn is_made_or_refused(refusing: &Refusing<Global>, prefixes: &[Prefix]) -> bool {
     match PrefixIndex::new(refusing, prefixes) {
         Ok(Some(index)) => !refusing.was_refused() && finds(&index),
@@ -122,7 +122,7 @@ fn is_made_or_refused(refusing: &Refusing<Global>, prefixes: &[Prefix]) -> bool 
     }
 }
 
-/// Whether an index of all prefixes finds what it should.
+/// Returns whether an index of all prefixes finds what it should.
 pub(crate) fn longest_is_found(alloc: Global) -> bool {
     match prefixes(alloc, &PREFIXES) {
         Some(prefixes) => is_made_or_refused(&Refusing::new(alloc), prefixes.as_slice()),
@@ -146,8 +146,8 @@ pub(crate) fn wrong_growth(alloc: Global) -> Option<u64> {
     None
 }
 
-/// How many look-ups an index of these prefixes makes for an address of IPv4, and for one of IPv6; and where it finds
-/// the last of the many addresses, and an address behind it.
+/// Returns how many look-ups an index of these prefixes makes for an address of IPv4, and for one of IPv6; and where
+/// it finds the last of the many addresses, and an address behind it.
 fn facts_of(alloc: Global, prefixes: &[Prefix]) -> Option<([usize; 2], [Option<usize>; 2])> {
     match PrefixIndex::new(alloc, prefixes) {
         Ok(Some(index)) => Some((
@@ -190,7 +190,7 @@ fn push_many(prefixes: &mut Vec<Prefix>) -> bool {
     true
 }
 
-/// Whether an index of a prefix of 8 bits and those addresses makes two look-ups, and finds what it should.
+/// Returns whether an index of a prefix of 8 bits and those addresses makes two look-ups, and finds what it should.
 pub(crate) fn many_prefixes_are_two_look_ups(alloc: Global) -> bool {
     match prefixes(alloc, &["10.0.0.0/8"]) {
         Some(mut many) => {

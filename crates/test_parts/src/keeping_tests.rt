@@ -17,7 +17,7 @@ fn path_of(rt: &HostRuntime, name: &str) -> Option<String> {
     }
 }
 
-/// Whether the file of a path is had again as these octets.
+/// Returns whether the file of a path is had again as these octets.
 fn is_kept(rt: &HostRuntime, path: &str, octets: &[u8]) -> bool {
     match kept(rt, path) {
         Ok(Some(found)) => found.as_slice() == octets,
@@ -25,7 +25,7 @@ fn is_kept(rt: &HostRuntime, path: &str, octets: &[u8]) -> bool {
     }
 }
 
-/// Whether nothing was kept at a path.
+/// Returns whether nothing was kept at a path.
 fn is_none(rt: &HostRuntime, path: &str) -> bool {
     match kept(rt, path) {
         Ok(found) => found.is_none(),
@@ -33,7 +33,7 @@ fn is_none(rt: &HostRuntime, path: &str) -> bool {
     }
 }
 
-/// Whether a file is its owner's alone.
+/// Returns whether a file is its owner's alone.
 fn is_own(rt: &HostRuntime, path: &str) -> bool {
     match fs::metadata(rt, path) {
         Ok(metadata) => metadata.mode() & 0o777 == 0o600,
@@ -41,7 +41,8 @@ fn is_own(rt: &HostRuntime, path: &str) -> bool {
     }
 }
 
-/// What is so of a file that is kept twice, the second time beside what another run left behind, and then put aside.
+/// Returns what is so of a file that is kept twice, the second time beside what another run left behind, and then put
+/// aside.
 fn turns(rt: &HostRuntime, path: &str, beside: &str, aside: &str) -> [bool; 10] {
     [
         is_none(rt, path),
@@ -57,7 +58,7 @@ fn turns(rt: &HostRuntime, path: &str, beside: &str, aside: &str) -> [bool; 10] 
     ]
 }
 
-/// Whether all that is so.
+/// Returns whether all that is so.
 pub(crate) fn file_is_kept(rt: &HostRuntime) -> bool {
     let path = path_of(rt, "ledgers");
     let beside = path_of(rt, "ledgers.new");
@@ -70,7 +71,7 @@ pub(crate) fn file_is_kept(rt: &HostRuntime) -> bool {
     }
 }
 
-/// Whether a folder that isn't there is told, and nothing had of it.
+/// Returns whether a folder that isn't there is told, and nothing had of it.
 pub(crate) fn missing_folder_is_told(rt: &HostRuntime) -> bool {
     match path_of(rt, "no/ledgers") {
         Some(path) => keep(rt, path.as_str(), b"one").is_err() && is_none(rt, path.as_str()),

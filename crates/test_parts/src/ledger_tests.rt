@@ -9,7 +9,7 @@ const OCTETS: [u8; 51] = [
     1, 4, 192, 0, 2, 1, 0, 1, 16, 32, 1, 13, 184, 0, 0, 0, 0, 0, 0, 0, 0, 0, 0, 0, 1, 2, 48, 49, 0,
 ];
 
-/// How many octets the shortest beginning of it has that is read all the same.
+/// Returns how many octets the shortest beginning of it has that is read all the same.
 pub(crate) fn first_beginning_taken(alloc: Global) -> Option<u64> {
     for end in 0..OCTETS.len() {
         if read(alloc, &OCTETS[..end]).is_ok() {
@@ -19,7 +19,7 @@ pub(crate) fn first_beginning_taken(alloc: Global) -> Option<u64> {
     None
 }
 
-/// Whether an item is the session.
+/// Returns whether an item is the session.
 fn is_the_session(item: &Item<'_>) -> bool {
     match item {
         Item::Session(session) => {
@@ -29,7 +29,7 @@ fn is_the_session(item: &Item<'_>) -> bool {
     }
 }
 
-/// Whether a realm and the session are read of it, and what is read is written again, octet for octet.
+/// Returns whether a realm and the session are read of it, and what is read is written again, octet for octet.
 pub(crate) fn is_read_and_written_again(alloc: Global) -> bool {
     let Ok(items) = read(alloc, &OCTETS) else {
         return false;

@@ -13,7 +13,7 @@ const REQUEST: [u8; 43] = [
     117, 64, 97, 46, 101, 120, 97, 109, 112, 108, 101, 40, 6, 0, 0, 0, 1, 44, 4, 48, 49,
 ];
 
-/// What is heard, in words, and none for nothing; a datagram where it is the request from that access server.
+/// Returns what is heard, in words, and none for nothing; a datagram where it is the request from that access server.
 fn word<A: Allocator>(heard: &Heard<A>) -> Option<&'static str> {
     match heard {
         Heard::Nothing => None,
@@ -31,7 +31,7 @@ fn word<A: Allocator>(heard: &Heard<A>) -> Option<&'static str> {
     }
 }
 
-/// How many receives in a row hear nothing, then what the next one hears, and the count that it
+/// Returns how many receives in a row hear nothing, then what the next one hears, and the count that it
 /// leaves.
 fn heard_after_silence<A: Allocator + Copy>(
     alloc: A,
@@ -53,8 +53,8 @@ fn heard_after_silence<A: Allocator + Copy>(
     (1000, "nothing", *faults)
 }
 
-/// What is heard at first, by this allocator, and then, at a port that fails 99 times, gives the request, and fails
-/// from then on.
+/// Returns what is heard at first, by this allocator, and then, at a port that fails 99 times, gives the request, and
+/// fails from then on.
 fn heard_twice<A: Allocator + Copy>(alloc: Global, first: A) -> [(u32, &'static str, u32); 2] {
     let mut answers = [Answer::Fault; 100];
     answers[99] = Answer::Datagram;
@@ -73,14 +73,14 @@ pub(crate) fn hundred_faults_in_a_row_give_up(alloc: Global) -> bool {
     heard_twice(alloc, alloc) == TWICE
 }
 
-/// Whether the same is heard where the second growth is refused.
+/// Returns whether the same is heard where the second growth is refused.
 pub(crate) fn datagram_takes_no_memory(alloc: Global) -> bool {
     let refusing = Refusing::new(alloc);
     refusing.refuse_nth(2);
     heard_twice(alloc, &refusing) == TWICE
 }
 
-/// Whether silence at the fifty-first receive ends a row of faults.
+/// Returns whether silence at the fifty-first receive ends a row of faults.
 pub(crate) fn silence_ends_a_row_of_faults(alloc: Global) -> bool {
     let mut answers = [Answer::Fault; 60];
     answers[50] = Answer::Nothing;

@@ -93,7 +93,7 @@ const AT_EDGES: [(usize, [u8; 16]); 8] = [
     ),
 ];
 
-/// Whether a message of so many octets has this digest, wherever it is cut in two.
+/// Returns whether a message of so many octets has this digest, wherever it is cut in two.
 fn has_digest_in_pieces(len: usize, digest: [u8; 16]) -> bool {
     let mut octets = [0; 192];
     for i in 0..192usize {

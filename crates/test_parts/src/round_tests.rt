@@ -119,7 +119,7 @@ fn held<A: Allocator + Copy>(alloc: A, count: u16) -> Result<Tables<A>, NoMemory
     Ok(tables)
 }
 
-/// How many entries are looked at for the State of a ticket, and which is found; for one that nobody has,
+/// Returns how many entries are looked at for the State of a ticket, and which is found; for one that nobody has,
 /// and for another peer.
 fn looks<A: Allocator + Copy>(tables: &Tables<A>, ticket: u16) -> [u64; 4] {
     [
@@ -130,7 +130,8 @@ fn looks<A: Allocator + Copy>(tables: &Tables<A>, ticket: u16) -> [u64; 4] {
     ]
 }
 
-/// Whether a look costs and finds the same where so many Challenges are held as where one is: one index, and one entry.
+/// Returns whether a look costs and finds the same where so many Challenges are held as where one is: one index, and
+/// one entry.
 pub(crate) fn is_one_look(alloc: Global, count: u16) -> bool {
     match held(alloc, count) {
         Ok(tables) => looks(&tables, count) == [1, u64::from(count), 0, 0],

@@ -42,8 +42,8 @@ fn put_by_place(
     Ok(())
 }
 
-/// What went of three packets of `auth` at the first sending, at a second one and at a third one, before which the
-/// port is tried again; how many wait then, and how many are lost.
+/// Returns what went of three packets of `auth` at the first sending, at a second one and at a third one, before which
+/// the port is tried again; how many wait then, and how many are lost.
 fn send_three(
     alloc: Global,
     ports: &mut [Tape<'_>],
@@ -57,8 +57,8 @@ fn send_three(
     Ok((sent, outbox.waiting_at(0), outbox.take_account().losses))
 }
 
-/// What becomes of three packets whose sends fail so, how often their port was handed one, and whether just these went
-/// out of it.
+/// Returns what becomes of three packets whose sends fail so, how often their port was handed one, and whether just
+/// these went out of it.
 fn three_sent(
     alloc: Global,
     failing: &[(usize, SendFault)],
@@ -82,7 +82,7 @@ pub(crate) fn failed_send_is_lost_and_counted(alloc: Global) -> bool {
     three_sent(alloc, &[(1, SendFault::Unreachable)], &[1, 3]) == Some(((sent, 0, one), 3, true))
 }
 
-/// Whether packets whose socket has no room stand aside, and leave in order.
+/// Returns whether packets whose socket has no room stand aside, and leave in order.
 pub(crate) fn packets_stand_aside_in_order(alloc: Global) -> bool {
     let sent = [(1, true), (0, false), (2, false)];
     three_sent(alloc, &[(1, SendFault::WouldBlock)], &[1, 2, 3])
@@ -131,7 +131,7 @@ struct AfterFlood {
     are_in_order: bool,
 }
 
-/// Whether octets count up from 0.
+/// Returns whether octets count up from 0.
 fn count_up(octets: &[u8]) -> bool {
     for (at, octet) in octets.iter().enumerate() {
         if at % 256 != usize::from(*octet) {
@@ -168,8 +168,8 @@ fn flood(alloc: Global, count: u16) -> Result<AfterFlood, NoMemory> {
     })
 }
 
-/// Whether a flood for a socket without room costs no other socket its packet: each is tried once, as many wait as may,
-/// the others are lost, and those that wait leave in order.
+/// Returns whether a flood for a socket without room costs no other socket its packet: each is tried once, as many
+/// wait as may, the others are lost, and those that wait leave in order.
 pub(crate) fn flood_costs_no_other_packet(alloc: Global) -> bool {
     match flood(alloc, 1024) {
         Ok(after) => {
@@ -184,7 +184,7 @@ pub(crate) fn flood_costs_no_other_packet(alloc: Global) -> bool {
     }
 }
 
-/// How many packets of a flood are lost.
+/// Returns how many packets of a flood are lost.
 fn flood_lost(alloc: Global, count: u16) -> Option<u64> {
     match flood(alloc, count) {
         Ok(after) => Some(after.lost),
@@ -192,12 +192,12 @@ fn flood_lost(alloc: Global, count: u16) -> Option<u64> {
     }
 }
 
-/// Whether packet 257 finds the share of its socket full.
+/// Returns whether packet 257 finds the share of its socket full.
 pub(crate) fn packet_257_finds_the_share_full(alloc: Global) -> bool {
     [flood_lost(alloc, 256), flood_lost(alloc, 257)] == [Some(0), Some(1)]
 }
 
-/// Whether shares shrink where there are many sockets.
+/// Returns whether shares shrink where there are many sockets.
 pub(crate) fn shares_shrink() -> bool {
     [share_of(4), share_of(256), share_of(512), share_of(2050)] == [256, 256, 128, 32]
 }

@@ -16,7 +16,7 @@ const SOCKETS: [(usize, u16, Place); 9] = [
     (0, 7, Place::Auth(7)),
 ];
 
-/// Whether each place has the numbers of the table, and is found by them.
+/// Returns whether each place has the numbers of the table, and is found by them.
 pub(crate) fn sockets_stand_in_order() -> bool {
     for (socket, nth, place) in &SOCKETS {
         if socket_of(*place) != *socket
@@ -41,7 +41,7 @@ const WORKERS: [(Place, usize, usize); 8] = [
     (Place::Auth(4), 1, 0),
 ];
 
-/// Whether each place has the workers of the table.
+/// Returns whether each place has the workers of the table.
 pub(crate) fn sockets_are_dealt_out() -> bool {
     for (place, in_turn, spread) in &WORKERS {
         if worker_of(*place, 3, false) != *in_turn || worker_of(*place, 3, true) != *spread {

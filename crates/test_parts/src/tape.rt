@@ -6,7 +6,7 @@ use roam_conf::{Address, Endpoint, Place};
 use roam_port::{Port, PortFault, SendFault};
 use std::alloc::Global;
 
-/// Where what is received comes from, and where what is sent goes to.
+/// Returns where what is received comes from, and where what is sent goes to.
 pub fn access_server() -> Endpoint {
     Endpoint {
         ip: Address::from_ipv4_octets([192, 0, 2, 1]),

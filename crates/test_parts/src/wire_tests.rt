@@ -68,7 +68,7 @@ fn push_all<A: Allocator>(packet: &mut PacketBuf<A>, view: &View<'_>) -> bool {
     true
 }
 
-/// Whether the packet of these octets is built anew.
+/// Returns whether the packet of these octets is built anew.
 fn is_built<A: Allocator>(alloc: A, octets: &[u8]) -> bool {
     let Ok(view) = View::read(octets) else {
         return false;

@@ -32,8 +32,8 @@ const UNTAKEN: [&str; 17] = [
     "refused 29\n",
 ];
 
-/// Whether an event that is answered so was taken by a realm or a shard: it wasn't refused before that, nor rejected
-/// there, and memory wasn't wanting.
+/// Returns whether an event that is answered so was taken by a realm or a shard: it wasn't refused before that, nor
+/// rejected there, and memory wasn't wanting.
 pub fn is_taken(answer: &[u8]) -> bool {
     !answer.starts_with(b"- ") && !UNTAKEN.iter().any(|line| line.as_bytes() == answer)
 }

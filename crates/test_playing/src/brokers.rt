@@ -37,7 +37,7 @@ impl Drop for Playing<'_, '_> {
     }
 }
 
-/// What a broker answers that stores no steps.
+/// Returns what a broker answers that stores no steps.
 fn unstored<'r>(
     answered: Result<Answer<Over<'r>>, NoMemory>,
 ) -> Result<Answer<Over<'r>>, HubFault> {

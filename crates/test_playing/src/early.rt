@@ -5,7 +5,7 @@ use roam_hub::HubFault;
 use roam_wire::Refusal;
 use std::alloc::Allocator;
 
-/// What an arrival is answered with that wasn't prepared: its refusal, or it is lost for want of memory.
+/// Returns what an arrival is answered with that wasn't prepared: its refusal, or it is lost for want of memory.
 pub fn lost_or_refused<A: Allocator>(alloc: A, why: Refusal) -> Result<Answer<A>, HubFault> {
     if why == Refusal::NoMemory {
         return Err(HubFault::NoMemory);

@@ -72,7 +72,7 @@ impl<'p, 'r> Player<'p, 'r> {
         }
     }
 
-    /// Whether what was answered last is what is wanted. Tells where it isn't.
+    /// Returns whether what was answered last is what is wanted. Tells where it isn't.
     pub fn is_answer(&mut self, line: usize, how: &str, wanted: &[u8]) -> bool {
         if wanted == self.got.as_slice() {
             return true;

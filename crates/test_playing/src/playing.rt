@@ -22,8 +22,8 @@ impl<'p, 'r> Player<'p, 'r> {
         self.tell_answer(line, "growths", wanted.as_slice());
     }
 
-    /// How many growths an event may ask for beside those that its row says: where it is stored, one for the step, and
-    /// one for the octets that arrived.
+    /// Returns how many growths an event may ask for beside those that its row says: where it is stored, one for the
+    /// step, and one for the octets that arrived.
     fn growths_to_store(&self, step: &Step<Over<'r>>) -> u64 {
         match &step.event {
             _ if self.kept != Kept::InTraces || !is_taken(step.answer.as_bytes()) => 0,

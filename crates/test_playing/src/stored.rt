@@ -20,7 +20,7 @@ struct Looking<'s, 'r> {
 }
 
 impl<'s, 'r> Looking<'s, 'r> {
-    /// Whether an event is that of the next step of some shard, which is then found.
+    /// Returns whether an event is that of the next step of some shard, which is then found.
     fn finds(&mut self, event: &Event<Over<'r>>) -> bool {
         for (found, steps) in self.found.iter_mut().zip(self.steps.iter()) {
             if let Some(step) = steps.get(*found) {
@@ -33,7 +33,7 @@ impl<'s, 'r> Looking<'s, 'r> {
         false
     }
 
-    /// Whether all of them were found.
+    /// Returns whether all of them were found.
     fn has_found_all(&self) -> bool {
         let mut found = self.found.iter();
         self.steps
@@ -61,13 +61,14 @@ fn without_padding<'r>(over: Over<'r>, event: &Event<Over<'r>>) -> Option<Event<
                     from: datagram.from,
                     octets: Octets::copy_of(over, packet).ok()?,
                     seconds: None,
+                    keeps_session: datagram.keeps_session,
                 },
             })
         }
     }
 }
 
-/// How many steps are stored.
+/// Returns how many steps are stored.
 pub fn count_of<A: Allocator>(stored: &[Vec<Stored<A>, A>]) -> usize {
     let mut count = 0usize;
     for steps in stored {
@@ -76,7 +77,7 @@ pub fn count_of<A: Allocator>(stored: &[Vec<Stored<A>, A>]) -> usize {
     count
 }
 
-/// Whether each receipt's step is stored at its number, where it wasn't let go of.
+/// Returns whether each receipt's step is stored at its number, where it wasn't let go of.
 pub fn are_stored<A: Allocator, N: Opened>(
     report: &Report<A, N>,
     receipts: &[Receipt<A, N>],
@@ -89,7 +90,7 @@ pub fn are_stored<A: Allocator, N: Opened>(
     true
 }
 
-/// Whether a receipt's step is stored at its number, where it wasn't let go of.
+/// Returns whether a receipt's step is stored at its number, where it wasn't let go of.
 fn is_stored<A: Allocator, N: Opened>(report: &Report<A, N>, receipt: &Receipt<A, N>) -> bool {
     let shard = usize::from(receipt.shard);
     let (Some(steps), Some(front)) = (report.steps.get(shard), report.fronts.get(shard)) else {
@@ -105,7 +106,7 @@ fn is_stored<A: Allocator, N: Opened>(report: &Report<A, N>, receipt: &Receipt<A
     }
 }
 
-/// Whether the stored steps are those of the events that were taken, each of which was answered.
+/// Returns whether the stored steps are those of the events that were taken, each of which was answered.
 fn are_those_of<'r>(
     over: Over<'r>,
     events: &[Step<Over<'r>>],

@@ -56,7 +56,7 @@ impl Tally {
         self.differences
     }
 
-    /// Whether all is as the rows say.
+    /// Returns whether all is as the rows say.
     pub fn is_clean(&self) -> bool {
         self.differences == 0
     }

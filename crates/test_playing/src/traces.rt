@@ -98,7 +98,7 @@ impl<'c, A: Allocator + Copy> Traces<'c, A> {
         })
     }
 
-    /// How many steps more the traces hold than when this was looked at last, where none lost one.
+    /// Returns how many steps more the traces hold than when this was looked at last, where none lost one.
     pub fn more_steps(&mut self) -> Option<u64> {
         let mut more = 0u64;
         for (seen, traced) in self.seen.iter_mut().zip(self.traces.iter()) {

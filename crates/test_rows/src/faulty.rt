@@ -5,7 +5,7 @@ use std::alloc::Global;
 use std::io;
 use test_playing::Player;
 
-/// Whether the line of this number is the first faulty one of a script.
+/// Returns whether the line of this number is the first faulty one of a script.
 fn is_faulty_at(alloc: Global, script: &str, number: u64) -> bool {
     match read_script(alloc, script) {
         Err(ScriptFault::Line(line)) => line == number,
@@ -13,7 +13,7 @@ fn is_faulty_at(alloc: Global, script: &str, number: u64) -> bool {
     }
 }
 
-/// Whether a line is found to be faulty, alone and among others.
+/// Returns whether a line is found to be faulty, alone and among others.
 fn is_found(alloc: Global, line: &str) -> io::Result<bool> {
     let text = format!(in alloc; "\n# a comment\nT 0 0\n{line}\nT 0 0\n{line}\n")?;
     Ok(is_faulty_at(alloc, line, 1) && is_faulty_at(alloc, text.as_str(), 4))

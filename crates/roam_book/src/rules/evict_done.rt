@@ -13,7 +13,7 @@ use crate::realm_broker::RealmBroker;
 use roam_pending::{Entries, Entry, Standing};
 use std::alloc::Allocator;
 
-/// Whether an entry was answered, or isn't there.
+/// Returns whether an entry was answered, or isn't there.
 fn is_done_or_gone<A: Allocator>(entry: Option<&Entry<A>>) -> bool
     ensures { result ≡ done_or_gone (seen entry.entry) }
 {
@@ -28,7 +28,7 @@ fn is_done_or_gone<A: Allocator>(entry: Option<&Entry<A>>) -> bool
     }
 }
 
-/// Whether each entry of a realm that is due at a moment, in milliseconds, was answered. Takes no
+/// Returns whether each entry of a realm that is due at a moment, in milliseconds, was answered. Takes no
 /// memory.
 pub fn only_done_due<A: Allocator, E: Entries<A>>(entries: &E, realm: u16, now: u64) -> bool
     ensures { result ≡ only_done_due now (E.entries_of entries.now realm) }

@@ -43,7 +43,7 @@ pub(crate) fn replaced_ticket(replaced: Option<Replaced>) -> Option<u64>
 }
 
 impl<A: Allocator + Copy, E: Entries<A>> RealmBroker<'_, '_, '_, '_, A, E> {
-    /// How many entries there are, besides one that counts as gone.
+    /// Returns how many entries there are, besides one that counts as gone.
     fn held_besides(&self, replaced: Option<Replaced>) -> usize
         requires { CountsAsReplaced replaced (entries E.Entries self.now) }
         ensures { result ≡ length (once_replaced replaced (entries E.Entries self.now)) }

@@ -78,7 +78,7 @@ impl<A: Allocator + Copy, E: Entries<A>> RealmBroker<'_, '_, '_, '_, A, E> {
         self.entries.find_ticket(self.settings.index(), ticket)
     }
 
-    /// What a reply from a link does, for the entry that waits there with its Identifier, if there
+    /// Returns what a reply from a link does, for the entry that waits there with its Identifier, if there
     /// is one.
     fn reply_to_entry(
         &self,
@@ -86,23 +86,24 @@ impl<A: Allocator + Copy, E: Entries<A>> RealmBroker<'_, '_, '_, '_, A, E> {
         link: Link,
         reply: &View<'_>,
         lines: ExchangeLines,
+        keeps_session: bool,
     ) -> Result<ReplyPlan<A>, NoMemory>
         requires realm { IsRealm E.Entries self.now }
         requires moment { now ≤ 2 ^ 62 }
         ensures plan { IfOk result (λ p. IsReplyPlan self.now.settings.now
             (state E.Entries self.now) p
-            (to_entry self.now.settings.now now (state E.Entries self.now) reply.now
+            (to_entry self.now.settings.now now (state E.Entries self.now) keeps_session reply.now
             (find_link link reply.now.id (entries E.Entries self.now)))
-            (by_turn (to_entry self.now.settings.now now (state E.Entries self.now) reply.now
+            (by_turn (to_entry self.now.settings.now now (state E.Entries self.now) keeps_session reply.now
             (find_link link reply.now.id (entries E.Entries self.now)))
             (returned_to lines reply.now (find_link link reply.now.id (entries E.Entries self.now))))) }
-        ensures succeeds { packets_of (to_entry self.now.settings.now now (state E.Entries self.now)
-            reply.now (find_link link reply.now.id (entries E.Entries self.now))) ≡ []
-            → IsOk result }
+        ensures succeeds { packets_of (to_entry self.now.settings.now now (state E.Entries self.now) keeps_session
+            reply.now (find_link link reply.now.id (entries E.Entries self.now))) ≡ [] → IsOk result }
     {
         let id = reply.id();
+        let (alloc, settings) = (self.numbers.alloc, self.settings);
         let Some(entry) = self.waiting_at(link, id) else {
-            return Ok(refused_reply(self.numbers.alloc, Refusal::NoEntry));
+            return Ok(refused_reply(alloc, Refusal::NoEntry));
         };
         let ReplyOutcome {
             answer,
@@ -110,7 +111,7 @@ impl<A: Allocator + Copy, E: Entries<A>> RealmBroker<'_, '_, '_, '_, A, E> {
             heard,
             done,
             counted,
-        } = to_standing(self.numbers.alloc, self.settings, now, entry, reply, lines)?;
+        } = to_standing(alloc, settings, now, entry, reply, lines, keeps_session)?;
         let settled = match done {
             None => None,
             Some(done) => {
@@ -130,27 +131,29 @@ impl<A: Allocator + Copy, E: Entries<A>> RealmBroker<'_, '_, '_, '_, A, E> {
         })
     }
 
-    /// What a reply that came from a link does. Nothing changes yet.
+    /// Returns what a reply that came from a link does. Nothing changes yet.
     fn plan_reply(
         &self,
         now: u64,
         link: Link,
         octets: &[u8],
         lines: ExchangeLines,
+        keeps_session: bool,
     ) -> Result<ReplyPlan<A>, NoMemory>
         requires realm { IsRealm E.Entries self.now }
         requires packet { IsPacketText octets.now }
         ensures plan { IfOk result (λ p. IsReplyPlan self.now.settings.now
             (state E.Entries self.now) p
-            (on_reply self.now.settings.now now (state E.Entries self.now) link octets.now)
-            (reply_happening lines self.now.settings.now now (state E.Entries self.now) link octets.now)) }
-        ensures succeeds { packets_of (on_reply self.now.settings.now now (state E.Entries self.now)
+            (on_reply self.now.settings.now now (state E.Entries self.now) keeps_session link octets.now)
+            (reply_happening lines self.now.settings.now now (state E.Entries self.now) keeps_session link
+            octets.now)) }
+        ensures succeeds { packets_of (on_reply self.now.settings.now now (state E.Entries self.now) keeps_session
             link octets.now) ≡ [] → IsOk result }
     {
         if now > LATEST {
             return Ok(refused_reply(self.numbers.alloc, Refusal::Moment));
         }
-        self.reply_to_entry(now, link, &View::of_packet(octets), lines)
+        self.reply_to_entry(now, link, &View::of_packet(octets), lines, keeps_session)
     }
 
     /// Makes all growth of the ledger that an entry wants which is to be done, and changes no
@@ -234,7 +237,7 @@ impl<A: Allocator + Copy, E: Entries<A>> RealmBroker<'_, '_, '_, '_, A, E> {
         Ok(())
     }
 
-    /// What was planned is done: a sign of life is noted, or an entry settled. `NoMemory` comes where a
+    /// Does what was planned: a sign of life is noted, or an entry settled. `NoMemory` comes where a
     /// growth was refused; the realm is then as it was.
     fn carry_out(
         &mut self,
@@ -262,31 +265,32 @@ impl<A: Allocator + Copy, E: Entries<A>> RealmBroker<'_, '_, '_, '_, A, E> {
         }
     }
 
-    /// A reply that came from a link: it is returned, and held until `now + hold`, where the
-    /// request waits on that link with the reply's Identifier, and the reply is taken.
+    /// A reply that came from a link: it is returned, and held until `now + hold`, where the request waits on that link
+    /// with the reply's Identifier, and the reply is taken. Where the session isn't kept, the ledger stays as it is, and
+    /// wants no memory.
     ///
-    /// Refused in this order: `Moment`, `NoEntry`, `WrongReply`, `BadReply`,
-    /// `BadReplyMessageAuthenticator`, `ReplyTooLong`. `NoMemory` comes where a growth was refused;
-    /// the realm is then as it was. A refused reply wants no memory. The octets of its request are kept where lines
-    /// tell of such exchanges.
+    /// Refused in this order: `Moment`, `NoEntry`, `WrongReply`, `BadReply`, `BadReplyMessageAuthenticator`,
+    /// `ReplyTooLong`. `NoMemory` comes where a growth was refused; the realm is then as it was. A refused reply wants no
+    /// memory. The octets of its request are kept where lines tell of such exchanges.
     pub fn on_reply(
         &mut self,
         now: u64,
         link: Link,
         octets: &[u8],
         lines: ExchangeLines,
+        keeps_session: bool,
     ) -> Result<Turned<A>, NoMemory>
         requires realm { IsRealm E.Entries self.old }
         requires packet { IsPacketText octets.now }
         ensures turn { TurnsTelling E.Entries self.old self.new result
-            (λ s. on_reply self.old.settings.now now s link octets.now)
-            (λ s. reply_happening lines self.old.settings.now now s link octets.now) }
+            (λ s. on_reply self.old.settings.now now s keeps_session link octets.now)
+            (λ s. reply_happening lines self.old.settings.now now s keeps_session link octets.now) }
     {
         let ReplyPlan {
             turned,
             heard,
             settled,
-        } = self.plan_reply(now, link, octets, lines)?;
+        } = self.plan_reply(now, link, octets, lines, keeps_session)?;
         self.carry_out(heard, settled)?;
         Ok(turned)
     }

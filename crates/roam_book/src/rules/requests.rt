@@ -46,7 +46,7 @@ pub(crate) enum RequestPlan<A: Allocator> {
     Admitted(AdmitPlan),
 }
 
-/// What a duplicate gets: nothing while its request waits, else the reply that is held, again.
+/// Returns what a duplicate gets: nothing while its request waits, else the reply that is held, again.
 fn held_reply<A: Allocator + Copy>(
     alloc: A,
     settings: &RealmSettings<'_>,

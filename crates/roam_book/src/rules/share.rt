@@ -37,7 +37,7 @@ fn name_part(octets: &[u8]) -> Option<&[u8]>
     realm_part(View::of_packet(octets).first(USER_NAME)?)
 }
 
-/// Whether two name parts are equal without ASCII case.
+/// Returns whether two name parts are equal without ASCII case.
 fn is_same_part(part: Option<&[u8]>, other: Option<&[u8]>) -> bool
     ensures { result ≡ same_part (option_map (λ part. part.now) part.entry)
         (option_map (λ part. part.now) other.entry) }
@@ -49,7 +49,7 @@ fn is_same_part(part: Option<&[u8]>, other: Option<&[u8]>) -> bool
     }
 }
 
-/// Whether two requests are of the same peer.
+/// Returns whether two requests are of the same peer.
 fn is_same_peer(requester: Requester, other: Requester) -> bool
     ensures { result ≡ same_peer requester other }
 {
@@ -68,7 +68,7 @@ pub(crate) enum Sharer<'a> {
     Peer(Requester),
 }
 
-/// Whether an entry's request counts in a share.
+/// Returns whether an entry's request counts in a share.
 fn is_sharer<A: Allocator>(entry: &Entry<A>, sharer: Sharer<'_>) -> bool
     requires packet { IsPacketText entry.now.request.octets }
     ensures { result ≡ is_sharer sharer.entry (shown entry.now) }
@@ -79,7 +79,7 @@ fn is_sharer<A: Allocator>(entry: &Entry<A>, sharer: Sharer<'_>) -> bool
     }
 }
 
-/// Whether a ticket isn't the one that counts as gone.
+/// Returns whether a ticket isn't the one that counts as gone.
 fn is_beside(replaced: Option<u64>, ticket: u64) -> bool
     ensures { result ≡ is_beside replaced ticket }
 {
@@ -98,7 +98,8 @@ fn one_if(is_so: bool) -> usize
 }
 
 impl<A: Allocator + Copy, E: Entries<A>> RealmBroker<'_, '_, '_, '_, A, E> {
-    /// Whether a request of this share waits on a link with an Identifier, besides the one that counts as gone.
+    /// Returns whether a request of this share waits on a link with an Identifier, besides the one that counts as
+    /// gone.
     fn holds_sharer(&self, link: Link, id: u8, sharer: Sharer<'_>, replaced: Option<u64>) -> bool
         requires realm { IsRealm E.Entries self.now }
         ensures { result ≡ held_as (is_sharer sharer.entry) replaced link id (entries E.Entries self.now) }
@@ -109,7 +110,7 @@ impl<A: Allocator + Copy, E: Entries<A>> RealmBroker<'_, '_, '_, '_, A, E> {
         }
     }
 
-    /// How many requests of this share wait on a link.
+    /// Returns how many requests of this share wait on a link.
     fn sharers_at(&self, link: Link, sharer: Sharer<'_>, replaced: Option<u64>) -> usize
         requires realm { IsRealm E.Entries self.now }
         ensures count { result ≡ held_below 256 (is_sharer sharer.entry) replaced link (entries E.Entries self.now) }
@@ -122,7 +123,7 @@ impl<A: Allocator + Copy, E: Entries<A>> RealmBroker<'_, '_, '_, '_, A, E> {
         count
     }
 
-    /// How many requests of this share wait at a server for a service, by all `out`.
+    /// Returns how many requests of this share wait at a server for a service, by all `out`.
     fn sharers_to(
         &self,
         service: Service,
@@ -143,7 +144,7 @@ impl<A: Allocator + Copy, E: Entries<A>> RealmBroker<'_, '_, '_, '_, A, E> {
         count
     }
 
-    /// How many requests of this share wait for a service.
+    /// Returns how many requests of this share wait for a service.
     fn sharers_for(&self, service: Service, sharer: Sharer<'_>, replaced: Option<u64>) -> usize
         requires realm { IsRealm E.Entries self.now }
         ensures count { result ≡ sum_below (length self.now.settings.now.realm.servers) (λ server.
@@ -158,7 +159,7 @@ impl<A: Allocator + Copy, E: Entries<A>> RealmBroker<'_, '_, '_, '_, A, E> {
         count
     }
 
-    /// Whether the share of a new request's name is taken, while an entry counts as gone.
+    /// Returns whether the share of a new request's name is taken, while an entry counts as gone.
     fn is_name_taken(&self, request: RequestRef<'_>, replaced: Option<Replaced>) -> bool
         requires realm { IsRealm E.Entries self.now }
         requires request { IsRequest self.now.settings.now (shown_request request) }
@@ -176,7 +177,7 @@ impl<A: Allocator + Copy, E: Entries<A>> RealmBroker<'_, '_, '_, '_, A, E> {
         }
     }
 
-    /// Whether the share of a new request's peer is taken, while an entry counts as gone.
+    /// Returns whether the share of a new request's peer is taken, while an entry counts as gone.
     fn is_peer_taken(&self, request: RequestRef<'_>, replaced: Option<Replaced>) -> bool
         requires realm { IsRealm E.Entries self.now }
         ensures { result ≡ peer_taken self.now.settings.now
@@ -194,7 +195,7 @@ impl<A: Allocator + Copy, E: Entries<A>> RealmBroker<'_, '_, '_, '_, A, E> {
         }
     }
 
-    /// Whether the share of a new request's name or of its peer is taken, while an entry counts as gone.
+    /// Returns whether the share of a new request's name or of its peer is taken, while an entry counts as gone.
     pub(crate) fn is_share_taken(&self, request: RequestRef<'_>, replaced: Option<Replaced>) -> bool
         requires realm { IsRealm E.Entries self.now }
         requires request { IsRequest self.now.settings.now (shown_request request) }

@@ -13,7 +13,7 @@ use std::alloc::Allocator;
 use std::sync::Wait;
 
 impl<'c, A: Allocator + Copy, N: Opened> LockedTrace<'c, A, N> {
-    /// Whether anything is due at a moment.
+    /// Returns whether anything is due at a moment.
     fn has_due(&self, now: u64) -> bool
         ensures { result ≡ false ↔ NothingDue now self.now.trace.states }
     {
@@ -69,7 +69,7 @@ impl<'c, A: Allocator + Copy, N: Opened> LockedTrace<'c, A, N> {
         }
     }
 
-    /// Whether anything of this shard is due at a moment. The seat has then seen the whole history. Takes no
+    /// Returns whether anything of this shard is due at a moment. The seat has then seen the whole history. Takes no
     /// memory.
     pub(crate) fn is_due(
         &self,

@@ -13,8 +13,8 @@ use roam_realm::Gauges;
 use std::alloc::Allocator;
 
 impl<'c, A: Allocator + Copy, N: Opened> LockedTrace<'c, A, N> {
-    /// How a realm stands where the history ends; none where it isn't one of the shard's own, or this is another
-    /// shard's trace. Takes no memory.
+    /// Returns how a realm stands where the history ends; none where it isn't one of the shard's own, or this is
+    /// another shard's trace. Takes no memory.
     pub(crate) fn gauges(&self, seat: &Seat<A, N>, shard: u16, realm: u16) -> Option<Gauges>
         requires { shard < N.opening.config.shards }
         ensures { IfSome result (StandsIn N.opening shard realm seat.now) }
@@ -25,7 +25,7 @@ impl<'c, A: Allocator + Copy, N: Opened> LockedTrace<'c, A, N> {
         self.traced.shard().gauges(realm)
     }
 
-    /// What goes of a realm where another configuration is followed; none as for `gauges`. Takes no memory.
+    /// Returns what goes of a realm where another configuration is followed; none as for `gauges`. Takes no memory.
     pub(crate) fn losses(
         &self,
         seat: &Seat<A, N>,

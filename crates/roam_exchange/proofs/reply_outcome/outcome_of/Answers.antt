@@ -23,7 +23,8 @@ returns-in-Some-clause-turn g c =
     ) at c.in-Some.ensures.fault in
     λ s. same-verdict c.args.context.now.settings.now c.faulted.result e c.args.waiting.now.link s _ _
     (c.faulted.ensures.outcome c.args.context.now.settings.now e c.args.waiting.now.link s)
-    (ap (reply_turn c.args.context.now.settings.now c.args.context.now.moment s e c.args.waiting.now.link forwarded
+    (ap (reply_turn c.args.context.now.settings.now c.args.context.now.moment s c.args.context.now.keeps_session e
+    c.args.waiting.now.link forwarded
     c.args.context.now.reply.now) fault)
 
 -- which is all that happened

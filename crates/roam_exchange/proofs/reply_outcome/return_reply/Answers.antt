@@ -25,9 +25,10 @@ returns-in_ok-waited-in-Ok-clause-turn g c =
     (λ s. returns_octets config c.args.context.now.moment e.request.key
     c.counted_peer-counted.result octets x link s))
     (λ v. IsOutcome config v e link
-    (λ s. return_reply config c.args.context.now.moment s e link c.args.forwarded.now c.args.context.now.reply.now))
+    (λ s. return_reply config c.args.context.now.moment s c.args.context.now.keeps_session e link c.args.forwarded.now
+    c.args.context.now.reply.now))
     (λ v h s. same-verdict config v e link s _ _ (h e s)
-    (returned-turn config c.args.context.now.moment s e link c.args.forwarded.now
+    (returned-turn config c.args.context.now.moment s c.args.context.now.keeps_session e link c.args.forwarded.now
     c.args.context.now.reply.now c.counted_peer-counted.result octets
     (λ lt. absurd (let k = c.in-Ok.ensures.too_long.1 lt in cc)) c.in-Ok.ensures.octets
     c.counted_peer-counted.ensures))
@@ -40,7 +41,8 @@ returns-in_ok-waited-in-Ok-clause-happening g c = λ s.
     let octets : List ℕ = c.in-Ok.packet.items in
     let config = c.args.context.now.settings.now in
     let link = c.args.waiting.now.link in
-    let turn = returned-turn config c.args.context.now.moment s e link c.args.forwarded.now
+    let turn = returned-turn config c.args.context.now.moment s c.args.context.now.keeps_session e link
+    c.args.forwarded.now
     c.args.context.now.reply.now c.counted_peer-counted.result octets
     (λ lt. absurd (let k = c.in-Ok.ensures.too_long.1 lt in cc)) c.in-Ok.ensures.octets
     c.counted_peer-counted.ensures in
@@ -56,13 +58,15 @@ returns-in-Err-ReplyTooLong-clause-turn g c =
     let config = c.args.context.now.settings.now in
     λ s. same-verdict config c.only_heard.result e c.args.waiting.now.link s _ _
     (c.only_heard.ensures.outcome config e c.args.waiting.now.link s)
-    (long-turn config c.args.context.now.moment s e c.args.waiting.now.link c.args.forwarded.now
+    (long-turn config c.args.context.now.moment s c.args.context.now.keeps_session e c.args.waiting.now.link
+    c.args.forwarded.now
     c.args.context.now.reply.now long)
 
 pub returns-in-Err-ReplyTooLong-clause-happening : goal.returns-in-Err-ReplyTooLong-clause-happening
 returns-in-Err-ReplyTooLong-clause-happening g c = λ s.
     let e : PlainEntry = shown c.args.entry.now in
     let long = c.in-Err-ReplyTooLong.ensures.too_long.0 (ap Err c.in-Err-ReplyTooLong.field-0-is) in
-    let turn = long-turn c.args.context.now.settings.now c.args.context.now.moment s e c.args.waiting.now.link
+    let turn = long-turn c.args.context.now.settings.now c.args.context.now.moment s c.args.context.now.keeps_session
+    e c.args.waiting.now.link
     c.args.forwarded.now c.args.context.now.reply.now long in
     rw (← turn) c.only_heard.ensures.happening

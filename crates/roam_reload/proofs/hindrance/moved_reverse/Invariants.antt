@@ -8,9 +8,9 @@ use Rattle.roam_reload.specs.Reload.{here}
 use Rattle.roam_reload.specs.declared.kind.PlaceKind.TheVariants as kind
 use Rattle.roam_reload.proofs.hindrance.moved_reverse.Given as goal
 
-abbrev pub invariant-loop-realm : goal.invariant-loop-realm
-invariant-loop-realm l =
+abbrev pub invariant-loop-nth : goal.invariant-loop-nth
+invariant-loop-nth l =
     find (is_moved (shown l.new) kind.Reverse)
-    (flat_map (λ (x : RealmView). x.reverse) (here (map shown_realm (drop l.realm-index l.realms))))
+    (flat_map (λ (x : RealmView). x.reverse) (here (map shown_realm (drop l.nth l.realms))))
     ≡ find (is_moved (shown l.fn.new) kind.Reverse)
     (flat_map (λ (x : RealmView). x.reverse) (here (map shown_realm l.fn.realms)))

@@ -24,7 +24,7 @@ on_reply-requires-clause-packet g c =
     let own : job.realm ≡ b.realm = rw (← c.self.view_is) at c.requires.own in
     let taken = job_of_book config job b.realm c.new-settings.result octets event own c.new-settings.ensures in
     let packet : IsPacketText job.octets =
-    subst (λ (s : Side). IsTakenFrom c.new-settings.result job s) c.link_of.ensures taken in
+    subst (λ (s : Side). IsTakenFrom c.new-settings.result job s) c.link_of-link.ensures taken in
     subst IsPacketText (sym c.as_slice-octets.ensures) packet
 
 -- the turn of its reply is that of its event
@@ -33,7 +33,7 @@ returns-clause-turn g c =
     let b = c.self.inside in
     let turn = c.on_reply.ensures.turn in
     let new = c.on_reply.new.self in
-    let event = ap (event_by c.args.now (shown_job c.args.job.now)) c.link_of.ensures in
+    let event = ap (event_by c.args.now (shown_job c.args.job.now)) c.link_of-link.ensures in
     let gives = rw c.as_slice-octets.ensures at turn.gives in
     let given = c.answer_of.ensures.gives _ _ _ _ gives in
     realm-gives (λ k s. on_event k s (event_of c.args.now (shown_job c.args.job.now)))
@@ -45,7 +45,7 @@ returns-clause-turn g c =
 pub returns-clause-succeeds : goal.returns-clause-succeeds
 returns-clause-succeeds g c =
     let b = c.self.inside in
-    let event = ap (event_by c.args.now (shown_job c.args.job.now)) c.link_of.ensures in
+    let event = ap (event_by c.args.now (shown_job c.args.job.now)) c.link_of-link.ensures in
     let calls = rw c.as_slice-octets.ensures at c.on_reply.ensures.turn.succeeds in
     own-succeeds (λ k s. on_event k s (event_of c.args.now (shown_job c.args.job.now)))
     c.answer_of.result c.args.self.now (shown b.config.now) b.realm b.entries b.numbers

@@ -23,7 +23,8 @@ returns g c =
     record {
       turn = turns-settled g.E.Entries c.args.self.now c.carry_out.new.self
           c.in_ok-turned.field-0.turned c.in_ok-turned.field-0.heard c.in_ok-turned.field-0.settled
-          (λ s. on_reply c.args.self.now.settings.now c.args.now s c.args.link c.args.octets.now)
-          (λ s. reply_happening c.args.lines c.args.self.now.settings.now c.args.now s c.args.link c.args.octets.now)
+          (λ s. on_reply c.args.self.now.settings.now c.args.now s c.args.keeps_session c.args.link c.args.octets.now)
+          (λ s. reply_happening c.args.lines c.args.self.now.settings.now c.args.now s c.args.keeps_session
+          c.args.link c.args.octets.now)
           c.in_ok-turned.ensures.plan settled.state c.carry_out.ensures.keeps;
     }
