@@ -1,5 +1,4 @@
--- What names a realm, and whether a peer's Access-Requests need a Message-Authenticator, a realm's written broker
--- doesn't look at.
+-- A realm's written broker doesn't look at its names, nor at whether an Access-Request needs a Message-Authenticator.
 use Rattle.std.proofs.Common.{◌≡◌, ℕ, ◌+◌, ◌-◌, ◌%◌, ◌^◌, ◌==◌, nat_lt, nat_eq, Bool, not, List, [], ◌∷◌, ◌++◌, length, map, Option, Some, None, unwrap_or, slice_index, slice_index_or, slice_set, if◌then◌else◌, refl, ap, sym, ◌∙◌, arith, append-nil, append_assoc, is_some, ◌&&◌}
 use Rattle.std.proofs.lemmas.List.{length-append, length-map, nil_from_length}
 use Rattle.std.specs.Cmp.Lexicographic.{pointwise}

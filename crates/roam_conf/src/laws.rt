@@ -53,7 +53,8 @@ pub fn any_name_comes_last(config: &Config, name: &[u8])
     requires unnamed { owner_with (shown config.now) (whole name.now) ≡ None }
     requires fits { may_fit (shown config.now) name.now ≡ true }
     requires no_suffix { NoSuffix (λ ending. ⊤) (shown config.now) name.now }
-    ensures { realm_named (shown config.now) name.now ≡ realm_owned (shown config.now) (owner_with (shown config.now) any) }
+    ensures { realm_named (shown config.now) name.now
+        ≡ realm_owned (shown config.now) (owner_with (shown config.now) any) }
 {}
 
 /// A name that fits no pattern, as it has to be well formed and isn't, is matched whole.

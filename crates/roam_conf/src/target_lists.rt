@@ -7,7 +7,8 @@ ghost use Rattle.roam_conf.specs.Duplicates.{same_if_there, same_name_if_there};
 ghost use Rattle.roam_conf.specs.Index.{owners, owner_of};
 ghost use Rattle.roam_conf.specs.Parts.{shown_peer};
 ghost use Rattle.roam_conf.specs.TargetIndex.{FindsTargets};
-ghost use Rattle.roam_conf.specs.Targets.{peer_with_nas_ip, peer_with_nas_ipv6, peer_with_operator, some_nas_ipv6, some_operator};
+ghost use Rattle.roam_conf.specs.Targets.{peer_with_nas_ip, peer_with_nas_ipv6, peer_with_operator, some_nas_ipv6};
+ghost use Rattle.roam_conf.specs.Targets.{some_operator};
 
 use crate::Peer;
 use crate::index::{Index, note_key, row_of};

@@ -53,7 +53,8 @@ Within c ends s more turn =
 
 found-within : (c : RealmConfig) (ends : Ends) (tries : 1 ≤ c.realm.tries) (now : ℕ) (s : RealmState)
     (kept : Bool) (l : Link) (octets : List ℕ) (found : Option PlainEntry) →
-    find_link l (packet_of octets).id s.entries ≡ found → Within c ends s 0 (in_time now (to_entry c now s kept (packet_of octets) found))
+    find_link l (packet_of octets).id s.entries ≡ found →
+    Within c ends s 0 (in_time now (to_entry c now s kept (packet_of octets) found))
 found-within c ends tries now s kept l octets None is =
     either (Within c ends s 0) (ltb (2 ^ 62) now) _ _ (omega arith) (omega arith)
 found-within c ends tries now s kept l octets (Some e) is =

@@ -1,18 +1,19 @@
-//! One exchange of a realm: the packet that is forwarded for a request, what a reply to it comes to, and what becomes of it
-//! when it is due; with what an event is answered, and what is said to have happened.
+//! One exchange of a realm: the packet that is forwarded for a request, what a reply to it comes to, and what becomes of
+//! it when it is due; with what an event is answered, and what is said to have happened.
 //!
-//! The definitions of what requests, replies and ticks do to a realm stand here too; the rules that do it, over all entries,
-//! stand above.
+//! The definitions of what requests, replies and ticks do to a realm stand here too; the rules that do it, over all
+//! entries, stand above.
 //!
 //! # Proved
 //!
-//! - what is forwarded for a request is its packet as the lists shape it, under the next free Identifier of its link, with
-//!   random words drawn where it is an Access-Request | `send_new`: `out`, `standing`, `next`
-//! - what becomes of an entry that is due is what is written, and what happened says so | `act_on_due`: `action`, `became`;
-//!   `happening_of`
+//! - what is forwarded for a request is its packet as the lists shape it, under the next free Identifier of its link,
+//!   with random words drawn where it is an Access-Request | `send_new`: `out`, `standing`, `next`
+//! - what becomes of an entry that is due is what is written, and what happened says so | `act_on_due`: `action`,
+//!   `became`; `happening_of`
 //! - what comes of a reply for its entry is what is written, what happened says so, and one that isn't taken wants no
 //!   memory | `to_standing`: `turn`, `happening`, `succeeds`
-//! - the memory of a tick is taken before it begins, and none is wanted where nothing is due | `room_for`: `room`, `succeeds`
+//! - the memory of a tick is taken before it begins, and none is wanted where nothing is due | `room_for`: `room`,
+//!   `succeeds`
 #![tactic(auto)]
 
 mod answer;

@@ -13,7 +13,8 @@ ghost use Rattle.roam_realm.specs.RealmConfig.{IsLink, link_secret, seal_require
 ghost use Rattle.roam_realm.specs.RealmState.{RealmState};
 ghost use Rattle.roam_exchange.specs.Turn.{packets_of};
 ghost use Rattle.roam_exchange.specs.Happenings as happenings;
-ghost use Rattle.roam_exchange.specs.Happenings.{by_turn, keeps_octets, kept_octets, returned_for, returned_to, waited_at};
+ghost use Rattle.roam_exchange.specs.Happenings.{by_turn, keeps_octets, kept_octets, returned_for, returned_to};
+ghost use Rattle.roam_exchange.specs.Happenings.{waited_at};
 ghost use Rattle.roam_exchange.specs.HappeningsShown.{shown_happening, shown_waited};
 ghost use Rattle.roam_exchange.specs.OnReply.{counted_peer, faulted, reply_turn, passing_to, reply_fault};
 ghost use Rattle.roam_exchange.specs.OnReply.{return_reply, returned_octets};

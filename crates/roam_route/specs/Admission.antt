@@ -286,11 +286,11 @@ read_admission config a (Ok p) = sent_admission config a p (sender config a a.at
 
 -- ## Admission
 -- What one arrival gives: a refusal, the first of the refusals 1 to 5, 28, 6 to 8, 24, 9, 29, 25, 26 and 10 whose cause
--- holds; a local answer: a local reject, for an Access-Request that has too many hops, names no realm that takes its peer's requests
--- or whose password can't be carried, looked at between 8 and 9, the answer to a Status-Server, or to an
--- Accounting-Request that isn't forwarded; or an event of a realm: a request from a peer or a home server, or a
--- reply from a link. It is one function of the configuration and the
--- arrival: of no state, and of no time but the wall clock's seconds that came with a reverse request.
+-- holds; a local answer: a local reject, for an Access-Request that has too many hops, names no realm that takes its
+-- peer's requests or whose password can't be carried, looked at between 8 and 9, the answer to a Status-Server, or to
+-- an Accounting-Request that isn't forwarded; or an event of a realm: a request from a peer or a home server, or a
+-- reply from a link. It is one function of the configuration and the arrival: of no state, and of no time but the wall
+-- clock's seconds that came with a reverse request.
 -- Source: RFC 2865 sections 2.3 and 3, RFC 5176; order and causes ours
 -- Rules out: one realm's packets judged by another's secrets; an answer that depends on what came before
 -- Stands in: `roam_route` `Admission.antt`: `admission`, `sender`, `is_taken`; `prepare`

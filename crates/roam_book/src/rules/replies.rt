@@ -266,12 +266,12 @@ impl<A: Allocator + Copy, E: Entries<A>> RealmBroker<'_, '_, '_, '_, A, E> {
     }
 
     /// A reply that came from a link: it is returned, and held until `now + hold`, where the request waits on that link
-    /// with the reply's Identifier, and the reply is taken. Where the session isn't kept, the ledger stays as it is, and
-    /// wants no memory.
+    /// with the reply's Identifier, and the reply is taken. Where the session isn't kept, the ledger stays as it is,
+    /// and wants no memory.
     ///
     /// Refused in this order: `Moment`, `NoEntry`, `WrongReply`, `BadReply`, `BadReplyMessageAuthenticator`,
-    /// `ReplyTooLong`. `NoMemory` comes where a growth was refused; the realm is then as it was. A refused reply wants no
-    /// memory. The octets of its request are kept where lines tell of such exchanges.
+    /// `ReplyTooLong`. `NoMemory` comes where a growth was refused; the realm is then as it was. A refused reply wants
+    /// no memory. The octets of its request are kept where lines tell of such exchanges.
     pub fn on_reply(
         &mut self,
         now: u64,
