@@ -25,5 +25,5 @@ pub use hub_end::HubEnd;
 pub use losing::{declined_for, tell_what_went};
 pub use manner::{Manner, StateFile};
 pub use next::{Next, out_of_memory, widen_all};
-pub use source::{Following, KeepEnd, Keeping, NoSource, Source};
+pub use source::{Following, KeepEnd, Keeping, Source};
 pub use watch::Watch;

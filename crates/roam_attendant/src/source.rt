@@ -7,7 +7,6 @@ ghost use Rattle.roam_reload.specs.Reload.{MayFollow};
 use crate::manner::Manner;
 use roam_conf::Config;
 use roam_sockets::ServeFault;
-use std::alloc::Global;
 
 /// A configuration that is to follow the one that is served.
 #[derive(Drop)]
@@ -71,44 +70,4 @@ pub trait Source {
     /// Gives the file of a path a second name, under which it stays when others are kept at the path. Where that can't
     /// be, nothing is kept there for as long as the server runs. Returns whether it could be.
     fn keep_old(&mut self, path: &str) -> bool;
-}
-
-/// No other configuration ever follows, and nothing outlasts the server.
-#[derive(Clone, Copy)]
-pub struct NoSource {
-    pub alloc: Global,
-}
-
-impl Source for NoSource {
-    fn following(&mut self, _old: &Config) -> Result<Following, Vec<u8>> {
-        Err(Vec::new(self.alloc))
-    }
-
-    fn words_of(&mut self, _fault: ServeFault) -> Vec<u8> {
-        Vec::new(self.alloc)
-    }
-
-    fn kept(&mut self, _path: &str) -> Result<Option<Vec<u8>>, &'static str> {
-        Ok(None)
-    }
-
-    fn keep(&mut self, _path: &str, _octets: Vec<u8>) -> Keeping {
-        Keeping::Spared
-    }
-
-    fn is_keeping(&mut self) -> bool {
-        false
-    }
-
-    fn keep_end(&mut self) -> Option<KeepEnd> {
-        None
-    }
-
-    fn put_aside(&mut self, _path: &str) -> bool {
-        true
-    }
-
-    fn keep_old(&mut self, _path: &str) -> bool {
-        true
-    }
 }
