@@ -27,7 +27,7 @@ fn print_summary<W: Write>(writer: &mut W, config: &Config) -> Result<(), Fault<
 {
     let realms = config.realms.len();
     let peers = config.peers.len();
-    let shards = config.shards;
+    let shards = config.top.shards;
     writeln!(writer, "ok realms {realms} peers {peers} shards {shards}").map_err(|_| Fault::Write)?;
     finish(writer)
 }

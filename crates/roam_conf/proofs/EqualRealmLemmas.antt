@@ -2,7 +2,6 @@
 use Rattle.std.proofs.Common.{◌≡◌, Bool, true, false, eqb, ◌&&◌, Decides, ap}
 use Rattle.std.proofs.Math.Bool.{beq}
 use Rattle.std.proofs.lemmas.Bool.Decides.{Decides-and, Decides-like, Decides-eqb}
-use Rattle.std.proofs.lemmas.Slice.Eq.{bytes_eq-Decides}
 use Rattle.std.specs.Cmp.{booleans_Decides}
 use Rattle.std.specs.Cmp.Lexicographic.{pointwise}
 use Rattle.std.specs.Option.{option_eq}
@@ -14,6 +13,7 @@ use Rattle.roam_conf.specs.Parts.{shown_server, shown_client, shown_names, shown
 use Rattle.roam_conf.specs.Patterns.{shown_pattern}
 use Rattle.roam_conf.specs.Shown.{shown}
 use Rattle.roam_conf.proofs.EqualLemmas.{server_eq, server_decides, client_eq, client_decides, peer_eq, peer_decides}
+use Rattle.roam_conf.proofs.EqualTopLemmas.{SameTop, top_eq, top_decides}
 use Rattle.roam_conf.proofs.EqualPartsLemmas.{list_decides, whole_list_decides, option_decides, whole_option_decides, text_decides, endpoint_eq, endpoint_decides, removed_eq, removed_decides, accounting_eq, accounting_decides, pattern_eq, pattern_decides, names_eq, names_decides}
 
 -- the tests as the derives write them
@@ -46,23 +46,13 @@ realm_eq a b =
 
 abbrev pub config_eq : Config → Config → Bool
 config_eq a b =
-    eqb a.shards b.shards &&
-    (pointwise eqb a.seed b.seed &&
+    top_eq a.top b.top &&
     (pointwise endpoint_eq a.auth.items b.auth.items &&
     (pointwise endpoint_eq a.acct.items b.acct.items &&
-    (eqb a.trace_limit b.trace_limit &&
-    (eqb a.trace_octets b.trace_octets &&
-    (option_eq eqb a.max_hops b.max_hops &&
-    (option_eq eqb a.max_attributes b.max_attributes &&
-    (beq a.status_server b.status_server &&
-    (beq a.spread b.spread &&
     (pointwise pattern_eq a.reject.items b.reject.items &&
-    (beq a.well_formed b.well_formed &&
-    (beq a.answer_unnamed b.answer_unnamed &&
-    (option_eq eqb a.fresh b.fresh &&
     (pointwise peer_eq a.peers.items b.peers.items &&
     (pointwise realm_eq a.realms.items b.realms.items &&
-    (true))))))))))))))))
+    (true))))))
 
 pub realm_decides : (a b : Realm) → Decides (realm_eq a b) (shown_realm a ≡ shown_realm b)
 realm_decides a b =
@@ -207,64 +197,48 @@ pub config_decides : (a b : Config) → Decides (config_eq a b) (shown a ≡ sho
 config_decides a b =
     let v = shown a in
     let w = shown b in
-    Decides-like {P = (v.shards ≡ w.shards) × ((v.seed ≡ w.seed) × ((v.auth ≡ w.auth) × ((v.acct ≡ w.acct)
-    × ((v.trace_limit ≡ w.trace_limit) × ((v.trace_octets ≡ w.trace_octets) × ((v.max_hops ≡ w.max_hops)
-    × ((v.max_attributes ≡ w.max_attributes) × ((v.status_server ≡ w.status_server) × ((v.spread ≡ w.spread)
-    × ((v.reject ≡ w.reject) × ((v.well_formed ≡ w.well_formed) × ((v.answer_unnamed ≡ w.answer_unnamed)
-    × ((v.fresh ≡ w.fresh) × ((v.peers ≡ w.peers) × ((v.realms ≡ w.realms))))))))))))))))} _
+    Decides-like {P = SameTop a.top b.top × ((v.auth ≡ w.auth) × ((v.acct ≡ w.acct) × ((v.reject ≡ w.reject)
+    × ((v.peers ≡ w.peers) × (v.realms ≡ w.realms)))))} _
     (λ p. λ i. record {
-      shards = p.0 i;
-      seed = p.1.0 i;
-      auth = p.1.1.0 i;
-      acct = p.1.1.1.0 i;
-      trace_limit = p.1.1.1.1.0 i;
-      trace_octets = p.1.1.1.1.1.0 i;
-      max_hops = p.1.1.1.1.1.1.0 i;
-      max_attributes = p.1.1.1.1.1.1.1.0 i;
-      status_server = p.1.1.1.1.1.1.1.1.0 i;
-      spread = p.1.1.1.1.1.1.1.1.1.0 i;
-      reject = p.1.1.1.1.1.1.1.1.1.1.0 i;
-      well_formed = p.1.1.1.1.1.1.1.1.1.1.1.0 i;
-      answer_unnamed = p.1.1.1.1.1.1.1.1.1.1.1.1.0 i;
-      fresh = p.1.1.1.1.1.1.1.1.1.1.1.1.1.0 i;
-      peers = p.1.1.1.1.1.1.1.1.1.1.1.1.1.1.0 i;
-      realms = p.1.1.1.1.1.1.1.1.1.1.1.1.1.1.1 i;
+      shards = p.0.0 i;
+      seed = p.0.1.0 i;
+      auth = p.1.0 i;
+      acct = p.1.1.0 i;
+      trace_limit = p.0.1.1.0 i;
+      trace_octets = p.0.1.1.1.0 i;
+      max_hops = p.0.1.1.1.1.0 i;
+      max_attributes = p.0.1.1.1.1.1.0 i;
+      status_server = p.0.1.1.1.1.1.1.0 i;
+      spread = p.0.1.1.1.1.1.1.1.0 i;
+      reject = p.1.1.1.0 i;
+      well_formed = p.0.1.1.1.1.1.1.1.1.0 i;
+      answer_unnamed = p.0.1.1.1.1.1.1.1.1.1.0 i;
+      fresh = p.0.1.1.1.1.1.1.1.1.1.1 i;
+      peers = p.1.1.1.1.0 i;
+      realms = p.1.1.1.1.1 i;
     })
     (λ e. (
-      ap (λ (x : ConfigView). x.shards) e,
       (
-        ap (λ (x : ConfigView). x.seed) e,
+        ap (λ (x : ConfigView). x.shards) e,
         (
-          ap (λ (x : ConfigView). x.auth) e,
+          ap (λ (x : ConfigView). x.seed) e,
           (
-            ap (λ (x : ConfigView). x.acct) e,
+            ap (λ (x : ConfigView). x.trace_limit) e,
             (
-              ap (λ (x : ConfigView). x.trace_limit) e,
+              ap (λ (x : ConfigView). x.trace_octets) e,
               (
-                ap (λ (x : ConfigView). x.trace_octets) e,
+                ap (λ (x : ConfigView). x.max_hops) e,
                 (
-                  ap (λ (x : ConfigView). x.max_hops) e,
+                  ap (λ (x : ConfigView). x.max_attributes) e,
                   (
-                    ap (λ (x : ConfigView). x.max_attributes) e,
+                    ap (λ (x : ConfigView). x.status_server) e,
                     (
-                      ap (λ (x : ConfigView). x.status_server) e,
+                      ap (λ (x : ConfigView). x.spread) e,
                       (
-                        ap (λ (x : ConfigView). x.spread) e,
+                        ap (λ (x : ConfigView). x.well_formed) e,
                         (
-                          ap (λ (x : ConfigView). x.reject) e,
-                          (
-                            ap (λ (x : ConfigView). x.well_formed) e,
-                            (
-                              ap (λ (x : ConfigView). x.answer_unnamed) e,
-                              (
-                                ap (λ (x : ConfigView). x.fresh) e,
-                                (
-                                  ap (λ (x : ConfigView). x.peers) e,
-                                  ap (λ (x : ConfigView). x.realms) e,
-                                ),
-                              ),
-                            ),
-                          ),
+                          ap (λ (x : ConfigView). x.answer_unnamed) e,
+                          ap (λ (x : ConfigView). x.fresh) e,
                         ),
                       ),
                     ),
@@ -275,20 +249,20 @@ config_decides a b =
           ),
         ),
       ),
+      (
+        ap (λ (x : ConfigView). x.auth) e,
+        (
+          ap (λ (x : ConfigView). x.acct) e,
+          (
+            ap (λ (x : ConfigView). x.reject) e,
+            (ap (λ (x : ConfigView). x.peers) e, ap (λ (x : ConfigView). x.realms) e),
+          ),
+        ),
+      ),
     ))
-    (Decides-and _ _ (Decides-eqb a.shards b.shards)
-    (Decides-and _ _ (bytes_eq-Decides a.seed b.seed)
+    (Decides-and _ _ (top_decides a.top b.top)
     (Decides-and _ _ (whole_list_decides endpoint_eq endpoint_decides a.auth.items b.auth.items)
     (Decides-and _ _ (whole_list_decides endpoint_eq endpoint_decides a.acct.items b.acct.items)
-    (Decides-and _ _ (Decides-eqb a.trace_limit b.trace_limit)
-    (Decides-and _ _ (Decides-eqb a.trace_octets b.trace_octets)
-    (Decides-and _ _ (whole_option_decides eqb Decides-eqb a.max_hops b.max_hops)
-    (Decides-and _ _ (whole_option_decides eqb Decides-eqb a.max_attributes b.max_attributes)
-    (Decides-and _ _ (booleans_Decides a.status_server b.status_server)
-    (Decides-and _ _ (booleans_Decides a.spread b.spread)
     (Decides-and _ _ (list_decides pattern_eq shown_pattern pattern_decides a.reject.items b.reject.items)
-    (Decides-and _ _ (booleans_Decides a.well_formed b.well_formed)
-    (Decides-and _ _ (booleans_Decides a.answer_unnamed b.answer_unnamed)
-    (Decides-and _ _ (whole_option_decides eqb Decides-eqb a.fresh b.fresh)
     (Decides-and _ _ (list_decides peer_eq shown_peer peer_decides a.peers.items b.peers.items)
-    (still_decides _ (list_decides realm_eq shown_realm realm_decides a.realms.items b.realms.items)))))))))))))))))
+    (still_decides _ (list_decides realm_eq shown_realm realm_decides a.realms.items b.realms.items)))))))

@@ -1,6 +1,7 @@
 pub mod EqualLemmas
 pub mod EqualPartsLemmas
 pub mod EqualRealmLemmas
+pub mod EqualTopLemmas
 pub mod IndexLemmas
 pub mod LinkLemmas
 pub mod LookupLaws

@@ -8,20 +8,20 @@ use Rattle.roam_conf.specs.Patterns.{shown_pattern}
 
 abbrev pub shown : Config → ConfigView
 shown config = record {
-  shards = config.shards;
-  seed = config.seed;
+  shards = config.top.shards;
+  seed = config.top.seed;
   auth = config.auth.items;
   acct = config.acct.items;
-  trace_limit = config.trace_limit;
-  trace_octets = config.trace_octets;
-  max_hops = config.max_hops;
-  max_attributes = config.max_attributes;
-  status_server = config.status_server;
-  spread = config.spread;
+  trace_limit = config.top.trace_limit;
+  trace_octets = config.top.trace_octets;
+  max_hops = config.top.max_hops;
+  max_attributes = config.top.max_attributes;
+  status_server = config.top.status_server;
+  spread = config.top.spread;
   reject = map shown_pattern config.reject.items;
-  well_formed = config.well_formed;
-  answer_unnamed = config.answer_unnamed;
-  fresh = config.fresh;
+  well_formed = config.top.well_formed;
+  answer_unnamed = config.top.answer_unnamed;
+  fresh = config.top.fresh;
   peers = map shown_peer config.peers.items;
   realms = map shown_realm config.realms.items;
 }
@@ -29,20 +29,20 @@ shown config = record {
 -- the same of the parts that a configuration is made of, in which something may still stand twice
 abbrev pub shown_parts : ConfigParts → ConfigView
 shown_parts parts = record {
-  shards = parts.shards;
-  seed = parts.seed;
+  shards = parts.top.shards;
+  seed = parts.top.seed;
   auth = parts.auth.items;
   acct = parts.acct.items;
-  trace_limit = parts.trace_limit;
-  trace_octets = parts.trace_octets;
-  max_hops = parts.max_hops;
-  max_attributes = parts.max_attributes;
-  status_server = parts.status_server;
-  spread = parts.spread;
+  trace_limit = parts.top.trace_limit;
+  trace_octets = parts.top.trace_octets;
+  max_hops = parts.top.max_hops;
+  max_attributes = parts.top.max_attributes;
+  status_server = parts.top.status_server;
+  spread = parts.top.spread;
   reject = map shown_pattern parts.reject.items;
-  well_formed = parts.well_formed;
-  answer_unnamed = parts.answer_unnamed;
-  fresh = parts.fresh;
+  well_formed = parts.top.well_formed;
+  answer_unnamed = parts.top.answer_unnamed;
+  fresh = parts.top.fresh;
   peers = map shown_peer parts.peers.items;
   realms = map shown_realm parts.realms.items;
 }

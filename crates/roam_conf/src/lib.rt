@@ -48,6 +48,7 @@ mod shared_secret;
 mod target_index;
 mod target_lists;
 mod targets;
+mod top_keys;
 mod ways;
 mod well_formed;
 
@@ -74,4 +75,5 @@ pub use removed::removed_attribute;
 pub use roam_address::{Address, Endpoint, Prefix, decimal};
 pub use server::Server;
 pub use shared_secret::SharedSecret;
+pub use top_keys::TopKeys;
 pub use ways::{has_no_way_out, is_same_kind};

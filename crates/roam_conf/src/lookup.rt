@@ -185,7 +185,7 @@ impl Config {
     fn may_fit(&self, name: &[u8]) -> bool
         ensures { result ≡ may_fit (shown self.now) name.now }
     {
-        !self.well_formed || is_well_formed(name)
+        !self.top.well_formed || is_well_formed(name)
     }
 
     /// Returns whose the nearest pattern is that decides of a name.
@@ -274,9 +274,9 @@ impl Config {
 
     /// The shard that holds a realm: its index modulo the number of shards.
     pub fn shard_of(&self, realm: u16) -> u16
-        ensures value { result ≡ realm % self.now.shards }
-        ensures bound { result < self.now.shards }
+        ensures value { result ≡ realm % self.now.top.shards }
+        ensures bound { result < self.now.top.shards }
     {
-        realm % self.shards
+        realm % self.top.shards
     }
 }

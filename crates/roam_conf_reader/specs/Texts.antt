@@ -116,20 +116,20 @@ StatesBesideLists members text =
 abbrev pub config_in :
     TopText → List Endpoint → List Endpoint → List PatternView → List PeerView → List RealmView → ConfigView
 config_in text auth acct reject peers realms = record {
-  shards = text.shards;
-  seed = text.seed;
+  shards = text.top.shards;
+  seed = text.top.seed;
   auth = auth;
   acct = acct;
-  trace_limit = text.trace_limit;
-  trace_octets = text.trace_octets;
-  max_hops = text.max_hops;
-  max_attributes = text.max_attributes;
-  status_server = text.status_server;
-  spread = text.spread;
+  trace_limit = text.top.trace_limit;
+  trace_octets = text.top.trace_octets;
+  max_hops = text.top.max_hops;
+  max_attributes = text.top.max_attributes;
+  status_server = text.top.status_server;
+  spread = text.top.spread;
   reject = reject;
-  well_formed = text.well_formed;
-  answer_unnamed = text.answer_unnamed;
-  fresh = text.fresh;
+  well_formed = text.top.well_formed;
+  answer_unnamed = text.top.answer_unnamed;
+  fresh = text.top.fresh;
   peers = peers;
   realms = realms;
 }

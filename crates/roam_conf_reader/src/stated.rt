@@ -11,25 +11,16 @@ ghost use Rattle.roam_conf_reader.specs.Values.{array_of, value_at};
 
 use crate::tables::{TOP_KEYS, TOP_OPTIONAL_KEYS, has_only};
 use crate::{ConfFault, endpoints, keys, pattern, peer, realm};
-use roam_conf::ConfigParts;
+use roam_conf::{ConfigParts, TopKeys};
 use std::alloc::Global;
 use toml::Table;
 use toml::value::Array;
 
-/// What a document states. The names to reject, and the tables of its peers and realms, still stand in it.
+/// What a document states. Its endpoints, the names to reject, and the tables of its peers and realms still stand in
+/// it.
 #[derive(Clone, Copy)]
 struct TopText<'a> {
-    shards: u16,
-    seed: [u8; 32],
-    trace_limit: u32,
-    trace_octets: u32,
-    max_hops: Option<u8>,
-    max_attributes: Option<u16>,
-    status_server: bool,
-    spread: bool,
-    well_formed: bool,
-    answer_unnamed: bool,
-    fresh: Option<u16>,
+    top: TopKeys,
     peers: &'a Array,
     realms: &'a Array,
 }
@@ -46,14 +37,10 @@ fn top_text(table: &Table) -> Option<TopText<'_>>
     if !has_only(table, &TOP_KEYS, &TOP_OPTIONAL_KEYS) {
         return None;
     }
-    let (Some(_), Some(_), Some(_)) = (
+    let (Some(_), Some(_), Some(_), Some(_), Some(_), Some(_)) = (
         keys::optional_endpoint(table, "metrics"),
         keys::optional_socket_path(table, "control"),
         keys::exchange_lines(table, "log_exchanges"),
-    ) else {
-        return None;
-    };
-    let (Some(_), Some(_), Some(_)) = (
         keys::station_word(table, "log_station"),
         keys::optional_file_path(table, "state"),
         keys::number_or(table, "state_every", 60, 1, 86400),
@@ -69,17 +56,19 @@ fn top_text(table: &Table) -> Option<TopText<'_>>
         return None;
     };
     Some(TopText {
-        shards: keys::number_or(table, "shards", 1, 1, 64)? as u16,
-        seed: keys::seed_or_zeros(table, "seed")?,
-        trace_limit: keys::number_or(table, "trace_limit", 100000, 1, 1000000)?,
-        trace_octets: keys::number_or(table, "trace_octets", 67108864, 1, 1073741824)?,
-        max_hops: keys::optional_octet(table, "max_hops", 100)?,
-        max_attributes: keys::optional_count(table, "max_attributes", 1, 2000)?,
-        status_server,
-        spread,
-        well_formed,
-        answer_unnamed,
-        fresh: keys::optional_count(table, "fresh", 10, 3600)?,
+        top: TopKeys {
+            shards: keys::number_or(table, "shards", 1, 1, 64)? as u16,
+            seed: keys::seed_or_zeros(table, "seed")?,
+            trace_limit: keys::number_or(table, "trace_limit", 100000, 1, 1000000)?,
+            trace_octets: keys::number_or(table, "trace_octets", 67108864, 1, 1073741824)?,
+            max_hops: keys::optional_octet(table, "max_hops", 100)?,
+            max_attributes: keys::optional_count(table, "max_attributes", 1, 2000)?,
+            status_server,
+            spread,
+            well_formed,
+            answer_unnamed,
+            fresh: keys::optional_count(table, "fresh", 10, 3600)?,
+        },
         peers: keys::array(table, "peer", 1024)?,
         realms: keys::array(table, "realm", 1024)?,
     })
@@ -96,20 +85,10 @@ pub(crate) fn parts_from(alloc: Global, table: &Table) -> Result<ConfigParts, Co
         return Err(ConfFault::BadValue);
     };
     Ok(ConfigParts {
-        shards: text.shards,
-        seed: text.seed,
+        top: text.top,
         auth: endpoints::at(alloc, table, "auth", 8)?,
         acct: endpoints::at(alloc, table, "acct", 8)?,
-        trace_limit: text.trace_limit,
-        trace_octets: text.trace_octets,
-        max_hops: text.max_hops,
-        max_attributes: text.max_attributes,
-        status_server: text.status_server,
-        spread: text.spread,
         reject: pattern::rejects_from(alloc, table)?,
-        well_formed: text.well_formed,
-        answer_unnamed: text.answer_unnamed,
-        fresh: text.fresh,
         peers: peer::all_from(alloc, text.peers)?,
         realms: realm::all_from(alloc, text.realms)?,
     })

@@ -235,7 +235,7 @@ impl<'c, A: Allocator + Copy> Broker<'c, A> {
         ensures whole { length self.old.states ≡ length self.old.config.realms }
         ensures shards { 1 ≤ self.old.config.shards }
     {
-        if shard >= self.config.shards {
+        if shard >= self.config.top.shards {
             return Ok(refused(self.alloc, Refusal::NoShard));
         }
         if now > LATEST {

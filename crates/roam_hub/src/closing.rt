@@ -71,7 +71,7 @@ pub(crate) fn starts_of<'c, A: Allocator + Copy, N: Opened>(
     mut starts: Vec<Start, A>,
 ) -> Vec<Start, A>
     requires config { shown config.now ≡ N.opening.config }
-    requires closed { AreClosed N.opening config.now.shards closed.now.shards.items
+    requires closed { AreClosed N.opening config.now.top.shards closed.now.shards.items
         (all_steps closed.now.fronts.items) }
     requires room { HasRoom (vec_len config.now.realms) starts }
     ensures starts { result.items ≡ starts_at_end N.opening (all_steps closed.now.fronts.items) }

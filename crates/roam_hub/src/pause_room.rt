@@ -34,7 +34,7 @@ impl<'c, A: Allocator + Copy, N: Opened> PauseRoom<'c, A, N> {
     pub fn new(alloc: A, config: &'c Config) -> Result<PauseRoom<'c, A, N>, NoMemory>
         requires { shown config.now ≡ N.opening.config }
     {
-        let count = usize::from(config.shards);
+        let count = usize::from(config.top.shards);
         Ok(PauseRoom {
             shards: Vec::with_capacity(alloc, count)?,
             steps: Vec::with_capacity(alloc, count)?,

@@ -106,16 +106,16 @@ fn state_seed(text: &mut StatedText, seed: &[u8; 32]) {
 
 /// States what isn't in a table, but for how it is served.
 fn state_top(text: &mut StatedText, config: &Config) {
-    text.put_value("shards", config.shards);
-    state_seed(text, &config.seed);
+    text.put_value("shards", config.top.shards);
+    state_seed(text, &config.top.seed);
     state_endpoints(text, "auth", config.auth.as_slice());
     state_endpoints(text, "acct", config.acct.as_slice());
-    text.put_value("trace_limit", config.trace_limit);
-    text.put_value("trace_octets", config.trace_octets);
-    state_number(text, "max_hops", config.max_hops);
-    state_number(text, "max_attributes", config.max_attributes);
-    text.put_value("status_server", config.status_server);
-    text.put_value("spread", config.spread);
+    text.put_value("trace_limit", config.top.trace_limit);
+    text.put_value("trace_octets", config.top.trace_octets);
+    state_number(text, "max_hops", config.top.max_hops);
+    state_number(text, "max_attributes", config.top.max_attributes);
+    text.put_value("status_server", config.top.status_server);
+    text.put_value("spread", config.top.spread);
 }
 
 /// States of which exchanges a line tells, and how lines have a station.
@@ -240,9 +240,9 @@ fn state(text: &mut StatedText, config: &Config, settings: &Settings) {
     state_top(text, config);
     state_settings(text, settings);
     state_items(text, "reject", config.reject.as_slice());
-    text.put_value("well_formed", config.well_formed);
-    text.put_value("answer_unnamed", config.answer_unnamed);
-    state_number(text, "fresh", config.fresh);
+    text.put_value("well_formed", config.top.well_formed);
+    text.put_value("answer_unnamed", config.top.answer_unnamed);
+    state_number(text, "fresh", config.top.fresh);
     for peer in &config.peers {
         state_peer(text, peer);
     }

@@ -66,7 +66,7 @@ impl<'c> RealmSettings<'c> {
     pub fn seed(&self) -> [u8; 32]
         ensures { result ≡ self.now.seed }
     {
-        self.config.seed
+        self.config.top.seed
     }
 
     /// Returns how often a packet is sent to one server.

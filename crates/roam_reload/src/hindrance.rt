@@ -142,10 +142,10 @@ pub fn hindrance_of(old: &Config, new: &Config) -> Option<Hindrance>
     ensures none { IfNone result (MayFollow (shown old.now) (shown new.now)) }
     ensures some { IfSome result (Hinders (shown old.now) (shown new.now)) }
 {
-    if new.seed != old.seed {
+    if new.top.seed != old.top.seed {
         return Some(Hindrance::Seed);
     }
-    if new.shards != old.shards {
+    if new.top.shards != old.top.shards {
         return Some(Hindrance::Shards);
     }
     if !keeps_numbers(old, new) {

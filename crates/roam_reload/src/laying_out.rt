@@ -52,41 +52,23 @@ pub fn lay_out(alloc: Global, old: &Config, new: Config) -> Result<ConfigParts, 
     ensures err { result ≡ Err LayFault.Numbers → TooMany (laid_out (shown old.now) (shown new)) }
 {
     let ConfigParts {
-        shards,
-        seed: _,
+        mut top,
         auth,
         acct,
-        trace_limit,
-        trace_octets,
-        max_hops,
-        max_attributes,
-        status_server,
-        spread,
         reject,
-        well_formed,
-        answer_unnamed,
-        fresh,
         peers,
         realms,
     } = new.into_parts();
+    let seed = old.top.seed;
+    top.seed = seed;
     let peers = laid_peers(alloc, old.peers.as_slice(), peers)?;
     let realms = laid_realms(alloc, old.realms.as_slice(), realms)?;
     have_numbers(peers.len(), realms.len())?;
     Ok(ConfigParts {
-        shards,
-        seed: old.seed,
+        top,
         auth,
         acct,
-        trace_limit,
-        trace_octets,
-        max_hops,
-        max_attributes,
-        status_server,
-        spread,
         reject,
-        well_formed,
-        answer_unnamed,
-        fresh,
         peers,
         realms,
     })

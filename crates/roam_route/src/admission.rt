@@ -38,7 +38,7 @@ fn request<A: Allocator + Copy>(
         (shown_arrival packet.now.datagram.now) packet.now.side packet.now.view) }
 {
     let view = &packet.view;
-    if !has_few_attributes(view, config.max_attributes) {
+    if !has_few_attributes(view, config.top.max_attributes) {
         return Err(Refusal::TooManyAttributes);
     }
     if !is_rightly_signed(view, secret) {
@@ -50,7 +50,7 @@ fn request<A: Allocator + Copy>(
     if !has_needed_seal(view, seal_required(config, packet.side, view)) {
         return Err(Refusal::MissingMessageAuthenticator);
     }
-    if !has_few_hops(view, config.max_hops) {
+    if !has_few_hops(view, config.top.max_hops) {
         return Err(Refusal::TooManyHops);
     }
     route_request(config, packet, secret)
@@ -127,7 +127,7 @@ fn status_from<A: Allocator + Copy>(
     match packet.side {
         Side::Peer(peer) => {
             let secret = secret_of_peer(config, peer);
-            status(packet, config.max_attributes, secret)
+            status(packet, config.top.max_attributes, secret)
         }
         Side::Link(_) | Side::Home(_) => Err(Refusal::WrongCode),
     }

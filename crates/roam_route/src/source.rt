@@ -157,7 +157,7 @@ pub(crate) fn is_status_request(config: &Config, at: Place, side: Side, code: u8
 {
     match (at, side) {
         (Place::Auth(_) | Place::Acct(_), Side::Peer(_)) => {
-            config.status_server && code == STATUS_SERVER
+            config.top.status_server && code == STATUS_SERVER
         }
         _ => false,
     }

@@ -17,11 +17,16 @@ pub fn take_again<R: Net, S>(
     configured: &Configured,
     outboxes: &mut Vec<Outbox<Global>>,
 ) -> Result<FreshMeans, ServeFault>
-    ensures blanks { IfOk result (λ again. count_of again.blanks ≡ configured.now.config.shards) }
+    ensures blanks { IfOk result (λ again. count_of again.blanks ≡ configured.now.config.top.shards) }
     ensures err { IfErr result IsAfterBinding }
 {
     let config = &configured.config;
-    fill_outboxes(parts.alloc, config.shards, socket_numbers(config), outboxes)?;
+    fill_outboxes(
+        parts.alloc,
+        config.top.shards,
+        socket_numbers(config),
+        outboxes,
+    )?;
     let wanted = descriptors_wanted(config, config);
     FreshMeans::new(parts.rt, parts.alloc, configured, wanted)
 }

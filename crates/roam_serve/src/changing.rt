@@ -127,8 +127,8 @@ pub fn change<R: Log, S>(
     ensures paused { ArePaused (shown configured.new.config) shards.new.items }
     ensures goes_on { GoOn (shown configured.old.config) shards.old.items
         (shown configured.new.config) shards.new.items }
-    ensures count { configured.new.config.shards ≡ configured.old.config.shards }
-    ensures blanks { count_of result.blanks ≡ configured.new.config.shards }
+    ensures count { configured.new.config.top.shards ≡ configured.old.config.top.shards }
+    ensures blanks { count_of result.blanks ≡ configured.new.config.top.shards }
 {
     let Next {
         configured: mut after,

@@ -88,7 +88,7 @@ fn carried<A: Allocator + Copy>(
 ) -> RealmNumbers<A>
     requires carried { GoesOn (shown change.from.now) (shown change.to.now) change.shard realm }
     requires changed { AreChanged (shown change.from.now).peers (shown change.to.now).peers changed.now }
-    requires seed { change.to.now.seed ≡ change.from.now.seed }
+    requires seed { change.to.now.top.seed ≡ change.from.now.top.seed }
     requires sound { IsSound (realm_config (shown change.from.now) realm) (entries_in entries.old realm) numbers }
     requires ready { IsReadyToCarry (realm_config (shown change.from.now) realm)
         (realm_config (shown change.to.now) realm) numbers lanes }
@@ -116,7 +116,7 @@ fn go_over<A: Allocator + Copy>(
 ) -> Option<RealmNumbers<A>>
     requires configured { realm < vec_len change.to.now.realms }
     requires changed { AreChanged (shown change.from.now).peers (shown change.to.now).peers changed.now }
-    requires seed { change.to.now.seed ≡ change.from.now.seed }
+    requires seed { change.to.now.top.seed ≡ change.from.now.top.seed }
     requires within { GoesOn (shown change.from.now) (shown change.to.now) change.shard realm
         → realm < length before.old.items }
     requires can { GoesOn (shown change.from.now) (shown change.to.now) change.shard realm
@@ -158,7 +158,7 @@ fn all_over<A: Allocator + Copy>(
     requires room { vec_len change.to.now.realms ≤ vec_capacity fresh.numbers }
     requires none_yet { fresh.numbers.items ≡ [] }
     requires changed { AreChanged (shown change.from.now).peers (shown change.to.now).peers fresh.changed.items }
-    requires seed { change.to.now.seed ≡ change.from.now.seed }
+    requires seed { change.to.now.top.seed ≡ change.from.now.top.seed }
     requires within { (r : ℕ) → GoesOn (shown change.from.now) (shown change.to.now) change.shard r
         → r < length before.old.items }
     requires can { AllCanGoOver (shown change.from.now) (shown change.to.now) change.shard (entries_in entries.old)
@@ -192,7 +192,7 @@ impl<A: Allocator + Copy> Paused<A> {
         requires configured { realm < vec_len new.now.realms }
         requires goes_on { GoesOn (shown old.now) (shown new.now) self.old.shard realm }
         requires stands { StandsUnder (shown old.now) self.old }
-        requires shards { new.now.shards ≡ old.now.shards }
+        requires shards { new.now.top.shards ≡ old.now.top.shards }
         ensures still { StandsStill (shown old.now) self.old self.new }
         ensures others { KeepsOthers realm self.old self.new }
         ensures ready { IfOk result (AreLanesReady (shown old.now) (shown new.now) realm self.new.numbers.items) }
@@ -215,7 +215,7 @@ impl<A: Allocator + Copy> Paused<A> {
     ) -> Result<FreshRealm<A>, NoMemory>
         requires configured { realm < vec_len new.now.realms }
         requires stands { StandsUnder (shown old.now) self.old }
-        requires shards { new.now.shards ≡ old.now.shards }
+        requires shards { new.now.top.shards ≡ old.now.top.shards }
         ensures still { StandsStill (shown old.now) self.old self.new }
         ensures others { KeepsOthers realm self.old self.new }
         ensures ready { IfOk result (IsReadyAt (shown old.now) (shown new.now) self.new.shard realm
@@ -245,7 +245,7 @@ impl<A: Allocator + Copy> Paused<A> {
     /// refused. The shard stands as it did, refused or not.
     pub fn reserve(&mut self, old: &Config, new: &Config) -> Result<FreshNumbers<A>, NoMemory>
         requires stands { StandsUnder (shown old.now) self.old }
-        requires shards { new.now.shards ≡ old.now.shards }
+        requires shards { new.now.top.shards ≡ old.now.top.shards }
         ensures still { StandsStill (shown old.now) self.old self.new }
         ensures ready { IfOk result (IsReady (shown old.now) (shown new.now) self.new) }
     {
@@ -269,8 +269,8 @@ impl<A: Allocator + Copy> Paused<A> {
     pub fn follow(&mut self, old: &Config, new: &Config, fresh: FreshNumbers<A>)
         requires stands { StandsUnder (shown old.now) self.old }
         requires ready { IsReady (shown old.now) (shown new.now) self.old fresh }
-        requires shards { new.now.shards ≡ old.now.shards }
-        requires seed { new.now.seed ≡ old.now.seed }
+        requires shards { new.now.top.shards ≡ old.now.top.shards }
+        requires seed { new.now.top.seed ≡ old.now.top.seed }
         ensures stands { StandsUnder (shown new.now) self.new }
         ensures follow { AllFollow (shown old.now) (shown new.now) self.old.shard
             (states_under (shown old.now) self.old) (states_under (shown new.now) self.new) }

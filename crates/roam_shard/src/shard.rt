@@ -75,7 +75,7 @@ impl<'c, A: Allocator + Copy> Shard<'c, A> {
         shard: u16,
         starts: &[Start],
     ) -> Result<Shard<'c, A>, NoMemory>
-        requires shard { shard < config.now.shards }
+        requires shard { shard < config.now.top.shards }
         requires starts { AreStarts (shown config.now) starts.now }
         ensures opening { IfOk result (λ s. s.opening
             ≡ record { shard = shard; config = shown config.now; starts = starts.now }) }

@@ -19,7 +19,7 @@ fn descriptors_of(config: &Config) -> u32
     ensures value { result ≡ spec.descriptors_of (shown config.now) }
     ensures bound { result ≤ 2 ^ 20 }
 {
-    let workers = u32::from(config.shards);
+    let workers = u32::from(config.top.shards);
     let more = shared_places(config) * (sockets_of_several(config) as u32 - 1);
     socket_count(config) as u32 + more + 3 * (workers + 1)
 }

@@ -195,7 +195,7 @@ fn write_reloads(
 fn write_head(out: &mut String, config: &Config, about: &About) -> Result<(), AllocError> {
     let version = about.version;
     let seconds = about.uptime / 1000;
-    let shards = config.shards;
+    let shards = config.top.shards;
     write!(out, "{{\"version\":\"{version}\",\"seconds\":{seconds}")?;
     write_second(out, "began", about.began)?;
     out.push_str(",\"reloads\":{")?;

@@ -265,7 +265,7 @@ fn write_head(
     }
     let realms = config.realms.iter().filter(|realm| !realm.gone).count();
     let peers = config.peers.iter().filter(|peer| !peer.gone).count();
-    let shards = config.shards;
+    let shards = config.top.shards;
     let line = format_args!("\nrealms {realms} peers {peers} shards {shards}; reloads: ");
     write_text(alloc, out, line)?;
     write_reloads(alloc, out, about, about.served, "served")?;

@@ -196,5 +196,5 @@ pub fn notices_in(notice: Notice) -> u64
 pub fn serving(config: &Config) -> Notice {
     let realms = config.realms.iter().filter(|realm| !realm.gone).count();
     let peers = config.peers.iter().filter(|peer| !peer.gone).count();
-    Notice::Serving(realms, peers, config.shards)
+    Notice::Serving(realms, peers, config.top.shards)
 }

@@ -100,7 +100,7 @@ impl<'s, 'c, H, N: Opened> Builder<'s, 'c, H, N> {
                     queues: Vec::new(alloc),
                     stations: shared.stations,
                     counts: match shared.counters {
-                        Some(counters) => counters.of_thread(usize::from(shared.config.shards)),
+                        Some(counters) => counters.of_thread(usize::from(shared.config.top.shards)),
                         None => None,
                     },
                     dropped: 0,
@@ -116,7 +116,7 @@ impl<'s, 'c, H, N: Opened> Builder<'s, 'c, H, N> {
     {
         let shared = self.shared;
         let numbers = socket_numbers(shared.config);
-        let workers = usize::from(shared.config.shards);
+        let workers = usize::from(shared.config.top.shards);
         let ports = ports(shared.alloc, self.sockets, numbers, number, workers)?;
         let counting = counting_of(shared, number)?;
         let counts = counting.counts;
@@ -163,7 +163,7 @@ impl<'s, 'c, H, N: Opened> Builder<'s, 'c, H, N> {
         let receivers = receivers(alloc, self.sockets, number)?;
         let events = Events::with_capacity(alloc, receivers.len().saturating_add(2))?;
         let ready = Vec::with_capacity(alloc, receivers.len())?;
-        let shards = usize::from(self.shared.config.shards);
+        let shards = usize::from(self.shared.config.top.shards);
         let mail = Mail::new(alloc, number, shards, IN_A_ROUND as usize)?;
         let Equipped {
             context,
@@ -198,7 +198,7 @@ impl<'s, 'c, H, N: Opened> Builder<'s, 'c, H, N> {
         ensures { IfErr result IsAfterBinding }
     {
         let shared = self.shared;
-        let number = usize::from(shared.config.shards);
+        let number = usize::from(shared.config.top.shards);
         let events = Events::with_capacity(shared.alloc, 2)?;
         let Equipped {
             context,

@@ -7,7 +7,7 @@ use Rattle.roam_conf.specs.Patterns.{shown_pattern}
 use Rattle.roam_conf_reader.specs.Document.{StatesPeer, StatesRealm}
 use Rattle.roam_conf_reader.proofs.EndpointLemmas.{endpoints_at}
 use Rattle.roam_conf_reader.proofs.ListLemmas.{are_rejects}
-use Rattle.roam_conf_reader.proofs.RangeLemmas.{number_or_at, optional_number_at, each_range}
+use Rattle.roam_conf_reader.proofs.RangeLemmas.{each_range}
 use Rattle.roam_conf_reader.proofs.stated.parts_from.Goals as goal
 
 -- What is stated is in its range.
@@ -32,17 +32,9 @@ invariant_of-result c =
     let of_realms = each_range StatesRealm shown_realm 1024 (codes "realm") members
     (array_view c.in-Some.text.realms.now) realms.items c.in-Some.ensures.2 c.in_ok-all_from-2.ensures.ok in
     record {
-      shards_range = number_or_at 1 1 64 (codes "shards") members _ (omega arith) (omega arith) stated.shards;
       auth_count = (omega (arith, auths.size, auth.ok), omega (arith, auths.size, auth.ok));
       acct_count = (omega (arith, accts.size, acct.ok), omega (arith, accts.size, acct.ok));
       ports = (auths.ports, accts.ports);
-      trace_limit_range = number_or_at 100000 1 1000000 (codes "trace_limit") members _ (omega arith) (omega arith)
-          stated.trace_limit;
-      trace_octets_range = number_or_at 67108864 1 1073741824 (codes "trace_octets") members _ (omega arith)
-          (omega arith) stated.trace_octets;
-      max_hops_range = optional_number_at 1 100 (codes "max_hops") members _ stated.max_hops;
-      max_attributes_range = optional_number_at 1 2000 (codes "max_attributes") members _ stated.max_attributes;
-      fresh_range = optional_number_at 10 3600 (codes "fresh") members _ stated.fresh;
       reject_count = omega (arith, rejects.count, reject.ok, length-map reject.items shown_pattern);
       reject_names = rejects.all;
       peer_count = (omega (arith, of_peers, peers.ok), omega (arith, of_peers, peers.ok));

@@ -1,11 +1,26 @@
 -- A document of which a value is bad states no configuration.
-use Rattle.std.proofs.Common.{codes, ◌∙◌}
+use Rattle.std.proofs.Common.{codes, ◌∙◌, sym}
 use Rattle.std.proofs.lemmas.Option.{none-some}
 use Rattle.toml.specs.View.{table_view}
 use Rattle.roam_conf_reader.specs.Document.{StatesPeer, StatesRealm}
 use Rattle.roam_conf_reader.specs.Values.{array_of, value_at}
 use Rattle.roam_conf_reader.proofs.EachLemmas.{no_tables}
+use Rattle.roam_conf_reader.proofs.RangeLemmas.{optional_number_at}
 use Rattle.roam_conf_reader.proofs.stated.top_text.Goals as goal
+
+-- each is in its range
+pub invariant_of-top : goal.invariant_of-top
+invariant_of-top c =
+    let members = table_view c.args.table.now in
+    record {
+      shards_range = c.in_ok-number_or.ensures.bounds;
+      trace_limit_range = c.in_ok-number_or-2.ensures.bounds;
+      trace_octets_range = c.in_ok-number_or-3.ensures.bounds;
+      max_hops_range = optional_number_at 1 100 (codes "max_hops") members _ (sym c.in_ok-optional_octet.ensures);
+      max_attributes_range = optional_number_at 1 2000 (codes "max_attributes") members _
+          (sym c.in_ok-optional_count.ensures);
+      fresh_range = optional_number_at 10 3600 (codes "fresh") members _ (sym c.in_ok-optional_count-2.ensures);
+    }
 
 pub returns-in_err-number_or : goal.returns-in_err-number_or
 returns-in_err-number_or c =

@@ -74,7 +74,7 @@ loop-realm-preserved g c =
     let shards = ap (λ (x : ConfigView). c.loop-realm.realm % x.shards) c.requires.config in
     let is : k ≡ c.loop-realm.realm % g.N.Opened.opening.config.shards = c.from.ensures
     ∙ c.shard_of-shard.ensures.value ∙ shards in
-    let start = start_closed g.N.Opened.opening c.args.config.now.shards c.args.closed.now.shards.items all k
+    let start = start_closed g.N.Opened.opening c.args.config.now.top.shards c.args.closed.now.shards.items all k
     c.loop-realm.realm c.index.result.now c.start.result
     c.requires.closed at (omega (arith, lt, c.requires.closed.shard_count)) is c.start.ensures.place
     c.start.ensures.ticket in

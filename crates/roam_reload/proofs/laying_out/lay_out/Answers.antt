@@ -16,8 +16,8 @@ laid_peers-requires-clause-old c =
 
 pub laid_peers-requires-clause-new : goal.laid_peers-requires-clause-new
 laid_peers-requires-clause-new c =
-    let same : map shown_peer c.into_parts-shards.result.peers.items ≡ map shown_peer c.args.new.peers.items =
-    ap (λ (v : ConfigView). v.peers) c.into_parts-shards.ensures in
+    let same : map shown_peer c.into_parts-auth.result.peers.items ≡ map shown_peer c.args.new.peers.items =
+    ap (λ (v : ConfigView). v.peers) c.into_parts-auth.ensures in
     rw same (peers_differ (map shown_peer c.args.new.peers.items) c.args.new.distinct_peers)
 
 pub laid_realms-requires-clause-old : goal.laid_realms-requires-clause-old
@@ -29,8 +29,8 @@ laid_realms-requires-clause-old c =
 pub laid_realms-requires-clause-new : goal.laid_realms-requires-clause-new
 laid_realms-requires-clause-new c =
     let new = c.args.new in
-    let same : map shown_realm c.into_parts-shards.result.realms.items ≡ map shown_realm new.realms.items =
-    ap (λ (v : ConfigView). v.realms) c.into_parts-shards.ensures in
+    let same : map shown_realm c.into_parts-auth.result.realms.items ≡ map shown_realm new.realms.items =
+    ap (λ (v : ConfigView). v.realms) c.into_parts-auth.ensures in
     rw same
     (realms_differ (map shown_realm new.realms.items) (map shown_pattern new.reject.items) new.distinct_realms)
 
@@ -42,13 +42,13 @@ returns-in_err-have_numbers-clause-err c = λ _.
     (map shown_peer c.args.new.peers.items) =
     laid_alike same_peer_name gone_peer _ _ _ _ _ c.in_ok-peers.ensures
     (ap (map shown_peer) c.as_slice.ensures.value)
-    (ap (λ (v : ConfigView). v.peers) c.into_parts-shards.ensures) in
+    (ap (λ (v : ConfigView). v.peers) c.into_parts-auth.ensures) in
     let realms : map shown_realm c.in_ok-realms.realms.items
     ≡ laid_by same_realm_name gone_realm (map shown_realm c.args.old.now.realms.items)
     (map shown_realm c.args.new.realms.items) =
     laid_alike same_realm_name gone_realm _ _ _ _ _ c.in_ok-realms.ensures
     (ap (map shown_realm) c.as_slice-2.ensures.value)
-    (ap (λ (v : ConfigView). v.realms) c.into_parts-shards.ensures) in
+    (ap (λ (v : ConfigView). v.realms) c.into_parts-auth.ensures) in
     elim c.in_err-have_numbers.ensures.err [
       | inl many ↦ inl (omega (
         arith,
@@ -71,7 +71,7 @@ returns-in_err-have_numbers-clause-err c = λ _.
 -- as many as there were at least, and no more than have a number
 pub invariant_of-result : goal.invariant_of-result
 invariant_of-result c =
-    let parts = c.into_parts-shards.result in
+    let parts = c.into_parts-auth.result in
     let old = c.args.old.now in
     let peers : length (map shown_peer c.as_slice.result.now)
     ≤ length (map shown_peer c.in_ok-peers.peers.items) =
@@ -82,15 +82,9 @@ invariant_of-result c =
     let old_peers = ap length c.as_slice.ensures.value in
     let old_realms = ap length c.as_slice-2.ensures.value in
     record {
-      shards_range = parts.shards_range;
       auth_count = parts.auth_count;
       acct_count = parts.acct_count;
       ports = parts.ports;
-      trace_limit_range = parts.trace_limit_range;
-      trace_octets_range = parts.trace_octets_range;
-      max_hops_range = parts.max_hops_range;
-      max_attributes_range = parts.max_attributes_range;
-      fresh_range = parts.fresh_range;
       reject_count = parts.reject_count;
       reject_names = parts.reject_names;
       peer_count = (

@@ -25,7 +25,7 @@ invariant_of-result g c =
         c.loop-realm.invariant.number,
         c.len-count.ensures,
       );
-      some_shard = c.args.config.now.shards_range.0;
+      some_shard = c.args.config.now.top.shards_range.0;
     }
 
 pub returns-clause-states : goal.returns-clause-states

@@ -59,7 +59,7 @@ invariant_of-report g c =
     let hub = c.args.self in
     let shards = ap (λ (x : ConfigView). x.shards) hub.config_is in
     record {
-      few_shards = omega (arith, few, hub.count, shards, hub.config.now.shards_range.1);
+      few_shards = omega (arith, few, hub.count, shards, hub.config.now.top.shards_range.1);
       all_shards = few ∙ hub.count;
       of_shards = c.in_ok-closed.ensures.of_shards;
       whole = c.in_ok-closed.ensures.whole;
