@@ -20,7 +20,8 @@ use Rattle.roam_realm.specs.RealmConfig.{RealmConfig, IsLink, link_place}
 use Rattle.roam_realm.specs.RealmState.{Target, next_toward, chosen_target, first_target, ready_links, this_or, is_used_on}
 use Rattle.roam_realm.specs.Rests.{stands_back}
 use Rattle.roam_realm.specs.declared.rest.Rest.{Rest}
-use Rattle.roam_realm.specs.Sound.{StandsWell, TellsAt, LanesTell, lane_of, cursors_of, waits_there, chosen_link, is_open, is_ready, standing_place, no_lane}
+use Rattle.roam_realm.specs.declared.link_rests.Wanted.TheVariants as wanted
+use Rattle.roam_realm.specs.Sound.{StandsWell, TellsAt, LanesTell, lane_of, cursors_of, waits_there, chosen_link, is_open, is_sought, standing_place, no_lane}
 use Rattle.roam_realm.proofs.WaitingLemmas.{waits_as, without-waits, put-waits, tells-same}
 use Rattle.roam_realm.proofs.UsedLemmas.{used-tells, freed-none, free_one}
 
@@ -281,8 +282,8 @@ pub chosen-open :
     (links : List Link) (l : Link) → chosen_link c now rests lanes freed links ≡ Some l
     → is_open c lanes freed l ≡ true
 chosen-open c now rests lanes freed links l at =
-    let ready = is_ready c (Some now) rests lanes freed in
-    let open_here = is_ready c None rests lanes freed in
+    let ready = is_sought c rests lanes (wanted.NotBackAt now) freed in
+    let open_here = is_sought c rests lanes wanted.Any freed in
     either (λ (k : Link). is_open c lanes freed k ≡ true) (find ready links) (find open_here links) l
     (λ found. and_right (not (stands_back c now rests l)) (is_open c lanes freed l)
     (find-passes ready links l found))

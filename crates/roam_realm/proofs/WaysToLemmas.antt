@@ -1,5 +1,5 @@
 -- The links to an endpoint, one for each `out` that sends to it, and those to servers, one server after the other.
-use Rattle.std.proofs.Common.{◌≡◌, ℕ, suc, zero, ◌+◌, ◌<◌, ◌≤◌, ◌&&◌, ◌-◌, Bool, true, false, cond, List, [], ◌∷◌, ◌++◌, Option, Some, None, refl, ap, sym, ◌∙◌, arith, inl, inr, not, get_or, length, drop, drop-cons, add-one, length-drop}
+use Rattle.std.proofs.Common.{◌≡◌, ℕ, suc, zero, ◌+◌, ◌<◌, ◌≤◌, ◌&&◌, ◌-◌, Bool, true, false, cond, List, [], ◌∷◌, ◌++◌, Option, Some, None, refl, ap, sym, ◌∙◌, arith, inl, inr, get_or, length, drop, drop-cons, add-one, length-drop}
 use Rattle.std.specs.Prelude.{slice_get}
 use Rattle.std.specs.List.{AllByRecursion, find}
 use Rattle.std.specs.Option.{option_or}
@@ -11,12 +11,8 @@ use Rattle.roam_conf.specs.Lookup.{out_of}
 use Rattle.roam_conf.specs.Ways.{is_way, same_kind}
 use Rattle.roam_conf.specs.declared.place.Link.{Link}
 use Rattle.roam_conf.specs.declared.place.Link.TheVariants as link
-use Rattle.roam_ids.specs.LaneState.{LaneState}
 use Rattle.roam_pending.proofs.TestLemmas.{all-append}
 use Rattle.roam_realm.specs.RealmConfig.{RealmConfig, IsLink, coa_of, links_from, peer_ways, server_link, server_links, service_at, ways_from, ways_to}
-use Rattle.roam_realm.specs.Rests.{stands_back}
-use Rattle.roam_realm.specs.Sound.{chosen_link, is_open, is_ready}
-use Rattle.roam_realm.specs.declared.rest.Rest.{Rest}
 use Rattle.roam_realm.specs.declared.service.Service.{Service}
 use Rattle.roam_realm.specs.declared.service.Service.TheVariants as service
 
@@ -181,34 +177,3 @@ pub peer-ways-are : (c : RealmConfig) (peer : ℕ) → peer < length c.peers
     → AllByRecursion (IsLink c) (peer_ways c peer)
 peer-ways-are c peer within =
     ways-to-are (IsLink c) c.realm.out (λ out. link.Coa peer out) (coa_of c peer) (λ out way. (within, way))
-
--- ---- all links to one end stand back, or none does: the first that is open is chosen
-
-none-ready : (p q : Link → Bool) (links : List Link) → AllByRecursion (λ l. p l ≡ true) links
-    → find (λ l. not (p l) && q l) links ≡ None
-none-ready p q [] all = refl
-none-ready p q (l ∷ ls) all = rw all.0 (none-ready p q ls all.1)
-
-all-ready : (p q : Link → Bool) (links : List Link) → AllByRecursion (λ l. p l ≡ false) links
-    → find (λ l. not (p l) && q l) links ≡ find q links
-all-ready p q [] all = refl
-all-ready p q (l ∷ ls) all = rw all.0 (ap (λ (o : Option Link). cond (q l) (Some l) o) (all-ready p q ls all.1))
-
-or-itself : (o : Option Link) → option_or o o ≡ o
-or-itself None = refl
-or-itself (Some l) = refl
-
-chosen-together : (p q : Link → Bool) (links : List Link) (b : Bool) → AllByRecursion (λ l. p l ≡ b) links
-    → option_or (find (λ l. not (p l) && q l) links) (find q links) ≡ find q links
-chosen-together p q links true all = ap (λ (o : Option Link). option_or o (find q links)) (none-ready p q links all)
-chosen-together p q links false all =
-    ap (λ (o : Option Link). option_or o (find q links)) (all-ready p q links all) ∙ or-itself (find q links)
-
-pub peer-chosen : (c : RealmConfig) (now peer : ℕ) (rests : List Rest) (lanes : List LaneState) (freed : Option Link)
-    → chosen_link c now rests lanes freed (peer_ways c peer)
-    ≡ find (is_ready c None rests lanes freed) (peer_ways c peer)
-peer-chosen c now peer rests lanes freed =
-    chosen-together (stands_back c now rests) (is_open c lanes freed) (peer_ways c peer)
-    (stands_back c now rests (link.Coa peer 0))
-    (ways-to-are (λ l. stands_back c now rests l ≡ stands_back c now rests (link.Coa peer 0)) c.realm.out
-    (λ out. link.Coa peer out) (coa_of c peer) (λ out way. refl))

@@ -157,13 +157,11 @@ is_freed (Some freed) l = same_link freed l
 abbrev pub is_open : RealmConfig → List LaneState → Option Link → Link → Bool
 is_open c lanes freed l = is_freed freed l || has_free (lane_of c lanes l)
 
--- a link stands back at a moment, if one is given
-abbrev pub stands_back_at : RealmConfig → Option ℕ → List Rest → Link → Bool
-stands_back_at c None rests l = false
-stands_back_at c (Some now) rests l = stands_back c now rests l
-
--- it is one that is wanted: this one; one to the same end as this; one that has no moment until which it rests
+-- it is one that is wanted: any; one that doesn't stand back at this moment; this one; one to the same end as this;
+-- one that has no moment until which it rests
 abbrev pub is_wanted : RealmConfig → List Rest → Wanted → Link → Bool
+is_wanted c rests wanted.Any l = true
+is_wanted c rests (wanted.NotBackAt now) l = not (stands_back c now rests l)
 is_wanted c rests (wanted.This only) l = same_link only l
 is_wanted c rests (wanted.SameEnd other) l = same_end other l
 is_wanted c rests wanted.Untried l = not (has_moment c rests l)
@@ -172,17 +170,12 @@ is_wanted c rests wanted.Untried l = not (has_moment c rests l)
 abbrev pub is_sought : RealmConfig → List Rest → List LaneState → Wanted → Option Link → Link → Bool
 is_sought c rests lanes asked freed l = is_wanted c rests asked l && is_open c lanes freed l
 
--- it is open, and doesn't stand back
-abbrev pub is_ready :
-    RealmConfig → Option ℕ → List Rest → List LaneState → Option Link → Link → Bool
-is_ready c at rests lanes freed l = not (stands_back_at c at rests l) && is_open c lanes freed l
-
 -- the link of the target that is chosen among some links
 abbrev pub chosen_link :
     RealmConfig → ℕ → List Rest → List LaneState → Option Link → List Link → Option Link
 chosen_link c now rests lanes freed links =
-    option_or (find (is_ready c (Some now) rests lanes freed) links)
-    (find (is_ready c None rests lanes freed) links)
+    option_or (find (is_sought c rests lanes (wanted.NotBackAt now) freed) links)
+    (find (is_sought c rests lanes wanted.Any freed) links)
 
 -- an entry waits on this link with this Identifier, and nowhere else
 abbrev pub WaitsJustAt : Link → ℕ → PlainEntry → Type 0

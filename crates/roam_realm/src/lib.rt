@@ -10,7 +10,7 @@
 //! - an Identifier that is taken toward a link is the next free one, and what the lanes tell of entries stays true when one
 //!   is taken and when one is given back | `RealmNumbers::take_next`, `give_back`: `next`, `tells`
 //! - the link that is chosen is the first with a free Identifier that doesn't stand back, or where each such does, the
-//!   first of them | `RealmNumbers::chosen`, `open_to_peer`: `chosen`
+//!   first of them | `RealmNumbers::chosen`: `chosen`
 //! - how a link rests once it is chosen, kept silent or gave a sign of life is as it is written; all else stays |
 //!   `RealmNumbers::put_off`, `count_silence`, `hear`
 //! - each request is shaped as the lists of its peer and realm say | `RealmSettings::shaping_of`, `removal_for`

@@ -1,14 +1,14 @@
 //! Which of a request's links is chosen: one with a free Identifier, before one that rests.
 
-ghost use Rattle.std.specs.Prelude.{◌≡◌, ◌<◌, ◌&&◌, ℕ, Some, true, length, drop, slice_get, IfSome};
+ghost use Rattle.std.specs.Prelude.{◌≡◌, ◌<◌, ◌&&◌, Some, true, length, slice_get, IfSome};
 ghost use Rattle.std.specs.List.{find};
 ghost use Rattle.roam_conf.specs.Config.{ServerView};
 ghost use Rattle.roam_conf.specs.Lookup.{out_of};
 ghost use Rattle.roam_conf.specs.Ways.{is_way};
-ghost use Rattle.roam_realm.specs.RealmConfig.{IsLink, link_count, links_from, peer_ways, server_link, server_links};
+ghost use Rattle.roam_realm.specs.RealmConfig.{IsLink, link_count, links_from, peer_ways, server_link};
 ghost use Rattle.roam_realm.specs.RealmConfig.{service_at, ways_to};
 ghost use Rattle.roam_realm.specs.Sound.{AreOwnLanes, lane_of, has_free, is_freed, is_open, marks_of, chosen_link};
-ghost use Rattle.roam_realm.specs.Sound.{is_ready, is_sought};
+ghost use Rattle.roam_realm.specs.Sound.{is_sought};
 
 use crate::link_rests::Wanted;
 use crate::realm_numbers::RealmNumbers;
@@ -51,152 +51,6 @@ impl<A: Allocator + Copy> RealmNumbers<A> {
         is_freed(freed, link) || self.has_free(settings, link)
     }
 
-    /// Returns whether a link has a free Identifier, or is `freed`, and doesn't stand back at a moment, if one
-    /// is given.
-    fn is_ready(
-        &self,
-        settings: &RealmSettings<'_>,
-        at: Option<u64>,
-        freed: Option<Link>,
-        link: Link,
-    ) -> bool
-        requires link { IsLink settings.now link }
-        requires count { length self.now.lanes.items ≡ link_count settings.now }
-        ensures { result ≡ is_ready settings.now at self.now.rests.items self.now.lanes.items freed
-            link }
-    {
-        !self.stands_back(settings, at, link) && self.is_open(settings, freed, link)
-    }
-
-    /// Returns whether a way leads to an endpoint by the `out` of a place, and its link has a free Identifier, or is
-    /// `freed`, and doesn't stand back at a moment, if one is given.
-    fn is_ready_way(
-        &self,
-        settings: &RealmSettings<'_>,
-        at: Option<u64>,
-        freed: Option<Link>,
-        endpoint: Endpoint,
-        link: Link,
-    ) -> bool
-        requires link { IsLink settings.now link }
-        requires count { length self.now.lanes.items ≡ link_count settings.now }
-        ensures { result ≡ (is_way settings.now.realm.out (out_of link) endpoint
-            && is_ready settings.now at self.now.rests.items self.now.lanes.items freed link) }
-    {
-        settings.is_way(usize::from(settings.out_of(link)), endpoint)
-            && self.is_ready(settings, at, freed, link)
-    }
-
-    /// The first of the links to a server, for a service, that has a free Identifier, or that is `freed`, and that
-    /// doesn't stand back at a moment, if one is given.
-    fn first_ready_to(
-        &self,
-        settings: &RealmSettings<'_>,
-        at: Option<u64>,
-        service: Service,
-        server: u8,
-        freed: Option<Link>,
-    ) -> Option<Link>
-        requires server { server < length settings.now.realm.servers }
-        requires count { length self.now.lanes.items ≡ link_count settings.now }
-        requires lanes { AreOwnLanes settings.now (marks_of self.now.lanes.items) }
-        ensures first { (s : ServerView) → slice_get settings.now.realm.servers server ≡ Some s
-            → result ≡ find (is_ready settings.now at self.now.rests.items self.now.lanes.items freed)
-            (ways_to settings.now.realm.out (server_link service server) (service_at service s)) }
-        ensures link { IfSome result (λ l. IsLink settings.now l) }
-        ensures made { IfSome result (λ l.
-            (lane_of settings.now self.now.lanes.items l).made ≡ true) }
-    {
-        let endpoint = settings.service_at(service, server)?;
-        for out in 0..settings.out_count() {
-            let link = service.link(server, out as u8);
-            if self.is_ready_way(settings, at, freed, endpoint, link) {
-                return Some(link);
-            }
-        }
-        None
-    }
-
-    /// The first of the servers' links, from a server's place on, that has a free Identifier, or that is `freed`,
-    /// and that doesn't stand back at a moment, if one is given.
-    fn first_ready(
-        &self,
-        settings: &RealmSettings<'_>,
-        at: Option<u64>,
-        servers: ServersFrom,
-        freed: Option<Link>,
-    ) -> Option<Link>
-        requires count { length self.now.lanes.items ≡ link_count settings.now }
-        requires lanes { AreOwnLanes settings.now (marks_of self.now.lanes.items) }
-        ensures first { result ≡ find (is_ready settings.now at self.now.rests.items
-            self.now.lanes.items freed) (server_links settings.now.realm.out servers.service servers.first
-            (drop servers.first settings.now.realm.servers)) }
-        ensures link { IfSome result (λ l. IsLink settings.now l) }
-        ensures made { IfSome result (λ l.
-            (lane_of settings.now self.now.lanes.items l).made ≡ true) }
-    {
-        for server in servers.first..settings.server_count() {
-            if let Some(link) = self.first_ready_to(
-                settings,
-                at,
-                servers.service,
-                server as u8,
-                freed,
-            ) {
-                return Some(link);
-            }
-        }
-        None
-    }
-
-    /// The one of the servers' links, from a server's place on, that is chosen at a moment: of those that have a
-    /// free Identifier, or are `freed`, the first that doesn't stand back; where all of these stand
-    /// back, the first of them.
-    pub fn chosen(
-        &self,
-        settings: &RealmSettings<'_>,
-        now: u64,
-        servers: ServersFrom,
-        freed: Option<Link>,
-    ) -> Option<Link>
-        requires count { length self.now.lanes.items ≡ link_count settings.now }
-        requires lanes { AreOwnLanes settings.now (marks_of self.now.lanes.items) }
-        ensures chosen { result ≡ chosen_link settings.now now self.now.rests.items
-            self.now.lanes.items freed (server_links settings.now.realm.out servers.service servers.first
-            (drop servers.first settings.now.realm.servers)) }
-        ensures link { IfSome result (λ l. IsLink settings.now l) }
-        ensures made { IfSome result (λ l.
-            (lane_of settings.now self.now.lanes.items l).made ≡ true) }
-    {
-        match self.first_ready(settings, Some(now), servers, freed) {
-            None => self.first_ready(settings, None, servers, freed),
-            ready => ready,
-        }
-    }
-
-    /// The first of the links to a peer's `coa` that has a free Identifier, or that is `freed`: they never rest.
-    pub fn open_to_peer(
-        &self,
-        settings: &RealmSettings<'_>,
-        peer: u16,
-        freed: Option<Link>,
-    ) -> Option<Link>
-        requires peer { peer < length settings.now.peers }
-        requires count { length self.now.lanes.items ≡ link_count settings.now }
-        ensures chosen { (now : ℕ) → result ≡ chosen_link settings.now now self.now.rests.items
-            self.now.lanes.items freed (peer_ways settings.now peer) }
-        ensures link { IfSome result (λ l. IsLink settings.now l) }
-    {
-        let endpoint = settings.coa_of(peer)?;
-        for out in 0..settings.out_count() {
-            let link = Link::Coa(peer, out as u8);
-            if self.is_ready_way(settings, None, freed, endpoint, link) {
-                return Some(link);
-            }
-        }
-        None
-    }
-
     /// Returns whether a way leads to an endpoint by the `out` of a place, and its link is sought.
     fn is_sought_way(
         &self,
@@ -215,8 +69,8 @@ impl<A: Allocator + Copy> RealmNumbers<A> {
             && self.is_sought(settings, wanted, freed, link)
     }
 
-    /// The first of the links to a server, for a service, that has a free Identifier, or that is `freed`, and is
-    /// wanted.
+    /// Returns the first of the links to a server, for a service, that has a free Identifier, or that is `freed`, and
+    /// is wanted.
     fn first_sought_to(
         &self,
         settings: &RealmSettings<'_>,
@@ -231,6 +85,8 @@ impl<A: Allocator + Copy> RealmNumbers<A> {
             → result ≡ find (is_sought settings.now self.now.rests.items self.now.lanes.items wanted freed)
             (ways_to settings.now.realm.out (server_link service server) (service_at service s)) }
         ensures link { IfSome result (λ l. IsLink settings.now l) }
+        ensures made { AreOwnLanes settings.now (marks_of self.now.lanes.items)
+            → IfSome result (λ l. (lane_of settings.now self.now.lanes.items l).made ≡ true) }
     {
         let endpoint = settings.service_at(service, server)?;
         for out in 0..settings.out_count() {
@@ -242,23 +98,26 @@ impl<A: Allocator + Copy> RealmNumbers<A> {
         None
     }
 
-    /// The first of the servers' links of a service that has a free Identifier, or that is `freed`, and is wanted.
+    /// Returns the first of the servers' links, from a server's place on, that has a free Identifier, or that is
+    /// `freed`, and is wanted.
     pub fn first_sought(
         &self,
         settings: &RealmSettings<'_>,
-        service: Service,
+        servers: ServersFrom,
         wanted: Wanted,
         freed: Option<Link>,
     ) -> Option<Link>
         requires count { length self.now.lanes.items ≡ link_count settings.now }
         ensures first { result ≡ find (is_sought settings.now self.now.rests.items
-            self.now.lanes.items wanted freed) (links_from settings.now service 0) }
+            self.now.lanes.items wanted freed) (links_from settings.now servers.service servers.first) }
         ensures link { IfSome result (λ l. IsLink settings.now l) }
+        ensures made { AreOwnLanes settings.now (marks_of self.now.lanes.items)
+            → IfSome result (λ l. (lane_of settings.now self.now.lanes.items l).made ≡ true) }
     {
-        for server in 0..settings.server_count() {
+        for server in servers.first..settings.server_count() {
             if let Some(link) = self.first_sought_to(
                 settings,
-                service,
+                servers.service,
                 server as u8,
                 wanted,
                 freed,
@@ -269,7 +128,7 @@ impl<A: Allocator + Copy> RealmNumbers<A> {
         None
     }
 
-    /// The first of the links to a peer's `coa` that has a free Identifier, or that is `freed`, and is wanted.
+    /// Returns the first of the links to a peer's `coa` that has a free Identifier, or that is `freed`, and is wanted.
     pub fn sought_to_peer(
         &self,
         settings: &RealmSettings<'_>,
@@ -291,5 +150,28 @@ impl<A: Allocator + Copy> RealmNumbers<A> {
             }
         }
         None
+    }
+    /// Returns the one of the servers' links, from a server's place on, that is chosen at a moment: of those that have
+    /// a free Identifier, or are `freed`, the first that doesn't stand back; where all of these stand back, the first
+    /// of them.
+    pub fn chosen(
+        &self,
+        settings: &RealmSettings<'_>,
+        now: u64,
+        servers: ServersFrom,
+        freed: Option<Link>,
+    ) -> Option<Link>
+        requires count { length self.now.lanes.items ≡ link_count settings.now }
+        requires lanes { AreOwnLanes settings.now (marks_of self.now.lanes.items) }
+        ensures chosen { result ≡ chosen_link settings.now now self.now.rests.items
+            self.now.lanes.items freed (links_from settings.now servers.service servers.first) }
+        ensures link { IfSome result (λ l. IsLink settings.now l) }
+        ensures made { IfSome result (λ l.
+            (lane_of settings.now self.now.lanes.items l).made ≡ true) }
+    {
+        match self.first_sought(settings, servers, Wanted::NotBackAt(now), freed) {
+            None => self.first_sought(settings, servers, Wanted::Any, freed),
+            ready => ready,
+        }
     }
 }

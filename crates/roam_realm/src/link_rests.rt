@@ -6,7 +6,7 @@ ghost use Rattle.roam_realm.specs.RealmConfig.{IsLink, link_count};
 ghost use Rattle.roam_realm.specs.Rests.{after_choice, after_sign, after_silence, has_moment, rest_of};
 ghost use Rattle.roam_realm.specs.Rests.{signs_of, with_rest};
 ghost use Rattle.roam_realm.specs.Stays.{RestsBecome};
-ghost use Rattle.roam_realm.specs.Sound.{is_sought, is_wanted, stands_back_at};
+ghost use Rattle.roam_realm.specs.Sound.{is_sought, is_wanted};
 
 use crate::realm_numbers::RealmNumbers;
 use crate::realm_settings::RealmSettings;
@@ -14,9 +14,13 @@ use crate::rest::Rest;
 use roam_conf::Link;
 use std::alloc::Allocator;
 
-/// Which links are wanted for a request that goes on with a conversation.
+/// Which links are wanted for a request.
 #[derive(Clone, Copy)]
 pub enum Wanted {
+    /// All.
+    Any,
+    /// Those that don't stand back at this moment, in milliseconds.
+    NotBackAt(u64),
     /// This one.
     This(Link),
     /// Those to the same end as this one, by whichever `out`.
@@ -51,22 +55,6 @@ impl<A: Allocator + Copy> RealmNumbers<A> {
         }
     }
 
-    /// Returns whether a link stands back at a moment, if one is given.
-    pub(crate) fn stands_back(
-        &self,
-        settings: &RealmSettings<'_>,
-        at: Option<u64>,
-        link: Link,
-    ) -> bool
-        requires link { IsLink settings.now link }
-        ensures { result ≡ stands_back_at settings.now at self.now.rests.items link }
-    {
-        let Some(now) = at else {
-            return false;
-        };
-        self.rest_of(settings, link).is_resting(now)
-    }
-
     /// Returns how many signs of life a link has given, modulo 2^64.
     pub fn signs_of(&self, settings: &RealmSettings<'_>, link: Link) -> u64
         requires link { IsLink settings.now link }
@@ -89,6 +77,8 @@ impl<A: Allocator + Copy> RealmNumbers<A> {
         ensures { result ≡ is_wanted settings.now self.now.rests.items wanted link }
     {
         match wanted {
+            Wanted::Any => true,
+            Wanted::NotBackAt(now) => !self.rest_of(settings, link).is_resting(now),
             Wanted::This(only) => only == link,
             Wanted::SameEnd(other) => is_same_end(other, link),
             Wanted::Untried => !self.has_moment(settings, link),

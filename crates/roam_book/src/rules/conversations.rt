@@ -19,7 +19,7 @@ use crate::rules::targets::Targets;
 use roam_conf::Link;
 use roam_exchange::RequestRef;
 use roam_pending::{Entries, Requester};
-use roam_realm::{RealmSettings, Wanted};
+use roam_realm::{RealmSettings, ServersFrom, Wanted};
 use roam_wire::View;
 use roam_wire::attribute_type::STATE;
 use roam_wire::code::ACCESS_REQUEST;
@@ -77,7 +77,12 @@ impl<A: Allocator + Copy, E: Entries<A>> RealmBroker<'_, '_, '_, '_, A, E> {
     }
 
     /// The first of the links to some targets that has a free Identifier, or is `freed`, and is wanted.
-    fn first_sought(&self, targets: Targets, wanted: Wanted, freed: Option<Link>) -> Option<Link>
+    pub(crate) fn first_sought(
+        &self,
+        targets: Targets,
+        wanted: Wanted,
+        freed: Option<Link>,
+    ) -> Option<Link>
         requires realm { IsRealm E.Entries self.now }
         requires targets { AreConfigured self.now.settings.now targets }
         ensures first { result ≡ find (is_sought self.now.settings.now self.now.numbers.now.rests.items
@@ -86,8 +91,9 @@ impl<A: Allocator + Copy, E: Entries<A>> RealmBroker<'_, '_, '_, '_, A, E> {
     {
         match targets {
             Targets::HomeServers(service) => {
+                let servers = ServersFrom { service, first: 0 };
                 self.numbers
-                    .first_sought(self.settings, service, wanted, freed)
+                    .first_sought(self.settings, servers, wanted, freed)
             }
             Targets::AccessServer(peer) => {
                 self.numbers

@@ -20,7 +20,7 @@ use crate::rules::targets::Targets;
 use roam_conf::Link;
 use roam_exchange::RequestRef;
 use roam_pending::Entries;
-use roam_realm::ServersFrom;
+use roam_realm::Wanted;
 use roam_wire::Refusal;
 use std::alloc::Allocator;
 
@@ -112,12 +112,9 @@ impl<A: Allocator + Copy, E: Entries<A>> RealmBroker<'_, '_, '_, '_, A, E> {
             (links_of self.now.settings.now targets) }
         ensures link { IfSome result (λ l. IsLink self.now.settings.now l) }
     {
-        match targets {
-            Targets::HomeServers(service) => {
-                let servers = ServersFrom { service, first: 0 };
-                self.numbers.chosen(self.settings, now, servers, freed)
-            }
-            Targets::AccessServer(peer) => { self.numbers.open_to_peer(self.settings, peer, freed) }
+        match self.first_sought(targets, Wanted::NotBackAt(now), freed) {
+            None => self.first_sought(targets, Wanted::Any, freed),
+            ready => ready,
         }
     }
 

@@ -15,8 +15,8 @@ returns-in-Some-clause-first g c =
     c.args.freed in
     let count = c.server_count-server-end.ensures.count in
     let within : c.loop-server.server < length servers = omega (arith, c.loop-server-test.true, count) in
-    server-hit sought outs c.args.service servers c.loop-server.server c.in-Some.link
-    (find sought (links_from settings c.args.service 0))
+    server-hit sought outs c.args.servers.service servers c.loop-server.server c.in-Some.link
+    (find sought (links_from settings c.args.servers.service c.args.servers.first))
     within c.in-Some.ensures.first c.loop-server.invariant
 
 -- none to this server is sought, nor was one to those before it
@@ -29,6 +29,6 @@ loop-server-preserved g c =
     c.args.freed in
     let count = c.server_count-server-end.ensures.count in
     let within : c.loop-server.server < length servers = omega (arith, c.loop-server-test.true, count) in
-    server-skip sought outs c.args.service servers c.loop-server.server
-    (find sought (links_from settings c.args.service 0))
+    server-skip sought outs c.args.servers.service servers c.loop-server.server
+    (find sought (links_from settings c.args.servers.service c.args.servers.first))
     within c.in_default.ensures.first c.loop-server.invariant

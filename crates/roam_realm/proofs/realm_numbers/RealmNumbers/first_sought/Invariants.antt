@@ -8,4 +8,5 @@ use Rattle.roam_realm.proofs.realm_numbers.RealmNumbers.first_sought.Given as go
 abbrev pub invariant-loop-server : goal.invariant-loop-server
 invariant-loop-server g l =
     let sought = is_sought l.settings l.self.rests.items l.self.lanes.items l.wanted l.freed in
-    find sought (links_from l.settings l.service l.server) ≡ find sought (links_from l.settings l.service 0)
+    find sought (links_from l.settings l.servers.service l.server)
+    ≡ find sought (links_from l.settings l.servers.service l.servers.first)

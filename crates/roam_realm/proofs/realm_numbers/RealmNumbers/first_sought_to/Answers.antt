@@ -4,6 +4,7 @@ use Rattle.roam_address.specs.declared.endpoint.Endpoint.{Endpoint}
 use Rattle.roam_conf.specs.declared.place.Link.{Link}
 use Rattle.roam_realm.specs.RealmConfig.{server_link, ways_from, ways_to}
 use Rattle.roam_realm.specs.Sound.{is_sought}
+use Rattle.roam_realm.proofs.LinkLaneLemmas.{server-made}
 use Rattle.roam_realm.proofs.WaysToLemmas.{out-of_link, way-hit, way-skip, ways-end}
 use Rattle.roam_realm.proofs.realm_numbers.RealmNumbers.first_sought_to.Goals as goal
 
@@ -67,3 +68,12 @@ returns-clause-first g c s there =
     ways-end sought by outs c.loop-out.out endpoint
     (find sought (ways_from by 0 outs endpoint)) past c.loop-out.invariant
     ∙ ap (λ (o : Option Endpoint). find sought (ways_to outs by o)) (c.in_ok-endpoint.ensures s there)
+
+-- and the memory of its lane is there
+pub returns-then-is_sought_way-clause-made : goal.returns-then-is_sought_way-clause-made
+returns-then-is_sought_way-clause-made g c = λ own.
+    let settings = c.args.settings.now in
+    let count = c.out_count-out-end.ensures.count in
+    let within : c.loop-out.out < length settings.realm.out = omega (arith, c.loop-out-test.true, count) in
+    server-made settings c.args.self.now.lanes.items c.args.service c.args.server c.loop-out.out c.link-link.result
+    own c.requires.server within c.link-link.ensures
