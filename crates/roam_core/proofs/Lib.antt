@@ -45,3 +45,5 @@ pub mod LifeOriginLemmas
 pub mod LifeTicketLemmas
 pub mod OccasionLemmas
 pub mod LifeDrawLemmas
+pub mod AgreementLemmas
+pub mod EventAgreementLemmas

@@ -15,6 +15,7 @@ pub mod LifeOrigins
 pub mod LifeLaws
 pub mod ManyRealms
 pub mod HappeningsTo
+pub mod Agreement
 pub mod Alone
 pub mod OwnPart
 pub mod Amplification

@@ -30,6 +30,8 @@
 //!   give it the same ones, whatever the seeds; and where the seed is, it sends the same from the same start |
 //!   `roam_route`, law `own_part`; law `own_part`: `events`, `packets`
 //! - with one realm, the broker is the written one-realm broker and its own answers | law `one_realm`
+//! - what is said to have happened by an event agrees with the packets that it sends: as many, in order, each to where
+//!   it says; of each event of a realm, and of a list of events of the broker | law `happenings`: `realm`, `all`
 //! - each packet of a realm comes from that realm's own events in one of three ways: it is the forwarded one of
 //!   a request, an Access-Request with the random words of a position of the realm's stream; or the returned
 //!   one of a reply that was taken for such a packet, of that very request, which its ticket names; or the NAK
@@ -84,8 +86,8 @@ pub use bounds::{bounded_waits, no_amplification, sent_for_one_request};
 pub use broker::Broker;
 pub use event::Event;
 pub use laws::{
-    isolated_ledgers, isolated_realms, life_draws, life_provenance, life_tickets, one_realm,
-    own_losses, own_part, own_sessions, provenance, realms_open, two_worlds,
+    happenings, isolated_ledgers, isolated_realms, life_draws, life_provenance, life_tickets,
+    one_realm, own_losses, own_part, own_sessions, provenance, realms_open, two_worlds,
 };
 pub use runs::{Outcome, run};
 pub use shard_room::with_room;
