@@ -34,6 +34,7 @@ pub mod BoundLemmas
 pub mod EntryKeepingLemmas
 pub mod SentForLemmas
 pub mod InTimeLemmas
+pub mod OnTimeLemmas
 pub mod LifeLemmas
 pub mod CarriedLemmas
 pub mod ToldLemmas

@@ -21,6 +21,7 @@ pub mod OwnPart
 pub mod Amplification
 pub mod SentFor
 pub mod InTime
+pub mod OnTime
 pub mod BrokerView
 pub mod Steps
 pub mod Runs

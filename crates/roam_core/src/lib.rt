@@ -70,8 +70,10 @@
 //!   and one back | law `sent_for_one_request`
 //! - no entry waits longer than `tries` x servers x (`wait` + g), of the servers among its request's targets, while
 //!   moments don't go back and no event comes more than g after the tick before it. That ticks come is the premise,
-//!   and not claimed; where a tick has a part of what is due, moments go back, by 100 ms at most, and the law says
-//!   nothing of that stretch | law `bounded_waits`; `bounded_waits_in_histories`
+//!   and not claimed | law `bounded_waits`; `bounded_waits_in_histories`
+//! - the same from any state on, and where moments go back: while no event finds an entry overdue by more than g. A
+//!   round of ticks that leaves nothing due meets that, for all events up to g after it and at most `wait` before it |
+//!   law `waits_on_time`: `entries`, `requests`, `rounds`
 #![tactic(auto)]
 
 mod bounds;
@@ -82,7 +84,7 @@ mod runs;
 mod shard_room;
 mod stepper;
 
-pub use bounds::{bounded_waits, no_amplification, sent_for_one_request};
+pub use bounds::{bounded_waits, no_amplification, sent_for_one_request, waits_on_time};
 pub use broker::Broker;
 pub use event::Event;
 pub use laws::{
