@@ -35,6 +35,7 @@ pub mod EntryKeepingLemmas
 pub mod SentForLemmas
 pub mod InTimeLemmas
 pub mod OnTimeLemmas
+pub mod RoundLemmas
 pub mod LifeLemmas
 pub mod CarriedLemmas
 pub mod ToldLemmas

@@ -22,6 +22,7 @@ pub mod Amplification
 pub mod SentFor
 pub mod InTime
 pub mod OnTime
+pub mod Rounds
 pub mod BrokerView
 pub mod Steps
 pub mod Runs

@@ -6,6 +6,7 @@ ghost use Rattle.roam_core.specs.Amplification.{NoMoreAnswersThanRequests, OnePa
 ghost use Rattle.roam_core.specs.Amplification.{TargetsAreFew};
 ghost use Rattle.roam_core.specs.InTime.{NoneWaitsLonger};
 ghost use Rattle.roam_core.specs.OnTime.{NoRequestWaitsLonger, NoneWaitsLongerFrom, RoundsAreOnTime};
+ghost use Rattle.roam_core.specs.Rounds.{SentOnceInARound};
 ghost use Rattle.roam_core.specs.SentFor.{AtMostTriesToEach};
 
 /// For each request that comes a realm sends at most `tries` packets to each server among its targets, by however many
@@ -35,4 +36,10 @@ pub fn waits_on_time()
     ensures entries { NoneWaitsLongerFrom }
     ensures requests { NoRequestWaitsLonger }
     ensures rounds { RoundsAreOnTime }
+{}
+
+/// In one round of ticks a request is sent once, however long the server stood still before: no tick of the round sends
+/// it again, fails it over or gives it up.
+pub fn sent_once_in_a_round()
+    ensures { SentOnceInARound }
 {}

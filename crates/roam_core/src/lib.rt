@@ -71,6 +71,8 @@
 //! - no entry waits longer than `tries` x servers x (`wait` + g), of the servers among its request's targets, while
 //!   moments don't go back and no event comes more than g after the tick before it. That ticks come is the premise,
 //!   and not claimed | law `bounded_waits`; `bounded_waits_in_histories`
+//! - a request that was sent in a round of ticks isn't due again in that round, whose moments are less than `wait` apart |
+//!   law `sent_once_in_a_round`
 //! - the same from any state on, and where moments go back: while no event finds an entry overdue by more than g. A
 //!   round of ticks that leaves nothing due meets that, for all events up to g after it and at most `wait` before it |
 //!   law `waits_on_time`: `entries`, `requests`, `rounds`
@@ -84,7 +86,9 @@ mod runs;
 mod shard_room;
 mod stepper;
 
-pub use bounds::{bounded_waits, no_amplification, sent_for_one_request, waits_on_time};
+pub use bounds::{
+    bounded_waits, no_amplification, sent_for_one_request, sent_once_in_a_round, waits_on_time,
+};
 pub use broker::Broker;
 pub use event::Event;
 pub use laws::{
