@@ -215,7 +215,7 @@ shard-agrees lines config states now shard =
       | inr none ↦ rw none refl
     ]
 
-event-agrees :
+pub event-agrees :
     (lines : ExchangeLines) (config : ConfigView) (states : List RealmState) (e : PlainEvent)
     → EventAgrees config e (happening_to lines config states e) (packets_in_turn (answer_to config states e))
 event-agrees lines config states (arrives now a) = arrival-agrees lines config states now (admission config a)
