@@ -35,7 +35,7 @@ use Rattle.roam_core.proofs.TicketLemmas.{all-rise, event-rises}
 abbrev Any : PlainEntry → Type 0
 Any e = Unit {0}
 
-event-order : (c : RealmConfig) (s : RealmState) (e : RealmEvent) → IsInOrder s.entries →
+pub event-order : (c : RealmConfig) (s : RealmState) (e : RealmEvent) → IsInOrder s.entries →
     IsInOrder (state_after s (on_event c s e)).entries
 event-order c s (request_came now named q) order =
     request-keeps c IsInOrder Any order-filter (λ e es h. order-put e es) (λ e es h at. tt) now s named q order
@@ -58,7 +58,7 @@ run-order c s (e ∷ es) order = run-order c (state_after s (on_event c s e)) es
 -- Numbers
 
 -- so many sends are left before `n`: what they take is that much less
-turns : (a n w : ℕ) → a + 1 ≤ n → w + a * w ≤ n * w
+pub turns : (a n w : ℕ) → a + 1 ≤ n → w + a * w ≤ n * w
 turns a n w h =
     let all = mul-le-mul_right w h in
     omega (arith, all)
@@ -76,7 +76,7 @@ abbrev left_at : RealmConfig → Link → ℕ → ℕ
 left_at c l sends_left = sends_left + c.realm.tries * length (one_each (later_targets c l))
 
 -- one of some targets has fewer packets left than `tries` for each
-left-fewer : (c : RealmConfig) (links : List Link) (l : Link) → 1 ≤ c.realm.tries → IsOneOf c links l →
+pub left-fewer : (c : RealmConfig) (links : List Link) (l : Link) → 1 ≤ c.realm.tries → IsOneOf c links l →
     left_at c l (c.realm.tries - 1) + 1 ≤ c.realm.tries * length (one_each links)
 left-fewer c links l tries fits =
     let all = counted-all c links in

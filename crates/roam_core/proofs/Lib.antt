@@ -34,6 +34,8 @@ pub mod BoundLemmas
 pub mod EntryKeepingLemmas
 pub mod SentForLemmas
 pub mod InTimeLemmas
+pub mod OnTimeLemmas
+pub mod RoundLemmas
 pub mod LifeLemmas
 pub mod CarriedLemmas
 pub mod ToldLemmas
@@ -45,3 +47,5 @@ pub mod LifeOriginLemmas
 pub mod LifeTicketLemmas
 pub mod OccasionLemmas
 pub mod LifeDrawLemmas
+pub mod AgreementLemmas
+pub mod EventAgreementLemmas

@@ -15,11 +15,14 @@ pub mod LifeOrigins
 pub mod LifeLaws
 pub mod ManyRealms
 pub mod HappeningsTo
+pub mod Agreement
 pub mod Alone
 pub mod OwnPart
 pub mod Amplification
 pub mod SentFor
 pub mod InTime
+pub mod OnTime
+pub mod Rounds
 pub mod BrokerView
 pub mod Steps
 pub mod Runs

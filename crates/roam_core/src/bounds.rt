@@ -5,6 +5,8 @@ ghost use Rattle.roam_core.specs.Amplification.{NoAmplification, NoAmplification
 ghost use Rattle.roam_core.specs.Amplification.{NoMoreAnswersThanRequests, OnePacketEach};
 ghost use Rattle.roam_core.specs.Amplification.{TargetsAreFew};
 ghost use Rattle.roam_core.specs.InTime.{NoneWaitsLonger};
+ghost use Rattle.roam_core.specs.OnTime.{NoRequestWaitsLonger, NoneWaitsLongerFrom, RoundsAreOnTime};
+ghost use Rattle.roam_core.specs.Rounds.{SentOnceInARound};
 ghost use Rattle.roam_core.specs.SentFor.{AtMostTriesToEach};
 
 /// For each request that comes a realm sends at most `tries` packets to each server among its targets, by however many
@@ -26,4 +28,18 @@ pub fn sent_for_one_request()
 /// answered or given up, whoever keeps silent.
 pub fn bounded_waits()
     ensures { NoneWaitsLonger }
+{}
+
+/// From any state on, and where moments go back: while no event finds an entry overdue by more than a gap, no request
+/// waits longer than its sends and their waits take. Rounds of ticks meet that premise.
+pub fn waits_on_time()
+    ensures entries { NoneWaitsLongerFrom }
+    ensures requests { NoRequestWaitsLonger }
+    ensures rounds { RoundsAreOnTime }
+{}
+
+/// In one round of ticks a request is sent once, however long the server stood still before: no tick of the round sends
+/// it again, fails it over or gives it up.
+pub fn sent_once_in_a_round()
+    ensures { SentOnceInARound }
 {}

@@ -1,6 +1,7 @@
 //! Laws of the written broker. These functions do nothing: their contracts hold of all
 //! configurations, states and events.
 
+ghost use Rattle.roam_core.specs.Agreement.{AllEventsAgree, EachRealmEventAgrees};
 ghost use Rattle.roam_core.specs.Alone.{OneRealmIsAlone};
 ghost use Rattle.roam_core.specs.Isolation.{EachIsIsolatedFromStart, EachLedgerIsIsolated, EachRealmIsIsolated};
 ghost use Rattle.roam_core.specs.Isolation.{EachRealmOpens, EachRealmStandsAlone, SameInTwoWorlds};
@@ -111,4 +112,11 @@ pub fn life_draws()
     ensures words { WordsAreDrawnInOrderIn }
     ensures apart { DrawsAreApartIn }
     ensures once { OneDrawOneForwarding }
+{}
+
+/// What is said to have happened by an event, for the counts and the log, and the packets that are sent for it agree:
+/// of each event of a realm, and of each of a list of events of the broker, in order.
+pub fn happenings()
+    ensures realm { EachRealmEventAgrees }
+    ensures all { AllEventsAgree }
 {}

@@ -30,6 +30,8 @@
 //!   give it the same ones, whatever the seeds; and where the seed is, it sends the same from the same start |
 //!   `roam_route`, law `own_part`; law `own_part`: `events`, `packets`
 //! - with one realm, the broker is the written one-realm broker and its own answers | law `one_realm`
+//! - what is said to have happened by an event agrees with the packets that it sends: as many, in order, each to where
+//!   it says; of each event of a realm, and of a list of events of the broker | law `happenings`: `realm`, `all`
 //! - each packet of a realm comes from that realm's own events in one of three ways: it is the forwarded one of
 //!   a request, an Access-Request with the random words of a position of the realm's stream; or the returned
 //!   one of a reply that was taken for such a packet, of that very request, which its ticket names; or the NAK
@@ -68,8 +70,12 @@
 //!   and one back | law `sent_for_one_request`
 //! - no entry waits longer than `tries` x servers x (`wait` + g), of the servers among its request's targets, while
 //!   moments don't go back and no event comes more than g after the tick before it. That ticks come is the premise,
-//!   and not claimed; where a tick has a part of what is due, moments go back, by 100 ms at most, and the law says
-//!   nothing of that stretch | law `bounded_waits`; `bounded_waits_in_histories`
+//!   and not claimed | law `bounded_waits`; `bounded_waits_in_histories`
+//! - a request that was sent in a round of ticks isn't due again in that round, whose moments are less than `wait` apart |
+//!   law `sent_once_in_a_round`
+//! - the same from any state on, and where moments go back: while no event finds an entry overdue by more than g. A
+//!   round of ticks that leaves nothing due meets that, for all events up to g after it and at most `wait` before it |
+//!   law `waits_on_time`: `entries`, `requests`, `rounds`
 #![tactic(auto)]
 
 mod bounds;
@@ -80,12 +86,14 @@ mod runs;
 mod shard_room;
 mod stepper;
 
-pub use bounds::{bounded_waits, no_amplification, sent_for_one_request};
+pub use bounds::{
+    bounded_waits, no_amplification, sent_for_one_request, sent_once_in_a_round, waits_on_time,
+};
 pub use broker::Broker;
 pub use event::Event;
 pub use laws::{
-    isolated_ledgers, isolated_realms, life_draws, life_provenance, life_tickets, one_realm,
-    own_losses, own_part, own_sessions, provenance, realms_open, two_worlds,
+    happenings, isolated_ledgers, isolated_realms, life_draws, life_provenance, life_tickets,
+    one_realm, own_losses, own_part, own_sessions, provenance, realms_open, two_worlds,
 };
 pub use runs::{Outcome, run};
 pub use shard_room::with_room;

@@ -3,6 +3,7 @@ pub mod KeptLemmas
 pub mod ChangeLemmas
 pub mod PauseLemmas
 pub mod BoundLemmas
+pub mod WaitLemmas
 pub mod LifeOverLemmas
 pub mod TicketOverLemmas
 pub mod EndLemmas

@@ -7,3 +7,4 @@ pub mod Following
 pub mod Changes
 pub mod LivesOver
 pub mod Bounds
+pub mod Waits

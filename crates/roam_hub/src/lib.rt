@@ -49,6 +49,8 @@
 //!   shard ends. That none is missing is tested (`packaging/tests/try-restart.py`) | `Hub::begin_saving`, `save`
 //! - in a history that begins in any states each realm is isolated too, and ends where its own written broker
 //!   does | law `realms_from_any_states`
+//! - there too no entry waits longer than its sends and their waits take, while no event finds one overdue by more than a
+//!   gap; events up to that gap after a round of ticks that left nothing due find none so | law `waits_in_histories`
 //! - a look at a realm gives numbers of its entries and sessions where a history of its own shard ends, no
 //!   earlier than the seat has seen; of Identifiers in use and rests in a look no contract says more, nor that a look
 //!   tells of each realm: that is its code, and tested (`packaging/tests/try-control.py`) | `Hub::look`
@@ -71,7 +73,7 @@ mod pausing;
 mod saving;
 mod writing;
 
-pub use bounds::{bounded_in_histories, bounded_waits_in_histories};
+pub use bounds::{bounded_in_histories, bounded_waits_in_histories, waits_in_histories};
 pub use call::Call;
 pub use gate::{Gate, Open};
 pub use hub::Hub;
