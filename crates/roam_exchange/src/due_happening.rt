@@ -123,6 +123,7 @@ fn answered_as<A: Allocator>(
 }
 
 /// Returns what is noted of an entry that is done, where its time is over: that its conversation was left, if it was.
+/// Where replies aren't held nothing is known of that.
 fn left_by<A: Allocator>(
     settings: &RealmSettings<'_>,
     entry: &Entry<A>,
@@ -132,7 +133,7 @@ fn left_by<A: Allocator>(
     ensures noted { noted_of result ≡ [] }
     ensures left { notes_left result ≡ true → is_left entry.now.request.course (shown entry.now) ≡ true }
 {
-    if !is_left(entry) {
+    if settings.hold() == 0 || !is_left(entry) {
         return Noted::Nothing;
     }
     let Standing::Done(done) = &entry.standing else {
