@@ -43,13 +43,13 @@ none-due (happening.Held code) why is = refl
 none-due (happening.Nak cause) why is = refl
 none-due (happening.Forwarded ticket link replaced) why is = refl
 none-due (happening.Returned code waited) why is = refl
-none-due (happening.Ticked v) why is =
+none-due (happening.Ticked v left) why is =
     absurd (let bad : ticked (shown_dues v.items) ≡ refused why = is in cc)
 none-due (happening.Local code) why is = refl
 
 pub many-due : {A : Type 0} (h : Happening A) (dues : List (DueHappening A))
     → shown_happening h ≡ ticked (shown_dues dues) → dues_in h ≡ length dues
-many-due (happening.Ticked v) dues is =
+many-due (happening.Ticked v left) dues is =
     let one : ticked (shown_dues v.items) ≡ ticked (shown_dues dues) = is in
     let same : shown_dues v.items ≡ shown_dues dues = cc in
     omega (

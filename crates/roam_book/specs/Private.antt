@@ -1,4 +1,5 @@
 -- Words of private functions and of invariants: no contract of a public call names one.
+pub mod Courses
 pub mod NewEntry
 pub mod ReplyPlans
 pub mod Sharing

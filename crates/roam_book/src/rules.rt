@@ -3,6 +3,7 @@
 pub mod admit;
 pub mod admit_plan;
 pub mod conversations;
+pub mod courses;
 pub mod evict_done;
 pub mod new_requests;
 pub mod replaced;

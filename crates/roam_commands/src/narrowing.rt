@@ -11,7 +11,7 @@ use std::str;
 const NO_PROBLEMS: &[u8] = b"\nno problems\n";
 
 /// How many ranks of problems there are.
-const RANKS: u8 = 5;
+const RANKS: u8 = 6;
 
 /// Returns the cell of a row in a column, counted from 0.
 fn cell(row: &str, column: usize) -> Option<&str> {
@@ -104,6 +104,14 @@ fn is_refused_peer(heads: &str, row: &str) -> bool {
         && under(heads, "REFUSED", row) != Some("0")
 }
 
+/// Returns whether the row is of a realm where logins stopped midway.
+fn has_abandoned(heads: &str, row: &str) -> bool {
+    match under(heads, "ABANDONED", row) {
+        Some(count) => count != "0",
+        None => false,
+    }
+}
+
 /// Returns the rank of a row in which something is wrong, from 0 for the worst.
 fn rank_of_problem(heads: &str, row: &str) -> Option<u8> {
     let rank = match under(heads, "STANDS", row) {
@@ -116,6 +124,8 @@ fn rank_of_problem(heads: &str, row: &str) -> Option<u8> {
         Some(3)
     } else if is_refused_peer(heads, row) {
         Some(4)
+    } else if has_abandoned(heads, row) {
+        Some(5)
     } else {
         None
     }

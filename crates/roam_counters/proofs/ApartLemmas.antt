@@ -15,7 +15,7 @@ use Rattle.roam_counters.specs.declared.event.CountedEvent.{CountedEvent}
 use Rattle.roam_counters.specs.declared.process.Process.{Process}
 
 -- rows of one length
-pub rows-apart : (a b m n : ℕ) → m < 102 → n < 102 → 102 * a + m ≡ 102 * b + n → (a ≡ b) × (m ≡ n)
+pub rows-apart : (a b m n : ℕ) → m < 103 → n < 103 → 103 * a + m ≡ 103 * b + n → (a ≡ b) × (m ≡ n)
 rows-apart a b m n small_m small_n is =
     elim (cases_lt a b) [
       | inl less ↦ absurd (omega (arith, small_m, is, less))
@@ -39,7 +39,7 @@ pub processes-apart : (p q : Process) → process_place p ≡ process_place q �
 processes-apart p q same =
     same-at all_processes (process_place p) (process_place q) p q same (process-at_place p) (process-at_place q)
 
-pub event-below : (a : CountedEvent) → event_place a < 102
+pub event-below : (a : CountedEvent) → event_place a < 103
 event-below a = slice_get_within all_events (event_place a) a (event-at_place a)
 
 pub process-below : (p : Process) → process_place p < 19

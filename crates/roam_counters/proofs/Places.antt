@@ -53,7 +53,7 @@ all_events =
     event.AnswerWithin delay.Within300 ∷ event.AnswerWithin delay.Within1000 ∷
     event.AnswerWithin delay.Within3000 ∷ event.AnswerWithin delay.Within10000 ∷
     event.AnswerWithin delay.Longer ∷ event.AnswerTime ∷ event.DroppedRequest ∷ event.DroppedReply ∷
-    event.DroppedSession ∷ event.LostSession ∷ []
+    event.DroppedSession ∷ event.LostSession ∷ event.Abandoned ∷ []
 
 -- each stands at its place
 pub event-at_place : (event : CountedEvent) → slice_get all_events (event_place event) ≡ Some event
@@ -159,6 +159,7 @@ event-at_place event.DroppedRequest = refl
 event-at_place event.DroppedReply = refl
 event-at_place event.DroppedSession = refl
 event-at_place event.LostSession = refl
+event-at_place event.Abandoned = refl
 
 abbrev pub all_processes : List Process
 all_processes =

@@ -1,12 +1,14 @@
 -- Which counts rise where something comes, and where it is refused. Ours.
-use Rattle.std.specs.Prelude.{List, [], ◌∷◌, Option, Some, None}
+use Rattle.std.specs.Prelude.{List, [], ◌∷◌, ◌++◌, Option, Some, None}
 use Rattle.std.specs.List.{flat_map}
 use Rattle.roam_wire.specs.declared.refusal.Refusal.{Refusal}
 use Rattle.roam_conf.specs.declared.place.Place.{Place}
 use Rattle.roam_conf.specs.declared.place.Place.TheVariants as place
 use Rattle.roam_exchange.specs.Happenings as happenings
 use Rattle.roam_exchange.specs.Happenings.{PlainHappening}
-use Rattle.roam_counters.specs.Increments.{due_increments, one}
+use Rattle.roam_exchange.specs.HappeningsShown.{left_in, shown_happening}
+use Rattle.roam_exchange.specs.declared.happening.Happening.{Happening}
+use Rattle.roam_counters.specs.Increments.{due_increments, left_increments, one}
 use Rattle.roam_counters.specs.Turns.{arrival_event, sender_of}
 use Rattle.roam_counters.specs.declared.cell.Subject.{Subject}
 use Rattle.roam_counters.specs.declared.cell.Subject.TheVariants as subject
@@ -62,3 +64,7 @@ abbrev pub tick_increments : PlainHappening → List (Option Increment)
 tick_increments (happenings.ticked dues) = flat_map due_increments dues
 tick_increments (happenings.refused why) = refused_here_increments why
 tick_increments _ = []
+
+-- and of each conversation that it says was left
+abbrev pub tick_counts : {A : Type 0} → Happening A → List (Option Increment)
+tick_counts h = tick_increments (shown_happening h) ++ flat_map left_increments (left_in h)

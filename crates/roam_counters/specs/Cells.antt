@@ -19,9 +19,9 @@ use Rattle.roam_counters.specs.declared.process.Process.{Process}
 --
 -- how many a list has
 abbrev pub cells : Holder → ℕ
-cells holder.Server = 121
-cells (holder.Realm realm) = 1020
-cells (holder.Peer peer) = 102
+cells holder.Server = 122
+cells (holder.Realm realm) = 1030
+cells (holder.Peer peer) = 103
 
 -- in whose list the events of a subject are counted
 abbrev pub holder_of : Subject → Holder
@@ -34,7 +34,7 @@ holder_of (subject.Peer peer) = holder.Peer peer
 abbrev pub first_cell : Subject → ℕ
 first_cell subject.All = 19
 first_cell (subject.Realm realm) = 0
-first_cell (subject.Server realm server) = 102 * (server + 1)
+first_cell (subject.Server realm server) = 103 * (server + 1)
 first_cell (subject.Peer peer) = 0
 
 abbrev pub cell_of : Subject → CountedEvent → ℕ

@@ -30,3 +30,4 @@ event_place event.DroppedRequest = 98
 event_place event.DroppedReply = 99
 event_place event.DroppedSession = 100
 event_place event.LostSession = 101
+event_place event.Abandoned = 102

@@ -7,9 +7,10 @@ use Rattle.roam_pending.specs.declared.key.Requester.{Requester}
 use Rattle.roam_pending.specs.declared.key.Requester.TheVariants as requester
 use Rattle.roam_exchange.specs.Happenings as happenings
 use Rattle.roam_exchange.specs.Happenings.{PlainDue, PlainHappening, PlainWaited}
-use Rattle.roam_exchange.specs.HappeningsShown.{shown_replaced}
+use Rattle.roam_exchange.specs.HappeningsShown.{shown_replaced, shown_waited}
 use Rattle.roam_exchange.specs.declared.happening.Became.{Became}
 use Rattle.roam_exchange.specs.declared.happening.Became.TheVariants as became
+use Rattle.roam_exchange.specs.declared.happening.LeftConversation.{LeftConversation}
 use Rattle.roam_exchange.specs.declared.happening.Waited.{Waited}
 use Rattle.roam_counters.specs.Delays.{delay_of}
 use Rattle.roam_counters.specs.Ends.{source_of, subject_of}
@@ -31,12 +32,13 @@ use Rattle.roam_counters.specs.declared.turn.CountedTurn.{CountedTurn}
 -- realm, its link and who sent it, that it was replaced. Of a reply that it was returned, of who asked too, and of the
 -- home server how long it took; of realm and peer that its session was lost, where it isn't kept. Of a tick: that a
 -- packet was sent again, of realm and link; that a request failed over, of its realm, its link and who sent it, and of
--- the realm and the new link that it was taken over; that it was given up, of the first three, and by which NAK. Of a
+-- the realm and the new link that it was taken over; that it was given up, of the first three, and by which NAK; that a
+-- conversation was left, of its realm, the home server whose Challenge was the last and who asked. Of a
 -- change of the configuration, of each realm: how many waiting requests, held replies and sessions it drops.
 -- Source: ours
 -- Rules out: a count that rises by what didn't happen, or of somebody else; a failover counted as a packet sent again
--- Stands in: `roam_counters` `Increments.antt`: `job_increments`, `due_increments`, `local_increments`,
--- `dropped_increments`; the functions of these names
+-- Stands in: `roam_counters` `Increments.antt`: `job_increments`, `due_increments`, `left_increments`,
+-- `local_increments`, `dropped_increments`; the functions of these names
 --
 -- one more of an event, where it is one
 abbrev pub one : Subject → Option CountedEvent → Option Increment
@@ -196,6 +198,11 @@ due_rows realm w (became.GivenUp by_nak) = of_given_up realm w by_nak
 -- by what became of a request in a tick
 abbrev pub due_increments : PlainDue → List (Option Increment)
 due_increments d = due_rows d.realm d.waited d.became
+
+-- by a conversation that was left: of its realm, of the home server whose Challenge was the last and of who asked
+abbrev pub left_increments : {A : Type 0} → LeftConversation A → List (Option Increment)
+left_increments l =
+    of_waited l.realm (shown_waited l.last) event.Abandoned ++ None ∷ None ∷ None ∷ None ∷ []
 
 -- by an answer of the broker's own
 abbrev pub local_increments : Option Subject → ℕ → List (Option Increment)

@@ -8,7 +8,7 @@ use crate::kinds::{NakCause, ReplyKind, RequestKind};
 use roam_wire::Refusal;
 
 /// How many events are told apart.
-pub const EVENTS: usize = 102;
+pub const EVENTS: usize = 103;
 
 /// What is counted of a realm, a home server or a peer.
 #[derive(Clone, Copy, PartialEq, Eq)]
@@ -58,13 +58,15 @@ pub enum CountedEvent {
     DroppedSession,
     /// There was no memory for a session: the reply was returned without it.
     LostSession,
+    /// A conversation was left: nobody went on from its last Challenge while that was held.
+    Abandoned,
 }
 
 impl CountedEvent {
     /// Its place among all events.
     pub fn place(self) -> usize
         ensures value { result ≡ spec.event_place self }
-        ensures below { result < 102 }
+        ensures below { result < 103 }
     {
         match self {
             CountedEvent::Request(kind) => kind.place(),
@@ -89,6 +91,7 @@ impl CountedEvent {
             CountedEvent::DroppedReply => 99,
             CountedEvent::DroppedSession => 100,
             CountedEvent::LostSession => 101,
+            CountedEvent::Abandoned => 102,
         }
     }
 }

@@ -219,7 +219,7 @@ pub fn job_increments<A: Allocator>(
         Happening::Nak { cause } => two_of_both(turn, nak_at_once(turn.code), nak_cause(*cause)),
         Happening::Forwarded { link, replaced, .. } => of_forwarded(turn, *link, replaced),
         Happening::Returned { code, waited } => of_returned(turn, *code, waited, now, wait),
-        Happening::Ticked(_) | Happening::Local { .. } => [None; 7],
+        Happening::Ticked(_, _) | Happening::Local { .. } => [None; 7],
     }
 }
 

@@ -7,7 +7,7 @@
 //! - what an arrival is counted as, and of whom | `CountedTurn::arrival`, `sender`; `end_at`, `Process::received`
 //! - which counts rise by what happened, of whom and by how much: by a packet for a realm, by what became of each request
 //!   in a tick, by an answer of the broker's own, by an arrival and a refusal, by what a change of the configuration drops |
-//!   `job_increments`, `due_increments`, `dropped_increments`, `local_increments`, `arrival_increments`, `failed_increments`, `refused_increments`, `refused_here_increments`
+//!   `job_increments`, `due_increments`, `left_increments`, `dropped_increments`, `local_increments`, `arrival_increments`, `failed_increments`, `refused_increments`, `refused_here_increments`
 //! - each datagram that was received is one that was taken, answered, refused or dropped, or one that failed: so many
 //!   together as were received, also of several threads | `Datagrams`: `balanced`; `Datagrams::after`, `and`
 //! - two counts stand at one place of one list only where they are one: of the same realm, home server or peer and of
@@ -28,6 +28,7 @@ mod event_of_code;
 mod increments;
 mod kinds;
 pub mod laws;
+mod left;
 mod own_counts;
 mod process;
 mod turn;
@@ -44,6 +45,7 @@ pub use end::{end_at, source_of, subject_of};
 pub use event::{CountedEvent, EVENTS};
 pub use increments::{Increment, Increments, job_increments, local_increments};
 pub use kinds::{NakCause, ReplyKind, RequestKind};
+pub use left::left_increments;
 pub use own_counts::{CountList, Counted, OwnCounts};
 pub use process::Process;
 pub use turn::CountedTurn;

@@ -15,10 +15,10 @@ use crate::event_counts::EventCounts;
 use roam_conf::{Config, Endpoint, Place};
 use roam_counters::{
     CountedTurn, Handling, Increment, Process, arrival_increments, due_increments, end_at,
-    failed_increments, job_increments, local_increments, refused_here_increments,
+    failed_increments, job_increments, left_increments, local_increments, refused_here_increments,
     refused_increments,
 };
-use roam_exchange::{DueHappening, Happening};
+use roam_exchange::{DueHappening, Happening, LeftConversation};
 use roam_wire::Refusal;
 use std::alloc::Global;
 
@@ -134,12 +134,25 @@ impl Counting<'_> {
         }
     }
 
-    /// What happened by a tick: it was refused, or something became of each request that was due and waited.
+    /// Which conversations were left.
+    fn left(&mut self, left: &[LeftConversation<Global>])
+        ensures { IsCounted self.old self.new (spec.left_counted left.now) }
+    {
+        for conversation in left {
+            self.add(&left_increments(conversation));
+        }
+    }
+
+    /// What happened by a tick: it was refused, or something became of each request that was due and waited, and
+    /// conversations were left.
     pub fn ticked(&mut self, happening: &Happening<Global>)
-        ensures { IsCounted self.old self.new (arrivals.tick_increments (shown_happening happening.now)) }
+        ensures { IsCounted self.old self.new (arrivals.tick_counts happening.now) }
     {
         match happening {
-            Happening::Ticked(dues) => self.dues(dues.as_slice()),
+            Happening::Ticked(dues, left) => {
+                self.dues(dues.as_slice());
+                self.left(left.as_slice());
+            }
             Happening::Refused(why) => self.refused_here(*why),
             _ => {}
         }

@@ -7,7 +7,8 @@ use Rattle.roam_exchange.specs.Happenings.{PlainDue}
 use Rattle.roam_exchange.specs.Memory.{HasRoom}
 use Rattle.roam_exchange.specs.declared.happening.Became.{Became}
 use Rattle.roam_exchange.specs.declared.happening.Became.TheVariants as became
-use Rattle.roam_exchange.specs.declared.happening.DueHappening.{DueHappening}
+use Rattle.roam_exchange.specs.declared.happening.Noted.{Noted}
+use Rattle.roam_exchange.specs.declared.happening.Noted.TheVariants as noted
 use Rattle.roam_exchange.specs.declared.due_action.DueAction.{DueAction}
 use Rattle.roam_exchange.specs.declared.due_action.DueAction.TheVariants as action
 
@@ -24,9 +25,16 @@ became_of (done reply deadline from) a = None
 became_of (waiting link id packet sends_left deadline signs) a = Some (became_by a)
 
 -- what is noted of it, if anything is
-abbrev pub noted_of : {A : Type 0} → Option (DueHappening A) → List PlainDue
-noted_of None = []
-noted_of (Some due) = shown_due due ∷ []
+abbrev pub noted_of : {A : Type 0} → Noted A → List PlainDue
+noted_of noted.Nothing = []
+noted_of (noted.Due due) = shown_due due ∷ []
+noted_of (noted.Left conversation) = []
+
+-- whether it is noted that its conversation was left
+abbrev pub notes_left : {A : Type 0} → Noted A → Bool
+notes_left noted.Nothing = false
+notes_left (noted.Due due) = false
+notes_left (noted.Left conversation) = true
 
 -- a buffer for the octets of a request, just where they are kept
 pub record HasRequestRoom {A : Type 0} (keeping : Bool) (size : ℕ) (buffer : Option (Vec ℕ A)) : Type 0 where

@@ -1,13 +1,14 @@
 -- What the code's happenings are seen as (ours).
-use Rattle.std.specs.Prelude.{ℕ, List, length, map, Option, option_map}
+use Rattle.std.specs.Prelude.{ℕ, List, [], length, map, Option, option_map}
 use Rattle.roam_exchange.specs.Happenings.{PlainDue, PlainHappening, PlainWaited}
 use Rattle.roam_exchange.specs.Happenings as happenings
 use Rattle.roam_exchange.specs.declared.happening.DueHappening.{DueHappening}
 use Rattle.roam_exchange.specs.declared.happening.Happening.{Happening}
 use Rattle.roam_exchange.specs.declared.happening.Happening.TheVariants as happening
+use Rattle.roam_exchange.specs.declared.happening.LeftConversation.{LeftConversation}
 use Rattle.roam_exchange.specs.declared.happening.Waited.{Waited}
 
--- a request that waited: when it came isn't seen
+-- a request that waited: when it came, and which round of its conversation it is, isn't seen
 abbrev pub shown_waited : {A : Type 0} → Waited A → PlainWaited
 shown_waited w = record {
   ticket = w.ticket;
@@ -37,10 +38,15 @@ shown_happening (happening.Nak cause) = happenings.nak cause
 shown_happening (happening.Forwarded ticket link replaced) =
     happenings.forwarded ticket link (shown_replaced replaced)
 shown_happening (happening.Returned code waited) = happenings.returned code (shown_waited waited)
-shown_happening (happening.Ticked dues) = happenings.ticked (shown_dues dues.items)
+shown_happening (happening.Ticked dues left) = happenings.ticked (shown_dues dues.items)
 shown_happening (happening.Local code) = happenings.answered_here code
 
 -- of how many requests it says what became of them in a tick
 abbrev pub dues_in : {A : Type 0} → Happening A → ℕ
-dues_in (happening.Ticked dues) = length dues.items
+dues_in (happening.Ticked dues left) = length dues.items
 dues_in _ = 0
+
+-- which conversations it says were left
+abbrev pub left_in : {A : Type 0} → Happening A → List (LeftConversation A)
+left_in (happening.Ticked dues left) = left.items
+left_in _ = []

@@ -6,13 +6,13 @@ ghost use Rattle.roam_route.specs.Admission.{PlainOut};
 ghost use Rattle.roam_route.specs.Shown.{shown_out};
 ghost use Rattle.roam_exchange.specs.Happenings as happenings;
 ghost use Rattle.roam_exchange.specs.Happenings.{PlainDue};
-ghost use Rattle.roam_exchange.specs.HappeningsShown.{shown_dues, shown_happening};
+ghost use Rattle.roam_exchange.specs.HappeningsShown.{left_in, shown_dues, shown_happening};
 ghost use Rattle.roam_exchange.specs.Turn.{shown_outs};
 ghost use Rattle.roam_exchange.specs.Dues.{noted_of};
 ghost use Rattle.roam_exchange.specs.Memory.{AreDues, IsOuts};
 
 use crate::answer::{Answer, Turned, refused_turn};
-use crate::happening::{DueHappening, Happening};
+use crate::happening::{DueHappening, Happening, LeftConversation, Noted};
 use crate::outs::Outs;
 use roam_route::Out;
 use roam_wire::{NoMemory, Refusal};
@@ -23,6 +23,7 @@ use std::alloc::Allocator;
 pub struct AnswerBuilder<A: Allocator> {
     pub sent: Vec<Out<A>, A>,
     pub dues: Vec<DueHappening<A>, A>,
+    pub left: Vec<LeftConversation<A>, A>,
 }
 
 impl<A: Allocator + Copy> AnswerBuilder<A> {
@@ -34,7 +35,8 @@ impl<A: Allocator + Copy> AnswerBuilder<A> {
     {
         let sent = Vec::with_capacity(alloc, places)?;
         let dues = Vec::with_capacity(alloc, places)?;
-        Ok(AnswerBuilder { sent, dues })
+        let left = Vec::with_capacity(alloc, places)?;
+        Ok(AnswerBuilder { sent, dues, left })
     }
 
     /// One packet more, where there is a place for it. Takes no memory.
@@ -48,16 +50,28 @@ impl<A: Allocator + Copy> AnswerBuilder<A> {
         self.sent.push_reserved(out);
     }
 
-    /// What became of one request more, if anything is noted of it, where there is a place for that. Takes no memory.
-    pub fn note(&mut self, due: Option<DueHappening<A>>)
+    /// Notes that a conversation was left, where there is a place for that. Takes no memory.
+    fn note_left(&mut self, left: LeftConversation<A>)
+        ensures dues { self.new.dues ≡ self.old.dues }
+        ensures outs { self.new.sent ≡ self.old.sent }
+    {
+        if self.left.len() < self.left.capacity() {
+            self.left.push_reserved(left);
+        }
+    }
+
+    /// What became of one entry more, if anything is noted of it, where there is a place for that. Takes no memory.
+    pub fn note(&mut self, noted: Noted<A>)
         requires place { vec_len self.old.dues < vec_capacity self.old.dues }
         ensures dues { (places : ℕ) (dues : List PlainDue) → AreDues (places + 1) dues self.old.dues
-            → AreDues places (dues ++ noted_of due) self.new.dues }
+            → AreDues places (dues ++ noted_of noted) self.new.dues }
         ensures count { length self.new.dues.items ≤ length self.old.dues.items + 1 }
         ensures outs { self.new.sent ≡ self.old.sent }
     {
-        if let Some(due) = due {
-            self.dues.push_reserved(due);
+        match noted {
+            Noted::Nothing => {}
+            Noted::Due(due) => self.dues.push_reserved(due),
+            Noted::Left(left) => self.note_left(left),
         }
     }
 
@@ -66,14 +80,15 @@ impl<A: Allocator + Copy> AnswerBuilder<A> {
         ensures packets { result.answer.outs ≡ self.sent.items }
         ensures refusal { result.answer.refusal ≡ None }
         ensures happening { shown_happening result.happening ≡ happenings.ticked (shown_dues self.dues.items) }
+        ensures left { left_in result.happening ≡ self.left.items }
     {
-        let AnswerBuilder { sent, dues } = self;
+        let AnswerBuilder { sent, dues, left } = self;
         Turned {
             answer: Answer {
                 outs: Outs::of_vec(sent),
                 refusal: None,
             },
-            happening: Happening::Ticked(dues),
+            happening: Happening::Ticked(dues, left),
         }
     }
 

@@ -1,7 +1,7 @@
 //! What became of an event: for the counts and the log.
 
 use roam_conf::Link;
-use roam_pending::{Key, Requester};
+use roam_pending::{Course, Key, Requester};
 use roam_wire::{Octets, Refusal};
 use std::alloc::Allocator;
 
@@ -12,6 +12,8 @@ pub struct Waited<A: Allocator> {
     pub requester: Requester,
     /// When it came in, in milliseconds.
     pub came: u64,
+    /// Which round of its conversation it is.
+    pub course: Course,
     /// Its code.
     pub code: u8,
     /// Where it waited.
@@ -32,6 +34,7 @@ impl<A: Allocator> Drop for Waited<A> {
             key: _,
             requester: _,
             came: _,
+            course: _,
             code: _,
             link: _,
             sends_left: _,
@@ -76,6 +79,35 @@ impl<A: Allocator> Drop for DueHappening<A> {
     }
 }
 
+/// A conversation that was left: the hold of a Challenge ended, and nobody had gone on from it. No rule and no packet
+/// rests on it.
+pub struct LeftConversation<A: Allocator> {
+    /// The index of its realm.
+    pub realm: u16,
+    /// The request that was answered by the Challenge: the link from which this came, and until when it was held. How
+    /// often the request was sent isn't kept: `sends_left` is 255.
+    pub last: Waited<A>,
+}
+
+// By hand, so that a proof sees one call wherever it ends, and the crates above prove nothing of it.
+impl<A: Allocator> Drop for LeftConversation<A> {
+    fn drop(self) {
+        let Self { realm: _, last } = self;
+        drop(last);
+    }
+}
+
+/// What is noted of an entry that was due.
+#[derive(Drop)]
+pub enum Noted<A: Allocator> {
+    /// Nothing: its reply was held so long.
+    Nothing,
+    /// What became of its request, which waited.
+    Due(DueHappening<A>),
+    /// That its conversation was left.
+    Left(LeftConversation<A>),
+}
+
 /// What happened by an event.
 #[derive(Drop)]
 pub enum Happening<A: Allocator> {
@@ -108,8 +140,8 @@ pub enum Happening<A: Allocator> {
         /// The request that waited for it.
         waited: Waited<A>,
     },
-    /// A shard's timer fired: what became of the requests that were due, in order.
-    Ticked(Vec<DueHappening<A>, A>),
+    /// A shard's timer fired: what became of the requests that were due, in order, and which conversations were left.
+    Ticked(Vec<DueHappening<A>, A>, Vec<LeftConversation<A>, A>),
     /// The broker answered by itself, before a realm was asked.
     Local {
         /// The answer's code.

@@ -9,7 +9,7 @@
 //! - what is forwarded for a request is its packet as the lists shape it, under the next free Identifier of its link,
 //!   with random words drawn where it is an Access-Request | `send_new`: `out`, `standing`, `next`
 //! - what becomes of an entry that is due is what is written, and what happened says so | `act_on_due`: `action`,
-//!   `became`; `happening_of`
+//!   `became`; `happening_of`; that a conversation was left, by its `left_by`
 //! - what comes of a reply for its entry is what is written, what happened says so, and one that isn't taken wants no
 //!   memory | `to_standing`: `turn`, `happening`, `succeeds`
 //! - the memory of a tick is taken before it begins, and none is wanted where nothing is due | `room_for`: `room`,
@@ -35,7 +35,7 @@ pub use buffers::Buffers;
 pub use due_action::{DueAction, act_on_due};
 pub use due_happening::{code_in, happening_of};
 pub use forwarding::{Hop, RequestRef, packet_to_requester, send_new};
-pub use happening::{Became, DueHappening, Happening, Waited};
+pub use happening::{Became, DueHappening, Happening, LeftConversation, Noted, Waited};
 pub use kept_request::waited_in;
 pub use outs::Outs;
 pub use reply_outcome::{ReplyOutcome, to_standing};

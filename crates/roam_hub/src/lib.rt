@@ -87,7 +87,7 @@ pub use roam_calls::{
     Answered, AuditFault, Audited, Blanks, Front, HubFault, LATE, MOST, Opened, Receipt, Refused,
     Report, Seat, Ticked, split,
 };
-pub use roam_exchange::{Became, DueHappening, Happening, Waited};
+pub use roam_exchange::{Became, DueHappening, Happening, LeftConversation, Waited};
 pub use roam_follow::{Declined, follow};
 pub use roam_pending::{Key, Requester};
 pub use roam_realm::{Gauges, Rest, SERVER_LINKS};

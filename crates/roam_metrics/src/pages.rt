@@ -12,8 +12,8 @@ use crate::named::{Named, all_named, push_count, push_named, push_standing};
 use crate::of_server::{OF_SERVER, OfServer};
 use crate::reply_families::{ANSWERED, ANSWERED_BY_TICK, NAKS, REFUSED, REPLIES, RETURNED};
 use crate::request_families::{
-    ANSWERED_AGAIN, CAME, DROPPED, DROPPED_REPLIES, DROPPED_SESSIONS, FAILED_OVER, FORWARDED,
-    GIVEN_UP, LOCAL_REJECTS, LOST_SESSIONS, REPLACED, SENT_AGAIN, TAKEN_OVER, WAITING,
+    ABANDONED, ANSWERED_AGAIN, CAME, DROPPED, DROPPED_REPLIES, DROPPED_SESSIONS, FAILED_OVER,
+    FORWARDED, GIVEN_UP, LOCAL_REJECTS, LOST_SESSIONS, REPLACED, SENT_AGAIN, TAKEN_OVER, WAITING,
 };
 use crate::samples::{Label, MetricKind, push_header, push_sample};
 use crate::times::push_times;
@@ -22,7 +22,7 @@ use roam_counters::Subject;
 use std::alloc::{AllocError, Global};
 
 /// What is told of realms, home servers and peers, in this order.
-static FAMILIES: [Family; 20] = [
+static FAMILIES: [Family; 21] = [
     CAME,
     FORWARDED,
     SENT_AGAIN,
@@ -31,6 +31,7 @@ static FAMILIES: [Family; 20] = [
     ANSWERED_AGAIN,
     FAILED_OVER,
     GIVEN_UP,
+    ABANDONED,
     REPLACED,
     DROPPED,
     DROPPED_REPLIES,

@@ -128,6 +128,15 @@ pub(crate) const GIVEN_UP: Family = Family {
     samples: &[("", CountedEvent::GivenUp)],
 };
 
+pub(crate) const ABANDONED: Family = Family {
+    realm: "roam_realm_abandoned_total",
+    server: "roam_server_abandoned_total",
+    peer: "roam_peer_abandoned_total",
+    help: "Logins that stopped midway: no request followed the last Access-Challenge within hold.",
+    label: None,
+    samples: &[("", CountedEvent::Abandoned)],
+};
+
 pub(crate) const REPLACED: Family = Family {
     realm: "roam_realm_replaced_total",
     server: "roam_server_replaced_total",

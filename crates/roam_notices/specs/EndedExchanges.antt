@@ -1,14 +1,16 @@
 -- The line of an exchange that ended, from the request that waited. Ours.
-use Rattle.std.specs.Prelude.{◌≡◌, ℕ, ◌-◌, List, Option, Some, None, option_and_then, option_map, slice_get}
+use Rattle.std.specs.Prelude.{◌≡◌, ℕ, ◌-◌, ◌||◌, List, Option, Some, None, option_and_then, option_map, slice_get, nat_lt, if◌then◌else◌}
 use Rattle.std.specs.Option.{option_map_or}
 use Rattle.roam_wire.specs.Reading.{reading}
 use Rattle.roam_conf.specs.Config.{ConfigView, RealmView, ServerView}
 use Rattle.roam_address.specs.declared.endpoint.Endpoint.{Endpoint}
 use Rattle.roam_conf.specs.declared.place.Link.{Link}
 use Rattle.roam_conf.specs.declared.place.Link.TheVariants as link
+use Rattle.roam_pending.specs.declared.course.Course.{Course}
 use Rattle.roam_pending.specs.declared.key.Requester.{Requester}
 use Rattle.roam_pending.specs.declared.key.Requester.TheVariants as requester
 use Rattle.roam_exchange.specs.Happenings.{PlainWaited}
+use Rattle.roam_notices.specs.Exchanges.{is_abandoned}
 use Rattle.roam_notices.specs.Said.{AreTold, charged_by}
 use Rattle.roam_notices.specs.Values.{no_value, octets_if}
 use Rattle.roam_notices.specs.declared.details.Details.{Details}
@@ -72,3 +74,7 @@ pub record IsLineOf (config : ConfigView) (index : ℕ) (w : PlainWaited) (endin
   pub server : x.server ≡ server_of config.realms index w
   pub tries : x.tries ≡ tries_of config.realms index w.sends_left
   pub times : x.times ≡ 1
+
+-- which round of its conversation is told: any after the first, and the last one where the conversation was left
+abbrev pub rounds_of : Course → ExchangeEnd → ℕ
+rounds_of course end = if is_abandoned end || nat_lt 1 course.round then course.round else 0

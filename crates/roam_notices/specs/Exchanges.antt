@@ -22,7 +22,8 @@ use Rattle.roam_stations.specs.declared.form.StationForm.TheVariants as form
 -- ## Line of an exchange
 -- How it ended, by the code of what was returned; what was asked; the realm's and the peer's name, User-Name
 -- and Calling-Station-Id between quotation marks, each octet that isn't printable in ASCII, a quotation mark or
--- a reverse solidus written by two hexadecimal digits; the home server; milliseconds; tries; and its details. What is
+-- a reverse solidus written by two hexadecimal digits; the home server; milliseconds; tries; of a login with several
+-- rounds how many, and the milliseconds since the first; and its details. What is
 -- written of a value is printable, and reads back as that value. For a station its hash may stand, in 16 digits.
 -- Source: ours; RFC 20 (printable)
 -- Rules out: a User-Name that forges a line or ends its value; a station in clear where its hash is wanted
@@ -43,15 +44,22 @@ outcome_of code =
     else if code == 45 then Some outcome.Nak
     else None
 
--- an accept, a reject, an answer to session control, or none from any server: what ends a login, and not a round of EAP
+-- an accept, a reject, an answer to session control, none from any server, or a conversation that was left: what ends a
+-- login, and not a round of EAP
 abbrev pub is_final : ExchangeEnd → Bool
 is_final outcome.Challenge = false
 is_final outcome.Response = false
 is_final outcome.Replaced = false
 is_final _ = true
 
+-- a conversation was left
+abbrev pub is_abandoned : ExchangeEnd → Bool
+is_abandoned outcome.Abandoned = true
+is_abandoned _ = false
+
 -- ## Exchanges of which a line tells
--- All; or final ones, which are those of an accept, a reject, session control, or no answer of any server; or none.
+-- All; or final ones, which are those of an accept, a reject, session control, no answer of any server, or a
+-- conversation that was left; or none.
 -- Source: ours
 -- Stands in: `roam_notices` `Exchanges.antt`: `is_final`, `is_told`; `ExchangeEnd::is_told`, `Exchanges::are_told`;
 -- `roam_conf_reader` `Values.antt`: `exchange_lines`
@@ -93,6 +101,7 @@ outcome_word outcome.Nak = codes "nak"
 outcome_word outcome.GivenUp = codes "given_up"
 outcome_word outcome.Replaced = codes "replaced"
 outcome_word outcome.LocalReject = codes "local_reject"
+outcome_word outcome.Abandoned = codes "abandoned"
 
 abbrev pub asked_word : RequestWord → List ℕ
 asked_word asked.Access = codes "access"
@@ -139,6 +148,16 @@ why_text (Some cause) = codes " why=" ++ cause_word cause
 abbrev pub more_text : Exchange → List ℕ
 more_text exchange = why_text exchange.why ++ times_text exchange.times ++ details_text exchange.details
 
+-- which round of its conversation it was, and how long this took from its first request on, where that is told
+abbrev pub rounds_text : ℕ → ℕ → List ℕ
+rounds_text rounds milliseconds =
+    if rounds == 0
+    then []
+    else (codes " rounds=" ++ decimal rounds ++ codes " login_ms=" ++ decimal milliseconds)
+
+abbrev pub further_text : Exchange → List ℕ
+further_text exchange = rounds_text exchange.rounds exchange.since_first ++ more_text exchange
+
 -- for whom it was, where it went, how long it took, and what else is said
 abbrev pub rest_text : StationForm → Exchange → List ℕ
 rest_text form exchange =
@@ -147,7 +166,7 @@ rest_text form exchange =
     server_text exchange.server ++
     codes " ms=" ++ decimal exchange.milliseconds ++
     codes " tries=" ++ decimal exchange.tries ++
-    more_text exchange
+    further_text exchange
 
 -- the line
 abbrev pub exchange_text : ConfigView → StationForm → Exchange → List ℕ

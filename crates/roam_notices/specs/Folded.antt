@@ -39,6 +39,8 @@ unsaid end = record {
   station = no_value;
   milliseconds = 0;
   tries = 0;
+  rounds = 0;
+  since_first = 0;
   times = 1;
   details = no_details;
 }

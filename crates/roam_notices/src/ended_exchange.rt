@@ -10,7 +10,7 @@ use crate::exchange::{Exchange, ExchangeEnd};
 use crate::said::{keep_charged, say};
 use roam_conf::{Config, Endpoint, Link};
 use roam_exchange::Waited;
-use roam_pending::Requester;
+use roam_pending::{Course, Requester};
 use std::alloc::Allocator;
 
 /// The endpoint of a realm's link to a home server; none where the link is a peer's, or isn't configured.
@@ -56,6 +56,18 @@ fn server_of<A: Allocator>(config: &Config, realm: u16, waited: &Waited<A>) -> O
     }
 }
 
+/// Returns which round of its conversation is told of an exchange that ended so: any after the first, and the last one
+/// where the conversation was left; else 0.
+fn rounds_of(course: Course, outcome: ExchangeEnd) -> u32
+    ensures { result ≡ spec.rounds_of course outcome }
+{
+    if outcome.is_abandoned() || course.round > 1 {
+        course.round
+    } else {
+        0
+    }
+}
+
 /// How an exchange ended at a moment: with this reply, or with none, which has no octets.
 #[derive(Clone, Copy)]
 pub struct EndedWith<'r> {
@@ -78,6 +90,8 @@ pub fn tell_of<A: Allocator>(
     ensures line { IsTrue result → IsLineOf (shown config.now) realm (shown_waited waited.now) ended.entry.outcome
         ended.entry.reply.now exchange.new }
     ensures time { IsTrue result → exchange.new.milliseconds ≡ ended.entry.now - waited.now.came }
+    ensures rounds { IsTrue result → exchange.new.rounds ≡ spec.rounds_of waited.now.course ended.entry.outcome }
+    ensures since { IsTrue result → exchange.new.since_first ≡ ended.entry.now - waited.now.course.began }
 {
     let octets = match &waited.octets {
         Some(octets) => octets.as_slice(),
@@ -89,6 +103,8 @@ pub fn tell_of<A: Allocator>(
     exchange.server = server_of(config, realm, waited);
     exchange.milliseconds = ended.now.saturating_sub(waited.came);
     exchange.tries = tries_of(config, realm, waited.sends_left);
+    exchange.rounds = rounds_of(waited.course, ended.outcome);
+    exchange.since_first = ended.now.saturating_sub(waited.course.began);
     keep_charged(&mut exchange.details.charged, ended.reply);
     true
 }

@@ -29,6 +29,8 @@ pub enum ExchangeEnd {
     Replaced,
     /// The broker rejected it by itself.
     LocalReject,
+    /// Its Challenge was returned, and no request went on from it while it was held.
+    Abandoned,
 }
 
 /// A request's code, as a line names it.
@@ -67,6 +69,10 @@ pub struct Exchange {
     pub milliseconds: u64,
     /// How often it was sent to that server or peer.
     pub tries: u8,
+    /// Which round of its conversation it was, from 1 on; 0 where no line tells that.
+    pub rounds: u32,
+    /// From the first request of its conversation to its end, in milliseconds.
+    pub since_first: u64,
     /// How many were like it within a second: local rejects, or replaced requests, that are alike are one line.
     pub times: u64,
     /// The User-Name and the Calling-Station-Id of the request.
@@ -104,7 +110,26 @@ impl ExchangeEnd {
             | ExchangeEnd::Ack
             | ExchangeEnd::Nak
             | ExchangeEnd::GivenUp
-            | ExchangeEnd::LocalReject => true,
+            | ExchangeEnd::LocalReject
+            | ExchangeEnd::Abandoned => true,
+        }
+    }
+
+    /// Returns whether a conversation was left.
+    pub(crate) fn is_abandoned(self) -> bool
+        ensures { result ≡ spec.is_abandoned self }
+    {
+        match self {
+            ExchangeEnd::Abandoned => true,
+            ExchangeEnd::Accept
+            | ExchangeEnd::Reject
+            | ExchangeEnd::Challenge
+            | ExchangeEnd::Response
+            | ExchangeEnd::Ack
+            | ExchangeEnd::Nak
+            | ExchangeEnd::GivenUp
+            | ExchangeEnd::Replaced
+            | ExchangeEnd::LocalReject => false,
         }
     }
 
@@ -151,6 +176,8 @@ impl Exchange {
             station: Value::none(),
             milliseconds: 0,
             tries: 0,
+            rounds: 0,
+            since_first: 0,
             times: 1,
             details: Details::none(),
         }

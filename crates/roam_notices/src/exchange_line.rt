@@ -123,6 +123,7 @@ fn outcome_word(outcome: ExchangeEnd) -> &'static str
         ExchangeEnd::GivenUp => "given_up",
         ExchangeEnd::Replaced => "replaced",
         ExchangeEnd::LocalReject => "local_reject",
+        ExchangeEnd::Abandoned => "abandoned",
     }
 }
 
@@ -216,7 +217,26 @@ fn push_more(line: &mut Vec<u8>, exchange: &Exchange) -> Result<(), AllocError>
     push_details(line, &exchange.details)
 }
 
-/// Adds for whom it was, where it went, how long it took, and what `push_more` adds.
+/// Adds which round of its conversation it was, and how long this took so far, where that is told.
+fn push_rounds(line: &mut Vec<u8>, rounds: u32, since_first: u64) -> Result<(), AllocError>
+    ensures { OnOk result (line.new.items ≡ line.old.items ++ spec.rounds_text rounds since_first) }
+{
+    if rounds == 0 {
+        return Ok(());
+    }
+    push_number(line, " rounds=", u64::from(rounds))?;
+    push_number(line, " login_ms=", since_first)
+}
+
+/// Adds that, and what `push_more` adds.
+fn push_further(line: &mut Vec<u8>, exchange: &Exchange) -> Result<(), AllocError>
+    ensures { OnOk result (line.new.items ≡ line.old.items ++ spec.further_text exchange.now) }
+{
+    push_rounds(line, exchange.rounds, exchange.since_first)?;
+    push_more(line, exchange)
+}
+
+/// Adds for whom it was, where it went, how long it took, and what `push_further` adds.
 fn push_rest(
     line: &mut Vec<u8>,
     stations: &StationForm,
@@ -230,7 +250,7 @@ fn push_rest(
     push_server(line, exchange.server)?;
     push_number(line, " ms=", exchange.milliseconds)?;
     push_number(line, " tries=", u64::from(exchange.tries))?;
-    push_more(line, exchange)
+    push_further(line, exchange)
 }
 
 /// Adds the line of an exchange, with its station in this form: no octet stands in it that isn't printable in ASCII,

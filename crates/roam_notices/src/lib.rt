@@ -12,7 +12,8 @@
 //!   that of the place's realm, and the line's text has it, the number, the name, the place, the source and the
 //!   count, and nothing else | `Repeats::take_first`, `RefusedText::new`, what its `Display` writes
 //! - the line of an exchange that ended is of the request that waited: its realm, who asked, the home server, how often it
-//!   was sent there, and what its own octets say | `tell_of`
+//!   was sent there, and what its own octets say; of a login with several rounds how many, and the time since the first
+//!   | `tell_of`
 //! - the line of an exchange has its words, numbers and endpoints, and its values between quotation marks; what
 //!   is written of a value is printable in ASCII, and reads back as that value, whatever octets it has |
 //!   `push_exchange`; laws `values_are_printable`, `values_read_back`

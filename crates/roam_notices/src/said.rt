@@ -84,6 +84,8 @@ fn begin(exchange: &mut Exchange, outcome: ExchangeEnd)
     exchange.server = None;
     exchange.milliseconds = 0;
     exchange.tries = 0;
+    exchange.rounds = 0;
+    exchange.since_first = 0;
     exchange.times = 1;
 }
 

@@ -1,5 +1,5 @@
 -- The entry at a place of the code's list stands otherwise, or has other ends.
-use Rattle.std.proofs.Common.{◌≡◌, ℕ, ◌<◌, List, Option, Some, ap, sym, ◌∙◌, subst, length, get_or}
+use Rattle.std.proofs.Common.{◌≡◌, ℕ, ◌<◌, List, [], ◌∷◌, zero, suc, Option, Some, ap, sym, ◌∙◌, subst, length, get_or, arith}
 use Rattle.std.specs.Prelude.{IfSome, IsSomeAnd, MatchOption}
 use Rattle.std.proofs.Math.ListN.{set}
 use Rattle.roam_pending.specs.declared.entry.Entry.{Entry}
@@ -75,3 +75,12 @@ module _ {A : Type 0} (t : ℕ) (es : List (Entry A)) (i : ℕ) (old : Entry A)
         subst (λ (o : Option PlainEntry).
         MatchOption o (new ≡ shown_all es) (λ e. new ≡ put (change e) (shown_all es))) (sym found)
         (puts-entry ∙ ap (λ (e : PlainEntry). put e (shown_all es)) same)
+
+-- an entry that shows the same stands there
+pub shown-stays : {A : Type 0} (es : List (Entry A)) (i : ℕ) (old now : Entry A) → i < length es
+    → old ≡ get_or es i old → shown now ≡ shown old → shown_all (set es i now) ≡ shown_all es
+shown-stays [] i old now within is same = absurd (omega (arith, within))
+shown-stays {A} (e ∷ es) zero old now within is same =
+    ap (λ (x : PlainEntry). x ∷ shown_all es) (same ∙ ap (λ (x : Entry A). shown x) is)
+shown-stays (e ∷ es) (suc i) old now within is same =
+    ap (λ (l : List PlainEntry). shown e ∷ l) (shown-stays es i old now (omega (arith, within)) is same)

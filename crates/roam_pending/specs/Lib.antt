@@ -1,6 +1,7 @@
 pub mod PlainEntry
 pub mod EntryList
 pub mod Conversations
+pub mod Courses
 pub mod DueOrder
 pub mod Shown
 pub mod Realms

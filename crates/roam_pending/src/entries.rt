@@ -12,6 +12,7 @@ ghost use Rattle.roam_pending.specs.Realms.{RealmBecomes, Puts, PutsChanged, sen
 ghost use Rattle.roam_pending.specs.Realms.{with_standing};
 ghost use Rattle.roam_pending.specs.Shown.{shown, shown_standing, seen, taken};
 
+use crate::course::Course;
 use crate::due::Due;
 use crate::entry::{Entry, Standing};
 use crate::key::Key;
@@ -139,6 +140,13 @@ pub trait Entries<A: Allocator> {
     /// where it does, and a held reply keeps no link. Takes no memory, and no room.
     fn set_ends(&mut self, realm: u16, ticket: u64, home: Option<u8>, link: Option<Link>)
         ensures entries { PutsChanged (with_ends home link) realm ticket (entries_of self.old) (entries_of self.new) }
+        ensures room { room_for self.old realm ≤ room_for self.new realm }
+        ensures keeps { keeps self.new ≡ keeps self.old };
+
+    /// Gives the entry of a ticket this course, where the realm has that entry. No rule reads a course, so nothing
+    /// changes that a contract sees. Takes no memory, and no room.
+    fn set_course(&mut self, realm: u16, ticket: u64, course: Course)
+        ensures entries { entries_of self.new ≡ entries_of self.old }
         ensures room { room_for self.old realm ≤ room_for self.new realm }
         ensures keeps { keeps self.new ≡ keeps self.old };
 }

@@ -19,6 +19,7 @@ ghost use Rattle.std.specs.Prelude.{◌≡◌};
 ghost use Rattle.roam_pending.specs.Realms.{waits_on, with_ends, with_link};
 ghost use Rattle.roam_pending.specs.Shown.{shown, shown_standing};
 
+use crate::course::Course;
 use crate::key::{Key, Requester};
 use roam_conf::Link;
 use roam_wire::Octets;
@@ -31,8 +32,10 @@ pub struct Request<A: Allocator> {
     pub requester: Requester,
     /// The octets up to Length.
     pub octets: Octets<A>,
-    /// When it came in, in milliseconds. No rule reads it, and nothing tells it yet.
+    /// When it came in, in milliseconds. No rule reads it: lines tell it.
     pub came: u64,
+    /// Which round of its conversation it is. No rule reads it: lines and counts tell it.
+    pub course: Course,
 }
 
 /// A request that was forwarded and has no reply yet.

@@ -11,9 +11,11 @@
 //!
 //! - entries are a list in order of ticket, whatever keeps them; of a peer's that keep a State the last is found
 //!   | `Pending`, the trait `Entries`, laws
+//! - a conversation is left where a held Challenge with a State ends from which nobody went on | `is_left`
 #![tactic(auto)]
 
 mod conversations;
+mod course;
 mod due;
 mod entries;
 mod entry;
@@ -25,6 +27,7 @@ mod pending;
 mod updates;
 
 pub use conversations::{challenge_state, is_round};
+pub use course::{Course, is_left};
 pub use due::Due;
 pub use entries::Entries;
 pub use entry::{Done, Entry, Request, Standing, Waiting};

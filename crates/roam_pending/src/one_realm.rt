@@ -1,5 +1,6 @@
 //! A plain list as what keeps the entries of its one realm.
 
+use crate::course::Course;
 use crate::due::Due;
 use crate::entries::Entries;
 use crate::entry::{Entry, Standing};
@@ -115,6 +116,12 @@ impl<A: Allocator> Entries<A> for Pending<A> {
     fn set_ends(&mut self, realm: u16, ticket: u64, home: Option<u8>, link: Option<Link>) {
         if realm == self.realm() {
             self.set_ends(ticket, home, link);
+        }
+    }
+
+    fn set_course(&mut self, realm: u16, ticket: u64, course: Course) {
+        if realm == self.realm() {
+            self.set_course(ticket, course);
         }
     }
 }

@@ -11,6 +11,7 @@ ghost use Rattle.roam_pending.specs.Realms.{IsChanged, sent_again, with_ends, wi
 ghost use Rattle.roam_pending.specs.Shown.{shown, shown_standing, seen, taken};
 
 use crate::conversations::round_in;
+use crate::course::Course;
 use crate::due::Due;
 use crate::entry::{Entry, Standing};
 use crate::key::Key;
@@ -240,6 +241,15 @@ impl<A: Allocator> Pending<A> {
     {
         if let Some(place) = place_of(&self.entries, ticket) {
             self.entries[place].set_ends(home, link);
+        }
+    }
+
+    /// Gives the entry of a ticket this course, as `Entries::set_course` says. Takes no memory.
+    pub fn set_course(&mut self, ticket: u64, course: Course)
+        ensures { self.new ≡ self.old }
+    {
+        if let Some(place) = place_of(&self.entries, ticket) {
+            self.entries[place].request.course = course;
         }
     }
 }

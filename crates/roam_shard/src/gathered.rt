@@ -8,7 +8,7 @@ ghost use Rattle.roam_core.specs.HappeningsTo.{dues_told};
 ghost use Rattle.roam_shard.specs.Private.Rooms.{HasPlaces};
 
 use crate::answers::append_reserved;
-use roam_exchange::{Answer, DueHappening, Happening, Outs, Turned};
+use roam_exchange::{Answer, DueHappening, Happening, LeftConversation, Outs, Turned};
 use roam_route::Out;
 use roam_wire::NoMemory;
 use std::alloc::Allocator;
@@ -17,6 +17,7 @@ use std::alloc::Allocator;
 pub(crate) struct Gathered<A: Allocator> {
     pub sent: Vec<Out<A>, A>,
     pub dues: Vec<DueHappening<A>, A>,
+    pub left: Vec<LeftConversation<A>, A>,
 }
 
 /// Appends what became of requests, for which there are places. Takes no memory.
@@ -29,6 +30,15 @@ fn append_dues<A: Allocator>(dues: &mut Vec<DueHappening<A>, A>, mut more: Vec<D
     dues.append(&mut more).unwrap();
 }
 
+/// Appends which conversations were left. Where there are places for all of them it takes no memory; where there are
+/// not, and none is to be had, they aren't told.
+fn append_left<A: Allocator>(
+    left: &mut Vec<LeftConversation<A>, A>,
+    mut more: Vec<LeftConversation<A>, A>,
+) {
+    let _told = left.append(&mut more);
+}
+
 impl<A: Allocator + Copy> Gathered<A> {
     /// None of either yet, and places for so many of each.
     pub(crate) fn new(alloc: A, most: usize) -> Result<Gathered<A>, NoMemory>
@@ -38,7 +48,8 @@ impl<A: Allocator + Copy> Gathered<A> {
     {
         let sent = Vec::with_capacity(alloc, most)?;
         let dues = Vec::with_capacity(alloc, most)?;
-        Ok(Gathered { sent, dues })
+        let left = Vec::with_capacity(alloc, most)?;
+        Ok(Gathered { sent, dues, left })
     }
 
     /// None of either, and no places. Takes no memory.
@@ -49,6 +60,7 @@ impl<A: Allocator + Copy> Gathered<A> {
         Gathered {
             sent: Vec::new(alloc),
             dues: Vec::new(alloc),
+            left: Vec::new(alloc),
         }
     }
 
@@ -63,8 +75,9 @@ impl<A: Allocator + Copy> Gathered<A> {
             → HasPlaces (most + n) self.old → HasPlaces n self.new }
     {
         append_reserved(&mut self.sent, turned.answer.outs);
-        if let Happening::Ticked(dues) = turned.happening {
+        if let Happening::Ticked(dues, left) = turned.happening {
             append_dues(&mut self.dues, dues);
+            append_left(&mut self.left, left);
         }
     }
 
@@ -74,13 +87,13 @@ impl<A: Allocator + Copy> Gathered<A> {
         ensures refusal { result.answer.refusal ≡ None }
         ensures happening { shown_happening result.happening ≡ ticked (shown_dues self.dues.items) }
     {
-        let Gathered { sent, dues } = self;
+        let Gathered { sent, dues, left } = self;
         Turned {
             answer: Answer {
                 outs: Outs::of_vec(sent),
                 refusal: None,
             },
-            happening: Happening::Ticked(dues),
+            happening: Happening::Ticked(dues, left),
         }
     }
 }

@@ -22,6 +22,7 @@ impl Display for TotalsText {
             taken_over,
             failed_over,
             given_up,
+            abandoned,
             duplicates,
             replies,
             returned,
@@ -38,7 +39,7 @@ impl Display for TotalsText {
         )?;
         write!(
             f,
-            ",\"duplicates\":{duplicates},\"replies\":{replies},\"returned\":{returned}"
+            ",\"abandoned\":{abandoned},\"duplicates\":{duplicates},\"replies\":{replies},\"returned\":{returned}"
         )?;
         write!(
             f,

@@ -14,7 +14,7 @@ use std::fmt::Display;
 const IDENTIFIERS: usize = 256;
 
 /// The heads of the columns of realms. The first column of each table stands left.
-const OF_REALMS: [&str; 10] = [
+const OF_REALMS: [&str; 11] = [
     "REALM",
     "WAITING",
     "HELD",
@@ -23,6 +23,7 @@ const OF_REALMS: [&str; 10] = [
     "FORWARDED",
     "RETURNED",
     "GIVEN UP",
+    "ABANDONED",
     "DUPLICATES",
     "REFUSED",
 ];
@@ -141,6 +142,7 @@ fn write_realms<C: Counts>(
             totals.forwarded,
             totals.returned,
             totals.given_up,
+            totals.abandoned,
             totals.duplicates,
             totals.refused,
         ])?;

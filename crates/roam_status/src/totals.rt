@@ -15,6 +15,7 @@ pub struct Totals {
     pub taken_over: u64,
     pub failed_over: u64,
     pub given_up: u64,
+    pub abandoned: u64,
     pub duplicates: u64,
     pub replies: u64,
     pub returned: u64,
@@ -41,6 +42,7 @@ impl Totals {
             taken_over: sum_of(counts, subject, &TAKEN_OVER),
             failed_over: counts.event(subject, CountedEvent::FailedOver),
             given_up: counts.event(subject, CountedEvent::GivenUp),
+            abandoned: counts.event(subject, CountedEvent::Abandoned),
             duplicates: counts
                 .event(subject, CountedEvent::Waiting)
                 .wrapping_add(counts.event(subject, CountedEvent::AnsweredAgain)),

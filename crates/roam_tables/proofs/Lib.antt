@@ -28,3 +28,4 @@ pub mod RoundRunLemmas
 pub mod EndsLemmas
 pub mod LastRoundLemmas
 pub mod RoundFoundLemmas
+pub mod CourseLemmas

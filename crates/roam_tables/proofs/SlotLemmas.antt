@@ -1,7 +1,7 @@
 -- The entry of a slot changes.
-use Rattle.std.proofs.Common.{◌≡◌, ℕ, ◌<◌, Some, None, ap, sym, ◌∙◌, subst, length, get_or, inl, inr}
+use Rattle.std.proofs.Common.{◌≡◌, ℕ, ◌<◌, Option, Some, None, refl, ap, sym, ◌∙◌, subst, length, get_or, inl, inr}
 use Rattle.std.specs.Prelude.{option_map, IfSome}
-use Rattle.std.proofs.lemmas.Bool.{cases_lt}
+use Rattle.std.proofs.lemmas.Bool.{cases_eq, cases_lt}
 use Rattle.std.proofs.lemmas.List.{get_or-set_same, get_or-set_other, get_or_past}
 use Rattle.slab.specs.Slab as slab
 use Rattle.slab.specs.Slab.{Slab, with_value}
@@ -41,3 +41,23 @@ pub of_slot : {A : Type 0} (s : Slab (Slot A)) (i : ℕ) (slot : Slot A) (Says :
     → slab.get s i ≡ Some slot → Says (stored slot) → IfSome (place s i) Says
 of_slot s i slot Says at says =
     subst (λ o. IfSome (option_map stored o) Says) (sym at) says
+
+-- an entry that isn't changed
+held_so : (o : Option Stored) → o ≡ changed (λ e. e) o
+held_so None = refl
+held_so (Some x) = refl
+
+-- the entry of a slot is given what isn't seen: all slots hold what they held
+pub same_places : {A : Type 0} (s : Slab (Slot A)) (i : ℕ) (old : Slot A) (w : Entry A)
+    → slab.get s i ≡ Some old → shown w ≡ shown old.entry
+    → place (with_value s i (record { realm = old.realm; entry = w })) ≡ place s
+same_places {A} s i old w at is =
+    let s2 = with_value s i (record { realm = old.realm; entry = w }) in
+    let puts = puts_entry s i old w (λ e. e) at is in
+    let here : place s2 i ≡ place s i = puts.changed ∙ sym (held_so (place s i)) in
+    let each : (j : ℕ) → place s2 j ≡ place s j =
+    λ j. elim (cases_eq j i) as (λ _. place s2 j ≡ place s j) [
+      | inl eq ↦ subst (λ (k : ℕ). place s2 k ≡ place s k) (sym eq) here
+      | inr ne ↦ puts.others j ne
+    ] in
+    λ k j. each j k

@@ -10,7 +10,7 @@ ghost use Rattle.roam_tables.specs.Stands.{changed, place, slab_room, stored};
 
 use crate::due_mark::{DueMark, mark_of};
 use roam_conf::Link;
-use roam_pending::{Entry, Standing};
+use roam_pending::{Course, Entry, Standing};
 use slab::Slab;
 use std::alloc::Allocator;
 use std::mem;
@@ -107,6 +107,18 @@ pub(crate) fn set_ends<A: Allocator>(
 {
     match slots.get_mut(at) {
         Some(slot) => slot.entry.set_ends(home, link),
+        None => unreachable!(),
+    }
+}
+
+/// Gives a slot's entry this course, which no contract sees.
+pub(crate) fn set_course<A: Allocator>(slots: &mut Slab<Slot<A>, A>, at: usize, course: Course)
+    requires { IsSome (place slots.old at) }
+    ensures place { place slots.new ≡ place slots.old }
+    ensures room { slab_room slots.old ≤ slab_room slots.new }
+{
+    match slots.get_mut(at) {
+        Some(slot) => slot.entry.request.course = course,
         None => unreachable!(),
     }
 }

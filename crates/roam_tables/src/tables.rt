@@ -20,11 +20,11 @@ use crate::realm_queues::RealmQueues;
 use crate::realms::{add_at, add_empty, change_at, no_entries, runs_of, take_at};
 use crate::round_runs::{RoundIndex, RoundKey, run_of};
 use crate::rounds::{go, hashes_in, kept_hash, lost_hash_in, move_round};
-use crate::slots::{Slot, entry_in, exchange, put, send_again, set_ends, take};
+use crate::slots::{Slot, entry_in, exchange, put, send_again, set_course, set_ends, take};
 use indexmap::IndexMap;
 use roam_conf::Link;
 use roam_hash::HashKey;
-use roam_pending::{Due, Entries, Entry, Key, Standing};
+use roam_pending::{Course, Due, Entries, Entry, Key, Standing};
 use roam_wire::NoMemory;
 use slab::Slab;
 use std::alloc::Allocator;
@@ -274,6 +274,12 @@ impl<A: Allocator + Copy> Entries<A> for Tables<A> {
             let from = lost_hash_in(&self.slots, at, self.key, link);
             go(&mut self.rounds, realm, ticket, from);
             set_ends(&mut self.slots, at, home, link);
+        }
+    }
+
+    fn set_course(&mut self, realm: u16, ticket: u64, course: Course) {
+        if let Some(at) = ticket_slot(&self.by_ticket, TicketKey { realm, ticket }) {
+            set_course(&mut self.slots, at, course);
         }
     }
 }

@@ -3,12 +3,11 @@ use Rattle.std.proofs.Common.{◌≡◌, ℕ, Option, Some, None, subst}
 use Rattle.std.specs.declared.alloc.Global.{Global}
 use Rattle.roam_counters.specs.OwnCounts.{raised_all}
 use Rattle.roam_conf.specs.declared.exchange_lines.ExchangeLines.{ExchangeLines}
-use Rattle.roam_exchange.specs.HappeningsShown.{shown_happening}
 use Rattle.roam_calls.specs.HubOpening.{HubOpening}
 use Rattle.roam_calls.specs.Seats.{SeatView}
 use Rattle.roam_calls.specs.Calls.{IsTick, IsTicked}
 use Rattle.roam_calls.specs.declared.answered.Ticked.{Ticked}
-use Rattle.roam_counters.specs.Arrivals.{tick_increments}
+use Rattle.roam_counters.specs.Arrivals.{tick_counts}
 use Rattle.roam_exchange.specs.Turn.{shown_outs}
 use Rattle.roam_outgoing.specs.Sending.{PutsEach}
 use Rattle.roam_workers.specs.Handlings.{AtWork}
@@ -20,7 +19,7 @@ pub ticked_so :
     (found : Option (Ticked Global)) (t : Ticked Global)
     → found ≡ Some t → now ≡ now2 → before.tallies ≡ old.seat.tallies → IsTick o lines shard now before after found
     → new.seat.tallies ≡ after.tallies
-    → new.counts ≡ raised_all old.counts (tick_increments (shown_happening t.answered.happening))
+    → new.counts ≡ raised_all old.counts (tick_counts t.answered.happening)
     → PutsEach (shown_outs t.answered.answer.outs) old.outbox new.outbox
     → HasTicked o lines shard now2 old new
 ticked_so o lines shard now now2 old new before after found t some moment none tick none_after counts sends = record {

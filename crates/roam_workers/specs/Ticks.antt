@@ -4,12 +4,11 @@ use Rattle.std.specs.declared.alloc.Global.{Global}
 use Rattle.roam_counters.specs.OwnCounts.{raised_all}
 use Rattle.roam_wire.specs.declared.refusal.Refusal.{Refusal}
 use Rattle.roam_conf.specs.declared.exchange_lines.ExchangeLines.{ExchangeLines}
-use Rattle.roam_exchange.specs.HappeningsShown.{shown_happening}
 use Rattle.roam_calls.specs.HubOpening.{HubOpening}
 use Rattle.roam_calls.specs.Seats.{SeatView}
 use Rattle.roam_calls.specs.Calls.{IsTicked}
 use Rattle.roam_calls.specs.declared.answered.Ticked.{Ticked}
-use Rattle.roam_counters.specs.Arrivals.{refused_here_increments, tick_increments}
+use Rattle.roam_counters.specs.Arrivals.{refused_here_increments, tick_counts}
 use Rattle.roam_exchange.specs.Turn.{shown_outs}
 use Rattle.roam_outgoing.specs.Sending.{PutsEach}
 use Rattle.roam_workers.specs.Handlings.{AtWork}
@@ -22,7 +21,7 @@ pub record HasTicked (o : HubOpening) (lines : ExchangeLines) (shard now : ℕ) 
   pub ticked : Ticked Global
   pub tick : IsTicked o lines shard now before after ticked
   pub none_after : new.seat.tallies ≡ after.tallies
-  pub counts : new.counts ≡ raised_all old.counts (tick_increments (shown_happening ticked.answered.happening))
+  pub counts : new.counts ≡ raised_all old.counts (tick_counts ticked.answered.happening)
   pub sends : PutsEach (shown_outs ticked.answered.answer.outs) old.outbox new.outbox
 
 -- no call is counted, nothing rises, and no packet is put; what waits may be handed to the sockets

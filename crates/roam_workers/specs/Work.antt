@@ -10,7 +10,7 @@ use Rattle.roam_exchange.specs.HappeningsShown.{shown_happening}
 use Rattle.roam_exchange.specs.Turn.{shown_outs}
 use Rattle.roam_calls.specs.HubOpening.{HubOpening}
 use Rattle.roam_calls.specs.Seats.{SeatView}
-use Rattle.roam_counters.specs.Arrivals.{arrival_increments, failed_increments, refused_here_increments, refused_increments, tick_increments}
+use Rattle.roam_counters.specs.Arrivals.{arrival_increments, failed_increments, refused_here_increments, refused_increments, tick_counts}
 use Rattle.roam_counters.specs.Cells.{cell_of, holder_of}
 use Rattle.roam_counters.specs.Ends.{end_at}
 use Rattle.roam_counters.specs.Increments.{job_increments, local_increments}
@@ -109,7 +109,7 @@ handled_by o lines now d old new handling.Dropped is = []
 -- of a tick
 abbrev pub ticked_by : (o : HubOpening) (lines : ExchangeLines) (shard now : ℕ) (old new : AtWork)
     → Ticks o lines shard now old new → List (Option Increment)
-ticked_by o lines shard now old new (inl has) = tick_increments (shown_happening has.ticked.answered.happening)
+ticked_by o lines shard now old new (inl has) = tick_counts has.ticked.answered.happening
 ticked_by o lines shard now old new (inr (inl none)) = []
 ticked_by o lines shard now old new (inr (inr is)) = refused_here_increments is.why
 

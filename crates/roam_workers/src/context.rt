@@ -3,9 +3,8 @@
 ghost use Rattle.std.specs.Prelude.{◌≡◌, []};
 ghost use Rattle.roam_counters.specs.OwnCounts.{raised_all};
 ghost use Rattle.roam_workers.specs.Remedies as remedies;
-ghost use Rattle.roam_exchange.specs.HappeningsShown.{shown_happening};
 ghost use Rattle.roam_exchange.specs.Turn.{shown_outs};
-ghost use Rattle.roam_counters.specs.Arrivals.{tick_increments};
+ghost use Rattle.roam_counters.specs.Arrivals.{tick_counts};
 ghost use Rattle.roam_counting.specs.Counting.{counts_in};
 ghost use Rattle.roam_outgoing.specs.Sending.{PutsEach, outbox_in};
 ghost use Rattle.roam_workers.specs.Handlings.{at_work};
@@ -114,7 +113,7 @@ impl<H: HubCalls<N>, N: Opened> WorkerContext<'_, '_, H, N> {
         ensures kept { (self.new.seat.tallies ≡ self.old.seat.tallies)
             × (self.new.datagrams ≡ self.old.datagrams) × (self.new.now ≡ self.old.now) }
         ensures counts { counts_in self.new.counting ≡ raised_all (counts_in self.old.counting)
-            (tick_increments (shown_happening ticked.answered.happening)) }
+            (tick_counts ticked.answered.happening) }
         ensures sends { PutsEach (shown_outs ticked.answered.answer.outs)
             (outbox_in self.old.outgoing) (outbox_in self.new.outgoing) }
     {

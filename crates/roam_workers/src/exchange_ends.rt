@@ -5,7 +5,7 @@ ghost use Rattle.roam_counting.specs.Counting.{counts_in};
 
 use crate::context::WorkerContext;
 use crate::hub_calls::HubCalls;
-use roam_calls::{Answered, Became, Happening, Opened, Waited};
+use roam_calls::{Answered, Became, Happening, LeftConversation, Opened, Waited};
 use roam_counters::Process;
 use roam_notices::{EndedWith, Exchange, ExchangeEnd};
 use roam_route::{Datagram, LocalAnswer, RejectCause};
@@ -161,16 +161,34 @@ impl<H: HubCalls<N>, N: Opened> WorkerContext<'_, '_, H, N> {
         }
     }
 
-    /// Tells of the requests that a tick gave up.
+    /// Tells of the conversations that a tick found left.
+    fn end_left(&mut self, left: &[LeftConversation<Global>])
+        ensures kept { (self.new.seat ≡ self.old.seat) × (self.new.datagrams ≡ self.old.datagrams)
+            × (self.new.now ≡ self.old.now)
+            × (counts_in self.new.counting ≡ counts_in self.old.counting)
+            × (self.new.outgoing ≡ self.old.outgoing) }
+    {
+        for conversation in left {
+            self.tell_waited(
+                conversation.realm,
+                &conversation.last,
+                ExchangeEnd::Abandoned,
+                &[],
+            );
+        }
+    }
+
+    /// Tells of the requests that a tick gave up, and of the conversations that it found left.
     pub fn end_by_tick(&mut self, happening: &Happening<Global>)
         ensures kept { (self.new.seat ≡ self.old.seat) × (self.new.datagrams ≡ self.old.datagrams)
             × (self.new.now ≡ self.old.now)
             × (counts_in self.new.counting ≡ counts_in self.old.counting)
             × (self.new.outgoing ≡ self.old.outgoing) }
     {
-        let Happening::Ticked(dues) = happening else {
+        let Happening::Ticked(dues, left) = happening else {
             return;
         };
+        self.end_left(left.as_slice());
         for due in dues {
             if let Became::GivenUp { .. } = due.became {
                 self.tell_waited(due.realm, &due.waited, ExchangeEnd::GivenUp, &[]);

@@ -40,6 +40,8 @@ fn accepted(station: Value, details: Details) -> Exchange {
         station,
         milliseconds: 12,
         tries: 1,
+        rounds: 0,
+        since_first: 0,
         times: 1,
         details,
     }

@@ -8,7 +8,7 @@ ghost use Rattle.roam_pending.specs.Shown.{shown_standing};
 
 use roam_conf::{Address, Endpoint, Link, Place};
 use roam_hash::HashKey;
-use roam_pending::{Done, Entries, Entry, Key, Request, Requester, Standing, Waiting};
+use roam_pending::{Course, Done, Entries, Entry, Key, Request, Requester, Standing, Waiting};
 use roam_tables::Tables;
 use roam_wire::{NoMemory, Octets};
 use std::alloc::{Allocator, Global};
@@ -54,6 +54,7 @@ fn waiting<A: Allocator + Copy>(alloc: A, ticket: u16, peer: u16) -> Entry<A>
             requester: Requester::Peer(peer),
             octets: Octets::from_vec(Vec::new(alloc)),
             came: 0,
+            course: Course::first(0),
         },
         ticket: u64::from(ticket),
         standing: Standing::Waiting(Waiting {

@@ -29,7 +29,7 @@ use roam_exchange::{
     Buffers, Happening, Hop, RequestRef, Turned, Waited, one_packet, send_new, waited_in,
 };
 use roam_fwd::forwarded_shaped_len;
-use roam_pending::{Entries, Entry, Request, Standing, insert_entry};
+use roam_pending::{Course, Entries, Entry, Request, Standing, insert_entry};
 use roam_realm::RealmSettings;
 use roam_route::Out;
 use roam_wire::{NoMemory, Octets, View};
@@ -195,6 +195,7 @@ impl<A: Allocator + Copy, E: Entries<A>> RealmBroker<'_, '_, '_, '_, A, E> {
             requester: request.requester,
             octets,
             came: now,
+            course: Course::first(now),
         };
         let entry = Entry {
             request,
@@ -243,9 +244,9 @@ impl<A: Allocator + Copy, E: Entries<A>> RealmBroker<'_, '_, '_, '_, A, E> {
         }
     }
 
-    /// Admits a new request on the way that was chosen. First all memory is taken: where a growth
-    /// is refused, the realm is as it was.
-    pub(crate) fn admit(
+    /// Admits a new request on the way that was chosen, whatever its conversation. First all memory is taken: where a
+    /// growth is refused, the realm is as it was.
+    fn admit_new(
         &mut self,
         now: u64,
         request: RequestRef<'_>,
@@ -268,5 +269,32 @@ impl<A: Allocator + Copy, E: Entries<A>> RealmBroker<'_, '_, '_, '_, A, E> {
         self.make_lane(plan.link)?;
         self.entries.reserve(self.settings.index())?;
         Ok(self.admit_reserved(now, request, plan, supplies))
+    }
+
+    /// Admits a new request on the way that was chosen, and notes its course. Where a growth is refused, all is as it was.
+    pub(crate) fn admit(
+        &mut self,
+        now: u64,
+        request: RequestRef<'_>,
+        plan: AdmitPlan,
+    ) -> Result<Turned<A>, NoMemory>
+        requires realm { IsRealm E.Entries self.old }
+        requires moment { now ≤ 2 ^ 62 }
+        requires plan { IsAdmitPlan self.old.settings.now (state E.Entries self.old)
+            (shown_request request) plan }
+        ensures turn { IfOk result (λ t. Answers t.answer (state E.Entries self.old)
+            (state E.Entries self.new) (admits self.old.settings.now now (state E.Entries self.old)
+            (shown_request request.entry) plan)) }
+        ensures happening { IfOk result (λ t. shown_happening t.happening
+            ≡ admitted_by (state E.Entries self.old) plan) }
+        ensures no_memory { IfErr result (λ e.
+            state E.Entries self.new ≡ state E.Entries self.old) }
+        ensures keeps { Keeps E.Entries self.old self.new }
+    {
+        let before = self.round_before(request);
+        let ticket = self.numbers.ticket;
+        let turned = self.admit_new(now, request, plan)?;
+        self.note_course(ticket, before);
+        Ok(turned)
     }
 }

@@ -26,7 +26,7 @@ use roam_wire::code::ACCESS_REQUEST;
 use std::alloc::Allocator;
 
 /// The State with which a packet goes on with a conversation: the first one of an Access-Request.
-fn state_in<'a>(packet: &View<'a>) -> Option<&'a [u8]>
+pub(crate) fn state_in<'a>(packet: &View<'a>) -> Option<&'a [u8]>
     ensures { option_map (λ state. state.now) result ≡ state_in packet.now }
 {
     if packet.code() == ACCESS_REQUEST {

@@ -1,6 +1,6 @@
 use Rattle.std.proofs.Common.{◌≡◌, ◌∙◌, ◌++◌, ℕ, ap, codes, refl}
 use Rattle.std.specs.Fmt.{decimal}
-use Rattle.roam_notices.specs.Exchanges.{more_text, server_text, station_text}
+use Rattle.roam_notices.specs.Exchanges.{further_text, server_text, station_text}
 use Rattle.roam_notices.specs.Values.{octets_if, value_text}
 use Rattle.roam_notices.proofs.LineLemmas.{then-more, then-this}
 use Rattle.roam_notices.proofs.exchange_line.push_rest.Goals as goal
@@ -34,4 +34,5 @@ returns c =
     let fifth : tried ≡ line ++ five =
     then-this line (timed ++ tries) tried (four ++ tries) _
     (then-this line timed (timed ++ tries) four tries fourth refl) number in
-    then-more c.push_more.result line tried c.push_more.new.line.items five (more_text x) fifth c.push_more.ensures
+    then-more c.push_further.result line tried c.push_further.new.line.items five (further_text x) fifth
+    c.push_further.ensures

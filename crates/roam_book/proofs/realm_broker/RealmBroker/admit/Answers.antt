@@ -1,22 +1,18 @@
-use Rattle.std.proofs.Common.{◌∙◌, ℕ, List, ap}
-use Rattle.roam_pending.specs.PlainEntry.{PlainEntry}
-use Rattle.roam_realm.specs.RealmConfig.{RealmConfig}
+-- What the admission does stays where its course is noted.
+use Rattle.std.proofs.Common.{subst, sym}
+use Rattle.roam_realm.specs.RealmState.{RealmState}
+use Rattle.roam_exchange.specs.Turn.{Answers}
+use Rattle.roam_book.specs.Private.NewEntry.{admits}
+use Rattle.roam_book.specs.RealmTurn.{state}
+use Rattle.roam_book.proofs.RealmLemmas.{keeps-both}
 use Rattle.roam_book.proofs.realm_broker.RealmBroker.admit.Goals as goal
 
--- what taking memory keeps, and what the admission does
+pub returns-clause-turn : goal.returns-clause-turn
+returns-clause-turn g c =
+    subst (λ (s : RealmState). Answers c.in_ok-turned.turned.answer (state g.E.Entries c.args.self.now) s
+    (admits c.args.self.now.settings.now c.args.now (state g.E.Entries c.args.self.now) _ c.args.plan))
+    (sym c.note_course.ensures.state) c.in_ok-turned.ensures.turn
+
 pub returns-clause-keeps : goal.returns-clause-keeps
 returns-clause-keeps g c =
-    let first = c.make_lane.ensures.keeps in
-    let last = c.admit_reserved.ensures.keeps in
-    record {
-      realm = last.realm;
-      loans = record {
-        settings = last.loans.settings ∙ first.loans.settings;
-        same_entries = last.loans.same_entries ∙ first.loans.same_entries;
-        same_numbers = last.loans.same_numbers ∙ first.loans.same_numbers;
-        keeps = last.loans.keeps ∙ c.reserve.ensures.keeps ∙ first.loans.keeps;
-      };
-      others = λ r other.
-          last.others r (λ is. other (is ∙ ap (λ (k : RealmConfig). k.index) first.loans.settings))
-          ∙ ap (λ (of : ℕ → List PlainEntry). of r) c.reserve.ensures.entries ∙ first.others r other;
-    }
+    keeps-both g.E.Entries _ _ _ c.in_ok-turned.ensures.keeps c.note_course.ensures.keeps

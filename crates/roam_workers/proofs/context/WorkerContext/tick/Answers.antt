@@ -1,8 +1,7 @@
 -- A tick was recorded, or nothing was due, or it was refused.
 use Rattle.std.proofs.Common.{◌∙◌, ap, inl, inr}
-use Rattle.roam_counters.specs.Arrivals.{tick_increments}
+use Rattle.roam_counters.specs.Arrivals.{tick_counts}
 use Rattle.roam_counters.specs.OwnCounts.{CountsView, raised_all}
-use Rattle.roam_exchange.specs.HappeningsShown.{shown_happening}
 use Rattle.roam_outgoing.proofs.SendingLemmas.{puts_from, puts_same}
 use Rattle.roam_outgoing.specs.Sending.{outbox_in}
 use Rattle.roam_workers.proofs.TickLemmas.{not_ticked_so, ticked_so}
@@ -17,7 +16,7 @@ returns-in-Ok-Some g c =
           c.in-Ok-Some.field-0-is inv.now inv.tallies c.in-Ok-Some.ensures.tick.tick
           c.ticked.ensures.kept.0
           (counted ∙ ap (λ (x : CountsView). raised_all x
-          (tick_increments (shown_happening c.in-Ok-Some.ticked.answered.happening))) inv.counts)
+          (tick_counts c.in-Ok-Some.ticked.answered.happening)) inv.counts)
           (puts_from _ _ _ _ (ap outbox_in inv.outgoing) (rw c.in-Ok-Some.field-0-is at c.ticked.ensures.sends)));
     }
 
