@@ -122,14 +122,13 @@ fn position_after(request: RequestRef<'_>, position: u128) -> u128
     }
 }
 
-/// What is forwarded for a request has at most 304 octets more than it. It does nothing when it runs.
+/// Shows that what is forwarded for a request has at most 304 octets more than it. It is a law: nothing runs.
 pub(crate) fn gains_few(settings: &RealmSettings<'_>, request: RequestRef<'_>, link: Link)
     requires request { IsRequest settings.now (shown_request request) }
     requires link { IsLink settings.now link }
     ensures { forwarded_size settings.now (shown_request request.entry) link ≤ length request.entry.octets.now + 304 }
 {
-    let code = View::of_packet(request.octets).code();
-    let _shaping = settings.shaping_of(request.requester, code, link);
+    settings.goes_with_short_name(request.requester, link);
 }
 
 /// Writes the forwarded packet of a request, as it is shaped, into an empty buffer that has room for it, with

@@ -3,6 +3,7 @@ pub mod LinkLaneLemmas
 pub mod LookingLemmas
 pub mod SavingLemmas
 pub mod ShapingLemmas
+pub mod ShortNameLemmas
 pub mod SoundLemmas
 pub mod TakenLaneLemmas
 pub mod TargetLemmas

@@ -23,7 +23,7 @@ use std::marker::Model;
 /// What the rules of one realm read of a configuration: the seed, its index and entry, and all peers.
 #[derive(Drop)]
 pub struct RealmSettings<'c> {
-    config: &'c Config,
+    pub(crate) config: &'c Config,
     realm: u16,
 }
 

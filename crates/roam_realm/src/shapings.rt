@@ -1,22 +1,25 @@
 //! How a realm has requests forwarded and replies returned, as its configuration says.
 
-ghost use Rattle.std.specs.Prelude.{◌≡◌, ◌<◌, length, option_map, if◌then◌else◌};
+ghost use Rattle.std.specs.Prelude.{◌≡◌, ◌<◌, ℕ, Some, length, option_map, slice_get, if◌then◌else◌};
 ghost use Rattle.std.specs.Option.{ForSome};
 ghost use Rattle.roam_wire.specs.Packet.{AreOctets};
+ghost use Rattle.roam_conf.specs.Config.{RealmView};
+ghost use Rattle.roam_conf.specs.Shown.{shown};
 ghost use Rattle.roam_filter.specs.Removal.{removed_by, without_sessions};
 ghost use Rattle.roam_fwd.specs.Shaped.{HasShortName, no_shaping, shown_shaping};
+ghost use Rattle.roam_route.specs.Shapings.{shaping_between};
 ghost use Rattle.roam_realm.specs.RealmConfig.{IsLink, IsRequester};
 ghost use Rattle.roam_realm.specs.Shapings.{removed_for, reply_removed, shaping_from, shaping_of, shaping_to};
 
 use crate::realm_settings::RealmSettings;
-use roam_conf::Link;
+use roam_conf::{Config, Link};
 use roam_filter::{Removal, nothing_removed};
 use roam_fwd::Shaping;
 use roam_pending::Requester;
 use roam_route::request_shaping;
 use roam_wire::code::COA_REQUEST;
 
-/// A name's octets are octets. It does nothing when it runs.
+/// Shows that a name's octets are octets. It is a law: nothing runs.
 fn are_octets(name: &[u8])
     ensures { AreOctets name.now }
 {}
@@ -29,6 +32,12 @@ fn are_octets_of(name: Option<&[u8]>)
         are_octets(name);
     }
 }
+
+/// Shows that the name with which a peer's requests go out is short. It is a law: nothing runs.
+fn peers_have_short_names(config: &Config)
+    ensures { (peer : ℕ) → (realm : RealmView)
+        → HasShortName (shaping_between (slice_get (shown config.now).peers peer) (Some realm)) }
+{}
 
 /// Without these attributes, and with nothing that is added.
 fn only_without(removal: Removal<'_>) -> Shaping<'_>
@@ -104,5 +113,12 @@ impl<'c> RealmSettings<'c> {
         };
         are_octets_of(shaping.operator_name);
         shaping
+    }
+
+    /// Shows that the name with which a request goes out is short, whatever its code. It is a law: nothing runs.
+    pub fn goes_with_short_name(&self, requester: Requester, link: Link)
+        ensures { (code : ℕ) → HasShortName (shaping_of self.now requester code link) }
+    {
+        peers_have_short_names(self.config);
     }
 }
