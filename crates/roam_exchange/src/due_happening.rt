@@ -36,8 +36,9 @@ pub(crate) fn waited_as<A: Allocator>(
     waiting: &Waiting<A>,
     octets: Option<Octets<A>>,
 ) -> Waited<A>
-    ensures { (e : PlainEntry) → e.request ≡ shown_request request.now → e.ticket ≡ ticket
+    ensures waited { (e : PlainEntry) → e.request ≡ shown_request request.now → e.ticket ≡ ticket
         → Some (shown_waited result) ≡ waited_at e octets (shown_standing (standing.Waiting waiting.now)) }
+    ensures came { result.came ≡ request.now.came }
 {
     Waited {
         ticket,

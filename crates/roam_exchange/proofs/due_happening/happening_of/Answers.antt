@@ -17,7 +17,7 @@ returns g c = λ lines kept.
     let octets : c.octets_for-octets.result ≡ due_octets lines e.request.octets became =
     c.octets_for-octets.ensures lines kept
     ∙ ap (λ (b : Became). due_octets lines e.request.octets b) c.became_by-became.ensures in
-    let waited = c.waited_as.ensures e refl refl
+    let waited = c.waited_as.ensures.waited e refl refl
     ∙ (ap (λ (o : Option (List ℕ)). waited_at e o (shown_standing (standing.Waiting c.in-Waiting.waiting))) octets
     ∙ ap (λ (p : PlainStanding). waited_at e (due_octets lines e.request.octets became) p) (sym stands)) in
     (λ j. as_due (c.index.ensures j) (c.became_by-became.ensures j) (waited j))

@@ -8,6 +8,6 @@ use Rattle.roam_exchange.proofs.kept_request.answered_request.Goals as goal
 pub returns : goal.returns
 returns g c =
     let e = shown c.args.entry.now in
-    c.waited_as.ensures e refl refl
+    c.waited_as.ensures.waited e refl refl
     ∙ ap (λ (octets : Option (List ℕ)). waited_at e octets (shown_standing (standing.Waiting c.args.waiting.now)))
     (c.in_ok-octets.ensures ∙ ap (λ (kept : Bool). kept_octets kept e.request.octets) c.keeps_octets.ensures)

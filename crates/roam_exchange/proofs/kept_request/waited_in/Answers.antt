@@ -11,7 +11,7 @@ returns g c =
     let e = shown c.in-Some.entry in
     ap (λ (o : Option PlainWaited).
     option_map (λ (w : PlainWaited). record w { octets = Some c.in-Some.entry.request.octets }) o)
-    (c.waited_as-waited.ensures e refl refl)
+    (c.waited_as-waited.ensures.waited e refl refl)
     ∙ (ap (λ (standing : PlainStanding). waited_at e (Some c.in-Some.entry.request.octets) standing)
     (ap shown_standing (sym c.in-Waiting.is))
     ∙ ap (λ o. replaced_by (taken o)) (sym c.in-Some.is))
