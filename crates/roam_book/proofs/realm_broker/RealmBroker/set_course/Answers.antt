@@ -1,6 +1,7 @@
-use Rattle.std.proofs.Common.{ℕ, List, ap, refl}
+use Rattle.std.proofs.Common.{ℕ, List, ap, refl, subst, sym}
+use Rattle.roam_pending.specs.EntryList.{IsEntryList}
 use Rattle.roam_pending.specs.PlainEntry.{PlainEntry}
-use Rattle.roam_realm.specs.Sound.{state_of}
+use Rattle.roam_realm.specs.Sound.{IsSound, state_of}
 use Rattle.roam_book.proofs.realm_broker.RealmBroker.set_course.Goals as goal
 
 -- no entry is seen to change
@@ -12,13 +13,14 @@ returns-clause-state g c =
 
 pub returns-clause-keeps : goal.returns-clause-keeps
 returns-clause-keeps g c =
+    let old = c.args.self.now in
     let kept = c.requires.realm in
-    let stay = c.set_course.ensures.entries in
+    let here = ap (λ (of : ℕ → List PlainEntry). of old.settings.now.index) (sym c.set_course.ensures.entries) in
     record {
       realm = record {
         kept_here = rw c.set_course.ensures.keeps kept.kept_here;
-        sound = rw stay kept.sound;
-        list = rw stay kept.list;
+        sound = subst (λ (es : List PlainEntry). IsSound old.settings.now es old.numbers.now) here kept.sound;
+        list = subst IsEntryList here kept.list;
       };
       loans = record {
         settings = refl;
@@ -26,5 +28,5 @@ returns-clause-keeps g c =
         same_numbers = refl;
         keeps = c.set_course.ensures.keeps;
       };
-      others = λ r ne. ap (λ (of : ℕ → List PlainEntry). of r) stay;
+      others = λ r ne. ap (λ (of : ℕ → List PlainEntry). of r) c.set_course.ensures.entries;
     }
