@@ -111,17 +111,16 @@ pub fn declined_for(alloc: Global, config: &Config, losses: &[Loss]) -> Reply {
 /// Tells what went of each realm of a configuration, by their indexes, where another one followed it.
 pub fn tell_what_went<R: Log>(rt: &R, config: &Config, losses: &[Loss]) {
     for (realm, loss) in config.realms.iter().zip(losses.iter()) {
-        if loss.waiting > 0 || loss.sessions > 0 {
-            tell_dropped(
-                rt,
-                DroppedText {
-                    cause: DropCause::Reload,
-                    realm: realm.name.as_str(),
-                    waiting: loss.waiting as u64,
-                    sessions: loss.sessions as u64,
-                },
-            );
-        }
+        tell_dropped(
+            rt,
+            DroppedText {
+                cause: DropCause::Reload,
+                realm: realm.name.as_str(),
+                waiting: loss.waiting as u64,
+                held: loss.held as u64,
+                sessions: loss.sessions as u64,
+            },
+        );
     }
 }
 
@@ -159,6 +158,7 @@ impl<R: Wait + Log, H: HubCalls<N>, N: Opened> Attendant<'_, '_, R, H, N> {
                 cause: DropCause::End,
                 realm: realm.name.as_str(),
                 waiting,
+                held: 0,
                 sessions,
             };
             tell_dropped(self.rt, dropped);

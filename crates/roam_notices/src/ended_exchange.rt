@@ -6,8 +6,8 @@ ghost use Rattle.roam_exchange.specs.HappeningsShown.{shown_waited};
 ghost use Rattle.roam_notices.specs.EndedExchanges as spec;
 ghost use Rattle.roam_notices.specs.EndedExchanges.{IsLineOf};
 
-use crate::exchange::{Exchange, ExchangeEnd};
-use crate::said::{keep_charged, say};
+use crate::exchange::{Exchange, ExchangeEnd, Silence};
+use crate::said::{error_cause_of, keep_charged, say};
 use roam_conf::{Config, Endpoint, Link};
 use roam_exchange::Waited;
 use roam_pending::Requester;
@@ -56,11 +56,13 @@ fn server_of<A: Allocator>(config: &Config, realm: u16, waited: &Waited<A>) -> O
     }
 }
 
-/// How an exchange ended at a moment: with this reply, or with none, which has no octets.
+/// How an exchange ended at a moment: with this reply, or with none, which has no octets; and how its home server is
+/// silent, where it is.
 #[derive(Clone, Copy)]
 pub struct EndedWith<'r> {
     pub outcome: ExchangeEnd,
     pub reply: &'r [u8],
+    pub silence: Option<Silence>,
     /// In milliseconds since the server's start.
     pub now: u64,
 }
@@ -78,6 +80,7 @@ pub fn tell_of<A: Allocator>(
     ensures line { IsTrue result → IsLineOf (shown config.now) realm (shown_waited waited.now) ended.entry.outcome
         ended.entry.reply.now exchange.new }
     ensures time { IsTrue result → exchange.new.milliseconds ≡ ended.entry.now - waited.now.came }
+    ensures silence { IsTrue result → exchange.new.silence ≡ ended.entry.silence }
 {
     let octets = match &waited.octets {
         Some(octets) => octets.as_slice(),
@@ -90,5 +93,7 @@ pub fn tell_of<A: Allocator>(
     exchange.milliseconds = ended.now.saturating_sub(waited.came);
     exchange.tries = tries_of(config, realm, waited.sends_left);
     keep_charged(&mut exchange.details.charged, ended.reply);
+    exchange.error_cause = error_cause_of(ended.reply);
+    exchange.silence = ended.silence;
     true
 }
