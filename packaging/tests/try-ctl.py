@@ -78,6 +78,9 @@ def look_at_rows(server):
     stands = [(row[2], row[3]) for row in found["HOME"]]
     want(stands == [("dead.example", "never"), ("wrong.example", "replies")], f"home servers: {found['HOME']}")
     want([row[0] for row in found["PEER"]] == ["nas2"], f"peers: {found['PEER']}")
+    want((asked(access(10, b"u@nobody.example"), (HERE, 22030)) or b" ")[0] == 3, "a name of no realm is rejected")
+    row = next(row for row in rows_of(ctl().stdout)["PEER"] if row[0] == "nas1")
+    want(row[2:6] == ["7", "5", "2", "1"], f"of its requests one was rejected here, and one refused: {row}")
     found = rows_of(ctl("dead.example,Wrong.Example").stdout)
     want([row[0] for row in found["REALM"]] == ["dead.example", "wrong.example"] and len(found["HOME"]) == 4 and "PEER" not in found, f"{found}")
     want({row[2] for row in found["HOME"]} == {"dead.example", "wrong.example"}, f"{found['HOME']}")

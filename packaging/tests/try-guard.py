@@ -6,8 +6,8 @@ Serves two realms on loopback, and changes the file again and again under a stea
 1. while the second realm's `out` goes to and fro, with `hold = 0` and a home server that answers at once, no reload without
    `--lose` loses a request: each that was sent is answered. A change is made, or it is declined and says of which realm how
    much would be lost; both come, and the log and the counts tell them apart;
-2. where that is agreed to, what a change drops is counted by realm: waiting requests, held replies and sessions; and the log
-   says how many;
+2. a change that takes nothing but held replies is made; where the rest is agreed to, what a change drops is counted by realm:
+   waiting requests, held replies and sessions; and the log says how many;
 3. at rest each realm's forwarded requests are those that were returned, given up, replaced or dropped, after each change;
 4. the server stops after all that, audited.
 
@@ -123,7 +123,7 @@ def try_to_and_fro(server, seconds):
     want(server.count('roam_reloads_total', outcome='served') == done
          and server.count('roam_reloads_total', outcome='declined') == declined, 'each change is counted as it went')
     # Lines may be written after what they tell.
-    last, lines = time.monotonic() + 5, ('reload: the file is served', 'reload declined: declined: who agrees')
+    last, lines = time.monotonic() + 5, ('reload: the file is served', 'reload declined: nothing is changed')
     while [server.said().count(line) for line in lines] != [done, declined] and time.monotonic() < last:
         time.sleep(.05)
     want([server.said().count(line) for line in lines] == [done, declined] and 'dropped' not in server.said(), 'and told so')
@@ -146,16 +146,22 @@ def open_sessions(count):
         want((asked(packet, (HERE, PORT + 1)) or b' ')[0] == 5, 'a session is opened')
 
 
-def lose(server, what, line, wanted):
-    """A change that is declined, and made where that is agreed to: so much is dropped by it, and this is said."""
-    before, result = server.dropped(), server.changes()
-    want(result.returncode == 1 and 'realm b.example: would lose' in result.stdout,
-         f'{what} is declined: {result.returncode}, {" ".join((result.stdout + result.stderr).split())}')
-    result = server.changes('--lose')
+def made(server, line, wanted, *agreed):
+    """A change that is made: so much is dropped by it, and this is said."""
+    before, result = server.dropped(), server.changes(*agreed)
     more = {kind: count - before[kind] for kind, count in server.dropped().items() if count != before[kind]}
-    want(result.returncode == 0 and more == wanted, f'and made where it is agreed to: counted as dropped are {more}')
+    want(result.returncode == 0 and more == wanted, f'the change is made: counted as dropped are {more}')
     want(server.tells(f'reload: realm b.example: dropped: {line}'), f'and told: {line}')
     server.balances()
+
+
+def lose(server, what, line, wanted):
+    """A change that is declined, which names what of the file takes it, and made where that is agreed to."""
+    result = server.changes()
+    line_of = f'^realm b.example: would lose .* sessions: .*{re.escape(what)}.* changes?$'
+    want(result.returncode == 1 and re.search(line_of, result.stdout, re.M),
+         f'{what} is declined: {result.returncode}, {" ".join((result.stdout + result.stderr).split())}')
+    made(server, line, wanted, '--lose')
 
 
 def try_lose(server, silent):
@@ -164,20 +170,24 @@ def try_lose(server, silent):
     sockets = [send(20, 0)]
     server.has('roam_realm_waiting_requests', 20)
     server.moves()
-    lose(server, 'another `out`', '20 waiting requests, 0 sessions', {'': 20})
+    lose(server, 'its out', '20 waiting requests, 0 sessions', {'': 20})
     silent.clear()
     server.hold = 60000
     want(server.changes().returncode == 0, '`hold` changes without a loss')
     open_sessions(5)
     sockets.append(send(7, 100))
     server.has('roam_realm_held_replies', 12)
+    server.secret = 'a-second-secret-of-nas1'
+    made(server, '0 waiting requests, 0 sessions, 12 held replies', {'replies_': 12})
+    sockets.append(send(7, 150))
+    server.has('roam_realm_held_replies', 7)
     silent.set()
     sockets.append(send(3, 200))
     server.has('roam_realm_waiting_requests', 3)
     server.sessions = 1
-    lose(server, 'room for fewer sessions', '0 waiting requests, 4 sessions', {'sessions_': 4})
+    lose(server, 'its max_sessions', '0 waiting requests, 4 sessions', {'sessions_': 4})
     server.secret = 'another-secret-of-nas1'
-    lose(server, 'another secret of the peer', '3 waiting requests, 0 sessions', {'': 3, 'replies_': 12})
+    lose(server, '[[peer]]', '3 waiting requests, 0 sessions, 7 held replies', {'': 3, 'replies_': 7})
 
 
 def main():

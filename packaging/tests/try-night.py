@@ -458,6 +458,7 @@ PLAYS = {
         ("tries=0", [of_realm('accounting = "answer"')], lambda night: night.sends("acct", START)),
         ("AccountingDropped", [of_realm('accounting = "drop"')], lambda night: night.sends("acct", START)),
         ("NoRealm", [], lambda night: night.sends("acct", ["Acct-Status-Type = Accounting-On"])),
+        ("NoRealm", [], lambda night: night.sends("acct", [it.replace("@uni", "@cs.uni") for it in START])),
         ("BadAuthenticator", [], lambda night: night.sends("acct", START, secret="a blank ")),
         ("given_up", [("198.51.100.1:1813", "198.51.100.1:1899")], lambda night: night.sends("acct", START, waits=2)),
         ("given_up", [OTHER_SECRET], lambda night: night.sends("acct", START, waits=2)),
@@ -471,8 +472,8 @@ PLAYS = {
         ("Stale", [], lambda night: disconnects(night, *END, f"Event-Timestamp = {int(time.time()) - 3600}")),
         ("502", [], lambda night: disconnects(night, 'Acct-Session-Id = "7"', 'NAS-Identifier = "ap-1"')),
         ("503", [], lambda night: disconnects(night, 'Acct-Session-Id = "9"', 'NAS-Identifier = "wlc-1"')),
-        ("505", [], lambda night: (night.halts("nas"), disconnects(night, waits=2))),
-        ("result=nak", [], lambda night: disconnects(night, *[it.replace('"7"', '"8"') for it in END], session="8")),
+        ("given_up", [], lambda night: (night.halts("nas"), disconnects(night, waits=2))),
+        ("tries=1", [], lambda night: disconnects(night, *[it.replace('"7"', '"8"') for it in END], session="8")),
     ],
     "After a reload": [
         ("is served", [], lambda night: reloads(night, ("wait = 400", "wait = 500"))),

@@ -4,10 +4,12 @@
 Serves on loopback, with the access server and the home server as sockets of this process, and looks at every octet and count of worked
 exchanges: accounting, and Access after datagrams that are refused, on both sides of steps that are let go of, over sockets that workers
 share; packets that can't be sent, and more of them at once than a ring holds; seeds that are drawn; ports that are taken, and too few
-descriptors. The packets follow the formulas of RFC 2865 and RFC 2866, computed apart from the program, with a seed of zeros.
+descriptors; what the log says of refusals, of NAKs and of requests that nobody answers. The packets follow the formulas of RFC 2865 and
+RFC 2866, computed apart from the program, with a seed of zeros.
 """
 import collections
 import contextlib
+import errno
 import os
 import re
 import resource
@@ -18,7 +20,7 @@ import time
 
 sys.dont_write_bytecode = True
 from looks import be_quiet, end, want, words
-from radius import HERE, access, answer, bound, drained, heard
+from radius import HERE, access, accounting as accounting_request, answer, attribute, bound, drained, heard, sealed_answer, signed
 from server import Server, configuration, peer, places, realm, run, total
 
 AUTH, ACCT, HOME, COA, OUT, REVERSE, CLIENT = 38112, 38113, 38212, 38299, 38120, 38130, 38250
@@ -119,10 +121,11 @@ def named(identifier, letter="a"):
     return access(identifier, f"u@{letter}.example".encode(), b"", authenticator=b"Z" * 16)
 
 
-def text_of(letters="a", shards=1, limit=1000000, tries=2, wait=1000, hold=5000, servers=(HERE,), **more):
+def text_of(letters="a", shards=1, limit=1000000, tries=2, wait=1000, hold=5000, servers=(HERE,), rest=0, **more):
     of_home = [{"auth": f"{it}:{HOME}", "acct": f"{it}:{HOME + 1}", "secret": "h1"} for it in servers]
     realms = [realm(f"{letter}.example", *of_home, out=f"{HERE}:{OUT + number}", reverse=f"{HERE}:{REVERSE + number}", tries=tries,
-                    wait=wait, hold=hold, max_pending=300, max_sessions=100, rest=0) for number, letter in enumerate(letters)]
+                    wait=wait, hold=hold, max_pending=300, max_sessions=100, rest=rest, rest_after=1)
+              for number, letter in enumerate(letters)]
     nas = peer("nas1", secret="xyzzy5461", coa=f"{HERE}:{COA}", nas_ip="192.0.2.1", nas_id="nas1")
     return configuration(nas, *realms, shards=shards, seed="0" * 64, **places(AUTH), trace_limit=limit, **more)
 
@@ -228,6 +231,88 @@ def unreachable(program):
         server.waits_for(r"packets lost since they may not be sent")
 
 
+def no_way(program):
+    """A packet without a way to its server: the line names that server. It is looked at where this machine has no such way."""
+    with contextlib.closing(bound()) as probe:
+        try:
+            probe.sendto(b"", ("198.51.100.7", HOME))
+            return
+        except OSError as error:
+            if error.errno not in (errno.ENETUNREACH, errno.EHOSTUNREACH):
+                return
+    with served(program, tries=1, servers=("198.51.100.7", HERE)) as (server, ends):
+        ends.complete(FAILED_OVER)
+        server.waits_for(rf"packets lost since their destination is unreachable, as 198\.51\.100\.7:{HOME}\n")
+
+
+def late(seconds):
+    """A Disconnect-Request whose Event-Timestamp is so many seconds from now."""
+    stamp = attribute(55, int(time.time() + seconds).to_bytes(4, "big"))
+    return signed(40, 1, attribute(32, b"nas1") + attribute(44, b"01") + stamp, b"h1")
+
+
+def hints():
+    """Datagrams that are refused, one second after the other: who sends them, where they go, and what the line says."""
+    nas = b"xyzzy5461"
+    yield [("127.0.0.2", AUTH, named(1), r"4 UnknownSource at auth from 127\.0\.0\.2:\d+: no \[\[peer\]\] has this address"),
+           (HERE, AUTH, accounting_request(1, b"u@a.example", b"1", nas),
+            r"5 WrongCode at auth .* \(peer nas1\): code 4 \(Accounting-Request\): accounting goes to acct"),
+           (HERE, ACCT, named(1), r"5 WrongCode at acct .* code 1 \(Access-Request\): logins go to auth"),
+           (HERE, ACCT, accounting_request(2, b"u@c.example", b"1", nas),
+            r"9 NoRealm at acct .* \(peer nas1\): no realm has the name c\.example"),
+           (HERE, REVERSE, late(-1000),
+            r"29 Stale at reverse:0 \(a\.example\) .* its Event-Timestamp is 1[01]\d\d s behind the clock here")]
+    yield [(HERE, AUTH, signed(12, 1, b"", nas), r"5 WrongCode at auth .* code 12 \(Status-Server\): set status_server = true"),
+           (HERE, ACCT, signed(40, 1, b"", nas), r"5 WrongCode at acct .* code 40 \(session control\): it goes to a realm's reverse"),
+           (HERE, ACCT, signed(4, 3, attribute(40, bytes([0, 0, 0, 7])), nas),
+            r"9 NoRealm at acct .*: no User-Name: for Accounting-On and -Off set answer_unnamed = true"),
+           (HERE, OUT, named(1), r"4 UnknownSource at out:0 .*: no server of this realm, and no coa of a peer, has this address and port"),
+           (HERE, REVERSE, late(2000), r"29 Stale at reverse:0 .* its Event-Timestamp is (199\d|2000) s ahead of the clock here")]
+    yield [(HERE, ACCT, accounting_request(4, b"u", b"1", nas), r"9 NoRealm at acct .*: its User-Name names no realm")]
+    yield [(HERE, ACCT, accounting_request(5, b"u@\x1b[2J.example", b"1", nas), r"9 NoRealm at acct .*: its realm is not printable")]
+
+
+def told(program):
+    """What is usually wrong where something is refused, and what of the datagram shows it; the Error-Cause of a NAK, of the broker's own
+    and of one that an access server gives."""
+    with served(program, fresh=300) as (server, ends), contextlib.closing(bound(address="127.0.0.2")) as stranger:
+        for second in hints():
+            for who, to, packet, _ in second:
+                (stranger if who != HERE else ends.client).sendto(packet, (HERE, to))
+            for *_, line in second:
+                server.waits_for(f"WARN refused {line}\\n")
+        ends.home.sendto(signed(40, 7, attribute(32, b"nas1") + attribute(44, b"unknown"), b"h1"), (HERE, REVERSE))
+        server.waits_for(r"result=nak request=disconnect .* tries=0 .*error_cause=503 cause=session_context_not_found\n")
+        ends.home.sendto(signed(40, 8, attribute(32, b"nas1") + attribute(1, b"u@a.example") + attribute(44, b"x"), b"h1"), (HERE, REVERSE))
+        packet, source = heard(ends.coa)
+        want(packet is not None, "an order comes to the access server")
+        ends.coa.sendto(sealed_answer(42, packet, b"xyzzy5461", [(101, (506).to_bytes(4, "big"))]), source)
+        server.waits_for(r"result=nak request=disconnect .* tries=1 .*error_cause=506 cause=resources_unavailable\n")
+
+
+def silent(program):
+    """Of a request that nobody answers it is told whether its server ever did: by its line, by the server's, in the status and by what the
+    alert goes by."""
+    with served(program, tries=1, wait=300, hold=0, rest=20000) as (server, ends):
+        ends.client.sendto(named(1), (HERE, AUTH))
+        server.waits_for(r'result=given_up .* why=never_answered .*hint="wrong secret on either side, wrong port, or this proxy is not')
+        server.waits_for(rf"home server {HERE}:{HOME} of a\.example never answered: it rests\. .*wrong secret on either side")
+        for order in ((), ("--problems",)):
+            printed = server.ctl("status", *order).stdout
+            want(re.search(rf"auth +{HERE}:{HOME} +a\.example +never answered \(1\)", printed), f"the status {order} says so: {printed}")
+        want(server.count("roam_server_given_up_total", f"{HERE}:{HOME}") == 1 and server.count("roam_server_replies_total", f"{HERE}:{HOME}") == 0,
+             "given up, and no reply")
+        drained(ends.home)
+        ends.client.sendto(named(2), (HERE, AUTH))
+        packet, source = heard(ends.home)
+        ends.home.sendto(answer(2, packet, b"h1"), source)
+        server.waits_for(r"result=accept ")
+        ends.client.sendto(named(3), (HERE, AUTH))
+        server.waits_for(r"result=given_up .* why=stopped_answering\n")
+        server.waits_for(rf"home server {HERE}:{HOME} of a\.example stopped answering: it rests")
+        want(re.search(rf"auth +{HERE}:{HOME} +a\.example +rests \d+ s more", server.ctl("status", "--problems").stdout), "and that it rests")
+
+
 def forwarded(ends, clients):
     """256 requests of each realm, and what the home server hears of them."""
     found = {}
@@ -304,7 +389,7 @@ def refused(program):
 def main():
     [program] = words(__doc__)
     be_quiet()
-    for row in (accounting, hostile, steps_let_go, spread, unreachable, crowd, drawn, refused):
+    for row in (accounting, hostile, steps_let_go, spread, unreachable, no_way, told, silent, crowd, drawn, refused):
         row(program)
         print(f"{row.__name__}: as it should be", flush=True)
     return end()

@@ -8,6 +8,7 @@ A text has a line for each thing, in which `#` begins a comment:
     line X1 Y1 X2 Y2
     bar X1 X2 Y KIND | text                                        a stretch of a time line
     text X Y | words                                               begins at X; KIND `small` before X: smaller
+    > a line of a terminal, its blanks kept; they stand one below another, in one frame
 """
 import html
 import pathlib
@@ -61,10 +62,21 @@ def text(fields: list[str], texts: list[str]) -> list[str]:
     return [words(x, y + 16 * place, it, 11 if is_small else 13, "start") for place, it in enumerate(texts)]
 
 
+def terminal(lines: list[str], width: float) -> list[str]:
+    """The lines of a terminal, at the top of the picture."""
+    height = 17 * len(lines) + 20
+    return [f'<rect x="8" y="8" width="{width - 16:g}" height="{height}" rx="6" fill="#1f2630"/>'] + [
+        f'<text x="20" y="{30 + 17 * place}" font-family="DejaVu Sans Mono, monospace" font-size="12" fill="#e8e8e8" '
+        f'xml:space="preserve">{html.escape(it)}</text>' for place, it in enumerate(lines)]
+
+
 def picture(source: str, name: str) -> str:
     """The picture of a text."""
-    drawn, width, height = [], 0.0, 0.0
+    drawn, width, height, typed = [], 0.0, 0.0, []
     for number, row in enumerate(source.split("\n"), 1):
+        if row.startswith(">"):
+            typed.append(row[2:])
+            continue
         row = row.split("#")[0].rstrip() if not row.startswith("text") else row
         if not row:
             continue
@@ -78,6 +90,7 @@ def picture(source: str, name: str) -> str:
             raise SystemExit(f"docs/pictures/{name}.txt:{number}: no such thing: {kind}")
     head = ('<defs><marker id="head" markerWidth="9" markerHeight="8" refX="8" refY="4" orient="auto">'
             '<path d="M0,0 L9,4 L0,8 z" fill="#44546a"/></marker></defs>')
+    drawn += terminal(typed, width) if typed else []
     return "\n".join([f'<svg xmlns="http://www.w3.org/2000/svg" viewBox="0 0 {width:g} {height:g}" width="{width:g}" '
                       f'height="{height:g}" role="img">', f"<!-- made of {name}.txt by tools/pages.py -->", head,
                       f'<rect width="{width:g}" height="{height:g}" fill="#ffffff"/>', *drawn, "</svg>"]) + "\n"

@@ -9,10 +9,11 @@ use crate::next::out_of_memory;
 use log::Log;
 use roam_calls::{Opened, Seat};
 use roam_carry::{Loss, changed_peers};
-use roam_conf::Config;
+use roam_conf::{Config, Realm};
 use roam_desk::{Course, Reply, plain_reply};
 use roam_notices::{DropCause, DroppedText};
 use roam_realm::Gauges;
+use roam_reload::{RealmKey, has_same_outs, has_same_servers, is_other_in};
 use roam_telling::tell_dropped;
 use roam_workers::{HubCalls, Shared};
 use std::alloc::{AllocError, Global};
@@ -71,33 +72,61 @@ fn all_losses<R: Wait, H: HubCalls<N>, N: Opened>(
     Ok(losses)
 }
 
-/// Returns whether nothing goes.
+/// Returns whether no request that waits and no session goes: held replies stop no change.
 fn is_nothing(loss: &Loss) -> bool {
-    loss.waiting == 0 && loss.held == 0 && loss.sessions == 0
+    loss.waiting == 0 && loss.sessions == 0
+}
+
+/// Returns which change of a realm's table takes what goes of it, in words: of another peer's where it is none of its
+/// own.
+fn table_change(before: &Realm, after: &Realm) -> &'static str {
+    if !has_same_servers(before, after) {
+        ": its [[realm.server]] tables change"
+    } else if !has_same_outs(before, after) {
+        ": its out changes"
+    } else if is_other_in(before, after, RealmKey::OwnSessions) {
+        ": its own_sessions changes"
+    } else if is_other_in(before, after, RealmKey::MaxSessions) {
+        ": its max_sessions changes"
+    } else {
+        ": the table of a [[peer]], a [[realm.coa_client]] or its reverse changes"
+    }
+}
+
+/// Returns which change of the file takes what goes of a realm, in words; nothing where the other file isn't known.
+fn change_of(before: &Realm, next: Option<&Config>, realm: usize) -> &'static str {
+    let Some(next) = next else {
+        return "";
+    };
+    match next.realms.get(realm) {
+        Some(after) if !after.gone => table_change(before, after),
+        _ => ": it is in the file no more",
+    }
 }
 
 /// Adds the line of what would go of a realm.
-fn push_line(text: &mut Vec<u8>, name: &str, loss: &Loss) -> bool {
+fn push_line(text: &mut Vec<u8>, name: &str, loss: &Loss, change: &str) -> bool {
     let waiting = loss.waiting;
     let held = loss.held;
     let sessions = loss.sessions;
     writeln!(
         text,
-        "realm {name}: would lose {waiting} waiting requests, {held} held replies, {sessions} sessions"
+        "realm {name}: would lose {waiting} waiting requests, {held} held replies, {sessions} sessions{change}"
     )
     .is_ok()
 }
 
-/// The lines of what would go of the realms of a configuration, by their indexes, and how one agrees to that, as far as
-/// there is memory.
-fn why_not(alloc: Global, config: &Config, losses: &[Loss]) -> Vec<u8> {
+/// The lines of what would go of the realms of a configuration, by their indexes, which change takes it, and how one
+/// agrees to that, as far as there is memory.
+fn why_not(alloc: Global, config: &Config, next: Option<&Config>, losses: &[Loss]) -> Vec<u8> {
     let mut text = Vec::new(alloc);
-    for (realm, loss) in config.realms.iter().zip(losses.iter()) {
+    for (index, (realm, loss)) in config.realms.iter().zip(losses.iter()).enumerate() {
         if !is_nothing(loss) {
-            let _is_said = push_line(&mut text, realm.name.as_str(), loss);
+            let change = change_of(realm, next, index);
+            let _is_said = push_line(&mut text, realm.name.as_str(), loss, change);
         }
     }
-    let words = b"declined: who agrees to lose that says reload --lose\n";
+    let words = b"nothing is changed; to change it all the same: roam ctl reload --lose\n";
     let _is_said = text.extend_from_slice(words.as_slice()).is_ok();
     text
 }
@@ -105,28 +134,27 @@ fn why_not(alloc: Global, config: &Config, losses: &[Loss]) -> Vec<u8> {
 /// Returns what is answered to who asked for a configuration by which so much would be lost of the realms of the one
 /// that is served, by their indexes, and to which nobody agreed.
 pub fn declined_for(alloc: Global, config: &Config, losses: &[Loss]) -> Reply {
-    plain_reply(Course::Declined, why_not(alloc, config, losses))
+    plain_reply(Course::Declined, why_not(alloc, config, None, losses))
 }
 
 /// Tells what went of each realm of a configuration, by their indexes, where another one followed it.
 pub fn tell_what_went<R: Log>(rt: &R, config: &Config, losses: &[Loss]) {
     for (realm, loss) in config.realms.iter().zip(losses.iter()) {
-        if loss.waiting > 0 || loss.sessions > 0 {
-            tell_dropped(
-                rt,
-                DroppedText {
-                    cause: DropCause::Reload,
-                    realm: realm.name.as_str(),
-                    waiting: loss.waiting as u64,
-                    sessions: loss.sessions as u64,
-                },
-            );
-        }
+        tell_dropped(
+            rt,
+            DroppedText {
+                cause: DropCause::Reload,
+                realm: realm.name.as_str(),
+                waiting: loss.waiting as u64,
+                held: loss.held as u64,
+                sessions: loss.sessions as u64,
+            },
+        );
     }
 }
 
-/// Returns why a configuration isn't followed to which nobody agreed: something would be lost by it as the realms
-/// stand now. The workers serve meanwhile, so it is looked again when they have ended.
+/// Returns why a configuration isn't followed to which nobody agreed: a request that waits or a session would be lost
+/// by it as the realms stand now. The workers serve meanwhile, so it is looked again when they have ended.
 pub fn objection<R: Wait, H: HubCalls<N>, N: Opened>(
     rt: &R,
     shared: &Shared<'_, '_, H, N>,
@@ -139,7 +167,8 @@ pub fn objection<R: Wait, H: HubCalls<N>, N: Opened>(
     if losses.iter().all(|loss| is_nothing(loss)) {
         return None;
     }
-    Some(declined_for(shared.alloc, shared.config, losses.as_slice()))
+    let why = why_not(shared.alloc, shared.config, Some(next), losses.as_slice());
+    Some(plain_reply(Course::Declined, why))
 }
 
 impl<R: Wait + Log, H: HubCalls<N>, N: Opened> Attendant<'_, '_, R, H, N> {
@@ -159,6 +188,7 @@ impl<R: Wait + Log, H: HubCalls<N>, N: Opened> Attendant<'_, '_, R, H, N> {
                 cause: DropCause::End,
                 realm: realm.name.as_str(),
                 waiting,
+                held: 0,
                 sessions,
             };
             tell_dropped(self.rt, dropped);

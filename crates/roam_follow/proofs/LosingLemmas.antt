@@ -18,7 +18,7 @@ use Rattle.roam_shard.specs.Pausing.{StandsStill, StandsUnder, opening_under, st
 use Rattle.roam_shard.specs.ShardView.{OpeningView, ShardView}
 use Rattle.roam_shard.specs.declared.paused.Paused.{Paused}
 use Rattle.roam_follow.specs.Following.{StandAsBefore}
-use Rattle.roam_follow.specs.Losing.{AreLosses, IsLossIn, LosesNothing, NothingIsLost, SomethingIsLost, no_loss}
+use Rattle.roam_follow.specs.Losing.{AreLosses, IsLossIn, LosesNothing, NothingIsLost, SomethingIsLost, beside_replies, no_loss}
 use Rattle.roam_follow.specs.Paused.{ArePaused}
 use Rattle.roam_follow.specs.Private.Nothing.{is_nothing}
 use Rattle.roam_follow.proofs.FollowLemmas.{get-push, still_one}
@@ -34,24 +34,24 @@ insert-remove {X} (x ∷ xs) (suc i) q lt = ap (λ (l : List X). x ∷ l) (inser
 abbrev lost_of : ℕ → ℕ → ℕ → LossView
 lost_of waiting held sessions = record { waiting = waiting; held = held; sessions = sessions }
 
-nothing_shown : (loss : Loss) → is_nothing loss ≡ true → shown_loss loss ≡ no_loss
+nothing_shown : (loss : Loss) → is_nothing loss ≡ true → beside_replies (shown_loss loss) ≡ no_loss
 nothing_shown loss is =
-    let both = and_parts ((loss.waiting == 0) && (loss.held == 0)) (loss.sessions == 0) is in
-    let parts = and_parts (loss.waiting == 0) (loss.held == 0) both.0 in
-    ap (λ (n : ℕ). lost_of n loss.held loss.sessions) (eqb-true loss.waiting 0 parts.0)
-    ∙ ap (λ (n : ℕ). lost_of 0 n loss.sessions) (eqb-true loss.held 0 parts.1)
-    ∙ ap (λ (n : ℕ). lost_of 0 0 n) (eqb-true loss.sessions 0 both.1)
+    let parts = and_parts (loss.waiting == 0) (loss.sessions == 0) is in
+    ap (λ (n : ℕ). lost_of n 0 loss.sessions) (eqb-true loss.waiting 0 parts.0)
+    ∙ ap (λ (n : ℕ). lost_of 0 0 n) (eqb-true loss.sessions 0 parts.1)
 
-something_shown : (loss : Loss) → is_nothing loss ≡ false → shown_loss loss ≢ no_loss
+something_shown : (loss : Loss) → is_nothing loss ≡ false → beside_replies (shown_loss loss) ≢ no_loss
 something_shown loss isnt shown =
     let waiting : loss.waiting ≡ 0 = ap (λ (v : LossView). v.waiting) shown in
-    let held : loss.held ≡ 0 = ap (λ (v : LossView). v.held) shown in
     let sessions : loss.sessions ≡ 0 = ap (λ (v : LossView). v.sessions) shown in
     let is : is_nothing loss ≡ true =
-    and_from ((loss.waiting == 0) && (loss.held == 0)) (loss.sessions == 0)
-    (and_from (loss.waiting == 0) (loss.held == 0) (eq-eqb loss.waiting 0 waiting) (eq-eqb loss.held 0 held))
+    and_from (loss.waiting == 0) (loss.sessions == 0) (eq-eqb loss.waiting 0 waiting)
     (eq-eqb loss.sessions 0 sessions) in
     true≢false (sym is ∙ isnt)
+
+-- the same of what equals it
+alike : (a b : LossView) → a ≡ b → beside_replies a ≡ beside_replies b
+alike a b same = ap (λ (v : LossView). beside_replies v) same
 
 rest_isnt : (a b : Bool) → a ≡ true → (a && b) ≡ false → b ≡ false
 rest_isnt true b is both = both
@@ -115,8 +115,8 @@ loses : (old new : ConfigView) (realm : ℕ) (s : RealmState) (loss : Loss) → 
     → is_nothing loss ≡ false → ¬ LosesNothing old new realm s
 loses old new realm s loss is isnt nothing =
     let ne = something_shown loss isnt in
-    let gone : ¬ IsCarried old new realm = λ c. ne (is.carried c ∙ nothing.carried c) in
-    ne (is.gone gone ∙ nothing.gone gone)
+    let gone : ¬ IsCarried old new realm = λ c. ne (alike _ _ (is.carried c) ∙ nothing.carried c) in
+    ne (alike _ _ (is.gone gone) ∙ nothing.gone gone)
 
 module _ {A : Type 0} where
   pub as_before : (old : ConfigView) (shards : List (Paused A)) → ArePaused old shards → StandAsBefore old shards shards
@@ -228,7 +228,10 @@ module _ {A : Type 0} where
       slice_get-get_or losses realm none (omega (arith, within, are.count)) in
       let is = are.each realm loss there p at in
       let shown = nothing_shown loss (each_nothing losses all realm loss there) in
-      record { carried = λ c. sym (is.carried c) ∙ shown; gone = λ n. sym (is.gone n) ∙ shown }
+      record {
+        carried = λ c. alike _ _ (sym (is.carried c)) ∙ shown;
+        gone = λ n. alike _ _ (sym (is.gone n)) ∙ shown;
+      }
 
   -- where one isn't nothing, something is lost
   pub something_lost : (old new : ConfigView) (shards : List (Paused A)) (losses : List Loss) → 1 ≤ old.shards

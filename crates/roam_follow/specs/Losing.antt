@@ -14,26 +14,32 @@ use Rattle.roam_follow.specs.declared.declined.Declined.{Declined}
 use Rattle.roam_follow.specs.declared.declined.Declined.TheVariants as declined
 
 -- ## Guard of a change
--- A configuration to which nobody agreed follows only where no realm loses a waiting request, a held reply or a session
--- by that: where nobody serves any more, in the state of each realm in its own shard. Otherwise it is declined with
--- what each realm would lose, and each realm stays in the state in which it was.
+-- A configuration to which nobody agreed follows only where no realm loses a waiting request or a session by that:
+-- where nobody serves any more, in the state of each realm in its own shard. Otherwise it is declined with what each
+-- realm would lose, and each realm stays in the state in which it was. A held reply that goes stops no change: it is
+-- told with the other losses.
 -- Source: ours
 -- Rules out: a request that came while a change was made ready, and goes by it unseen; a change declined that takes
--- nothing; a look at the first realm only
--- Stands in: `roam_follow` `Losing.antt`: `LosesNothing`, `NothingIsLost`, `SomethingIsLost`, `AreLosses`,
--- `IsDeclined`; `follow`
+-- nothing, or nothing but held replies; a look at the first realm only
+-- Stands in: `roam_follow` `Losing.antt`: `beside_replies`, `LosesNothing`, `NothingIsLost`, `SomethingIsLost`,
+-- `AreLosses`, `IsDeclined`; `follow`
 --
 -- no waiting request, no held reply and no session
 abbrev pub no_loss : LossView
 no_loss = record { waiting = 0; held = 0; sessions = 0 }
 
--- a realm in this state loses nothing: all is carried over, or it goes and has nothing
+-- what of a loss stops a change to which nobody agreed: its held replies don't
+abbrev pub beside_replies : LossView → LossView
+beside_replies loss = record loss { held = 0 }
+
+-- a realm in this state loses nothing but held replies: all else is carried over, or it goes and has nothing else
 pub record LosesNothing (old new : ConfigView) (realm : ℕ) (s : RealmState) : Type 0 where
-  pub carried : IsCarried old new realm → losses (realm_config old realm) (realm_config new realm) s ≡ no_loss
-  pub gone : ¬ IsCarried old new realm → all_lost s ≡ no_loss
+  pub carried : IsCarried old new realm
+      → beside_replies (losses (realm_config old realm) (realm_config new realm) s) ≡ no_loss
+  pub gone : ¬ IsCarried old new realm → beside_replies (all_lost s) ≡ no_loss
 
 module _ {A : Type 0} where
-  -- no realm loses anything of its state in its shard
+  -- no realm loses anything but held replies of its state in its shard
   abbrev pub NothingIsLost : ConfigView → ConfigView → List (Paused A) → Type 0
   NothingIsLost old new shards = (realm : ℕ) (p : Paused A) → realm < length old.realms
       → slice_get shards (realm % old.shards) ≡ Some p

@@ -9,7 +9,7 @@ use std::alloc::Allocator;
 pub enum Declined<A: Allocator> {
     /// A growth was refused.
     Memory,
-    /// Nobody agreed to lose this of each realm, by its index.
+    /// Nobody agreed to lose this of each realm, by its index: of one at least more than held replies.
     Losses(Vec<Loss, A>),
 }
 

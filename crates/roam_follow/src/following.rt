@@ -60,8 +60,8 @@ fn all_follow<A: Allocator + Copy>(
 ///
 /// # Errors
 ///
-/// `Losses` where something would be lost, and nobody agreed; `Memory` where a growth was refused: all memory is taken
-/// first. No shard follows then, and they stand as they did.
+/// `Losses` where a waiting request or a session would be lost, and nobody agreed; `Memory` where a growth was refused:
+/// all memory is taken first. No shard follows then, and they stand as they did.
 pub fn follow<A: Allocator + Copy>(
     alloc: A,
     old: &Config,
@@ -77,7 +77,8 @@ pub fn follow<A: Allocator + Copy>(
     ensures err { OnErr result
         (StandAsBefore (shown old.now) shards.old.items shards.new.items) }
 
-    // Where nobody agreed, it follows only where nothing is lost; and is declined for losses only where something is.
+    // Where nobody agreed, it follows only where nothing but held replies is lost; and is declined for losses only
+    // where something else is.
     ensures guarded { OnOk result
         (is_agreed ≡ false → NothingIsLost (shown old.now) (shown new.now) shards.old.items) }
     ensures declined { IfErr result

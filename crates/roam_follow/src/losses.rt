@@ -88,21 +88,21 @@ pub(crate) fn all_losses<A: Allocator + Copy>(
     Ok(losses)
 }
 
-/// Returns whether nothing of a realm is lost.
+/// Returns whether no request that waits and no session of a realm is lost: held replies may go.
 fn is_nothing(loss: &Loss) -> bool
     ensures { result ≡ is_nothing loss.now }
 {
-    loss.waiting == 0 && loss.held == 0 && loss.sessions == 0
+    loss.waiting == 0 && loss.sessions == 0
 }
 
-/// Returns whether nothing of any realm is lost.
+/// Returns whether none is of any realm.
 fn are_nothing(losses: &[Loss]) -> bool
     ensures { result ≡ list_all is_nothing losses.now }
 {
     losses.iter().all(|loss| is_nothing(loss))
 }
 
-/// Returns whether something is lost, and nobody agreed.
+/// Returns whether a request that waits or a session is lost, and nobody agreed.
 pub(crate) fn is_refused(is_agreed: bool, losses: &[Loss]) -> bool
     ensures { result ≡ (not is_agreed && not (list_all is_nothing losses.now)) }
 {

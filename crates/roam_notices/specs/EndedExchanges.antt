@@ -11,7 +11,7 @@ use Rattle.roam_pending.specs.declared.key.Requester.{Requester}
 use Rattle.roam_pending.specs.declared.key.Requester.TheVariants as requester
 use Rattle.roam_exchange.specs.Happenings.{PlainWaited}
 use Rattle.roam_notices.specs.Exchanges.{is_abandoned}
-use Rattle.roam_notices.specs.Said.{AreTold, charged_by}
+use Rattle.roam_notices.specs.Said.{AreTold, charged_by, error_cause_in}
 use Rattle.roam_notices.specs.Values.{no_value, octets_if}
 use Rattle.roam_notices.specs.declared.details.Details.{Details}
 use Rattle.roam_notices.specs.declared.exchange.Exchange.{Exchange}
@@ -54,8 +54,8 @@ uncharged details = record details { charged = no_value }
 
 -- ## Line of an exchange that ended
 -- Of the request that waited, and of no other: its realm, who asked, which home server it was or which peer, how often
--- it was sent there, what its own octets say; and who is charged by its Access-Accept. There is one just where those
--- octets are kept.
+-- it was sent there, what its own octets say; who is charged by its Access-Accept, and the Error-Cause of its NAK.
+-- There is one just where those octets are kept.
 -- Source: ours
 -- Rules out: a line with another's user, realm or server; an exchange of which none is made though its octets are kept
 -- Stands in: `roam_notices` `EndedExchanges.antt`: `IsLineOf`; `Said.antt`: `AreTold`; `tell_of`, its
@@ -67,6 +67,7 @@ pub record IsLineOf (config : ConfigView) (index : ℕ) (w : PlainWaited) (endin
   pub kept : w.octets ≡ Some octets
   pub told : AreTold (reading octets) x.asked x.user x.station (uncharged x.details)
   pub charged : octets_if x.details.charged ≡ charged_by (reading reply)
+  pub cause : x.error_cause ≡ error_cause_in (reading reply)
   pub outcome : x.outcome ≡ ending
   pub why : x.why ≡ None
   pub realm : x.realm ≡ Some index

@@ -9,11 +9,14 @@ use Rattle.roam_conf.specs.declared.exchange_lines.ExchangeLines.TheVariants as 
 use Rattle.roam_notices.specs.declared.exchange.RequestWord.{RequestWord}
 use Rattle.roam_notices.specs.declared.exchange.RequestWord.TheVariants as asked
 use Rattle.roam_notices.specs.declared.exchange.Exchange.{Exchange}
+use Rattle.roam_notices.specs.declared.exchange.Silence.{Silence}
+use Rattle.roam_notices.specs.declared.exchange.Silence.TheVariants as silence
 use Rattle.roam_notices.specs.declared.exchange.ExchangeEnd.{ExchangeEnd}
 use Rattle.roam_notices.specs.declared.exchange.ExchangeEnd.TheVariants as outcome
 use Rattle.roam_route.specs.declared.local_answer.RejectCause.{RejectCause}
 use Rattle.roam_route.specs.declared.local_answer.RejectCause.TheVariants as cause
 use Rattle.roam_notices.specs.Details.{details_text}
+use Rattle.roam_notices.specs.ErrorCauses.{error_cause_text}
 use Rattle.roam_notices.specs.Values.{digits_text, octets_if, value_text}
 use Rattle.roam_stations.specs.Hashes.{hash_of}
 use Rattle.roam_stations.specs.declared.form.StationForm.{StationForm}
@@ -144,9 +147,28 @@ abbrev pub why_text : Option RejectCause → List ℕ
 why_text None = []
 why_text (Some cause) = codes " why=" ++ cause_word cause
 
--- where that is said, why it was rejected, how many were so, and its details
+-- how the home server of one that was given up is silent
+abbrev pub silence_text : Option Silence → List ℕ
+silence_text None = []
+silence_text (Some silence.Never) = codes " why=never_answered"
+silence_text (Some silence.Stopped) = codes " why=stopped_answering"
+
+-- what is usually wrong then
+abbrev pub advice_text : Option Silence → List ℕ
+advice_text (Some silence.Never) =
+    codes " hint=\"wrong secret on either side, wrong port, or this proxy is not a client there\""
+advice_text _ = []
+
+-- where that is said, why it was rejected or given up, how many were so, and its details
+abbrev pub known_text : Exchange → List ℕ
+known_text exchange =
+    why_text exchange.why ++ silence_text exchange.silence ++ times_text exchange.times ++
+    details_text exchange.details
+
+-- the same, the Error-Cause of a NAK, and what is usually wrong
 abbrev pub more_text : Exchange → List ℕ
-more_text exchange = why_text exchange.why ++ times_text exchange.times ++ details_text exchange.details
+more_text exchange =
+    known_text exchange ++ error_cause_text exchange.error_cause ++ advice_text exchange.silence
 
 -- which round of its conversation it was, and how long this took from its first request on, where that is told
 abbrev pub rounds_text : ℕ → ℕ → List ℕ

@@ -31,6 +31,8 @@ abbrev pub unsaid : ExchangeEnd → Exchange
 unsaid end = record {
   outcome = end;
   why = None;
+  error_cause = None;
+  silence = None;
   asked = asked.Other;
   realm = None;
   peer = None;

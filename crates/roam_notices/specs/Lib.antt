@@ -1,8 +1,11 @@
+pub mod Clues
 pub mod Details
 pub mod Dropped
 pub mod EndedExchanges
+pub mod ErrorCauses
 pub mod Exchanges
 pub mod Folded
+pub mod Hints
 pub mod Lines
 pub mod Names
 pub mod Origins

@@ -9,6 +9,7 @@ use Rattle.roam_conf.specs.declared.place.Place.TheVariants as place
 use Rattle.roam_wire.specs.Refusal.{number_of}
 use Rattle.roam_wire.specs.declared.refusal.Refusal.{Refusal}
 use Rattle.roam_wire.specs.declared.refusal.Refusal.TheVariants as refusal
+use Rattle.roam_notices.specs.Hints.{clue_text, hint_text}
 use Rattle.roam_notices.specs.declared.origin.Origin.{Origin}
 use Rattle.roam_notices.specs.declared.origin.Origin.TheVariants as origin
 use Rattle.roam_notices.specs.declared.sender.Sender.{Sender}
@@ -73,6 +74,7 @@ source_text place from realm who =
 abbrev pub origin_text : Option Origin → List ℕ → Sender → List ℕ
 origin_text (Some (origin.Datagram place from)) realm who = source_text place from realm who
 origin_text (Some (origin.Unsealed place from)) realm who = source_text place from realm who
+origin_text (Some (origin.Explained place from clue)) realm who = source_text place from realm who
 origin_text (Some (origin.Place place)) realm who = codes " at " ++ place_text place realm
 origin_text (Some (origin.Tick shard)) realm who = codes " at tick:" ++ decimal shard
 origin_text None realm who = codes " elsewhere"
@@ -81,31 +83,20 @@ origin_text None realm who = codes " elsewhere"
 abbrev pub count_text : ℕ → List ℕ
 count_text count = if count == 1 then [] else (codes " (" ++ decimal count ++ codes " times)")
 
--- what is wrong with the seal of a reply
-abbrev pub seal_hint : Option Origin → List ℕ
-seal_hint (Some (origin.Unsealed place from)) = codes ": no Message-Authenticator"
-seal_hint (Some (origin.Datagram place from)) = codes ": wrong Message-Authenticator"
-seal_hint _ = []
-
--- what is usually wrong
-abbrev pub hint_text : Refusal → Option Origin → List ℕ
-hint_text refusal.BadAuthenticator at = codes ": other secret?"
-hint_text refusal.BadMessageAuthenticator at = codes ": other secret?"
-hint_text refusal.BadReply at = codes ": other secret?"
-hint_text refusal.BadReplyMessageAuthenticator at = seal_hint at
-hint_text _ at = []
-
 -- ## Line of refusals
 -- `refused`, the number and the name, the place with its realm's name, the source and which peer or home server
--- that is, how often where it wasn't once, and what is usually wrong. No octet of a packet stands in it.
+-- that is, how often where it wasn't once, what is usually wrong, and what of the first datagram shows it: its code,
+-- the realm that it asks for, or how many seconds its Event-Timestamp is off. No octet of a packet stands in it that
+-- isn't printable in ASCII.
 -- Source: ours
 -- Rules out: a line that a packet's octets forge; the name of another peer than the source's
--- Stands in: `roam_notices` `Lines.antt`: `refused_text`; `Senders.antt`: `who_sent`; `RefusedText::new`, what its
--- `Display` writes;
+-- Stands in: `roam_notices` `Lines.antt`: `refused_text`; `Hints.antt`: `hint_text`, `clue_text`; `Clues.antt`:
+-- `IsShown`; `Senders.antt`: `who_sent`; `RefusedText::new`, what its `Display` writes;
 -- `roam_telling` `Origins.antt`: `origin_of`
 --
--- the line: no octet of a packet stands in it
-abbrev pub refused_text : RefusalCount → List ℕ → Sender → List ℕ
-refused_text tally realm who =
+-- the line, where this is shown of the realm that is asked for
+abbrev pub refused_text : RefusalCount → List ℕ → Sender → List ℕ → List ℕ
+refused_text tally realm who asked =
     codes "refused " ++ decimal (number_of tally.refusal) ++ codes " " ++ refusal_name tally.refusal ++
-    origin_text tally.origin realm who ++ count_text tally.count ++ hint_text tally.refusal tally.origin
+    origin_text tally.origin realm who ++ count_text tally.count ++ hint_text tally.refusal tally.origin ++
+    clue_text tally.origin asked

@@ -19,6 +19,7 @@ use Rattle.roam_notices.specs.declared.origin.OriginKind.TheVariants as kind
 abbrev pub kind_of : Origin → OriginKind
 kind_of (origin.Datagram place from) = kind.Source place from.ip
 kind_of (origin.Unsealed place from) = kind.UnsealedSource place from.ip
+kind_of (origin.Explained place from clue) = kind.Source place from.ip
 kind_of (origin.Place place) = kind.Place place
 kind_of (origin.Tick shard) = kind.Tick shard
 
@@ -33,5 +34,6 @@ realm_at (place.Reverse realm nth) = Some realm
 abbrev pub realm_of : Origin → Option ℕ
 realm_of (origin.Datagram place from) = realm_at place
 realm_of (origin.Unsealed place from) = realm_at place
+realm_of (origin.Explained place from clue) = realm_at place
 realm_of (origin.Place place) = realm_at place
 realm_of (origin.Tick shard) = None

@@ -1,5 +1,5 @@
 -- What a line of an exchange has of its request, and of its Access-Accept. Ours.
-use Rattle.std.specs.Prelude.{◌≡◌, ℕ, ◌==◌, List, [], ◌∷◌, Option, Some, None, Result, Ok, Err, option_and_then, option_map, take, if◌then◌else◌}
+use Rattle.std.specs.Prelude.{◌≡◌, ℕ, ◌==◌, ◌||◌, Bool, List, [], ◌∷◌, Option, Some, None, Result, Ok, Err, option_and_then, option_map, take, if◌then◌else◌}
 use Rattle.std.specs.Int.{w32, from_be_bytes}
 use Rattle.roam_notices.specs.Exchanges.{asked_of}
 use Rattle.roam_notices.specs.Values.{octets_if}
@@ -10,7 +10,7 @@ use Rattle.roam_notices.specs.declared.exchange.RequestWord.TheVariants as asked
 use Rattle.roam_notices.specs.declared.exchange.Value.{Value}
 use Rattle.roam_wire.specs.Attributes.{first_value}
 use Rattle.roam_wire.specs.Packet.{Packet}
-use Rattle.roam_wire.specs.declared.attribute_type.TheConstants.{ACCT_SESSION_ID, ACCT_STATUS_TYPE, NAS_IDENTIFIER, USER_NAME}
+use Rattle.roam_wire.specs.declared.attribute_type.TheConstants.{ACCT_SESSION_ID, ACCT_STATUS_TYPE, ERROR_CAUSE, NAS_IDENTIFIER, USER_NAME}
 use Rattle.roam_wire.specs.declared.refusal.Refusal.{Refusal}
 
 -- the value of the first attribute of a type, which has 253 octets at most (RFC 2865, section 5)
@@ -56,11 +56,13 @@ pub record AreTold (request : Result Packet Refusal) (word : RequestWord) (user 
 
 -- ## What a line has of a request
 -- By its code what was asked; of its attributes the first User-Name, Calling-Station-Id, Operator-Name, NAS-Identifier,
--- Called-Station-Id, Acct-Status-Type and Acct-Session-Id; of an Access-Accept the first Chargeable-User-Identity.
--- Source: RFC 2865 section 5, RFC 2866 section 5, RFC 5580 section 4.1, RFC 4372 section 2.2, ours
--- Rules out: one attribute told as another; who is charged by any other reply
--- Stands in: `roam_notices` `Said.antt`: `AreTold`, `IsSaidBy`, `charged_by`; `nak_of`, `local_reject_of`,
--- `tell_of`
+-- Called-Station-Id, Acct-Status-Type and Acct-Session-Id; of an Access-Accept the first Chargeable-User-Identity, of a
+-- NAK the first Error-Cause.
+-- Source: RFC 2865 section 5, RFC 2866 section 5, RFC 5580 section 4.1, RFC 4372 section 2.2, RFC 5176 section 3.5,
+-- ours
+-- Rules out: one attribute told as another; who is charged by any other reply; a cause that no NAK gave
+-- Stands in: `roam_notices` `Said.antt`: `AreTold`, `IsSaidBy`, `charged_by`, `error_cause_in`; `nak_of`,
+-- `local_reject_of`, `tell_of`
 --
 -- each as it stands in a request; nothing of one that isn't read
 abbrev pub IsSaidBy : Result Packet Refusal → Exchange → Type 0
@@ -70,3 +72,13 @@ IsSaidBy request exchange = AreTold request exchange.asked exchange.user exchang
 abbrev pub charged_by : Result Packet Refusal → Option (List ℕ)
 charged_by (Ok reply) = if reply.code == 2 then told_value 89 reply else None
 charged_by (Err fault) = None
+
+-- a Disconnect-NAK or a CoA-NAK
+abbrev pub is_nak : ℕ → Bool
+is_nak code = (code == 42) || (code == 45)
+
+-- why a NAK was given (RFC 5176, section 3.5)
+abbrev pub error_cause_in : Result Packet Refusal → Option ℕ
+error_cause_in (Ok reply) =
+    if is_nak reply.code then option_and_then number_in (first_value ERROR_CAUSE reply.attributes) else None
+error_cause_in (Err fault) = None

@@ -63,4 +63,5 @@ who_sends config (place.Reverse realm nth) from = home_if (home_in config realm 
 abbrev pub who_sent : ConfigView → Option Origin → Who
 who_sent config (Some (origin.Datagram place from)) = who_sends config place from
 who_sent config (Some (origin.Unsealed place from)) = who_sends config place from
+who_sent config (Some (origin.Explained place from clue)) = who_sends config place from
 who_sent config _ = unknown

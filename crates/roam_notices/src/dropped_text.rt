@@ -23,6 +23,8 @@ pub struct DroppedText<'n> {
     pub realm: &'n str,
     /// How many requests wait.
     pub waiting: u64,
+    /// How many replies are held.
+    pub held: u64,
     /// How many sessions are open.
     pub sessions: u64,
 }
@@ -37,17 +39,35 @@ fn cause_word(cause: DropCause) -> &'static str
     }
 }
 
+/// How many replies are held, behind a comma, where some are.
+#[derive(Clone, Copy)]
+struct HeldText(u64);
+
+impl Display for HeldText {
+    ghost output = { λ text. Some (spec.held_text text.0) };
+
+    fn fmt<W: Write>(&self, f: &mut Formatter<W>) -> fmt::Result {
+        let held = self.0;
+        if held == 0 {
+            f.write_str("")
+        } else {
+            write!(f, ", {held} held replies")
+        }
+    }
+}
+
 impl Display for DroppedText<'_> {
-    ghost output = { λ text. Some (spec.dropped_text text.cause text.realm.now text.waiting text.sessions) };
+    ghost output = { λ text. Some (spec.dropped_text text.cause text.realm.now text.waiting text.sessions text.held) };
 
     fn fmt<W: Write>(&self, f: &mut Formatter<W>) -> fmt::Result {
         let word = cause_word(self.cause);
         let realm = self.realm;
         let waiting = self.waiting;
         let sessions = self.sessions;
+        let held = HeldText(self.held);
         write!(
             f,
-            "{word}: realm {realm}: dropped: {waiting} waiting requests, {sessions} sessions"
+            "{word}: realm {realm}: dropped: {waiting} waiting requests, {sessions} sessions{held}"
         )
     }
 }

@@ -6,8 +6,8 @@ ghost use Rattle.roam_exchange.specs.HappeningsShown.{shown_waited};
 ghost use Rattle.roam_notices.specs.EndedExchanges as spec;
 ghost use Rattle.roam_notices.specs.EndedExchanges.{IsLineOf};
 
-use crate::exchange::{Exchange, ExchangeEnd};
-use crate::said::{keep_charged, say};
+use crate::exchange::{Exchange, ExchangeEnd, Silence};
+use crate::said::{error_cause_of, keep_charged, say};
 use roam_conf::{Config, Endpoint, Link};
 use roam_exchange::Waited;
 use roam_pending::{Course, Requester};
@@ -68,11 +68,13 @@ fn rounds_of(course: Course, outcome: ExchangeEnd) -> u32
     }
 }
 
-/// How an exchange ended at a moment: with this reply, or with none, which has no octets.
+/// How an exchange ended at a moment: with this reply, or with none, which has no octets; and how its home server is
+/// silent, where it is.
 #[derive(Clone, Copy)]
 pub struct EndedWith<'r> {
     pub outcome: ExchangeEnd,
     pub reply: &'r [u8],
+    pub silence: Option<Silence>,
     /// In milliseconds since the server's start.
     pub now: u64,
 }
@@ -92,6 +94,7 @@ pub fn tell_of<A: Allocator>(
     ensures time { IsTrue result → exchange.new.milliseconds ≡ ended.entry.now - waited.now.came }
     ensures rounds { IsTrue result → exchange.new.rounds ≡ spec.rounds_of waited.now.course ended.entry.outcome }
     ensures since { IsTrue result → exchange.new.since_first ≡ ended.entry.now - waited.now.course.began }
+    ensures silence { IsTrue result → exchange.new.silence ≡ ended.entry.silence }
 {
     let octets = match &waited.octets {
         Some(octets) => octets.as_slice(),
@@ -106,5 +109,7 @@ pub fn tell_of<A: Allocator>(
     exchange.rounds = rounds_of(waited.course, ended.outcome);
     exchange.since_first = ended.now.saturating_sub(waited.course.began);
     keep_charged(&mut exchange.details.charged, ended.reply);
+    exchange.error_cause = error_cause_of(ended.reply);
+    exchange.silence = ended.silence;
     true
 }

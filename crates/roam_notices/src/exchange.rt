@@ -33,6 +33,15 @@ pub enum ExchangeEnd {
     Abandoned,
 }
 
+/// How a home server is silent.
+#[derive(Clone, Copy, PartialEq, Eq)]
+pub enum Silence {
+    /// It has given no valid reply since its table counts.
+    Never,
+    /// It answered before.
+    Stopped,
+}
+
 /// A request's code, as a line names it.
 #[derive(Clone, Copy, PartialEq, Eq)]
 pub enum RequestWord {
@@ -58,6 +67,10 @@ pub struct Exchange {
     pub outcome: ExchangeEnd,
     /// Of one that the broker rejected by itself.
     pub why: Option<RejectCause>,
+    /// The Error-Cause of the NAK that was returned, where it has one (RFC 5176, section 3.5).
+    pub error_cause: Option<u32>,
+    /// Of one that was given up: how its home server is silent, where it is.
+    pub silence: Option<Silence>,
     pub asked: RequestWord,
     /// The index of its realm; none where the broker rejected it before a realm was asked.
     pub realm: Option<u16>,
@@ -168,6 +181,8 @@ impl Exchange {
         Exchange {
             outcome,
             why: None,
+            error_cause: None,
+            silence: None,
             asked: RequestWord::Other,
             realm: None,
             peer: None,

@@ -8,7 +8,8 @@ ghost use Rattle.roam_notices.specs.Exchanges as spec;
 ghost use Rattle.roam_notices.specs.Values.{digit, is_plain, quoted_octet, quoted_octets, shown_value, value_text};
 
 use crate::details::push_details;
-use crate::exchange::{Exchange, ExchangeEnd, RequestWord};
+use crate::error_cause::push_error_cause;
+use crate::exchange::{Exchange, ExchangeEnd, RequestWord, Silence};
 use crate::server_text::push_server;
 use crate::station_text::push_station;
 use itoa::Buffer;
@@ -56,7 +57,7 @@ fn push_octet(line: &mut Vec<u8>, octet: u8) -> Result<(), AllocError>
 }
 
 /// Returns whether each octet of a value stands as itself.
-fn are_plain(value: &[u8]) -> bool
+pub(crate) fn are_plain(value: &[u8]) -> bool
     ensures { result ≡ list_all is_plain value.now }
 {
     value.iter().all(|octet| is_plain(*octet))
@@ -198,6 +199,29 @@ fn push_why(line: &mut Vec<u8>, why: Option<RejectCause>) -> Result<(), AllocErr
     push(line, cause_word(cause).as_bytes())
 }
 
+/// Returns how the home server of an exchange that was given up is silent.
+fn silence_words(silence: Option<Silence>) -> &'static str
+    ensures { result.now ≡ spec.silence_text silence }
+{
+    match silence {
+        Some(Silence::Never) => " why=never_answered",
+        Some(Silence::Stopped) => " why=stopped_answering",
+        None => "",
+    }
+}
+
+/// Returns what is usually wrong where a home server is silent so.
+fn advice_words(silence: Option<Silence>) -> &'static str
+    ensures { result.now ≡ spec.advice_text silence }
+{
+    match silence {
+        Some(Silence::Never) => {
+            " hint=\"wrong secret on either side, wrong port, or this proxy is not a client there\""
+        }
+        Some(Silence::Stopped) | None => "",
+    }
+}
+
 /// Adds how many they were, where it was not one.
 fn push_times(line: &mut Vec<u8>, times: u64) -> Result<(), AllocError>
     ensures { OnOk result (line.new.items ≡ line.old.items ++ spec.times_text times) }
@@ -208,13 +232,23 @@ fn push_times(line: &mut Vec<u8>, times: u64) -> Result<(), AllocError>
     push_number(line, " times=", times)
 }
 
-/// Adds why it was rejected here, how many were so, and its details.
+/// Adds why it was rejected here or given up, how many were so, and its details.
+fn push_known(line: &mut Vec<u8>, exchange: &Exchange) -> Result<(), AllocError>
+    ensures { OnOk result (line.new.items ≡ line.old.items ++ spec.known_text exchange.now) }
+{
+    push_why(line, exchange.why)?;
+    push(line, silence_words(exchange.silence).as_bytes())?;
+    push_times(line, exchange.times)?;
+    push_details(line, &exchange.details)
+}
+
+/// Adds the same, the Error-Cause of a NAK, and what is usually wrong.
 fn push_more(line: &mut Vec<u8>, exchange: &Exchange) -> Result<(), AllocError>
     ensures { OnOk result (line.new.items ≡ line.old.items ++ spec.more_text exchange.now) }
 {
-    push_why(line, exchange.why)?;
-    push_times(line, exchange.times)?;
-    push_details(line, &exchange.details)
+    push_known(line, exchange)?;
+    push_error_cause(line, exchange.error_cause)?;
+    push(line, advice_words(exchange.silence).as_bytes())
 }
 
 /// Adds which round of its conversation it was, and how long this took so far, where that is told.

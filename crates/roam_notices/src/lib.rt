@@ -9,22 +9,27 @@
 //!   one, where fewer than eight of its number stand; else in that of all others of its number. Tallies of
 //!   other numbers stay as they are | `Row::note`, `Repeats::note`
 //! - tallies are taken out as they lie, by number, and in the order in which they began; the name in a line is
-//!   that of the place's realm, and the line's text has it, the number, the name, the place, the source and the
-//!   count, and nothing else | `Repeats::take_first`, `RefusedText::new`, what its `Display` writes
-//! - the line of an exchange that ended is of the request that waited: its realm, who asked, the home server, how often it
-//!   was sent there, and what its own octets say; of a login with several rounds how many, and the time since the first
-//!   | `tell_of`
+//!   that of the place's realm, and the line's text has it, the number, the name, the place, the source, the
+//!   count, what is usually wrong and what the packet shows of that, and nothing else | `Repeats::take_first`,
+//!   `RefusedText::new`, what its `Display` writes
+//! - the line of an exchange that ended is of the request that waited: its realm, who asked, the home server, how often
+//!   it was sent there, and what its own octets say; of a login with several rounds how many, and the time since the
+//!   first; of a NAK its Error-Cause, and of one that was given up how the home server is silent | `tell_of`,
+//!   `error_cause_of`
 //! - the line of an exchange has its words, numbers and endpoints, and its values between quotation marks; what
 //!   is written of a value is printable in ASCII, and reads back as that value, whatever octets it has |
 //!   `push_exchange`; laws `values_are_printable`, `values_read_back`
 #![tactic(auto)]
 
+mod clue;
 mod details;
 mod dropped_text;
 mod ended_exchange;
+mod error_cause;
 mod exchange;
 mod exchange_line;
 mod folded;
+mod hints;
 pub mod laws;
 mod origin;
 mod reload_text;
@@ -38,17 +43,18 @@ mod tally;
 mod text;
 mod turned_away;
 
+pub use clue::{AskedRealm, Clue};
 pub use details::Details;
 pub use dropped_text::{DropCause, DroppedText};
 pub use ended_exchange::{EndedWith, server_endpoint, tell_of};
-pub use exchange::{Exchange, ExchangeEnd, RequestWord, Value};
+pub use exchange::{Exchange, ExchangeEnd, RequestWord, Silence, Value};
 pub use exchange_line::push_exchange;
 pub use folded::FoldedLines;
 pub use origin::{Origin, OriginKind};
 pub use reload_text::{ReloadEnd, ReloadText};
 pub use repeats::Repeats;
 pub use row::{KINDS, Row};
-pub use said::said_by;
+pub use said::{error_cause_of, number_in, said_by};
 pub use sender::Sender;
 pub use tally::RefusalCount;
 pub use text::RefusedText;

@@ -3,6 +3,7 @@
 ghost use Rattle.std.specs.Prelude.{◌≡◌};
 ghost use Rattle.roam_notices.specs.Origins as spec;
 
+use crate::clue::Clue;
 use roam_conf::{Address, Endpoint, Place};
 
 /// Where something was refused.
@@ -12,6 +13,8 @@ pub enum Origin {
     Datagram(Place, Endpoint),
     /// The same, where the datagram has no Message-Authenticator, which its refusal is about.
     Unsealed(Place, Endpoint),
+    /// The same, where something of the datagram shows what is wrong with it.
+    Explained(Place, Endpoint, Clue),
     /// A datagram that came to this place, of which no more is known.
     Place(Place),
     /// A tick of this shard.
@@ -43,7 +46,9 @@ impl Origin {
         ensures { result ≡ spec.kind_of self }
     {
         match self {
-            Origin::Datagram(place, from) => OriginKind::Source(place, from.ip),
+            Origin::Datagram(place, from) | Origin::Explained(place, from, _) => {
+                OriginKind::Source(place, from.ip)
+            }
             Origin::Unsealed(place, from) => OriginKind::UnsealedSource(place, from.ip),
             Origin::Place(place) => OriginKind::Place(place),
             Origin::Tick(shard) => OriginKind::Tick(shard),
@@ -55,9 +60,10 @@ impl Origin {
         ensures { result ≡ spec.realm_of self }
     {
         match self {
-            Origin::Datagram(place, _) | Origin::Unsealed(place, _) | Origin::Place(place) => {
-                realm_at(place)
-            }
+            Origin::Datagram(place, _)
+            | Origin::Unsealed(place, _)
+            | Origin::Explained(place, _, _)
+            | Origin::Place(place) => realm_at(place),
             Origin::Tick(_) => None,
         }
     }

@@ -10,8 +10,10 @@ ghost use Rattle.roam_wire.specs.declared.refusal.Refusal.{Refusal};
 use crate::details::Details;
 use crate::exchange::{Exchange, ExchangeEnd, RequestWord, Value};
 use roam_wire::View;
-use roam_wire::attribute_type::{ACCT_SESSION_ID, ACCT_STATUS_TYPE, NAS_IDENTIFIER, USER_NAME};
-use roam_wire::code::ACCESS_ACCEPT;
+use roam_wire::attribute_type::{
+    ACCT_SESSION_ID, ACCT_STATUS_TYPE, ERROR_CAUSE, NAS_IDENTIFIER, USER_NAME,
+};
+use roam_wire::code::{ACCESS_ACCEPT, COA_NAK, DISCONNECT_NAK};
 
 /// The station that is called, and the one that calls (RFC 2865, sections 5.30 and 5.31).
 const CALLED_STATION_ID: u8 = 30;
@@ -31,8 +33,8 @@ fn keep(place: &mut Value, packet: &View<'_>, kind: u8)
     place.set(packet.first(kind));
 }
 
-/// The number that four octets are, the high one first; other octets are none.
-fn number_in(value: &[u8]) -> Option<u32>
+/// Returns the number that four octets are, the high one first; other octets are none.
+pub fn number_in(value: &[u8]) -> Option<u32>
     ensures { result ≡ spec.number_in value.now }
 {
     let [a, b, c, d] = value else {
@@ -79,6 +81,8 @@ fn begin(exchange: &mut Exchange, outcome: ExchangeEnd)
 {
     exchange.outcome = outcome;
     exchange.why = None;
+    exchange.error_cause = None;
+    exchange.silence = None;
     exchange.realm = None;
     exchange.peer = None;
     exchange.server = None;
@@ -136,6 +140,30 @@ pub fn said_by(octets: &[u8], outcome: ExchangeEnd) -> Exchange
     let mut exchange = Exchange::unsaid(outcome);
     say(&mut exchange, octets, outcome);
     exchange
+}
+
+/// Returns whether a reply is a NAK (RFC 5176, sections 3.1 and 3.2).
+fn is_nak(reply: &View<'_>) -> bool
+    ensures { result ≡ spec.is_nak reply.now.code }
+{
+    reply.code() == DISCONNECT_NAK || reply.code() == COA_NAK
+}
+
+/// Returns the number of the first Error-Cause, where it is one (RFC 5176, section 3.5).
+fn cause_in(reply: &View<'_>) -> Option<u32>
+    ensures { result ≡ option_and_then spec.number_in (first_value ERROR_CAUSE reply.now.attributes) }
+{
+    number_in(reply.first(ERROR_CAUSE)?)
+}
+
+/// Returns the Error-Cause of a reply, where it is a NAK that has one.
+pub fn error_cause_of(reply: &[u8]) -> Option<u32>
+    ensures { result ≡ spec.error_cause_in (reading reply.now) }
+{
+    match View::read(reply) {
+        Ok(view) if is_nak(&view) => cause_in(&view),
+        _ => None,
+    }
 }
 
 /// Has a place keep who is charged by a reply, where it is an Access-Accept that says so.

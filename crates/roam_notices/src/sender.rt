@@ -61,9 +61,11 @@ pub(crate) fn sender_of(config: &Config, origin: Option<Origin>) -> Sender<'_>
     ensures { shown_sender result ≡ who_sent (shown config.now) origin }
 {
     match origin {
-        Some(Origin::Datagram(place, from) | Origin::Unsealed(place, from)) => {
-            at_place(config, place, from)
-        }
+        Some(
+            Origin::Datagram(place, from)
+            | Origin::Unsealed(place, from)
+            | Origin::Explained(place, from, _),
+        ) => at_place(config, place, from),
         Some(Origin::Place(_) | Origin::Tick(_)) | None => Sender::Unknown,
     }
 }

@@ -1,11 +1,16 @@
 //! The line of a refusal.
 
-ghost use Rattle.std.specs.Prelude.{◌≡◌, Some};
+ghost use Rattle.std.specs.Prelude.{◌≡◌, Some, true};
+ghost use Rattle.std.specs.List.{list_all};
 ghost use Rattle.roam_conf.specs.Shown.{shown};
+ghost use Rattle.roam_notices.specs.Clues.{IsShown, asked_in};
 ghost use Rattle.roam_notices.specs.Lines as lines;
 ghost use Rattle.roam_notices.specs.Names.{name_of, realm_name};
 ghost use Rattle.roam_notices.specs.Senders.{shown_sender, who_sent};
+ghost use Rattle.roam_notices.specs.Values.{is_plain};
 
+use crate::clue::Clue;
+use crate::hints::{ClueText, hint};
 use crate::origin::Origin;
 use crate::sender::{Sender, sender_of};
 use crate::tally::RefusalCount;
@@ -36,7 +41,8 @@ impl Display for PlaceText<'_> {
 }
 
 /// Refusals as a line: `refused NUMBER NAME at PLACE (REALM) from ADDRESS:PORT (peer NAME)`, behind it how many they
-/// were where they were several, and what is usually wrong. No octet of a packet stands in it.
+/// were where they were several, what is usually wrong, and what of the first one shows it. No octet of a packet stands
+/// in it that isn't printable in ASCII.
 #[derive(Clone, Copy)]
 pub struct RefusedText<'n> {
     pub tally: RefusalCount,
@@ -44,6 +50,8 @@ pub struct RefusedText<'n> {
     pub realm: &'n str,
     /// Who sent it, where that is configured.
     pub sender: Sender<'n>,
+    /// The realm that it asks for, as far as that is shown.
+    pub asked: &'n str,
 }
 
 /// The name of the realm of this index; empty where there is none.
@@ -59,21 +67,35 @@ pub(crate) fn name_of(config: &Config, realm: Option<u16>) -> &str
     }
 }
 
+/// Returns the realm that what was refused asks for, as a line shows it; nothing where it asks for none.
+fn asked_in(origin: &Option<Origin>) -> &str
+    ensures same { IsShown (asked_in origin.now) result.now }
+    ensures plain { list_all is_plain result.now ≡ true }
+{
+    match origin {
+        Some(Origin::Explained(_, _, Clue::AsksFor(realm))) => realm.shown(),
+        _ => "",
+    }
+}
+
 impl<'n> RefusedText<'n> {
     /// The line of these refusals, where this is the configuration.
-    pub fn new(config: &'n Config, tally: RefusalCount) -> RefusedText<'n>
-        ensures tally { result.tally ≡ tally }
-        ensures realm { result.realm.now ≡ realm_name (shown config.now).realms tally }
-        ensures sender { shown_sender result.sender ≡ who_sent (shown config.now) tally.origin }
+    pub fn new(config: &'n Config, tally: &'n RefusalCount) -> RefusedText<'n>
+        ensures tally { result.tally ≡ tally.now }
+        ensures realm { result.realm.now ≡ realm_name (shown config.now).realms tally.now }
+        ensures sender { shown_sender result.sender ≡ who_sent (shown config.now) tally.now.origin }
+        ensures asked { IsShown (asked_in tally.now.origin) result.asked.now }
+        ensures plain { list_all is_plain result.asked.now ≡ true }
     {
         let realm = match tally.origin {
             Some(origin) => origin.realm(),
             None => None,
         };
         RefusedText {
-            tally,
+            tally: *tally,
             realm: name_of(config, realm),
             sender: sender_of(config, tally.origin),
+            asked: asked_in(&tally.origin),
         }
     }
 }
@@ -132,7 +154,11 @@ impl Display for OriginText<'_> {
         let realm = self.realm;
         let sender = self.sender;
         match self.origin {
-            Some(Origin::Datagram(place, from) | Origin::Unsealed(place, from)) => {
+            Some(
+                Origin::Datagram(place, from)
+                | Origin::Unsealed(place, from)
+                | Origin::Explained(place, from, _),
+            ) => {
                 let source = SourceText {
                     place,
                     from,
@@ -205,32 +231,8 @@ fn refusal_name(refusal: Refusal) -> &'static str
     }
 }
 
-/// Returns what is wrong with the seal of a reply that was refused here.
-fn seal_hint(origin: Option<Origin>) -> &'static str
-    ensures { result.now ≡ lines.seal_hint origin }
-{
-    match origin {
-        Some(Origin::Unsealed(_, _)) => ": no Message-Authenticator",
-        Some(Origin::Datagram(_, _)) => ": wrong Message-Authenticator",
-        Some(Origin::Place(_) | Origin::Tick(_)) | None => "",
-    }
-}
-
-/// Returns what is usually wrong where this is refused.
-fn hint(refusal: Refusal, origin: Option<Origin>) -> &'static str
-    ensures { result.now ≡ lines.hint_text refusal origin }
-{
-    match refusal {
-        Refusal::BadAuthenticator | Refusal::BadMessageAuthenticator | Refusal::BadReply => {
-            ": other secret?"
-        }
-        Refusal::BadReplyMessageAuthenticator => seal_hint(origin),
-        _ => "",
-    }
-}
-
 impl Display for RefusedText<'_> {
-    ghost output = { λ text. Some (lines.refused_text text.tally text.realm.now text.sender) };
+    ghost output = { λ text. Some (lines.refused_text text.tally text.realm.now text.sender text.asked.now) };
 
     fn fmt<W: Write>(&self, f: &mut Formatter<W>) -> fmt::Result {
         let RefusalCount {
@@ -247,6 +249,10 @@ impl Display for RefusedText<'_> {
         };
         let count = CountText(count);
         let hint = hint(refusal, origin);
-        write!(f, "refused {number} {name}{place}{count}{hint}")
+        let clue = ClueText {
+            origin,
+            asked: self.asked,
+        };
+        write!(f, "refused {number} {name}{place}{count}{hint}{clue}")
     }
 }

@@ -15,6 +15,7 @@
 #![tactic(auto)]
 
 mod carried;
+mod destination;
 mod losses;
 mod old_history;
 mod outgoing;

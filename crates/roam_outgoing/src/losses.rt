@@ -1,5 +1,7 @@
 //! How many packets all threads lost, until that is told.
 
+use crate::destination::Destination;
+use roam_conf::Endpoint;
 use roam_port::{LossCause, Losses};
 use std::sync::atomic::{AtomicU64, Ordering};
 
@@ -11,13 +13,15 @@ pub const CAUSES: [LossCause; 4] = [
     LossCause::Other,
 ];
 
-/// How many packets all threads lost, by their cause, that weren't told yet.
+/// How many packets all threads lost, by their cause, that weren't told yet, and where one of them went.
 #[derive(Drop)]
 pub struct SharedLosses {
     full_ring: AtomicU64,
     unreachable: AtomicU64,
     not_permitted: AtomicU64,
     other: AtomicU64,
+    /// The first destination that had no way there since that was told.
+    destination: Destination,
 }
 
 /// Adds to a count, where there is something to add.
@@ -35,6 +39,21 @@ impl SharedLosses {
             unreachable: AtomicU64::new(0),
             not_permitted: AtomicU64::new(0),
             other: AtomicU64::new(0),
+            destination: Destination::none(),
+        }
+    }
+
+    /// Notes a destination to which there was no way.
+    pub fn note(&self, to: Endpoint) {
+        self.destination.note(to);
+    }
+
+    /// Returns the first destination to which there was no way since this was asked last: of another cause none. One
+    /// thread only asks.
+    pub fn take_destination(&self, cause: LossCause) -> Option<Endpoint> {
+        match cause {
+            LossCause::Unreachable => self.destination.take(),
+            _ => None,
         }
     }
 

@@ -203,7 +203,32 @@ impl<'s> Outgoing<'s> {
         self.watch(sent.is_blocked);
         let account = self.outbox.take_account();
         self.losses.add(account.losses);
+        self.note_unreachable(account.losses.unreachable);
         self.count_sent(account);
+    }
+
+    /// Notes the destination of a packet of a socket that had no way there, where there was one.
+    fn note_of(&mut self, number: usize)
+        ensures { outbox_in self.new ≡ outbox_in self.old }
+    {
+        let Some(port) = self.ports.get_mut(number) else {
+            return;
+        };
+        if let Some(to) = port.take_unreachable() {
+            self.losses.note(to);
+        }
+    }
+
+    /// Notes a destination of so many packets that had no way there, where there are some.
+    fn note_unreachable(&mut self, count: u64)
+        ensures { outbox_in self.new ≡ outbox_in self.old }
+    {
+        if count == 0 {
+            return;
+        }
+        for number in 0..self.ports.len() {
+            self.note_of(number);
+        }
     }
 
     /// Has it counted what became of packets, where somebody reads that.

@@ -65,9 +65,9 @@ fn build_of(watch: Option<Watch<'_>>) -> Build {
 /// Tells what wasn't told of the packets that were lost.
 fn tell_losses<R: Log>(rt: &R, config: &Config, losses: &SharedLosses) {
     for cause in CAUSES {
-        let count = losses.take(cause);
+        let (count, to) = (losses.take(cause), losses.take_destination(cause));
         if count > 0 {
-            tell_or_drop(rt, config, Notice::Lost(cause, count));
+            tell_or_drop(rt, config, Notice::Lost(cause, count, to));
         }
     }
 }

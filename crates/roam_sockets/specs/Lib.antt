@@ -6,3 +6,4 @@ pub mod PlaceSockets
 pub mod Seeded
 pub mod SocketErrors
 pub mod Turns
+pub mod Words

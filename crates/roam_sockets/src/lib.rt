@@ -35,6 +35,7 @@ mod receiver;
 mod seed;
 mod sinks;
 mod socket;
+mod words;
 mod workers;
 
 pub use bind::{BoundSocket, bind_all, bind_following};
@@ -52,3 +53,4 @@ pub use receiver::{RECEIVED, Receiver, WAIT_AFTER_FAULT};
 pub use seed::with_drawn_seed;
 pub use sinks::Sinks;
 pub use socket::Socket;
+pub use words::words_of;

@@ -1,6 +1,6 @@
 //! The sockets of one number: of a place, or of several of one kind.
 
-ghost use Rattle.std.specs.Prelude.{◌≡◌, OnOk, Some};
+ghost use Rattle.std.specs.Prelude.{◌≡◌, None, OnOk, Some};
 ghost use Rattle.roam_sockets.specs.PlaceSockets.{IsPut, socket_at};
 
 use crate::socket::Socket;
@@ -19,6 +19,8 @@ pub struct PlaceSockets<'s> {
     blocked: usize,
     /// Whether the system is asked to tell when that one has room.
     is_watched: bool,
+    /// The destination of a packet that had no way there, where that wasn't asked for yet.
+    unreachable: Option<Endpoint>,
 }
 
 // By hand, so that a proof sees one call wherever it ends, and the crates above prove nothing of it.
@@ -29,6 +31,7 @@ impl<'s> Drop for PlaceSockets<'s> {
             further,
             blocked: _,
             is_watched: _,
+            unreachable: _,
         } = self;
         drop(further);
     }
@@ -44,6 +47,7 @@ impl<'s> PlaceSockets<'s> {
             further: Vec::new(alloc),
             blocked: 0,
             is_watched: false,
+            unreachable: None,
         }
     }
 
@@ -85,6 +89,14 @@ impl<'s> PlaceSockets<'s> {
         self.is_watched
     }
 
+    /// Returns the destination of a packet that had no way there since this was asked last, if there was one.
+    pub fn take_unreachable(&mut self) -> Option<Endpoint>
+        ensures answer { result ≡ self.old.unreachable }
+        ensures taken { self.new.unreachable ≡ None }
+    {
+        self.unreachable.take()
+    }
+
     /// The system is asked to tell when that one has room for a packet, or is asked no more.
     pub fn set_watched(&mut self, is_watched: bool) {
         self.is_watched = is_watched;
@@ -108,8 +120,10 @@ impl Port for PlaceSockets<'_> {
             return Err(SendFault::Other);
         };
         let answer = socket.send(from, to, octets);
-        if let Err(SendFault::WouldBlock) = answer {
-            self.blocked = nth;
+        match answer {
+            Err(SendFault::WouldBlock) => self.blocked = nth,
+            Err(SendFault::Unreachable) => self.unreachable = Some(to),
+            _ => {}
         }
         answer
     }

@@ -154,7 +154,7 @@ fn write_peers<C: Counts>(out: &mut String, counts: &C, config: &Config) -> Resu
             continue;
         }
         let number = u16::try_from(at).unwrap_or(u16::MAX);
-        let totals = TotalsText(Totals::of(counts, Subject::Peer(number)));
+        let totals = TotalsText(Totals::of_peer(counts, number));
         let comma = comma(before);
         before = 1;
         let name = peer.name.as_str();

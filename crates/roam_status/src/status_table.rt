@@ -207,7 +207,7 @@ fn write_peers<C: Counts>(
             continue;
         }
         let number = u16::try_from(at).unwrap_or(u16::MAX);
-        let totals = Totals::of(counts, Subject::Peer(number));
+        let totals = Totals::of_peer(counts, number);
         table.push(peer.name.as_str())?;
         table.push(peer.ip)?;
         table.push_numbers(&[

@@ -32,7 +32,44 @@ fn sum_of<C: Counts>(counts: &C, subject: Subject, family: &Family) -> u64 {
     sum
 }
 
+/// Returns whether an event is of a peer's own request: not of a Disconnect or CoA that went to it.
+fn is_own(event: CountedEvent) -> bool {
+    !matches!(
+        event,
+        CountedEvent::Request(RequestKind::Disconnect | RequestKind::Coa)
+            | CountedEvent::Forwarded(RequestKind::Disconnect | RequestKind::Coa)
+            | CountedEvent::Returned(
+                ReplyKind::DisconnectAck
+                    | ReplyKind::DisconnectNak
+                    | ReplyKind::CoaAck
+                    | ReplyKind::CoaNak
+            )
+    )
+}
+
+/// Returns how often what is a peer's own was counted of a family.
+fn own_sum_of<C: Counts>(counts: &C, subject: Subject, family: &Family) -> u64 {
+    let mut sum = 0u64;
+    for (_, event) in family.samples {
+        if is_own(*event) {
+            sum = sum.wrapping_add(counts.event(subject, *event));
+        }
+    }
+    sum
+}
+
 impl Totals {
+    /// Returns those of a peer, of its own requests: those that were rejected here are requests too, and what went to
+    /// it is none.
+    pub fn of_peer<C: Counts>(counts: &C, peer: u16) -> Totals {
+        let subject = Subject::Peer(peer);
+        let mut totals = Totals::of(counts, subject);
+        totals.requests = own_sum_of(counts, subject, &CAME).wrapping_add(totals.local_rejects);
+        totals.forwarded = own_sum_of(counts, subject, &FORWARDED);
+        totals.returned = own_sum_of(counts, subject, &RETURNED);
+        totals
+    }
+
     /// Those of a subject.
     pub fn of<C: Counts>(counts: &C, subject: Subject) -> Totals {
         Totals {

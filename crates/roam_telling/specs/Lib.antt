@@ -1,3 +1,4 @@
+pub mod Clues
 pub mod Notices
 pub mod Origins
 pub mod SaidLately

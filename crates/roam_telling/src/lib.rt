@@ -8,11 +8,15 @@
 //! - each refused arrival or tick is counted in the thread's tallies, and logged a second after the first of
 //!   them: with that the notices that its queue was given and those that it dropped are as many more as were
 //!   tallied, up to 2^64 - 1, and nothing is left to log. A notice of lost packets, of dropped lines, of a
-//!   server that never answered, stopped answering, answers again or is refused, and of a stop is the one that the queue is given, or none is. That the loops
-//!   call it then, that what is logged is printed, when the logger is woken for lines of exchanges and which of
-//!   them it writes together, no contract says | `Notices::refused`, `tell_refused`, `tell_due`, `time_left`
+//!   server that never answered, stopped answering, answers again or is refused, and of a stop is the one that the
+//!   queue is given, or none is. That the loops call it then, that what is logged is printed, when the logger is
+//!   woken for lines of exchanges and which of them it writes together, no contract says | `Notices::refused`,
+//!   `tell_refused`, `tell_due`, `time_left`
+//! - of a datagram that was refused it is told where it came from and what of it shows what is wrong; of a NAK its
+//!   Error-Cause | `origin_of`, `nak_of`
 #![tactic(auto)]
 
+mod clues;
 mod ended;
 mod exchanges;
 mod notice;

@@ -7,7 +7,7 @@ use log::{Log, info, warn};
 use roam_conf::{Address, Config, Endpoint, Link};
 use roam_notices::{RefusalCount, RefusedText, TurnedAway, TurnedAwayText, server_endpoint};
 use roam_port::LossCause;
-use roam_sockets::Reason;
+use roam_sockets::{Reason, words_of};
 use std::fmt::Display;
 
 /// What is told on standard error.
@@ -17,8 +17,8 @@ pub enum Notice {
     Refused(RefusalCount),
     /// So many notices were dropped.
     Dropped(u64),
-    /// So many packets were lost, for this cause.
-    Lost(LossCause, u64),
+    /// So many packets were lost, for this cause, where it is known one of them to this destination.
+    Lost(LossCause, u64, Option<Endpoint>),
     /// The socket of this endpoint has room for so many octets only.
     Narrow(Endpoint, u32),
     /// The endpoint for metrics can't be had, for this reason: the server goes on without.
@@ -67,7 +67,7 @@ pub(crate) fn rest_notice(realm: u16, link: Link, answering: Answering) -> Notic
 }
 
 /// Returns why packets were lost, in words.
-fn words_of(cause: LossCause) -> &'static str {
+fn loss_words(cause: LossCause) -> &'static str {
     match cause {
         LossCause::FullRing => "by a full ring",
         LossCause::Unreachable => "since their destination is unreachable",
@@ -112,9 +112,13 @@ fn warn_count<R: Log>(rt: &R, count: u64, what: &str) {
     warn!(rt; "{} {}", count, what);
 }
 
-/// Tells why so many packets are lost.
-fn tell_lost<R: Log>(rt: &R, cause: LossCause, count: u64) {
-    warn!(rt; "{} packets lost {}", count, words_of(cause));
+/// Tells why so many packets are lost, and where one of them went, where that is known.
+fn tell_lost<R: Log>(rt: &R, cause: LossCause, count: u64, to: Option<Endpoint>) {
+    let words = loss_words(cause);
+    match to {
+        Some(to) => warn!(rt; "{} packets lost {}, as {}", count, words, to),
+        None => warn!(rt; "{} packets lost {}", count, words),
+    }
 }
 
 /// Tells that a socket has less room than it is to have.
@@ -125,7 +129,10 @@ fn tell_narrow<R: Log>(rt: &R, at: Endpoint, octets: u32) {
 /// Tells that the counts can't be asked for, and why.
 fn tell_no_metrics<R: Log>(rt: &R, at: Endpoint, reason: Reason) {
     let Reason(number) = reason;
-    warn!(rt; "no metrics at {} (errno {})", at, number);
+    match words_of(number) {
+        Some(words) => warn!(rt; "no metrics at {}: {}", at, words),
+        None => warn!(rt; "no metrics at {}: error {}", at, number),
+    }
 }
 
 /// Tells that a home server answered, and keeps silent now.
@@ -162,9 +169,9 @@ fn tell_ended<R: Log>(rt: &R, steps: u64, times: u64) {
 /// Tells a notice. Waits where standard error has no room.
 pub fn tell<R: Log>(rt: &R, config: &Config, notice: Notice) {
     match notice {
-        Notice::Refused(tally) => warn_text(rt, RefusedText::new(config, tally)),
+        Notice::Refused(tally) => warn_text(rt, RefusedText::new(config, &tally)),
         Notice::Dropped(count) => warn_count(rt, count, "notices dropped"),
-        Notice::Lost(cause, count) => tell_lost(rt, cause, count),
+        Notice::Lost(cause, count, to) => tell_lost(rt, cause, count, to),
         Notice::Narrow(at, octets) => tell_narrow(rt, at, octets),
         Notice::NoMetrics(at, reason) => tell_no_metrics(rt, at, reason),
         Notice::LinesDropped(count) => warn_count(rt, count, "lines of exchanges dropped"),

@@ -14,7 +14,7 @@ ghost use Rattle.roam_telling.specs.Notices.{notices_in, notices_among, rest_not
 
 use crate::notice::{Answering, Notice, notices_in, rest_notice};
 use crate::said_lately::SaidLately;
-use roam_conf::Link;
+use roam_conf::{Endpoint, Link};
 use roam_notices::{Origin, Repeats, replies_turned_away};
 use roam_port::LossCause;
 use roam_wire::Refusal;
@@ -94,12 +94,13 @@ impl Notices {
         is_put
     }
 
-    /// Says that packets were lost. Never waits. Answers whether it will be told.
-    pub fn lost(&mut self, cause: LossCause, count: u64) -> bool
-        ensures put { IsTrue result → sent self.new.queue ≡ sent self.old.queue ++ Notice.Lost cause count ∷ [] }
+    /// Says that packets were lost, and where one of them went, where that is known. Never waits. Answers whether it
+    /// will be told.
+    pub fn lost(&mut self, cause: LossCause, count: u64, to: Option<Endpoint>) -> bool
+        ensures put { IsTrue result → sent self.new.queue ≡ sent self.old.queue ++ Notice.Lost cause count to ∷ [] }
         ensures full { IsFalse result → sent self.new.queue ≡ sent self.old.queue }
     {
-        self.put(Notice::Lost(cause, count))
+        self.put(Notice::Lost(cause, count, to))
     }
 
     /// Says that so many lines of exchanges were dropped, once a second at most. Never waits. Answers whether it will

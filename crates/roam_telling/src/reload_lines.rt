@@ -28,9 +28,14 @@ pub fn tell_reload<R: Log>(rt: &R, end: ReloadEnd, said: &[u8]) {
     }
 }
 
-/// Tells what of a realm is dropped, where something is, and where the log has room.
+/// Tells what of a realm is dropped, where something is, and where the log has room: a warning where it isn't only held
+/// replies.
 pub fn tell_dropped<R: Log>(rt: &R, dropped: DroppedText<'_>) {
-    if (dropped.waiting > 0 || dropped.sessions > 0) && log_enabled!(rt; Level::Warn) {
-        warn!(rt; "{}", dropped);
+    if dropped.waiting > 0 || dropped.sessions > 0 {
+        if log_enabled!(rt; Level::Warn) {
+            warn!(rt; "{}", dropped);
+        }
+    } else if dropped.held > 0 && log_enabled!(rt; Level::Info) {
+        info!(rt; "{}", dropped);
     }
 }

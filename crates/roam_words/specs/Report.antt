@@ -13,6 +13,7 @@ use Rattle.roam_sockets.specs.declared.fault.SocketPath.{SocketPath}
 use Rattle.roam_sockets.specs.declared.fault.ServeFault.{ServeFault}
 use Rattle.roam_sockets.specs.declared.fault.ServeFault.TheVariants as serve
 use Rattle.roam_sockets.specs.Faults.{path_octets}
+use Rattle.roam_sockets.specs.Words.{words_of}
 use Rattle.roam_words.specs.Escaped.{escaped, named_text, about_text}
 use Rattle.roam_words.specs.declared.report.Fault.{Fault}
 use Rattle.roam_words.specs.declared.report.Fault.TheVariants as fault
@@ -25,36 +26,6 @@ usage_text =
 -- which program this is, and the line of the toolchain that proved it
 abbrev pub version_text : List ℕ
 version_text = codes "roam 1.0.0\nrattle-kit-13f logic dac8208d650f15bf\n"
-
--- what the system says of the errors that open, read, fsync, bind, socket, listen, connect, epoll and eventfd give, by
--- their numbers (Linux)
-abbrev pub words_of : ℕ → Option (List ℕ)
-words_of number =
-    if number == 1 then Some (codes "Operation not permitted")
-    else (if number == 2 then Some (codes "No such file or directory")
-    else (if number == 5 then Some (codes "Input/output error")
-    else (if number == 11 then Some (codes "Resource temporarily unavailable")
-    else (if number == 12 then Some (codes "Cannot allocate memory")
-    else (if number == 13 then Some (codes "Permission denied")
-    else (if number == 16 then Some (codes "Device or resource busy")
-    else (if number == 20 then Some (codes "Not a directory")
-    else (if number == 21 then Some (codes "Is a directory")
-    else (if number == 23 then Some (codes "Too many open files in system")
-    else (if number == 24 then Some (codes "Too many open files")
-    else (if number == 27 then Some (codes "File too large")
-    else (if number == 28 then Some (codes "No space left on device")
-    else (if number == 30 then Some (codes "Read-only file system")
-    else (if number == 36 then Some (codes "File name too long")
-    else (if number == 40 then Some (codes "Too many levels of symbolic links")
-    else (if number == 97 then Some (codes "Address family not supported by protocol")
-    else (if number == 98 then Some (codes "Address already in use")
-    else (if number == 99 then Some (codes "Cannot assign requested address")
-    else (if number == 105 then Some (codes "No buffer space available")
-    else (if number == 110 then Some (codes "Connection timed out")
-    else (if number == 111 then Some (codes "Connection refused")
-    else (if number == 116 then Some (codes "Stale file handle")
-    else (if number == 122 then Some (codes "Disk quota exceeded")
-    else None)))))))))))))))))))))))
 
 -- these words, or the number of the error
 abbrev pub words_or_number : Option (List ℕ) → ℕ → List ℕ

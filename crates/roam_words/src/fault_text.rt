@@ -5,14 +5,14 @@ ghost use Rattle.std.specs.Io.KnownBytes.{Appends};
 ghost use Rattle.roam_words.specs.Report as spec;
 
 use crate::escaped::{print_about, print_escaped, print_named};
-use crate::reasons::{print_no_text, print_why, words_of};
+use crate::reasons::{print_no_text, print_why};
 use crate::report::{Fault, ProgramEnd};
 use crate::usage::print_usage;
 use roam_conf::Endpoint;
 use roam_conf_reader::ConfFault;
 use roam_diagnosis::Lines;
 use roam_keeping::Obstacle;
-use roam_sockets::SocketPath;
+use roam_sockets::{SocketPath, words_of};
 use std::io;
 use std::io::Write;
 

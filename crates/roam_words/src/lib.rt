@@ -27,7 +27,6 @@ mod usage;
 
 pub use command_line::{Command, ControlOrder};
 pub use output::finish;
-pub use reasons::words_of;
 pub use report::{Fault, ProgramEnd};
 pub use showing::shown;
 pub use telling::{tell_advice, tell_usage, tell_version};

@@ -142,7 +142,7 @@ impl<H: HubCalls<N>, N: Opened> WorkerContext<'_, '_, H, N> {
                 self.counting
                     .refused(config, refusal, datagram.at, datagram.from);
                 self.junk.note(datagram.from.ip, refusal, self.now);
-                self.refuse(refusal, Origin::Datagram(datagram.at, datagram.from));
+                self.refuse(refusal, origin_of(datagram, Some(refusal)));
                 Some(refused_as(refusal))
             }
         }

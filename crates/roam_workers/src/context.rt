@@ -123,7 +123,7 @@ impl<H: HubCalls<N>, N: Opened> WorkerContext<'_, '_, H, N> {
             ..
         } = ticked;
         self.counting.ticked(&answered.happening);
-        self.end_by_tick(&answered.happening);
+        self.end_by_tick(rt, &answered.happening);
         let goes_on = is_more && answered.answer.refusal.is_none();
         self.finish(rt, answered, Origin::Tick(shard));
         goes_on

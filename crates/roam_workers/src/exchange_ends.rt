@@ -5,12 +5,14 @@ ghost use Rattle.roam_counting.specs.Counting.{counts_in};
 
 use crate::context::WorkerContext;
 use crate::hub_calls::HubCalls;
+use crate::silence::silence_of;
 use roam_calls::{Answered, Became, Happening, LeftConversation, Opened, Waited};
 use roam_counters::Process;
 use roam_notices::{EndedWith, Exchange, ExchangeEnd};
 use roam_route::{Datagram, LocalAnswer, RejectCause};
 use roam_telling::{local_reject_of, local_response_of, nak_of};
 use std::alloc::Global;
+use std::sync::Wait;
 
 /// The octets of the packet that is sent, where one is.
 fn sent_by(answered: &Answered<Global>) -> &[u8] {
@@ -92,7 +94,13 @@ impl<H: HubCalls<N>, N: Opened> WorkerContext<'_, '_, H, N> {
         match &answered.happening {
             Happening::Returned { code, waited } => {
                 if let Some(outcome) = ExchangeEnd::of(*code) {
-                    self.tell_waited(realm, waited, outcome, sent_by(answered));
+                    let ended = EndedWith {
+                        outcome,
+                        reply: sent_by(answered),
+                        silence: None,
+                        now: self.now,
+                    };
+                    self.tell_waited(realm, waited, ended);
                 }
             }
             Happening::Forwarded {
@@ -101,7 +109,8 @@ impl<H: HubCalls<N>, N: Opened> WorkerContext<'_, '_, H, N> {
             } => self.tell_replaced(realm, waited),
             Happening::Nak { .. } => {
                 if self.exchanges.are_told(ExchangeEnd::Nak) {
-                    self.tell(datagram.map(|datagram| nak_of(datagram, realm)));
+                    let nak = sent_by(answered);
+                    self.tell(datagram.map(|datagram| nak_of(datagram, realm, nak)));
                 }
             }
             _ => {}
@@ -122,6 +131,7 @@ impl<H: HubCalls<N>, N: Opened> WorkerContext<'_, '_, H, N> {
         let ended = EndedWith {
             outcome,
             reply: &[],
+            silence: None,
             now: self.now,
         };
         if self
@@ -133,32 +143,41 @@ impl<H: HubCalls<N>, N: Opened> WorkerContext<'_, '_, H, N> {
     }
 
     /// Tells of a request that waited, and that ended with this reply or none, where lines tell of those that end so.
-    fn tell_waited(
-        &mut self,
-        realm: u16,
-        waited: &Waited<Global>,
-        outcome: ExchangeEnd,
-        reply: &[u8],
-    )
+    fn tell_waited(&mut self, realm: u16, waited: &Waited<Global>, ended: EndedWith<'_>)
         ensures kept { (self.new.seat ≡ self.old.seat) × (self.new.datagrams ≡ self.old.datagrams)
             × (self.new.now ≡ self.old.now)
             × (counts_in self.new.counting ≡ counts_in self.old.counting)
             × (self.new.outgoing ≡ self.old.outgoing) }
     {
-        if !self.exchanges.are_told(outcome) {
+        if !self.exchanges.are_told(ended.outcome) {
             return;
         }
-        let ended = EndedWith {
-            outcome,
-            reply,
-            now: self.now,
-        };
         if self
             .exchanges
             .tell_of(self.shared.config, realm, waited, ended)
         {
             self.counting.process(Process::LineDropped);
         }
+    }
+
+    /// Tells of a request that waited, and was given up, and how its home server is silent.
+    fn tell_given_up<R: Wait>(&mut self, rt: &R, realm: u16, waited: &Waited<Global>)
+        ensures kept { (self.new.seat ≡ self.old.seat) × (self.new.datagrams ≡ self.old.datagrams)
+            × (self.new.now ≡ self.old.now)
+            × (counts_in self.new.counting ≡ counts_in self.old.counting)
+            × (self.new.outgoing ≡ self.old.outgoing) }
+    {
+        if !self.exchanges.are_told(ExchangeEnd::GivenUp) {
+            return;
+        }
+        let silence = silence_of(rt, self.shared, &self.seat, realm, waited.link);
+        let ended = EndedWith {
+            outcome: ExchangeEnd::GivenUp,
+            reply: &[],
+            silence,
+            now: self.now,
+        };
+        self.tell_waited(realm, waited, ended);
     }
 
     /// Tells of the conversations that a tick found left.
@@ -169,17 +188,18 @@ impl<H: HubCalls<N>, N: Opened> WorkerContext<'_, '_, H, N> {
             × (self.new.outgoing ≡ self.old.outgoing) }
     {
         for conversation in left {
-            self.tell_waited(
-                conversation.realm,
-                &conversation.last,
-                ExchangeEnd::Abandoned,
-                &[],
-            );
+            let ended = EndedWith {
+                outcome: ExchangeEnd::Abandoned,
+                reply: &[],
+                silence: None,
+                now: self.now,
+            };
+            self.tell_waited(conversation.realm, &conversation.last, ended);
         }
     }
 
     /// Tells of the requests that a tick gave up, and of the conversations that it found left.
-    pub fn end_by_tick(&mut self, happening: &Happening<Global>)
+    pub fn end_by_tick<R: Wait>(&mut self, rt: &R, happening: &Happening<Global>)
         ensures kept { (self.new.seat ≡ self.old.seat) × (self.new.datagrams ≡ self.old.datagrams)
             × (self.new.now ≡ self.old.now)
             × (counts_in self.new.counting ≡ counts_in self.old.counting)
@@ -191,7 +211,7 @@ impl<H: HubCalls<N>, N: Opened> WorkerContext<'_, '_, H, N> {
         self.end_left(left.as_slice());
         for due in dues {
             if let Became::GivenUp { .. } = due.became {
-                self.tell_waited(due.realm, &due.waited, ExchangeEnd::GivenUp, &[]);
+                self.tell_given_up(rt, due.realm, &due.waited);
             }
         }
     }

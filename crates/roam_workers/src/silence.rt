@@ -9,6 +9,7 @@ use crate::rests::Rests;
 use crate::shared::Shared;
 use roam_calls::{Opened, SERVER_LINKS, Seat};
 use roam_conf::{Link, Realm};
+use roam_notices::Silence;
 use roam_telling::Answering;
 use std::alloc::Global;
 use std::sync::Wait;
@@ -27,6 +28,35 @@ fn link_at(servers: usize, place: usize) -> Option<Link> {
         return Some(Link::Acct(u8::try_from(behind).ok()?, 0));
     }
     None
+}
+
+/// Returns the place of a link to a home server among those of a realm with so many: first their `auth`, then their
+/// `acct`; none of a link to a peer.
+fn place_of(servers: usize, link: Link) -> Option<usize> {
+    match link {
+        Link::Auth(server, _) => Some(usize::from(server)),
+        Link::Acct(server, _) => Some(servers.saturating_add(usize::from(server))),
+        Link::Coa(_, _) => None,
+    }
+}
+
+/// Returns how the home server of a realm's link is silent, where it is.
+pub(crate) fn silence_of<R: Wait, H: HubCalls<N>, N: Opened>(
+    rt: &R,
+    shared: &Shared<'_, '_, H, N>,
+    seat: &Seat<Global, N>,
+    realm: u16,
+    link: Link,
+) -> Option<Silence> {
+    let servers = shared.config.realms.get(usize::from(realm))?.servers.len();
+    let place = place_of(servers, link)?;
+    let gauges = shared.hub.look(rt, seat, realm)?;
+    let rest = gauges.rests.get(place)?;
+    match (rest.signs, rest.until) {
+        (0, _) => Some(Silence::Never),
+        (_, Some(_)) => Some(Silence::Stopped),
+        (_, None) => None,
+    }
 }
 
 /// Returns how a home server answers that keeps silent or not, and gave so many signs of life.

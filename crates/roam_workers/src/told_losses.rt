@@ -42,7 +42,8 @@ fn tell_cause<H: HubCalls<N>, N: Opened>(timer: &mut Timer<'_, '_, H, N>, at: us
         return;
     }
     *last = Some(now);
-    if !timer.context.notices.lost(*cause, count) {
+    let to = timer.context.shared.losses.take_destination(*cause);
+    if !timer.context.notices.lost(*cause, count, to) {
         timer.context.shared.losses.give_back(*cause, count);
     }
 }

@@ -29,6 +29,8 @@ fn accepted(station: Value, details: Details) -> Exchange {
     Exchange {
         outcome: ExchangeEnd::Accept,
         why: None,
+        error_cause: None,
+        silence: None,
         asked: RequestWord::Access,
         realm: Some(0),
         peer: Some(0),

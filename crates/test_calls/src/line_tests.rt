@@ -19,6 +19,7 @@ fn is_told(alloc: Global, tally: RefusalCount, line: &str) -> bool {
         tally,
         realm: "b.example",
         sender: Sender::Peer("north"),
+        asked: "",
     };
     match format!(in alloc; "{text}") {
         Ok(told) => told.as_str() == line,
@@ -47,7 +48,7 @@ fn refusals() -> [(Refusal, Option<Origin>, u64, &'static str); 7] {
             Refusal::UnknownSource,
             Some(Origin::Datagram(Place::Auth(0), source)),
             1234,
-            "refused 4 UnknownSource at auth from 198.51.100.1:1812 (peer north) (1234 times)",
+            "refused 4 UnknownSource at auth from 198.51.100.1:1812 (peer north) (1234 times): no [[peer]] has this address",
         ),
         (
             Refusal::WrongCode,

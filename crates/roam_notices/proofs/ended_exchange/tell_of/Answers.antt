@@ -22,6 +22,7 @@ returns-clause-line g c _ =
         };
       };
       charged = c.keep_charged.ensures;
+      cause = c.error_cause_of-exchange.ensures;
       outcome = c.say.ensures.outcome;
       why = once.0;
       realm = refl;

@@ -5,5 +5,6 @@ use Rattle.roam_outgoing.proofs.outgoing.Outgoing.settle.Goals as goal
 
 pub returns-clause-puts : goal.returns-clause-puts
 returns-clause-puts c =
-    puts_from [] _ _ _ c.watch.ensures
-    (counted _ _ c.take_account-account.ensures.waiting c.take_account-account.ensures.account)
+    rw c.note_unreachable.ensures
+    (puts_from [] _ _ _ c.watch.ensures
+    (counted _ _ c.take_account-account.ensures.waiting c.take_account-account.ensures.account))
