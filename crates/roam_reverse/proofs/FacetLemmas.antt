@@ -7,71 +7,70 @@ use Rattle.roam_wire.specs.Numbered.{PutsAt, listed, tickets_end}
 use Rattle.roam_reverse.specs.Facets.{AreFaceted, ComesIn, facet_by, facet_of, masked, rows_under}
 use Rattle.roam_reverse.specs.Maps.{groups_of}
 use Rattle.roam_reverse.specs.Private.Groups.{AreEndsOf, Comes, Goes, IsGrouped, PlainGroups, count_of, if_row, in_group, oldest_of}
-use Rattle.roam_reverse.specs.Private.Masks.{agrees_grouped, mask_of}
+use Rattle.roam_reverse.specs.Private.Masks.{mask_of}
 use Rattle.roam_reverse.specs.Private.Row.{row_text, row_under}
 use Rattle.roam_reverse.specs.Private.Tickets.{IsOneOf, NoneBefore, all_listed}
-use Rattle.roam_reverse.specs.Sessions.{Asked, Session}
-use Rattle.roam_reverse.specs.declared.asked.Mask.{Mask}
+use Rattle.roam_reverse.specs.Sessions.{Asked, Session, agrees}
 use Rattle.roam_reverse.specs.declared.ends.Ends.{Ends}
 use Rattle.roam_reverse.specs.declared.facets.Facets.{Facets}
 use Rattle.roam_reverse.proofs.ListedLemmas.{listed-none}
 use Rattle.roam_reverse.proofs.NeighbourLemmas.{held-none}
-use Rattle.roam_reverse.proofs.RowLemmas.{in-its-group}
+use Rattle.roam_reverse.proofs.RowLemmas.{in-narrow}
 
 -- a session comes into the group of its row, and goes out of it
-module _ (mask : Mask) (F G : ℕ → Option Session) (t : ℕ) where
-  pub comes-under : (s : Session) (w : Option (List ℕ)) → w ≡ row_under mask s → ComesIn F G t s
-      → Comes (rows_under mask F) (rows_under mask G) t w
-  comes-under s w is comes = record {
+module _ (r : Session → Option (List ℕ)) (F G : ℕ → Option Session) (t : ℕ) where
+  pub comes-by : (s : Session) (w : Option (List ℕ)) → w ≡ r s → ComesIn F G t s
+      → Comes (λ u. option_and_then r (F u)) (λ u. option_and_then r (G u)) t w
+  comes-by s w is comes = record {
     puts = record {
-      changed = ap (option_and_then (row_under mask)) comes.puts.changed ∙ sym is;
-      others = λ u ne. ap (option_and_then (row_under mask)) (comes.puts.others u ne);
+      changed = ap (option_and_then r) comes.puts.changed ∙ sym is;
+      others = λ u ne. ap (option_and_then r) (comes.puts.others u ne);
     };
-    free = λ u le. ap (option_and_then (row_under mask)) (comes.free u le);
+    free = λ u le. ap (option_and_then r) (comes.free u le);
     within = comes.within;
   }
 
-  pub goes-under : (s : Session) (w : Option (List ℕ)) → w ≡ row_under mask s → F t ≡ Some s → PutsAt F G t None
-      → Goes (rows_under mask F) (rows_under mask G) t w
-  goes-under s w is at goes = record {
-    was = ap (option_and_then (row_under mask)) at ∙ sym is;
+  pub goes-by : (s : Session) (w : Option (List ℕ)) → w ≡ r s → F t ≡ Some s → PutsAt F G t None
+      → Goes (λ u. option_and_then r (F u)) (λ u. option_and_then r (G u)) t w
+  goes-by s w is at goes = record {
+    was = ap (option_and_then r) at ∙ sym is;
     puts = record {
-      changed = ap (option_and_then (row_under mask)) goes.changed;
-      others = λ u ne. ap (option_and_then (row_under mask)) (goes.others u ne);
+      changed = ap (option_and_then r) goes.changed;
+      others = λ u ne. ap (option_and_then r) (goes.others u ne);
     };
   }
 
 -- the groups of what is asked are those of its parts
 pub facet-grouped : {A : Type 0} (q : Asked) (f : Facets A) (F : ℕ → Option Session) → AreFaceted F f
-    → is_some q.id ≡ f.with_id → IsGrouped (rows_under (mask_of q) F) (groups_of (facet_of q f))
-facet-grouped {A} q f F are id = by q.nas.address q.nas.identifier q.nas.ipv6
+    → is_some q.id ≡ false → IsGrouped (rows_under (mask_of q) F) (groups_of (facet_of q f))
+facet-grouped {A} q f F are none = by q.nas.address q.nas.identifier q.nas.ipv6
   where
     by : (a i v : Option (List ℕ))
         → IsGrouped (rows_under (masked (is_some a) (is_some i) (is_some v) (is_some q.id)) F)
         (groups_of (facet_by a i v f))
     by None None None =
-        subst (λ (b : Bool). IsGrouped (rows_under (masked false false false b) F) (groups_of f.by_peer)) (sym id)
+        subst (λ (b : Bool). IsGrouped (rows_under (masked false false false b) F) (groups_of f.by_peer)) (sym none)
         are.by_peer
     by (Some a) None None =
-        subst (λ (b : Bool). IsGrouped (rows_under (masked true false false b) F) (groups_of f.by_address)) (sym id)
+        subst (λ (b : Bool). IsGrouped (rows_under (masked true false false b) F) (groups_of f.by_address)) (sym none)
         are.by_address
     by None (Some i) None =
-        subst (λ (b : Bool). IsGrouped (rows_under (masked false true false b) F) (groups_of f.by_identifier)) (sym id)
-        are.by_identifier
+        subst (λ (b : Bool). IsGrouped (rows_under (masked false true false b) F) (groups_of f.by_identifier))
+        (sym none) are.by_identifier
     by (Some a) (Some i) None =
-        subst (λ (b : Bool). IsGrouped (rows_under (masked true true false b) F) (groups_of f.by_both)) (sym id)
+        subst (λ (b : Bool). IsGrouped (rows_under (masked true true false b) F) (groups_of f.by_both)) (sym none)
         are.by_both
     by None None (Some v) =
-        subst (λ (b : Bool). IsGrouped (rows_under (masked false false true b) F) (groups_of f.by_ipv6)) (sym id)
+        subst (λ (b : Bool). IsGrouped (rows_under (masked false false true b) F) (groups_of f.by_ipv6)) (sym none)
         are.by_ipv6
     by (Some a) None (Some v) =
         subst (λ (b : Bool). IsGrouped (rows_under (masked true false true b) F) (groups_of f.by_address_ipv6))
-        (sym id) are.by_address_ipv6
+        (sym none) are.by_address_ipv6
     by None (Some i) (Some v) =
         subst (λ (b : Bool). IsGrouped (rows_under (masked false true true b) F) (groups_of f.by_identifier_ipv6))
-        (sym id) are.by_identifier_ipv6
+        (sym none) are.by_identifier_ipv6
     by (Some a) (Some i) (Some v) =
-        subst (λ (b : Bool). IsGrouped (rows_under (masked true true true b) F) (groups_of f.by_all)) (sym id)
+        subst (λ (b : Bool). IsGrouped (rows_under (masked true true true b) F) (groups_of f.by_all)) (sym none)
         are.by_all
 
 -- as many have a row as pass a test
@@ -107,70 +106,70 @@ count-is f p row grouped = by (p.ends row) refl (grouped.ends row)
 module _ (q : Asked) (F : ℕ → Option Session) where
   -- a session's ticket is in the group just where it agrees
   pub in-facet : (u : ℕ) (s : Session) → F u ≡ Some s
-      → in_group (rows_under (mask_of q) F) (row_text q) u ≡ (if agrees_grouped q s then Some (row_text q) else None)
+      → in_group (rows_under (mask_of q) F) (row_text q) u ≡ (if agrees q s then Some (row_text q) else None)
   in-facet u s at =
-      ap (λ (o : Option Session). if_row (row_text q) (option_and_then (row_under (mask_of q)) o)) at ∙ in-its-group q s
+      ap (λ (o : Option Session). if_row (row_text q) (option_and_then (row_under (mask_of q)) o)) at ∙ in-narrow q s
 
   pub none-facet : (u : ℕ) → F u ≡ None → in_group (rows_under (mask_of q) F) (row_text q) u ≡ None
   none-facet u at =
       ap (λ (o : Option Session). if_row (row_text q) (option_and_then (row_under (mask_of q)) o)) at
 
-  pub agrees-held : (u : ℕ) (s : Session) → F u ≡ Some s → agrees_grouped q s ≡ true
+  pub agrees-held : (u : ℕ) (s : Session) → F u ≡ Some s → agrees q s ≡ true
       → in_group (rows_under (mask_of q) F) (row_text q) u ≡ Some (row_text q)
   agrees-held u s at agree = in-facet u s at ∙ rw agree refl
 
   pub held-agrees : (u : ℕ) → IsSome (in_group (rows_under (mask_of q) F) (row_text q) u)
-      → (s : Session) × (F u ≡ Some s) × (agrees_grouped q s ≡ true)
+      → (s : Session) × (F u ≡ Some s) × (agrees q s ≡ true)
   held-agrees u held = by (F u) refl
     where
-      by : (o : Option Session) → F u ≡ o → (s : Session) × (F u ≡ Some s) × (agrees_grouped q s ≡ true)
+      by : (o : Option Session) → F u ≡ o → (s : Session) × (F u ≡ Some s) × (agrees q s ≡ true)
       by None at = absurd (held-none (in_group (rows_under (mask_of q) F) (row_text q) u) held (none-facet u at))
-      by (Some s) at = elim (cases_Bool (agrees_grouped q s)) [
+      by (Some s) at = elim (cases_Bool (agrees q s)) [
         | inl agree ↦ (s, at, agree)
         | inr disagree ↦ absurd (held-none (in_group (rows_under (mask_of q) F) (row_text q) u) held
             (in-facet u s at ∙ rw disagree refl))
       ]
 
   pub agreeing-counted : length (all_listed (in_group (rows_under (mask_of q) F) (row_text q)))
-      ≡ length (filter (agrees_grouped q) (all_listed F))
+      ≡ length (filter (agrees q) (all_listed F))
   unfolding passing
   agreeing-counted =
-      listed-count (agrees_grouped q) F (in_group (rows_under (mask_of q) F) (row_text q)) 0 tickets_end same
+      listed-count (agrees q) F (in_group (rows_under (mask_of q) F) (row_text q)) 0 tickets_end same
     where
-      same : (u : ℕ) → is_some (in_group (rows_under (mask_of q) F) (row_text q) u) ≡ passing (agrees_grouped q) (F u)
+      same : (u : ℕ) → is_some (in_group (rows_under (mask_of q) F) (row_text q) u) ≡ passing (agrees q) (F u)
       same u = by (F u) refl
         where
           by : (o : Option Session) → F u ≡ o
-              → is_some (in_group (rows_under (mask_of q) F) (row_text q) u) ≡ passing (agrees_grouped q) o
+              → is_some (in_group (rows_under (mask_of q) F) (row_text q) u) ≡ passing (agrees q) o
           by None at = ap (λ (o : Option (List ℕ)). is_some o) (none-facet u at)
           by (Some s) at = ap (λ (o : Option (List ℕ)). is_some o) (in-facet u s at)
-              ∙ elim (cases_Bool (agrees_grouped q s)) [
+              ∙ elim (cases_Bool (agrees q s)) [
                 | inl agree ↦ rw agree refl
                 | inr disagree ↦ rw disagree refl
               ]
 
   module _ (p : PlainGroups) (grouped : IsGrouped (rows_under (mask_of q) F) p) where
-    pub count-agreeing : count_of p (row_text q) ≡ length (filter (agrees_grouped q) (all_listed F))
+    pub count-agreeing : count_of p (row_text q) ≡ length (filter (agrees q) (all_listed F))
     count-agreeing = count-is (rows_under (mask_of q) F) p (row_text q) grouped ∙ agreeing-counted
 
-    pub oldest-agreeing : IsOneOf (agrees_grouped q) F (oldest_of p (row_text q))
+    pub oldest-agreeing : IsOneOf (agrees q) F (oldest_of p (row_text q))
     oldest-agreeing = by (p.ends (row_text q)) refl (grouped.ends (row_text q))
       where
         by : (o : Option Ends) → p.ends (row_text q) ≡ o → AreEndsOf (rows_under (mask_of q) F) (row_text q) o
-            → IsOneOf (agrees_grouped q) F (oldest_of p (row_text q))
-        by None is none = rw is (λ t x at. elim (cases_Bool (agrees_grouped q x)) [
+            → IsOneOf (agrees q) F (oldest_of p (row_text q))
+        by None is none = rw is (λ t x at. elim (cases_Bool (agrees q x)) [
           | inl agree ↦ absurd (let k = agrees-held t x at agree in let l = none t in cc (k, l))
           | inr disagree ↦ disagree
         ])
         by (Some e) is ends = rw is (held-agrees e.oldest ends.oldest.held)
 
-    pub none-before : NoneBefore (agrees_grouped q) F (oldest_of p (row_text q))
+    pub none-before : NoneBefore (agrees q) F (oldest_of p (row_text q))
     none-before = by (p.ends (row_text q)) refl (grouped.ends (row_text q))
       where
         by : (o : Option Ends) → p.ends (row_text q) ≡ o → AreEndsOf (rows_under (mask_of q) F) (row_text q) o
-            → NoneBefore (agrees_grouped q) F (oldest_of p (row_text q))
+            → NoneBefore (agrees q) F (oldest_of p (row_text q))
         by None is none = rw is tt
-        by (Some e) is ends = rw is (λ u x lt at. elim (cases_Bool (agrees_grouped q x)) [
+        by (Some e) is ends = rw is (λ u x lt at. elim (cases_Bool (agrees q x)) [
           | inl agree ↦ absurd (
               let k = agrees-held u x at agree in
               let l = ends.oldest.none_before u (omega arith) lt in

@@ -27,19 +27,14 @@ FacetsStay f g = (F : ℕ → Option Session) → AreFaceted F f → AreFaceted 
 
 pub grown-sound : {A : Type 0} (c d : Chain A) → IsSound c → d.by_ticket.entries ≡ c.by_ticket.entries
     → groups_of d.whole ≡ groups_of c.whole → FacetsStay c.of_peer d.of_peer
-    → d.of_peer.with_id ≡ c.of_peer.with_id → FacetsStay c.of_id d.of_id → d.of_id.with_id ≡ c.of_id.with_id
     → d.next ≡ c.next → HaveRoom d.spare d → d.next + d.spare < tickets_end → IsSound d
-grown-sound c d sound entries whole peers peers_id ids ids_id next room tickets = record {
+grown-sound c d sound entries whole peers next room tickets = record {
   tickets = subst (λ (n : ℕ). AreTickets (session_at d) n) (sym next)
       (same-sessions c.by_ticket d.by_ticket (λ F. AreTickets F c.next) entries sound.tickets);
   whole = subst (λ (p : PlainGroups). IsGrouped (whole_rows (session_at d)) p) (sym whole)
       (same-sessions c.by_ticket d.by_ticket (λ F. IsGrouped (whole_rows F) (groups_of c.whole)) entries sound.whole);
   of_peer = same-sessions c.by_ticket d.by_ticket (λ F. AreFaceted F d.of_peer) entries
       (peers (session_at c) sound.of_peer);
-  no_ids = peers_id ∙ sound.no_ids;
-  of_id = same-sessions c.by_ticket d.by_ticket (λ F. AreFaceted F d.of_id) entries
-      (ids (session_at c) sound.of_id);
-  ids = ids_id ∙ sound.ids;
   count = same-sessions c.by_ticket d.by_ticket (λ F. length (all_listed F) ≡ length c.by_ticket.entries) entries
       sound.count ∙ sym (ap (λ es. length es) entries);
   room = room;

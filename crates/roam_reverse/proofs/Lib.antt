@@ -23,9 +23,9 @@ pub mod GrownLemmas
 pub mod OneSessionLemmas
 pub mod MapLemmas
 pub mod ShortLemmas
-pub mod ExactLemmas
 pub mod PairLemmas
 pub mod EndedLemmas
 pub mod OpenLemmas
 pub mod MarkLemmas
 pub mod WalkLemmas
+pub mod PartedLemmas

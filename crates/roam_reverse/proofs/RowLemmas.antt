@@ -1,11 +1,11 @@
 -- What is asked is told apart by its row.
-use Rattle.std.proofs.Common.{◌≡◌, ℕ, ◌/◌, ◌%◌, ◌==◌, ◌+◌, ◌-◌, Bool, true, false, List, [], ◌∷◌, ◌++◌, length, Option, Some, None, refl, sym, ap, ◌∙◌, inl, inr, arith}
-use Rattle.std.specs.Prelude.{◌&&◌, ◌||◌, is_none, is_some, not, option_map, if◌then◌else◌}
+use Rattle.std.proofs.Common.{◌≡◌, ℕ, ◌/◌, ◌%◌, ◌==◌, ◌+◌, ◌-◌, true, false, List, [], ◌∷◌, ◌++◌, length, Option, Some, None, refl, sym, ap, ◌∙◌, inl, inr, arith}
+use Rattle.std.specs.Prelude.{◌&&◌, ◌||◌, is_none, is_some, option_map, if◌then◌else◌}
 use Rattle.std.specs.Str.{bytes_eq}
 use Rattle.std.proofs.lemmas.Bool.{and_from, and_left, and_parts, and_right, cases_Bool, or_cases, or_parts}
 use Rattle.roam_reverse.specs.Private.Groups.{if_row}
-use Rattle.roam_reverse.specs.Private.Masks.{agrees_grouped, asked_by, asked_for, has_more, lacks, mask_of, narrow}
-use Rattle.roam_reverse.specs.Private.Row.{part_text, row_text, row_under, whole_row}
+use Rattle.roam_reverse.specs.Private.Masks.{asked_by, asked_for, is_named, lacks, mask_of, narrow, without_names}
+use Rattle.roam_reverse.specs.Private.Row.{part_text, row_text, whole_row}
 use Rattle.roam_reverse.specs.Sessions.{Asked, Session, agrees, agrees_in}
 use Rattle.roam_reverse.proofs.SameLemmas.{number-is, octets-are, octets-same, same-number}
 
@@ -127,25 +127,6 @@ lacks-part None own h = absurd (cc h)
 lacks-part (Some a) None h = refl
 lacks-part (Some a) (Some b) h = absurd (cc h)
 
--- a part that is asked for where there is one, is its own
-part-whole : (asks own : Option (List ℕ)) → (not (is_some asks) && is_some own) ≡ false → chosen asks own ≡ own
-unfolding chosen
-part-whole None None h = refl
-part-whole None (Some b) h = absurd (cc h)
-part-whole (Some a) own h = refl
-
--- what is asked for all that a session is, leaves none of its names out
-own-part : (own : Option (List ℕ)) → (not (is_some own) && is_some own) ≡ false
-own-part None = refl
-own-part (Some b) = refl
-
-own-asked : (s : Session) → has_more (mask_of (asked_for s)) s ≡ false
-own-asked s = rw (own-part s.nas.address, own-part s.nas.identifier, own-part s.nas.ipv6) refl
-
--- a session has the row of what is asked by all that it is
-abbrev pub exactly : Asked → Session → Bool
-exactly q s = bytes_eq (row_text q) (whole_row s)
-
 module _ (q : Asked) (s : Session) where
   -- a session agrees just where what is asked is what is asked for it
   agrees-is : agrees q s ≡ true → q ≡ asked_by (mask_of q) s
@@ -230,7 +211,7 @@ module _ (q : Asked) (s : Session) where
       ]
 
   -- a session is asked for by its parts just where it agrees
-  in-narrow : if_row (row_text q) (option_map row_text (narrow (mask_of q) s))
+  pub in-narrow : if_row (row_text q) (option_map row_text (narrow (mask_of q) s))
       ≡ (if agrees q s then Some (row_text q) else None)
   in-narrow = elim (cases_Bool (lacks (mask_of q) s)) [
     | inl lacking ↦ rw (lacking, lacks-disagrees lacking) refl
@@ -248,53 +229,33 @@ module _ (q : Asked) (s : Session) where
     ])
   ]
 
-  -- it is in the group of what is asked just where it agrees, and is in such groups at all
-  pub in-its-group : if_row (row_text q) (row_under (mask_of q) s)
-      ≡ (if agrees_grouped q s then Some (row_text q) else None)
-  in-its-group = elim (cases_Bool (is_some q.id && not (has_more (mask_of q) s))) [
-    | inl out ↦ rw out refl
-    | inr within ↦ rw within in-narrow
-  ]
+  -- without names what is asked is then what is asked for it
+  pub same-unnamed : is_some q.id ≡ true → agrees q s ≡ true → without_names q ≡ without_names (asked_for s)
+  same-unnamed there h =
+      let e = agrees-is h in
+      asked-is (without_names q) (without_names (asked_for s)) (ap (λ (p : Asked). p.peer) e) refl refl refl
+      (ap (λ (p : Asked). p.id) e ∙ rw there refl)
 
-  -- what is asked by its id and all of its names, is asked for all that it is
-  whole-asked : is_some q.id ≡ true → has_more (mask_of q) s ≡ false → asked_by (mask_of q) s ≡ asked_for s
-  unfolding chosen
-  whole-asked there none =
-      let outer = or_parts ((not (is_some q.nas.address) && is_some s.nas.address)
-      || (not (is_some q.nas.identifier) && is_some s.nas.identifier))
-      (not (is_some q.nas.ipv6) && is_some s.nas.ipv6) none in
-      let inner = or_parts (not (is_some q.nas.address) && is_some s.nas.address)
-      (not (is_some q.nas.identifier) && is_some s.nas.identifier) outer.0 in
-      asked-is (asked_by (mask_of q) s) (asked_for s) refl (part-whole q.nas.address s.nas.address inner.0)
-      (part-whole q.nas.identifier s.nas.identifier inner.1) (part-whole q.nas.ipv6 s.nas.ipv6 outer.1)
-      (rw there refl)
-
-  -- without further names it agrees just where its row is that of what is asked
-  pub is-exact : is_some q.id ≡ true → has_more (mask_of q) s ≡ false → exactly q s ≡ agrees q s
-  is-exact there none = elim (cases_Bool (agrees q s)) [
-    | inl agree ↦ rw agree (octets-same (row_text q) (whole_row s)
-        (ap row_text (agrees-is agree ∙ whole-asked there none)))
-    | inr disagree ↦ rw disagree (elim (cases_Bool (exactly q s)) [
-      | inr apart ↦ apart
-      | inl same ↦ absurd (
-          let agree = is-agrees (row-is q (asked_for s) (octets-are (row_text q) (whole_row s) same)
-          ∙ sym (whole-asked there none)) in cc (agree, disagree))
-    ])
-  ]
-
-  -- with further names it has another row
-  pub isnt-exact : has_more (mask_of q) s ≡ true → exactly q s ≡ false
-  isnt-exact more = elim (cases_Bool (exactly q s)) [
+  -- a session that has a name isn't what is asked for without names
+  pub named-apart : is_named s ≡ true → bytes_eq (row_text (without_names q)) (whole_row s) ≡ false
+  named-apart named = elim (cases_Bool (bytes_eq (row_text (without_names q)) (whole_row s))) [
     | inr apart ↦ apart
     | inl same ↦ absurd (
-        let is : q ≡ asked_for s = row-is q (asked_for s) (octets-are (row_text q) (whole_row s) same) in
-        let none : has_more (mask_of q) s ≡ false = ap (λ (x : Asked). has_more (mask_of x) s) is ∙ own-asked s in
-        cc (more, none))
+        let is = row-is (without_names q) (asked_for s)
+        (octets-are (row_text (without_names q)) (whole_row s) same) in
+        let none : is_named s ≡ false =
+        ap (λ (x : Asked). is_some x.nas.address || is_some x.nas.identifier || is_some x.nas.ipv6) (sym is) in
+        cc (named, none))
   ]
 
--- without an id all that agree are in the groups
-pub without-id : (q : Asked) → is_some q.id ≡ false → agrees_grouped q ≡ agrees q
-without-id q none = λ j s. one s j
-  where
-    one : (s : Session) → agrees_grouped q s ≡ agrees q s
-    one s = rw none refl
+-- one that has none is
+none-part : (o : Option (List ℕ)) → is_some o ≡ false → None ≡ o
+none-part None h = refl
+none-part (Some x) h = absurd (cc h)
+
+pub unnamed-whole : (s : Session) → is_named s ≡ false → without_names (asked_for s) ≡ asked_for s
+unnamed-whole s none =
+    let outer = or_parts (is_some s.nas.address || is_some s.nas.identifier) (is_some s.nas.ipv6) none in
+    let inner = or_parts (is_some s.nas.address) (is_some s.nas.identifier) outer.0 in
+    asked-is (without_names (asked_for s)) (asked_for s) refl (none-part s.nas.address inner.0)
+    (none-part s.nas.identifier inner.1) (none-part s.nas.ipv6 outer.1) refl

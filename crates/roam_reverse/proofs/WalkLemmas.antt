@@ -1,25 +1,16 @@
 -- The open sessions of a group, one after the other.
 use Rattle.std.proofs.Common.{◌≡◌, ℕ, true, false, ◌+◌, ◌-◌, ◌<◌, ◌≤◌, List, [], length, length-append, Option, Some, None, refl, sym, ap, ◌∙◌, arith}
-use Rattle.std.specs.Prelude.{IsSome, filter, is_some, option_and_then}
+use Rattle.std.specs.Prelude.{IsSome, option_and_then}
 use Rattle.std.specs.List.{cons_option}
 use Rattle.roam_wire.specs.Numbered.{listed, tickets_end}
-use Rattle.roam_reverse.specs.Ended.{if_there, open_count, open_of, some_count, where_open}
-use Rattle.roam_reverse.specs.Facets.{rows_under}
+use Rattle.roam_reverse.specs.Ended.{agreeing_of, if_there, open_count, some_count, where_open}
 use Rattle.roam_reverse.specs.Private.Groups.{AreEndsOf, IsBesideOf, IsGrouped, PlainGroups, if_row, in_group, newer_of, oldest_of}
-use Rattle.roam_reverse.specs.Private.Masks.{agrees_grouped, mask_of}
-use Rattle.roam_reverse.specs.Private.Row.{row_text}
 use Rattle.roam_reverse.specs.Private.Tickets.{IsFirstFrom, all_listed}
-use Rattle.roam_reverse.specs.Sessions.{Asked, Session}
-use Rattle.roam_reverse.specs.Stands.{whole_rows}
-use Rattle.roam_reverse.specs.declared.ended.Ended.{Ended}
+use Rattle.roam_reverse.specs.Sessions.{Asked, Session, agrees}
 use Rattle.roam_reverse.specs.declared.ends.Ends.{Ends}
 use Rattle.roam_reverse.specs.declared.neighbours.Beside.{Beside}
-use Rattle.roam_reverse.proofs.ExactLemmas.{exact-listed}
-use Rattle.roam_reverse.proofs.FacetLemmas.{agreeing-counted}
-use Rattle.roam_reverse.proofs.GroupLemmas.{all-same, from-group, listed-bound}
+use Rattle.roam_reverse.proofs.GroupLemmas.{from-group, listed-bound}
 use Rattle.roam_reverse.proofs.NewestLemmas.{listed-empty, listed-parts}
-use Rattle.roam_reverse.proofs.OpenLemmas.{open-there}
-use Rattle.roam_reverse.proofs.RowLemmas.{exactly}
 
 module _ {X : Type 0} where
   -- how many numbers have something, from one on
@@ -192,54 +183,15 @@ module _ (O : ℕ → Option Session) (f : ℕ → Option (List ℕ)) (p : Plain
           let own = open-there-count v w.held.0 in
           omega (arith, w.rest, step, own, few)
 
--- the open sessions that are found by all that they are, and by some of their parts
-module _ (e : Ended) (F : ℕ → Option Session) (q : Asked) where
-  pub whole-open : length (all_listed (in_group (where_open (open_of e F) (whole_rows F)) (row_text q)))
-      ≡ length (filter (exactly q) (all_listed (open_of e F)))
-  whole-open =
-      ap (λ (l : List (List ℕ)). length l)
-      (all-same (in_group (whole_rows (open_of e F)) (row_text q))
-      (in_group (where_open (open_of e F) (whole_rows F)) (row_text q))
-      (λ u. ap (if_row (row_text q)) (same u)))
-      ∙ exact-listed q (open_of e F)
-    where
-      same : (u : ℕ) → where_open (open_of e F) (whole_rows F) u ≡ whole_rows (open_of e F) u
-      same u = by (open_of e F u) refl
-        where
-          by : (o : Option Session) → open_of e F u ≡ o
-              → where_open (open_of e F) (whole_rows F) u ≡ whole_rows (open_of e F) u
-          by None at = rw at refl
-          by (Some s) at = (let there = open-there e F u s at in rw (at, there) refl)
+-- whether a ticket that is given is that of an open session that agrees
+module _ (q : Asked) (O : ℕ → Option Session) (o : Option ℕ) (t : ℕ) where
+  pub agreeing-one : (s : Session) → o ≡ Some t → O t ≡ Some s → agrees q s ≡ true
+      → 1 ≡ open_count (agreeing_of q O) o
+  agreeing-one s is at agree = rw (is, at, agree) refl
 
-  pub grouped-open : length (all_listed (in_group (where_open (open_of e F) (rows_under (mask_of q) F)) (row_text q)))
-      ≡ length (filter (agrees_grouped q) (all_listed (open_of e F)))
-  grouped-open =
-      ap (λ (l : List (List ℕ)). length l)
-      (all-same (in_group (rows_under (mask_of q) (open_of e F)) (row_text q))
-      (in_group (where_open (open_of e F) (rows_under (mask_of q) F)) (row_text q))
-      (λ u. ap (if_row (row_text q)) (same u)))
-      ∙ agreeing-counted q (open_of e F)
-    where
-      same : (u : ℕ) → where_open (open_of e F) (rows_under (mask_of q) F) u ≡ rows_under (mask_of q) (open_of e F) u
-      same u = by (open_of e F u) refl
-        where
-          by : (o : Option Session) → open_of e F u ≡ o
-              → where_open (open_of e F) (rows_under (mask_of q) F) u ≡ rows_under (mask_of q) (open_of e F) u
-          by None at = rw at refl
-          by (Some s) at = (let there = open-there e F u s at in rw (at, there) refl)
+  pub agreeing-other : (s : Session) → o ≡ Some t → O t ≡ Some s → agrees q s ≡ false
+      → 0 ≡ open_count (agreeing_of q O) o
+  agreeing-other s is at disagree = rw (is, at, disagree) refl
 
--- whether a ticket that is given is that of an open session
-pub open-one : (O : ℕ → Option Session) (o : Option ℕ) (t : ℕ) → o ≡ Some t → is_some (O t) ≡ true → 1 ≡ open_count O o
-open-one O o t is there = one (O t) there ∙ sym (ap (λ (w : Option ℕ). open_count O w) is)
-  where
-    one : (w : Option Session) → is_some w ≡ true → 1 ≡ some_count w
-    one None k = absurd (cc k)
-    one (Some s) k = refl
-
-pub closed-count : (O : ℕ → Option Session) (o : Option ℕ) (t : ℕ) → o ≡ Some t → is_some (O t) ≡ false
-    → 0 ≡ open_count O o
-closed-count O o t is closed = none (O t) closed ∙ sym (ap (λ (w : Option ℕ). open_count O w) is)
-  where
-    none : (w : Option Session) → is_some w ≡ false → 0 ≡ some_count w
-    none None k = refl
-    none (Some s) k = absurd (cc k)
+  pub agreeing-closed : o ≡ Some t → O t ≡ None → 0 ≡ open_count (agreeing_of q O) o
+  agreeing-closed is at = rw (is, at) refl

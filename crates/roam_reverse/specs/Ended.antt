@@ -1,5 +1,5 @@
 -- Which sessions of a ledger's table are open, where others were ended by an Accounting-On and aren't freed yet (ours).
-use Rattle.std.specs.Prelude.{◌≡◌, ℕ, ◌+◌, ◌≤◌, ◌&&◌, nat_lt, Bool, List, length, Option, Some, None, if◌then◌else◌}
+use Rattle.std.specs.Prelude.{◌≡◌, ℕ, ◌+◌, ◌≤◌, ◌&&◌, nat_lt, Bool, List, length, Option, Some, None, option_and_then, if◌then◌else◌}
 use Rattle.roam_reverse.specs.Private.Tickets.{all_listed}
 use Rattle.roam_reverse.specs.Sessions.{Asked, Session, agrees}
 use Rattle.roam_reverse.specs.Shown.{arrayed_nas}
@@ -28,6 +28,16 @@ open_at c = open_of c.ended (session_at c.chain)
 
 abbrev pub open_sessions : {A : Type 0} → Table A → List Session
 open_sessions c = all_listed (open_at c)
+
+-- the open session of a ticket, where it agrees with what is asked
+abbrev pub if_agrees : Asked → Session → Option Session
+if_agrees q s = if agrees q s then Some s else None
+
+abbrev pub agreeing_of : Asked → (ℕ → Option Session) → ℕ → Option Session
+agreeing_of q O t = option_and_then (if_agrees q) (O t)
+
+abbrev pub agreeing_at : {A : Type 0} → Asked → Table A → ℕ → Option Session
+agreeing_at q c = agreeing_of q (open_at c)
 
 -- what the tickets of open sessions have
 abbrev pub if_there : {X Y : Type 0} → Option Y → Option X → Option X

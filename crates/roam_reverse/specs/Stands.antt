@@ -1,5 +1,5 @@
 -- What the code's chain of sessions stands for (ours).
-use Rattle.std.specs.Prelude.{◌≡◌, ℕ, ◌+◌, ◌<◌, ◌≤◌, false, true, List, length, Option, Some, None, option_map}
+use Rattle.std.specs.Prelude.{◌≡◌, ℕ, ◌+◌, ◌<◌, ◌≤◌, List, length, Option, Some, None, option_map}
 use Rattle.indexmap.specs.IndexMap.{index_map_len, spare}
 use Rattle.roam_wire.specs.Numbered.{tickets_end}
 use Rattle.roam_reverse.specs.Facets.{AreFaceted, FacetsHaveRoom}
@@ -36,16 +36,12 @@ pub record HaveRoom {A : Type 0} (n : ℕ) (c : Chain A) : Type 0 where
   pub by_ticket : n ≤ spare c.by_ticket
   pub whole : HasRoom n c.whole
   pub of_peer : FacetsHaveRoom n c.of_peer
-  pub of_id : FacetsHaveRoom n c.of_id
 
 -- a chain's parts fit each other, and what room was made is there, and tickets that are left
 pub record IsSound {A : Type 0} (c : Chain A) : Type 0 where
   pub tickets : AreTickets (session_at c) c.next
   pub whole : IsGrouped (whole_rows (session_at c)) (groups_of c.whole)
   pub of_peer : AreFaceted (session_at c) c.of_peer
-  pub no_ids : c.of_peer.with_id ≡ false
-  pub of_id : AreFaceted (session_at c) c.of_id
-  pub ids : c.of_id.with_id ≡ true
   pub count : length (sessions_of c) ≡ session_count c
   pub room : HaveRoom c.spare c
   pub ticket_room : c.next + c.spare < tickets_end

@@ -2,7 +2,7 @@
 
 ghost use Rattle.std.specs.Prelude.{◌≡◌, option_map};
 ghost use Rattle.roam_reverse.specs.Sessions.{counted_nas, nas_in, no_nas};
-ghost use Rattle.roam_reverse.specs.Private.Masks.{asked_for, grouped_as, has_more, narrow};
+ghost use Rattle.roam_reverse.specs.Private.Masks.{asked_for, by_id, is_named, narrow, without_names};
 ghost use Rattle.roam_reverse.specs.Kept.{shown_asked, shown_nas, shown_session};
 
 use crate::nas_target::NAS_IPV6_ADDRESS;
@@ -115,23 +115,34 @@ impl<'a> SessionRef<'a> {
         })
     }
 
-    /// Returns whether it has a name that isn't asked for.
-    fn has_more(self, mask: Mask) -> bool
-        ensures { result ≡ has_more mask (shown_session self.entry) }
+    /// Returns whether its access server has a name.
+    fn is_named(self) -> bool
+        ensures { result ≡ is_named (shown_session self.entry) }
     {
-        (!mask.address && self.nas.address.is_some())
-            || (!mask.identifier && self.nas.identifier.is_some())
-            || (!mask.ipv6 && self.nas.ipv6.is_some())
+        self.nas.address.is_some() || self.nas.identifier.is_some() || self.nas.ipv6.is_some()
     }
 
-    /// Returns what is asked for this session in the groups by some of its parts. By its id and all of its names it is
-    /// in none.
-    pub(crate) fn grouped(self, mask: Mask) -> Option<AskedRef<'a>>
-        ensures { option_map shown_asked result ≡ grouped_as mask (shown_session self.entry) }
+    /// Returns what is asked for this session by its id alone. One without names is found so by all that it is.
+    pub(crate) fn by_id(self) -> Option<AskedRef<'a>>
+        ensures { option_map shown_asked result ≡ by_id (shown_session self.entry) }
     {
-        if mask.id && !self.has_more(mask) {
-            return None;
+        if self.is_named() {
+            Some(self.asked().without_names())
+        } else {
+            None
         }
-        self.narrowed(mask)
+    }
+}
+
+impl<'a> AskedRef<'a> {
+    /// Returns what is asked, but for the names of the access server.
+    pub(crate) fn without_names(self) -> AskedRef<'a>
+        ensures { shown_asked result ≡ without_names (shown_asked self.entry) }
+    {
+        AskedRef {
+            peer: self.peer,
+            nas: no_nas(),
+            id: self.id,
+        }
     }
 }

@@ -1,6 +1,6 @@
 //! The sessions of a ledger in the order in which they were opened.
 
-ghost use Rattle.std.specs.Prelude.{◌≡◌, ◌≢◌, ℕ, ◌+◌, ◌-◌, ◌<◌, ◌≤◌, [], ◌∷◌, ◌++◌, false, true};
+ghost use Rattle.std.specs.Prelude.{◌≡◌, ◌≢◌, ℕ, ◌+◌, ◌-◌, ◌<◌, ◌≤◌, [], ◌∷◌, ◌++◌, false};
 ghost use Rattle.std.specs.Prelude.{None, Some, IsOk, IsSome, OnOk, OnErr, filter, is_some, length};
 ghost use Rattle.std.specs.Prelude.{option_map};
 ghost use Rattle.roam_reverse.specs.Private.Tickets.{IsOneOf, IsTicketOf, NoneBefore};
@@ -28,13 +28,11 @@ use std::hash::{BuildHasherDefault, FoldHasher};
 pub(crate) type ByTicket<A> = IndexMap<u64, OpenSession<A>, BuildHasherDefault<FoldHasher>, A>;
 
 /// Sessions in the order in which they were opened. Each has a ticket, and these rise. They are found by all that they
-/// are, by the names of their access servers, and by some of these and the id: a session without further names by all
-/// that it is alone.
+/// are, by the names of their access servers, and by the id.
 pub(crate) struct Chain<A: Allocator> {
     pub(crate) by_ticket: ByTicket<A>,
     pub(crate) whole: Groups<A>,
     pub(crate) of_peer: Facets<A>,
-    pub(crate) of_id: Facets<A>,
     /// The ticket of the session that is opened next.
     pub(crate) next: u64,
     /// For how many sessions more room was made.
@@ -47,14 +45,12 @@ impl<A: Allocator> Drop for Chain<A> {
             by_ticket,
             whole,
             of_peer,
-            of_id,
             next: _,
             spare: _,
         } = self;
         drop(by_ticket);
         drop(whole);
         drop(of_peer);
-        drop(of_id);
     }
 }
 
@@ -89,8 +85,7 @@ impl<A: Allocator + Copy> Chain<A> {
         Chain {
             by_ticket: IndexMap::new(alloc),
             whole: Groups::new(alloc, key),
-            of_peer: Facets::new(alloc, key, false),
-            of_id: Facets::new(alloc, key, true),
+            of_peer: Facets::new(alloc, key),
             next: 0,
             spare: 0,
         }
@@ -117,16 +112,6 @@ impl<A: Allocator + Copy> Chain<A> {
         self.whole.oldest(new.whole.as_slice())
     }
 
-    /// Returns how many sessions agree with what is asked, which names an id.
-    pub(crate) fn count(&self, asked: AskedRef<'_>) -> usize
-        ensures { IsSound self.now → is_some (shown_asked asked.entry).id ≡ true
-            → result ≡ length (filter (agrees (shown_asked asked.entry)) (sessions_of self.now)) }
-    {
-        self.whole
-            .count(Row::of(asked).as_slice())
-            .saturating_add(self.of_id.count(asked))
-    }
-
     /// Makes room for one session more. No session changes. There is none once the tickets are used
     /// up, after 2^64 - 1 sessions, which isn't reached.
     pub(crate) fn reserve(&mut self) -> Result<(), NoMemory>
@@ -149,7 +134,6 @@ impl<A: Allocator + Copy> Chain<A> {
         self.by_ticket.reserve(1)?;
         self.whole.reserve()?;
         self.of_peer.reserve()?;
-        self.of_id.reserve()?;
         self.spare = 1;
         Ok(())
     }
@@ -171,7 +155,6 @@ impl<A: Allocator + Copy> Chain<A> {
         put(&mut self.by_ticket, ticket, new.session);
         self.whole.append(ticket, Some(new.whole));
         self.of_peer.append(ticket, new.of_peer);
-        self.of_id.append(ticket, new.of_id);
         self.next = ticket + 1;
         self.spare -= 1;
     }
@@ -190,7 +173,6 @@ impl<A: Allocator + Copy> Chain<A> {
         self.whole
             .remove(ticket, Row::of(session.lend().asked()).as_slice());
         self.of_peer.remove(ticket, session.lend());
-        self.of_id.remove(ticket, session.lend());
     }
 
     /// Takes the oldest session of the peer that has most out; of several that have most, the oldest of all theirs.

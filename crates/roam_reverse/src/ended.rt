@@ -4,7 +4,7 @@ ghost use Rattle.std.specs.Prelude.{◌≡◌, None, option_map};
 ghost use Rattle.roam_reverse.specs.Ended.{ended_asked, is_ended};
 ghost use Rattle.roam_reverse.specs.Kept.{shown_asked, shown_nas, shown_session};
 ghost use Rattle.roam_reverse.specs.Private.Masks.{has_names};
-ghost use Rattle.roam_reverse.specs.Sessions.{agrees_in};
+ghost use Rattle.roam_reverse.specs.Sessions.{agrees, agrees_in};
 ghost use Rattle.roam_reverse.specs.Short.{shown_short};
 ghost use Rattle.roam_reverse.specs.Shown.{arrayed_nas};
 
@@ -42,6 +42,13 @@ fn has_names(asked: AskedRef<'_>, peer: u16, nas: NasRef<'_>) -> bool
         && agrees_in(asked.nas.address, nas.address)
         && agrees_in(asked.nas.identifier, nas.identifier)
         && agrees_in(asked.nas.ipv6, nas.ipv6)
+}
+
+/// Returns whether a session agrees with what is asked.
+pub(crate) fn agrees(asked: AskedRef<'_>, session: SessionRef<'_>) -> bool
+    ensures { result ≡ agrees (shown_asked asked.entry) (shown_session session.entry) }
+{
+    has_names(asked, session.peer, session.nas) && agrees_in(asked.id, Some(session.id))
 }
 
 impl Ended {

@@ -1,12 +1,11 @@
-//! The sessions of a peer by the names of their access servers: by none of them, by some, by all.
+//! The sessions of a peer by the names of their access servers: by none of them, by some, by all; and by their ids.
 
-ghost use Rattle.std.specs.Prelude.{◌≡◌, ℕ, ◌+◌, List, Option, None, IfOk, OnOk, filter, is_some, length};
-ghost use Rattle.roam_reverse.specs.Facets.{AreFaceted, ComesIn, FacetsHaveRoom, HasFacetRows, HasRow, facet_of};
+ghost use Rattle.std.specs.Prelude.{◌≡◌, ℕ, ◌+◌, List, Option, None, IfOk, OnOk, false, filter, is_some, length, option_map};
+ghost use Rattle.roam_reverse.specs.Facets.{AreFaceted, ComesIn, FacetsHaveRoom, HasFacetRows, HasRow, HasText, facet_of};
 ghost use Rattle.roam_reverse.specs.Private.Groups.{Goes, IsGrouped, IsLargest};
-ghost use Rattle.roam_reverse.specs.Private.Masks.{agrees_grouped};
-ghost use Rattle.roam_reverse.specs.Private.Row.{row_under};
+ghost use Rattle.roam_reverse.specs.Private.Row.{row_text};
 ghost use Rattle.roam_reverse.specs.Private.Tickets.{IsOneOf, NoneBefore, all_listed};
-ghost use Rattle.roam_reverse.specs.Sessions.{Session};
+ghost use Rattle.roam_reverse.specs.Sessions.{Session, agrees};
 ghost use Rattle.roam_reverse.specs.Kept.{shown_asked, shown_session};
 ghost use Rattle.roam_reverse.specs.Maps.{HasRoom, groups_of};
 ghost use Rattle.roam_wire.specs.Numbered.{PutsAt};
@@ -18,10 +17,9 @@ use roam_hash::HashKey;
 use roam_wire::NoMemory;
 use std::alloc::Allocator;
 
-/// Tickets of sessions in groups: by the peer, and by the peer and some of the access server's names, where a session
-/// has them; and where `with_id` says it, by the id besides, and then only those that have further names.
+/// Tickets of sessions in groups: by the peer, by the peer and some of the access server's names, where a session has
+/// them, and by the peer and the id, where a session has any of those names.
 pub(crate) struct Facets<A: Allocator> {
-    pub(crate) with_id: bool,
     pub(crate) by_peer: Groups<A>,
     pub(crate) by_address: Groups<A>,
     pub(crate) by_identifier: Groups<A>,
@@ -30,13 +28,13 @@ pub(crate) struct Facets<A: Allocator> {
     pub(crate) by_address_ipv6: Groups<A>,
     pub(crate) by_identifier_ipv6: Groups<A>,
     pub(crate) by_all: Groups<A>,
+    pub(crate) by_id: Groups<A>,
 }
 
 // By hand, so that a proof sees one call wherever they end, and not each of their maps.
 impl<A: Allocator> Drop for Facets<A> {
     fn drop(self) {
         let Self {
-            with_id: _,
             by_peer,
             by_address,
             by_identifier,
@@ -45,6 +43,7 @@ impl<A: Allocator> Drop for Facets<A> {
             by_address_ipv6,
             by_identifier_ipv6,
             by_all,
+            by_id,
         } = self;
         drop(by_peer);
         drop(by_address);
@@ -54,6 +53,7 @@ impl<A: Allocator> Drop for Facets<A> {
         drop(by_address_ipv6);
         drop(by_identifier_ipv6);
         drop(by_all);
+        drop(by_id);
     }
 }
 
@@ -68,6 +68,7 @@ pub(crate) struct FacetRows<A: Allocator> {
     pub(crate) by_address_ipv6: Option<Vec<u8, A>>,
     pub(crate) by_identifier_ipv6: Option<Vec<u8, A>>,
     pub(crate) by_all: Option<Vec<u8, A>>,
+    pub(crate) by_id: Option<Vec<u8, A>>,
 }
 
 /// Returns what is asked for by these names of the access server, and by the id or not.
@@ -82,6 +83,19 @@ fn mask(address: bool, identifier: bool, ipv6: bool, id: bool) -> Mask
     }
 }
 
+/// The row of what is asked, if anything is.
+fn row_if_any<A: Allocator>(
+    alloc: A,
+    asked: Option<AskedRef<'_>>,
+) -> Result<Option<Vec<u8, A>>, NoMemory>
+    ensures { IfOk result (HasText (option_map row_text (option_map shown_asked asked.entry))) }
+{
+    match asked {
+        None => Ok(None),
+        Some(asked) => Ok(Some(row_of(alloc, asked)?)),
+    }
+}
+
 /// The row of some of a session's parts, where it has them.
 fn row_under<A: Allocator>(
     alloc: A,
@@ -90,7 +104,7 @@ fn row_under<A: Allocator>(
 ) -> Result<Option<Vec<u8, A>>, NoMemory>
     ensures { IfOk result (λ row. HasRow mask (shown_session session.entry) row) }
 {
-    match session.grouped(mask) {
+    match session.narrowed(mask) {
         None => Ok(None),
         Some(asked) => Ok(Some(row_of(alloc, asked)?)),
     }
@@ -100,18 +114,18 @@ fn row_under<A: Allocator>(
 pub(crate) fn facet_rows<A: Allocator + Copy>(
     alloc: A,
     session: SessionRef<'_>,
-    with_id: bool,
 ) -> Result<FacetRows<A>, NoMemory>
-    ensures { IfOk result (HasFacetRows with_id (shown_session session.entry)) }
+    ensures { IfOk result (HasFacetRows (shown_session session.entry)) }
 {
-    let by_peer = row_under(alloc, session, mask(false, false, false, with_id))?;
-    let by_address = row_under(alloc, session, mask(true, false, false, with_id))?;
-    let by_identifier = row_under(alloc, session, mask(false, true, false, with_id))?;
-    let by_both = row_under(alloc, session, mask(true, true, false, with_id))?;
-    let by_ipv6 = row_under(alloc, session, mask(false, false, true, with_id))?;
-    let by_address_ipv6 = row_under(alloc, session, mask(true, false, true, with_id))?;
-    let by_identifier_ipv6 = row_under(alloc, session, mask(false, true, true, with_id))?;
-    let by_all = row_under(alloc, session, mask(true, true, true, with_id))?;
+    let by_peer = row_under(alloc, session, mask(false, false, false, false))?;
+    let by_address = row_under(alloc, session, mask(true, false, false, false))?;
+    let by_identifier = row_under(alloc, session, mask(false, true, false, false))?;
+    let by_both = row_under(alloc, session, mask(true, true, false, false))?;
+    let by_ipv6 = row_under(alloc, session, mask(false, false, true, false))?;
+    let by_address_ipv6 = row_under(alloc, session, mask(true, false, true, false))?;
+    let by_identifier_ipv6 = row_under(alloc, session, mask(false, true, true, false))?;
+    let by_all = row_under(alloc, session, mask(true, true, true, false))?;
+    let by_id = row_if_any(alloc, session.by_id())?;
     Ok(FacetRows {
         by_peer,
         by_address,
@@ -121,17 +135,19 @@ pub(crate) fn facet_rows<A: Allocator + Copy>(
         by_address_ipv6,
         by_identifier_ipv6,
         by_all,
+        by_id,
     })
 }
 
 impl<A: Allocator + Copy> Groups<A> {
-    /// Takes a session's ticket out of its group by some of its parts, where it has them.
-    fn leave(&mut self, ticket: u64, session: SessionRef<'_>, mask: Mask)
+    /// Takes a ticket out of the group of what its session is asked for, if it is in one.
+    fn leave(&mut self, ticket: u64, asked: Option<AskedRef<'_>>)
         ensures grouped { (f g : ℕ → Option (List ℕ)) → IsGrouped f (groups_of self.old)
-            → Goes f g ticket (row_under mask (shown_session session.entry)) → IsGrouped g (groups_of self.new) }
+            → Goes f g ticket (option_map row_text (option_map shown_asked asked.entry))
+            → IsGrouped g (groups_of self.new) }
         ensures room { (n : ℕ) → HasRoom n self.old → HasRoom n self.new }
     {
-        if let Some(asked) = session.grouped(mask) {
+        if let Some(asked) = asked {
             self.remove(ticket, Row::of(asked).as_slice());
         }
     }
@@ -139,12 +155,10 @@ impl<A: Allocator + Copy> Groups<A> {
 
 impl<A: Allocator + Copy> Facets<A> {
     /// No sessions. Takes no memory.
-    pub(crate) fn new(alloc: A, key: HashKey, with_id: bool) -> Facets<A>
-        ensures with_id { result.with_id ≡ with_id }
-        ensures empty { (F : ℕ → Option Session) → ((t : ℕ) → F t ≡ None) → AreFaceted F result }
+    pub(crate) fn new(alloc: A, key: HashKey) -> Facets<A>
+        ensures { (F : ℕ → Option Session) → ((t : ℕ) → F t ≡ None) → AreFaceted F result }
     {
         Facets {
-            with_id,
             by_peer: Groups::new(alloc, key),
             by_address: Groups::new(alloc, key),
             by_identifier: Groups::new(alloc, key),
@@ -153,6 +167,7 @@ impl<A: Allocator + Copy> Facets<A> {
             by_address_ipv6: Groups::new(alloc, key),
             by_identifier_ipv6: Groups::new(alloc, key),
             by_all: Groups::new(alloc, key),
+            by_id: Groups::new(alloc, key),
         }
     }
 
@@ -160,7 +175,6 @@ impl<A: Allocator + Copy> Facets<A> {
     pub(crate) fn reserve(&mut self) -> Result<(), NoMemory>
         ensures ok { OnOk result (FacetsHaveRoom 1 self.new) }
         ensures room { (n : ℕ) → FacetsHaveRoom n self.old → FacetsHaveRoom n self.new }
-        ensures with_id { self.new.with_id ≡ self.old.with_id }
         ensures same { (F : ℕ → Option Session) → AreFaceted F self.old → AreFaceted F self.new }
     {
         self.by_peer.reserve()?;
@@ -170,16 +184,16 @@ impl<A: Allocator + Copy> Facets<A> {
         self.by_ipv6.reserve()?;
         self.by_address_ipv6.reserve()?;
         self.by_identifier_ipv6.reserve()?;
-        self.by_all.reserve()
+        self.by_all.reserve()?;
+        self.by_id.reserve()
     }
 
     /// Puts a session with its rows last, where there is room. Takes no memory.
     pub(crate) fn append(&mut self, ticket: u64, rows: FacetRows<A>)
         requires { FacetsHaveRoom 1 self.old }
         ensures faceted { (F G : ℕ → Option Session) (s : Session) → AreFaceted F self.old
-            → HasFacetRows self.old.with_id s rows → ComesIn F G ticket s → AreFaceted G self.new }
+            → HasFacetRows s rows → ComesIn F G ticket s → AreFaceted G self.new }
         ensures room { (n : ℕ) → FacetsHaveRoom (n + 1) self.old → FacetsHaveRoom n self.new }
-        ensures with_id { self.new.with_id ≡ self.old.with_id }
     {
         self.by_peer.append(ticket, rows.by_peer);
         self.by_address.append(ticket, rows.by_address);
@@ -190,6 +204,7 @@ impl<A: Allocator + Copy> Facets<A> {
         self.by_identifier_ipv6
             .append(ticket, rows.by_identifier_ipv6);
         self.by_all.append(ticket, rows.by_all);
+        self.by_id.append(ticket, rows.by_id);
     }
 
     /// Takes a session out.
@@ -198,25 +213,24 @@ impl<A: Allocator + Copy> Facets<A> {
             → F ticket ≡ Some (shown_session session.entry) → PutsAt F G ticket None
             → AreFaceted G self.new }
         ensures room { (n : ℕ) → FacetsHaveRoom n self.old → FacetsHaveRoom n self.new }
-        ensures with_id { self.new.with_id ≡ self.old.with_id }
     {
-        let id = self.with_id;
         self.by_peer
-            .leave(ticket, session, mask(false, false, false, id));
+            .leave(ticket, session.narrowed(mask(false, false, false, false)));
         self.by_address
-            .leave(ticket, session, mask(true, false, false, id));
+            .leave(ticket, session.narrowed(mask(true, false, false, false)));
         self.by_identifier
-            .leave(ticket, session, mask(false, true, false, id));
+            .leave(ticket, session.narrowed(mask(false, true, false, false)));
         self.by_both
-            .leave(ticket, session, mask(true, true, false, id));
+            .leave(ticket, session.narrowed(mask(true, true, false, false)));
         self.by_ipv6
-            .leave(ticket, session, mask(false, false, true, id));
+            .leave(ticket, session.narrowed(mask(false, false, true, false)));
         self.by_address_ipv6
-            .leave(ticket, session, mask(true, false, true, id));
+            .leave(ticket, session.narrowed(mask(true, false, true, false)));
         self.by_identifier_ipv6
-            .leave(ticket, session, mask(false, true, true, id));
+            .leave(ticket, session.narrowed(mask(false, true, true, false)));
         self.by_all
-            .leave(ticket, session, mask(true, true, true, id));
+            .leave(ticket, session.narrowed(mask(true, true, true, false)));
+        self.by_id.leave(ticket, session.by_id());
     }
 
     /// The groups in which sessions are found by the names that are asked for.
@@ -235,24 +249,23 @@ impl<A: Allocator + Copy> Facets<A> {
         }
     }
 
-    /// Returns how many sessions of these groups agree with what is asked, which names an id just where the groups do.
+    /// Returns how many sessions agree with what is asked, which names no id.
     pub(crate) fn count(&self, asked: AskedRef<'_>) -> usize
         ensures { (F : ℕ → Option Session) → AreFaceted F self.now
-            → is_some (shown_asked asked.entry).id ≡ self.now.with_id
-            → result ≡ length (filter (agrees_grouped (shown_asked asked.entry)) (all_listed F)) }
+            → is_some (shown_asked asked.entry).id ≡ false
+            → result ≡ length (filter (agrees (shown_asked asked.entry)) (all_listed F)) }
     {
         self.groups_for(asked).count(Row::of(asked).as_slice())
     }
 
-    /// The ticket of the oldest session of these groups that agrees with what is asked, which names an id just where
-    /// the groups do.
+    /// The ticket of the oldest session that agrees with what is asked, which names no id.
     pub(crate) fn oldest(&self, asked: AskedRef<'_>) -> Option<u64>
         ensures agrees { (F : ℕ → Option Session) → AreFaceted F self.now
-            → is_some (shown_asked asked.entry).id ≡ self.now.with_id
-            → IsOneOf (agrees_grouped (shown_asked asked.entry)) F result }
+            → is_some (shown_asked asked.entry).id ≡ false
+            → IsOneOf (agrees (shown_asked asked.entry)) F result }
         ensures first { (F : ℕ → Option Session) → AreFaceted F self.now
-            → is_some (shown_asked asked.entry).id ≡ self.now.with_id
-            → NoneBefore (agrees_grouped (shown_asked asked.entry)) F result }
+            → is_some (shown_asked asked.entry).id ≡ false
+            → NoneBefore (agrees (shown_asked asked.entry)) F result }
     {
         self.groups_for(asked).oldest(Row::of(asked).as_slice())
     }

@@ -1,6 +1,6 @@
 //! A session that is open, and one that is to be opened, with all memory that it wants.
 
-ghost use Rattle.std.specs.Prelude.{◌≡◌, IfOk, false, option_map, true};
+ghost use Rattle.std.specs.Prelude.{◌≡◌, IfOk, option_map};
 ghost use Rattle.roam_reverse.specs.Facets.{HasFacetRows};
 ghost use Rattle.roam_reverse.specs.Private.Row.{whole_row};
 ghost use Rattle.roam_reverse.specs.Kept.{kept_session, shown_session};
@@ -83,16 +83,14 @@ impl<A: Allocator> OpenSession<A> {
     }
 }
 
-/// A session that is to be opened, with the rows by which it is found: its own, those without its id and those with it.
+/// A session that is to be opened, with the rows by which it is found: its own, and those by some of its parts.
 #[derive(Drop)]
 pub(crate) struct NewSession<A: Allocator> {
     pub(crate) session: OpenSession<A>,
     pub(crate) whole: Vec<u8, A>,
     pub(crate) of_peer: FacetRows<A>,
-    pub(crate) of_id: FacetRows<A>,
     ghost whole_is: { whole.items ≡ whole_row (kept_session session) },
-    ghost of_peer_are: { HasFacetRows false (kept_session session) of_peer },
-    ghost of_id_are: { HasFacetRows true (kept_session session) of_id },
+    ghost of_peer_are: { HasFacetRows (kept_session session) of_peer },
 }
 
 impl<A: Allocator + Copy> NewSession<A> {
@@ -102,13 +100,11 @@ impl<A: Allocator + Copy> NewSession<A> {
     {
         let kept = OpenSession::copy_of(alloc, session)?;
         let whole = row_of(alloc, session.asked())?;
-        let of_peer = facet_rows(alloc, session, false)?;
-        let of_id = facet_rows(alloc, session, true)?;
+        let of_peer = facet_rows(alloc, session)?;
         Ok(NewSession {
             session: kept,
             whole,
             of_peer,
-            of_id,
         })
     }
 }

@@ -75,6 +75,17 @@ impl<A: Allocator + Copy> Table<A> {
         }
     }
 
+    /// Returns the session of a ticket, where that is open.
+    pub(crate) fn open_session(&self, ticket: u64) -> Option<SessionRef<'_>>
+        ensures { option_map shown_session result ≡ open_at self.now ticket }
+    {
+        if self.is_open(ticket) {
+            self.chain.session(ticket)
+        } else {
+            None
+        }
+    }
+
     /// Returns the ticket of an open session.
     pub(crate) fn find(&self, session: SessionRef<'_>) -> Option<u64>
         ensures { IsTable self.now → IsTicketOf (shown_session session.entry) (open_at self.now) result }

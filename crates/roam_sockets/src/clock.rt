@@ -1,14 +1,14 @@
 //! Moments: milliseconds since the server began.
 
-ghost use Rattle.std.specs.Prelude.{◌≡◌, unwrap_or};
+ghost use Rattle.std.specs.Prelude.{◌≡◌, ◌≤◌, max, unwrap_or};
 
 use std::time::{Clock, Instant};
 
-/// The moment that was read, or the last one where the clock can't be read.
+/// Returns the moment that was read, or the last one where the clock can't be read or went back.
 pub fn moment(last: u64, read: Option<u64>) -> u64
-    ensures { result ≡ unwrap_or read last }
+    ensures { result ≡ max last (unwrap_or read last) }
 {
-    read.unwrap_or(last)
+    read.unwrap_or(last).max(last)
 }
 
 /// The milliseconds since the beginning, where the clock can be read.
@@ -23,7 +23,9 @@ pub fn wall_seconds<R: Clock>(rt: &R) -> Option<u64> {
     Some(since.as_secs())
 }
 
-/// The moment now, or the last one where the clock can't be read.
-pub fn now<R: Clock>(rt: &R, start: Instant, last: u64) -> u64 {
+/// Returns the moment now, or the last one where the clock can't be read or went back.
+pub fn now<R: Clock>(rt: &R, start: Instant, last: u64) -> u64
+    ensures { last ≤ result }
+{
     moment(last, since(rt, start))
 }

@@ -1,6 +1,6 @@
 //! What a worker has: its seat at the hub, its packets on their way out, and its notices.
 
-ghost use Rattle.std.specs.Prelude.{◌≡◌, []};
+ghost use Rattle.std.specs.Prelude.{◌≡◌, ◌≤◌, []};
 ghost use Rattle.roam_counters.specs.OwnCounts.{raised_all};
 ghost use Rattle.roam_workers.specs.Remedies as remedies;
 ghost use Rattle.roam_exchange.specs.Turn.{shown_outs};
@@ -95,8 +95,10 @@ pub fn remedy_for(fault: HubFault, is_second: bool) -> Remedy
 }
 
 impl<H: HubCalls<N>, N: Opened> WorkerContext<'_, '_, H, N> {
-    /// Looks at the clock, and at the wall clock where Event-Timestamps are looked at.
+    /// Looks at the clock, and at the wall clock where Event-Timestamps are looked at. The thread's moment doesn't go
+    /// back.
     pub fn look_at_clock<R: Clock>(&mut self, rt: &R)
+        ensures rises { self.old.now ≤ self.new.now }
         ensures kept { (self.new.seat ≡ self.old.seat) × (counts_in self.new.counting ≡ counts_in self.old.counting)
             × (self.new.outgoing ≡ self.old.outgoing) }
     {

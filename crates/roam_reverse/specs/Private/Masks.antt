@@ -1,6 +1,6 @@
 -- A session by some of its parts (ours).
-use Rattle.std.specs.Prelude.{ℕ, ◌==◌, ◌&&◌, ◌||◌, not, Bool, Option, Some, None, is_some, is_none, if◌then◌else◌}
-use Rattle.roam_reverse.specs.Sessions.{Asked, Nas, Session, agrees, agrees_in}
+use Rattle.std.specs.Prelude.{ℕ, ◌==◌, ◌&&◌, ◌||◌, Bool, Option, Some, None, is_some, is_none, if◌then◌else◌}
+use Rattle.roam_reverse.specs.Sessions.{Asked, Nas, Session, agrees_in, no_nas}
 use Rattle.roam_reverse.specs.declared.asked.Mask.{Mask}
 
 -- what is asked for a session by all that it is
@@ -29,17 +29,6 @@ asked_by mask s = record {
 abbrev pub narrow : Mask → Session → Option Asked
 narrow mask s = if lacks mask s then None else Some (asked_by mask s)
 
--- a session has a name that isn't asked for
-abbrev pub has_more : Mask → Session → Bool
-has_more mask s =
-    (not mask.address && is_some s.nas.address) || (not mask.identifier && is_some s.nas.identifier)
-    || (not mask.ipv6 && is_some s.nas.ipv6)
-
--- what a session is asked for in the groups by some of its parts. In those by its id it is where it has further names:
--- by all that it is, it is found without them
-abbrev pub grouped_as : Mask → Session → Option Asked
-grouped_as mask s = if mask.id && not (has_more mask s) then None else narrow mask s
-
 -- the parts that are asked for
 abbrev pub mask_of : Asked → Mask
 mask_of q = record {
@@ -49,9 +38,17 @@ mask_of q = record {
   id = is_some q.id;
 }
 
--- a session agrees with what is asked, and is found by it in the groups by some of its parts
-abbrev pub agrees_grouped : Asked → Session → Bool
-agrees_grouped q s = not (is_some q.id && not (has_more (mask_of q) s)) && agrees q s
+-- what is asked, but for the names of the access server
+abbrev pub without_names : Asked → Asked
+without_names q = record { peer = q.peer; nas = no_nas; id = q.id }
+
+-- a session's access server has a name
+abbrev pub is_named : Session → Bool
+is_named s = is_some s.nas.address || is_some s.nas.identifier || is_some s.nas.ipv6
+
+-- what a session is asked for by its id alone. Without names it is found so by all that it is
+abbrev pub by_id : Session → Option Asked
+by_id s = if is_named s then Some (without_names (asked_for s)) else None
 
 -- an access server of a peer has the names that are asked for
 abbrev pub has_names : Asked → ℕ → Nas → Bool

@@ -1,6 +1,6 @@
-use Rattle.std.proofs.Common.{◌≡◌, ℕ, ◌+◌, ◌-◌, ◌<◌, Bool, List, [], ◌∷◌, length, sym, ap, ◌∙◌, subst, arith, length-append}
+use Rattle.std.proofs.Common.{◌≡◌, ℕ, ◌+◌, ◌-◌, ◌<◌, List, [], ◌∷◌, length, ap, ◌∙◌, subst, arith, length-append}
 use Rattle.roam_wire.specs.Numbered.{tickets_end}
-use Rattle.roam_reverse.specs.Facets.{ComesIn, FacetsHaveRoom, HasFacetRows}
+use Rattle.roam_reverse.specs.Facets.{ComesIn, FacetsHaveRoom}
 use Rattle.roam_reverse.specs.Kept.{kept_session}
 use Rattle.roam_reverse.specs.Maps.{HasRoom, session_of}
 use Rattle.roam_reverse.specs.Private.Tickets.{all_listed}
@@ -39,14 +39,7 @@ returns-clause-sound g c =
           (omega (arith, sound.ticket_room, c.requires.room));
       whole = c.append.ensures.grouped (whole_rows F) (whole_rows G) sound.whole
           (comes-whole F G next s _ c.args.new.whole_is comes);
-      of_peer = c.append-2.ensures.faceted F G s sound.of_peer
-          (subst (λ (b : Bool). HasFacetRows b s c.args.new.of_peer) (sym sound.no_ids) c.args.new.of_peer_are)
-          comes;
-      no_ids = c.append-2.ensures.with_id ∙ sound.no_ids;
-      of_id = c.append-3.ensures.faceted F G s sound.of_id
-          (subst (λ (b : Bool). HasFacetRows b s c.args.new.of_id) (sym sound.ids) c.args.new.of_id_are)
-          comes;
-      ids = c.append-3.ensures.with_id ∙ sound.ids;
+      of_peer = c.append-2.ensures.faceted F G s sound.of_peer c.args.new.of_peer_are comes;
       count = ap (λ (l : List Session). length l) listed ∙ length-append (all_listed F) (s ∷ [])
           ∙ omega (arith, sound.count, c.put.ensures.len);
       room = record {
@@ -55,8 +48,6 @@ returns-clause-sound g c =
             (subst (λ (n : ℕ). HasRoom n c.args.self.now.whole) spare sound.room.whole);
         of_peer = c.append-2.ensures.room (c.args.self.now.spare - 1)
             (subst (λ (n : ℕ). FacetsHaveRoom n c.args.self.now.of_peer) spare sound.room.of_peer);
-        of_id = c.append-3.ensures.room (c.args.self.now.spare - 1)
-            (subst (λ (n : ℕ). FacetsHaveRoom n c.args.self.now.of_id) spare sound.room.of_id);
       };
       ticket_room = omega (arith, sound.ticket_room, c.requires.room);
     }
@@ -113,43 +104,8 @@ append-requires-2 g c =
         ends = omega (arith, room.by_all.ends, some);
         beside = omega (arith, room.by_all.beside, some);
       };
-    }
-
-pub append-requires-3 : goal.append-requires-3
-append-requires-3 g c =
-    let room = c.requires.sound.room.of_id in
-    let some = c.requires.room in
-    record {
-      by_peer = record {
-        ends = omega (arith, room.by_peer.ends, some);
-        beside = omega (arith, room.by_peer.beside, some);
-      };
-      by_address = record {
-        ends = omega (arith, room.by_address.ends, some);
-        beside = omega (arith, room.by_address.beside, some);
-      };
-      by_identifier = record {
-        ends = omega (arith, room.by_identifier.ends, some);
-        beside = omega (arith, room.by_identifier.beside, some);
-      };
-      by_both = record {
-        ends = omega (arith, room.by_both.ends, some);
-        beside = omega (arith, room.by_both.beside, some);
-      };
-      by_ipv6 = record {
-        ends = omega (arith, room.by_ipv6.ends, some);
-        beside = omega (arith, room.by_ipv6.beside, some);
-      };
-      by_address_ipv6 = record {
-        ends = omega (arith, room.by_address_ipv6.ends, some);
-        beside = omega (arith, room.by_address_ipv6.beside, some);
-      };
-      by_identifier_ipv6 = record {
-        ends = omega (arith, room.by_identifier_ipv6.ends, some);
-        beside = omega (arith, room.by_identifier_ipv6.beside, some);
-      };
-      by_all = record {
-        ends = omega (arith, room.by_all.ends, some);
-        beside = omega (arith, room.by_all.beside, some);
+      by_id = record {
+        ends = omega (arith, room.by_id.ends, some);
+        beside = omega (arith, room.by_id.beside, some);
       };
     }

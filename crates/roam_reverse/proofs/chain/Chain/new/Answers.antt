@@ -20,10 +20,7 @@ returns-clause-sound g c =
         within = omega arith;
       };
       whole = c.new-2.ensures (whole_rows F) (λ t. ap (option_map whole_row) (none t));
-      of_peer = c.new-3.ensures.empty F none;
-      no_ids = c.new-3.ensures.with_id;
-      of_id = c.new-4.ensures.empty F none;
-      ids = c.new-4.ensures.with_id;
+      of_peer = c.new-3.ensures F none;
       count = ap (λ (l : List Session). length l) (listed-none F 0 tickets_end (λ u le. none u))
           ∙ sym c.new.ensures.len;
       room = record {
@@ -38,16 +35,7 @@ returns-clause-sound g c =
           by_address_ipv6 = record { ends = omega arith; beside = omega arith };
           by_identifier_ipv6 = record { ends = omega arith; beside = omega arith };
           by_all = record { ends = omega arith; beside = omega arith };
-        };
-        of_id = record {
-          by_peer = record { ends = omega arith; beside = omega arith };
-          by_address = record { ends = omega arith; beside = omega arith };
-          by_identifier = record { ends = omega arith; beside = omega arith };
-          by_both = record { ends = omega arith; beside = omega arith };
-          by_ipv6 = record { ends = omega arith; beside = omega arith };
-          by_address_ipv6 = record { ends = omega arith; beside = omega arith };
-          by_identifier_ipv6 = record { ends = omega arith; beside = omega arith };
-          by_all = record { ends = omega arith; beside = omega arith };
+          by_id = record { ends = omega arith; beside = omega arith };
         };
       };
       ticket_room = omega arith;

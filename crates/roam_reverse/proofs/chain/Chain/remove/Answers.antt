@@ -28,16 +28,11 @@ returns-clause-sound g c =
           ∙ ap (λ (x : Session). whole_row x) c.lend.ensures) at goes);
       of_peer = c.remove-2.ensures.faceted F G sound.of_peer
           (at ∙ ap (λ (x : Session). Some x) (sym c.lend-2.ensures)) goes;
-      no_ids = c.remove-2.ensures.with_id ∙ sound.no_ids;
-      of_id = c.remove-3.ensures.faceted F G sound.of_id
-          (at ∙ ap (λ (x : Session). Some x) (sym c.lend-3.ensures)) goes;
-      ids = c.remove-3.ensures.with_id ∙ sound.ids;
       count = omega (arith, less, sound.count, c.take-session.ensures.len);
       room = record {
         by_ticket = omega (arith, sound.room.by_ticket, c.take-session.ensures.room);
         whole = c.remove.ensures.room c.args.self.now.spare sound.room.whole;
         of_peer = c.remove-2.ensures.room c.args.self.now.spare sound.room.of_peer;
-        of_id = c.remove-3.ensures.room c.args.self.now.spare sound.room.of_id;
       };
       ticket_room = sound.ticket_room;
     }

@@ -1,33 +1,24 @@
-use Rattle.std.proofs.Common.{ℕ, Bool, false, List, length, Option, sym, ap, ◌∙◌, subst, arith}
+use Rattle.std.proofs.Common.{ℕ, List, length, Option, sym, ap, ◌∙◌, subst, arith}
 use Rattle.roam_wire.specs.Numbered.{tickets_end}
-use Rattle.roam_reverse.specs.Facets.{masked, rows_under}
 use Rattle.roam_reverse.specs.Maps.{groups_of}
-use Rattle.roam_reverse.specs.Private.Groups.{IsGrouped, IsLargest}
+use Rattle.roam_reverse.specs.Private.Groups.{IsLargest}
 use Rattle.roam_reverse.specs.Sessions.{Session, has_most, without_first}
-use Rattle.roam_reverse.specs.Stands.{IsSound, session_at}
-use Rattle.roam_reverse.specs.declared.chain.Chain.{Chain}
+use Rattle.roam_reverse.specs.Stands.{session_at}
 use Rattle.roam_reverse.proofs.ListedLemmas.{listed-none}
 use Rattle.roam_reverse.proofs.WholeLemmas.{made-way, nobody-there, victim-held}
 use Rattle.roam_reverse.proofs.chain.Chain.remove_of_most.Goals as goal
 
-by-peer : {A : Type 0} (c : Chain A) → IsSound c
-    → IsGrouped (rows_under (masked false false false false) (session_at c)) (groups_of c.of_peer.by_peer)
-by-peer c sound =
-    subst
-    (λ (b : Bool). IsGrouped (rows_under (masked false false false b) (session_at c)) (groups_of c.of_peer.by_peer))
-    sound.no_ids sound.of_peer.by_peer
-
 pub remove-requires-clause-held : goal.remove-requires-clause-held
 remove-requires-clause-held g c =
     victim-held (session_at c.args.self.now) (groups_of c.args.self.now.of_peer.by_peer)
-    (by-peer c.args.self.now c.requires) c.in-Some.ticket
+    c.requires.of_peer.by_peer c.in-Some.ticket
     (subst (λ (o : Option ℕ). IsLargest (groups_of c.args.self.now.of_peer.by_peer) o) c.in-Some.is
     c.oldest_of_most.ensures)
 
 pub returns-in-Some-clause-sessions : goal.returns-in-Some-clause-sessions
 returns-in-Some-clause-sessions g c =
     made-way (session_at c.args.self.now) (groups_of c.args.self.now.of_peer.by_peer)
-    (by-peer c.args.self.now c.requires) c.in-Some.ticket
+    c.requires.of_peer.by_peer c.in-Some.ticket
     (subst (λ (o : Option ℕ). IsLargest (groups_of c.args.self.now.of_peer.by_peer) o) c.in-Some.is
     c.oldest_of_most.ensures)
     (session_at c.remove.new.self) c.remove.ensures.sessions
@@ -35,7 +26,7 @@ returns-in-Some-clause-sessions g c =
 pub returns-in_default-clause-sessions : goal.returns-in_default-clause-sessions
 returns-in_default-clause-sessions g c =
     let nobody = nobody-there (session_at c.args.self.now) (groups_of c.args.self.now.of_peer.by_peer)
-    (by-peer c.args.self.now c.requires)
+    c.requires.of_peer.by_peer
     (subst (λ (o : Option ℕ). IsLargest (groups_of c.args.self.now.of_peer.by_peer) o) c.in_default.is
     c.oldest_of_most.ensures) in
     let none = listed-none (session_at c.args.self.now) 0 tickets_end (λ u le. nobody u) in
@@ -44,7 +35,7 @@ returns-in_default-clause-sessions g c =
 pub returns-in_default-clause-count : goal.returns-in_default-clause-count
 returns-in_default-clause-count g c =
     let nobody = nobody-there (session_at c.args.self.now) (groups_of c.args.self.now.of_peer.by_peer)
-    (by-peer c.args.self.now c.requires)
+    c.requires.of_peer.by_peer
     (subst (λ (o : Option ℕ). IsLargest (groups_of c.args.self.now.of_peer.by_peer) o) c.in_default.is
     c.oldest_of_most.ensures) in
     let none = listed-none (session_at c.args.self.now) 0 tickets_end (λ u le. nobody u) in

@@ -6,59 +6,40 @@ use Rattle.roam_reverse.proofs.chain.Chain.reserve.Goals as goal
 pub returns-in_err-reserve-clause-sound : goal.returns-in_err-reserve-clause-sound
 returns-in_err-reserve-clause-sound g c =
     let sound = c.requires in
-    grown-sound c.args.self.now _ sound c.reserve.ensures.entries refl (λ F are. are) refl (λ F are. are) refl refl
+    grown-sound c.args.self.now _ sound c.reserve.ensures.entries refl (λ F are. are) refl
     (record {
       by_ticket = omega (arith, sound.room.by_ticket, c.reserve.ensures.room.0);
       whole = sound.room.whole;
       of_peer = sound.room.of_peer;
-      of_id = sound.room.of_id;
     }) sound.ticket_room
 
 pub returns-in_err-reserve-2-clause-sound : goal.returns-in_err-reserve-2-clause-sound
 returns-in_err-reserve-2-clause-sound g c =
     let sound = c.requires in
     grown-sound c.args.self.now _ sound c.reserve.ensures.entries c.reserve-2.ensures.same (λ F are. are) refl
-    (λ F are. are) refl refl
     (record {
       by_ticket = omega (arith, sound.room.by_ticket, c.reserve.ensures.room.0);
       whole = c.reserve-2.ensures.room c.args.self.now.spare sound.room.whole;
       of_peer = sound.room.of_peer;
-      of_id = sound.room.of_id;
     }) sound.ticket_room
 
 pub returns-in_err-reserve-3-clause-sound : goal.returns-in_err-reserve-3-clause-sound
 returns-in_err-reserve-3-clause-sound g c =
     let sound = c.requires in
-    grown-sound c.args.self.now _ sound c.reserve.ensures.entries c.reserve-2.ensures.same c.reserve-3.ensures.same
-    c.reserve-3.ensures.with_id (λ F are. are) refl refl
+    grown-sound c.args.self.now _ sound c.reserve.ensures.entries c.reserve-2.ensures.same c.reserve-3.ensures.same refl
     (record {
       by_ticket = omega (arith, sound.room.by_ticket, c.reserve.ensures.room.0);
       whole = c.reserve-2.ensures.room c.args.self.now.spare sound.room.whole;
       of_peer = c.reserve-3.ensures.room c.args.self.now.spare sound.room.of_peer;
-      of_id = sound.room.of_id;
-    }) sound.ticket_room
-
-pub returns-in_err-reserve-4-clause-sound : goal.returns-in_err-reserve-4-clause-sound
-returns-in_err-reserve-4-clause-sound g c =
-    let sound = c.requires in
-    grown-sound c.args.self.now _ sound c.reserve.ensures.entries c.reserve-2.ensures.same c.reserve-3.ensures.same
-    c.reserve-3.ensures.with_id c.reserve-4.ensures.same c.reserve-4.ensures.with_id refl
-    (record {
-      by_ticket = omega (arith, sound.room.by_ticket, c.reserve.ensures.room.0);
-      whole = c.reserve-2.ensures.room c.args.self.now.spare sound.room.whole;
-      of_peer = c.reserve-3.ensures.room c.args.self.now.spare sound.room.of_peer;
-      of_id = c.reserve-4.ensures.room c.args.self.now.spare sound.room.of_id;
     }) sound.ticket_room
 
 pub returns-clause-sound : goal.returns-clause-sound
 unfolding tickets_end
 returns-clause-sound g c =
     let sound = c.requires in
-    grown-sound c.args.self.now _ sound c.reserve.ensures.entries c.reserve-2.ensures.same c.reserve-3.ensures.same
-    c.reserve-3.ensures.with_id c.reserve-4.ensures.same c.reserve-4.ensures.with_id refl
+    grown-sound c.args.self.now _ sound c.reserve.ensures.entries c.reserve-2.ensures.same c.reserve-3.ensures.same refl
     (record {
       by_ticket = c.in_ok-reserve.ensures.ok;
       whole = c.in_ok-reserve-2.ensures.ok;
       of_peer = c.in_ok-reserve-3.ensures.ok;
-      of_id = c.in_ok-reserve-4.ensures.ok;
     }) (omega (arith, sound.ticket_room, c.if-self-gt0.false, c.if-self.false))

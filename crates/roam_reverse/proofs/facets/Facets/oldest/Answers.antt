@@ -5,13 +5,13 @@ use Rattle.roam_reverse.proofs.FacetLemmas.{facet-grouped, none-before, oldest-a
 use Rattle.roam_reverse.proofs.facets.Facets.oldest.Goals as goal
 
 pub returns-clause-agrees : goal.returns-clause-agrees
-returns-clause-agrees g c = λ F are id.
+returns-clause-agrees g c = λ F are none.
     let q = shown_asked c.args.asked in
     rw (c.oldest.ensures, c.as_slice.ensures, c.of.ensures, c.groups_for.ensures)
-    (oldest-agreeing q F (groups_of (facet_of q c.args.self.now)) (facet-grouped q c.args.self.now F are id))
+    (oldest-agreeing q F (groups_of (facet_of q c.args.self.now)) (facet-grouped q c.args.self.now F are none))
 
 pub returns-clause-first : goal.returns-clause-first
-returns-clause-first g c = λ F are id.
+returns-clause-first g c = λ F are none.
     let q = shown_asked c.args.asked in
     rw (c.oldest.ensures, c.as_slice.ensures, c.of.ensures, c.groups_for.ensures)
-    (none-before q F (groups_of (facet_of q c.args.self.now)) (facet-grouped q c.args.self.now F are id))
+    (none-before q F (groups_of (facet_of q c.args.self.now)) (facet-grouped q c.args.self.now F are none))

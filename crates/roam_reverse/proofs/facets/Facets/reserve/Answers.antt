@@ -10,4 +10,5 @@ returns-clause-room g c = λ n room. record {
   by_address_ipv6 = c.reserve-6.ensures.room n room.by_address_ipv6;
   by_identifier_ipv6 = c.reserve-7.ensures.room n room.by_identifier_ipv6;
   by_all = c.reserve-8.ensures.room n room.by_all;
+  by_id = c.reserve-9.ensures.room n room.by_id;
 }
