@@ -35,7 +35,7 @@ mod station_word;
 mod tables;
 mod values;
 
-pub use config::read_config;
+pub use config::{read_config, read_config_and_settings};
 pub use fault::ConfFault;
 pub use following::following_config;
 pub use settings::{Settings, read_settings};

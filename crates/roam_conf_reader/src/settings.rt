@@ -1,6 +1,8 @@
 //! What a text states beside its configuration: how it is served, which isn't the broker's.
 
-ghost use Rattle.std.specs.Prelude.{◌≡◌, ◌⊎◌, IfOk, IfErr};
+ghost use Rattle.std.specs.Prelude.{◌≡◌, ◌⊎◌, ℕ, List, Some, IfOk, IfErr};
+ghost use Rattle.toml.specs.Parse.{parse_document};
+ghost use Rattle.toml.specs.View.{table_view};
 ghost use Rattle.roam_conf_reader.specs.Settings.{IsNoSettings, StatesSettings};
 
 use crate::document::document;
@@ -9,6 +11,7 @@ use crate::station_word::StationWord;
 use crate::{ConfFault, keys};
 use roam_conf::{Endpoint, ExchangeLines};
 use std::alloc::Global;
+use toml::Table;
 
 /// How a configuration is served.
 #[derive(Debug, Drop, PartialEq, Eq)]
@@ -28,28 +31,24 @@ pub struct Settings {
     pub state_every: u32,
 }
 
-/// Reads the settings of a configuration from its text.
-///
-/// # Errors
-///
-/// `Syntax` or `BadValue`, where the text states none: then it states no configuration either; `Memory`, which comes
-/// where a growth was refused.
-pub fn read_settings(alloc: Global, text: &str) -> Result<Settings, ConfFault>
-    ensures ok { IfOk result (λ settings. StatesSettings text.now settings) }
-    ensures err { IfErr result (λ f. (f ≡ ConfFault.Memory) ⊎ IsNoSettings text.now f) }
+/// Returns the settings that a document states.
+pub(crate) fn settings_of(alloc: Global, table: &Table) -> Result<Settings, ConfFault>
+    ensures ok { (text : List ℕ) → parse_document text ≡ Some (table_view table.now)
+        → IfOk result (λ settings. StatesSettings text settings) }
+    ensures err { (text : List ℕ) → parse_document text ≡ Some (table_view table.now)
+        → IfErr result (λ f. (f ≡ ConfFault.Memory) ⊎ IsNoSettings text f) }
 {
-    let table = document(alloc, text)?;
     let (Some(metrics), Some(control), Some(log_exchanges)) = (
-        keys::optional_endpoint(&table, "metrics"),
-        keys::optional_socket_path(&table, "control"),
-        keys::exchange_lines(&table, "log_exchanges"),
+        keys::optional_endpoint(table, "metrics"),
+        keys::optional_socket_path(table, "control"),
+        keys::exchange_lines(table, "log_exchanges"),
     ) else {
         return Err(ConfFault::BadValue);
     };
     let (Some(log_station), Some(state), Some(state_every)) = (
-        keys::station_word(&table, "log_station"),
-        keys::optional_file_path(&table, "state"),
-        keys::number_or(&table, "state_every", 60, 1, 86400),
+        keys::station_word(table, "log_station"),
+        keys::optional_file_path(table, "state"),
+        keys::number_or(table, "state_every", 60, 1, 86400),
     ) else {
         return Err(ConfFault::BadValue);
     };
@@ -61,4 +60,18 @@ pub fn read_settings(alloc: Global, text: &str) -> Result<Settings, ConfFault>
         state: copied(alloc, state)?,
         state_every,
     })
+}
+
+/// Reads the settings of a configuration from its text.
+///
+/// # Errors
+///
+/// `Syntax` or `BadValue`, where the text states none: then it states no configuration either; `Memory`, which comes
+/// where a growth was refused.
+pub fn read_settings(alloc: Global, text: &str) -> Result<Settings, ConfFault>
+    ensures ok { IfOk result (λ settings. StatesSettings text.now settings) }
+    ensures err { IfErr result (λ f. (f ≡ ConfFault.Memory) ⊎ IsNoSettings text.now f) }
+{
+    let table = document(alloc, text)?;
+    settings_of(alloc, &table)
 }

@@ -9,7 +9,7 @@ use crate::file_order::{names_of, order_of, with_order};
 use crate::state_file::{StateFiles, manner_of, why_of};
 use crate::station_key::stations_of;
 use roam_conf::Config;
-use roam_conf_reader::{Settings, following_config, read_config, read_settings};
+use roam_conf_reader::{Settings, following_config, read_config_and_settings};
 use roam_diagnosis::{Lines, diagnose};
 use roam_keeping::{Job, Keeper, Written, keep_old, kept, number_of, put_aside};
 use roam_printing::{print_changes, print_hindrance, print_no_number};
@@ -138,8 +138,8 @@ fn laid_out_with_order(
 /// The configuration of a text, laid out by the one that is served, and its settings.
 fn read(alloc: Global, file: &TextFile<'_>, old: &Config) -> Result<Stated, Vec<u8>> {
     let text = file.text.as_str();
-    match (read_config(alloc, text), read_settings(alloc, text)) {
-        (Ok(config), Ok(settings)) => {
+    match read_config_and_settings(alloc, text) {
+        Ok((config, settings)) => {
             let (config, order) = laid_out_with_order(alloc, old, config)?;
             Ok(Stated {
                 config,
@@ -147,7 +147,7 @@ fn read(alloc: Global, file: &TextFile<'_>, old: &Config) -> Result<Stated, Vec<
                 settings,
             })
         }
-        (Err(fault), _) | (_, Err(fault)) => {
+        Err(fault) => {
             let lines = diagnose(alloc, file.path, text, fault);
             Err(text_of(alloc, Fault::of_configuration(file.path, fault), &lines))
         }

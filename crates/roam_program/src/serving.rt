@@ -14,7 +14,7 @@ use crate::state_file::{StateFiles, manner_of};
 use crate::station_key::told_stations;
 use log::Log;
 use roam_conf::Config;
-use roam_conf_reader::{Settings, read_config, read_settings};
+use roam_conf_reader::{Settings, read_config_and_settings};
 use roam_diagnosis::{Lines, diagnose};
 use roam_keeping::KeepsFiles;
 use roam_serve::{
@@ -158,25 +158,22 @@ fn to_serve<R: RandomSource>(
     }
 }
 
-/// Serves a configuration as its text states that it is served, with its own seed or with one that is drawn.
+/// Serves the configuration of a path by its settings, with its own seed or with one that is drawn.
 fn serve_stated<
     R: Files + AllocGlobal + KeepsFiles + Threads + Wait + Clock + Net + RandomSource + Log + Sync,
 >(
     rt: &R,
-    file: &TextFile<'_>,
-    config: Config,
+    path: &str,
+    read: (Config, Settings),
     has_seed_of_file: bool,
     milliseconds: Option<u64>,
 ) -> Result<(), ServeFault>
-    ensures { IfErr result (IsFaultOf (shown config)) }
+    ensures { IfErr result (IsFaultOf (shown read.0)) }
 {
-    // Where there is a configuration there are settings too, unless memory is wanting.
-    match read_settings(rt.alloc(), file.text.as_str()) {
-        Ok(settings) => match to_serve(rt, config, has_seed_of_file) {
-            Ok(config) => serve_by(rt, file.path, config, &settings, milliseconds),
-            Err(fault) => Err(fault),
-        },
-        Err(_) => Err(ServeFault::Memory),
+    let (config, settings) = read;
+    match to_serve(rt, config, has_seed_of_file) {
+        Ok(config) => serve_by(rt, path, config, &settings, milliseconds),
+        Err(fault) => Err(fault),
     }
 }
 
@@ -201,11 +198,11 @@ fn serve_text<
     ensures err { IfErr result (ServeFails configuration.now) }
 {
     let text = configuration.text.as_str();
-    match read_config(rt.alloc(), text) {
-        Ok(config) => match serve_stated(
+    match read_config_and_settings(rt.alloc(), text) {
+        Ok(read) => match serve_stated(
             rt,
-            configuration,
-            config,
+            configuration.path,
+            read,
             has_seed_of_file,
             milliseconds,
         ) {

@@ -3,7 +3,6 @@ use Rattle.roam_conf.specs.Shown.{shown}
 use Rattle.roam_program.proofs.EndLemmas.{same-end}
 use Rattle.roam_program.proofs.serving.serve_stated.Goals as goal
 
-pub returns-in-Ok-to_serve : goal.returns-in-Ok-to_serve
-returns-in-Ok-to_serve g c =
-    same-end (shown c.in-Ok-to_serve.config) (shown c.args.config) c.serve_by.result c.in-Ok-to_serve.ensures.ok
-    c.serve_by.ensures
+pub returns-in-Ok : goal.returns-in-Ok
+returns-in-Ok g c =
+    same-end (shown c.in-Ok.config) (shown c.args.read.0) c.serve_by.result c.in-Ok.ensures.ok c.serve_by.ensures

@@ -6,17 +6,17 @@ use Rattle.roam_program.proofs.serving.serve_text.Goals as goal
 
 pub returns-in-Ok-serve_stated-clause-ok : goal.returns-in-Ok-serve_stated-clause-ok
 returns-in-Ok-serve_stated-clause-ok g c = (
-  shown c.in-Ok.config,
-  accepted-text c.args.configuration.now c.as_str-text.result.now (shown c.in-Ok.config) c.as_str-text.ensures.value
+  shown c.in-Ok.read.0,
+  accepted-text c.args.configuration.now c.as_str-text.result.now (shown c.in-Ok.read.0) c.as_str-text.ensures.value
       c.in-Ok.ensures.ok c.in-Ok.ensures.faultless,
 )
 
 pub returns-in-Err-serve_stated-clause-err : goal.returns-in-Err-serve_stated-clause-err
 returns-in-Err-serve_stated-clause-err g c =
-    let read = accepted-text c.args.configuration.now c.as_str-text.result.now (shown c.in-Ok.config)
+    let read = accepted-text c.args.configuration.now c.as_str-text.result.now (shown c.in-Ok.read.0)
     c.as_str-text.ensures.value c.in-Ok.ensures.ok c.in-Ok.ensures.faultless in
     rw c.of_server.ensures
-    (serve-fails c.args.configuration.now (shown c.in-Ok.config) c.in-Err-serve_stated.fault read
+    (serve-fails c.args.configuration.now (shown c.in-Ok.read.0) c.in-Err-serve_stated.fault read
     c.in-Err-serve_stated.ensures)
 
 pub returns-in-Err-clause-err : goal.returns-in-Err-clause-err

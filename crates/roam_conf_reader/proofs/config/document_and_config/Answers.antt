@@ -3,7 +3,7 @@ use Rattle.toml.specs.View.{table_view}
 use Rattle.roam_conf_reader.specs.Faults.{first_duplicate}
 use Rattle.roam_conf.specs.Shown.{shown_parts}
 use Rattle.roam_conf_reader.proofs.FaultLemmas.{Reads, first_fault, all_consistent, none_holds}
-use Rattle.roam_conf_reader.proofs.config.read_config.Goals as goal
+use Rattle.roam_conf_reader.proofs.config.document_and_config.Goals as goal
 
 -- The first duplicate of a configuration that was read is its first fault.
 pub returns-in-Some-clause-err : goal.returns-in-Some-clause-err
