@@ -12,7 +12,12 @@ use Rattle.roam_route.specs.Admission.{PlainOut}
 use Rattle.roam_route.specs.Shown.{shown_out}
 use Rattle.roam_route.specs.declared.datagram.Out.{Out}
 use Rattle.roam_sockets.specs.declared.place_sockets.PlaceSockets.{PlaceSockets}
-use Rattle.roam_outgoing.specs.Sending.{DoesAll, PutsEach, Step, all_put, counts, grows, hands, no_account, put_by, puts, tries}
+use Rattle.roam_sockets.specs.declared.socket.Socket.{Socket}
+use Rattle.roam_port.specs.Fates.{Becomes}
+use Rattle.roam_port.proofs.FateLemmas.{becomes_both, becomes_same, more_become, tried_become}
+use Rattle.roam_port.proofs.PortFateLemmas.{all_go_or_wait, puts_go_or_wait}
+use Rattle.roam_outgoing.specs.Sending.{Does, DoesAll, GivenGoesOrWaits, PutsEach, Step, all_put, counts, grows, hands}
+use Rattle.roam_outgoing.specs.Sending.{put_by, puts, sends_from, tries}
 
 -- where none is left, all were seen
 pub all_seen : {X : Type 0} (seen rest all : List X) → length rest ≡ 0 → seen ++ rest ≡ all → seen ≡ all
@@ -61,14 +66,14 @@ puts_on outs a b c did more =
     subst (λ those. PutsEach those a c) (append-nil outs) (puts_both outs [] a b c did more)
 
 -- one packet
-pub puts_one : (out : Out Global) (before after : List PlaceSockets) (sent : Sent) (old new : Outbox Global)
-    → PutsSending no_account out before after old new sent → PutsEach (shown_out out ∷ []) old new
+pub puts_one : (out : Out Global) (before after : List (PlaceSockets Socket)) (sent : Sent) (old new : Outbox Global)
+    → PutsSending sends_from out before after old new sent → PutsEach (shown_out out ∷ []) old new
 puts_one out before after sent old new did =
     record { steps = puts out ∷ []; done = (new, (before, after, sent, did), refl); these = refl }
 
 -- what waits is handed over
-pub hands_over : (before after : List PlaceSockets) (sent : Sent) (old new : Outbox Global)
-    → SendsAll no_account before after old new sent → PutsEach [] old new
+pub hands_over : (before after : List (PlaceSockets Socket)) (sent : Sent) (old new : Outbox Global)
+    → SendsAll sends_from before after old new sent → PutsEach [] old new
 hands_over before after sent old new did =
     record { steps = hands ∷ []; done = (new, (before, after, sent, did), refl); these = refl }
 
@@ -88,3 +93,28 @@ pub counted : (old new : Outbox Global) → new.queues ≡ old.queues → accoun
     → PutsEach [] old new
 counted old new queues account =
     record { steps = counts ∷ []; done = (new, (queues, account), refl); these = refl }
+
+-- of what each thing does with packets
+step-becomes : (step : Step) (a b : Outbox Global) → Does step a b → Becomes (put_by step) a b
+step-becomes (puts out) a b did = (puts_go_or_wait sends_from out did.0 did.1 a b did.2 did.3).become
+step-becomes hands a b did = (all_go_or_wait sends_from did.0 did.1 a b did.2 did.3).become
+step-becomes (tries socket) a b did = tried_become socket a b did
+step-becomes counts a b did =
+    becomes_same a.queues.items b.queues.items a.account b.account (ap (λ q. q.items) did.0) did.1
+step-becomes (grows sockets) a b did =
+    more_become (share_of sockets) a.queues.items b.queues.items a.account b.account did.0 did.1
+
+all-become : (steps : List Step) (a b : Outbox Global) → DoesAll steps a b → Becomes (all_put steps) a b
+all-become [] a b same = becomes_same a.queues.items b.queues.items a.account b.account
+    (ap (λ (o : Outbox Global). o.queues.items) same) (ap (λ (o : Outbox Global). o.account) same)
+all-become (step ∷ steps) a b did =
+    becomes_both (put_by step) (all_put steps) a.queues.items did.0.queues.items b.queues.items a.account
+    did.0.account b.account (step-becomes step a did.0 did.1) (all-become steps did.0 b did.2)
+
+-- and of all that it does
+pub goes-or-waits : GivenGoesOrWaits
+goes-or-waits outs old new did = record {
+  given = all_put did.steps;
+  these = did.these;
+  become = all-become did.steps old new did.done;
+}

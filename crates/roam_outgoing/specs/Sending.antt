@@ -1,7 +1,8 @@
 -- What becomes of the packets that a thread is given to send. Ours.
-use Rattle.std.specs.Prelude.{◌≡◌, ℕ, List, [], ◌∷◌, ◌++◌, Option, None}
+use Rattle.std.specs.Prelude.{◌≡◌, ℕ, List, [], ◌∷◌, ◌++◌}
 use Rattle.std.specs.declared.alloc.Global.{Global}
 use Rattle.roam_exchange.specs.Turn.{shown_outs}
+use Rattle.roam_port.specs.Fates.{Becomes}
 use Rattle.roam_port.specs.Outbox.{IsTriedAgain, PutsSending, SendsAll, account_of}
 use Rattle.roam_port.specs.Port.{PortCall}
 use Rattle.roam_port.specs.Queues.{AreMore}
@@ -10,16 +11,18 @@ use Rattle.roam_port.specs.declared.outbox.Outbox.{Outbox}
 use Rattle.roam_port.specs.declared.sent.Sent.{Sent}
 use Rattle.roam_route.specs.Admission.{PlainOut}
 use Rattle.roam_route.specs.declared.datagram.Out.{Out}
+use Rattle.roam_sockets.specs.PlaceSockets.{IsAsked, Makes}
 use Rattle.roam_sockets.specs.declared.place_sockets.PlaceSockets.{PlaceSockets}
+use Rattle.roam_sockets.specs.declared.socket.Socket.{Socket}
 use Rattle.roam_outgoing.specs.declared.outgoing.Outgoing.{Outgoing}
 
 -- the packets of a thread that wait for their sockets, and what became of those before
 abbrev pub outbox_in : Outgoing → Outbox Global
 outbox_in outgoing = outgoing.outbox
 
--- the system's sockets keep no account of their calls
-abbrev pub no_account : PlaceSockets → Option (List PortCall)
-no_account sockets = None
+-- a send from sockets of the system: it was made at the one of its place, and at no other
+abbrev pub sends_from : PlaceSockets Socket → PlaceSockets Socket → PortCall → Type 0
+sends_from = Makes IsAsked
 
 -- one thing that a thread does with its packets: it puts one behind those that wait for its socket; it hands those
 -- that wait to their sockets; it tries a socket again that had no room; it has the losses counted; or it gets further
@@ -33,11 +36,11 @@ pub data Step : Type 0 where
 
 abbrev pub Does : Step → Outbox Global → Outbox Global → Type 0
 Does (puts out) old new =
-    (before : List PlaceSockets) × (after : List PlaceSockets) × (sent : Sent)
-    × PutsSending no_account out before after old new sent
+    (before : List (PlaceSockets Socket)) × (after : List (PlaceSockets Socket)) × (sent : Sent)
+    × PutsSending sends_from out before after old new sent
 Does hands old new =
-    (before : List PlaceSockets) × (after : List PlaceSockets) × (sent : Sent)
-    × SendsAll no_account before after old new sent
+    (before : List (PlaceSockets Socket)) × (after : List (PlaceSockets Socket)) × (sent : Sent)
+    × SendsAll sends_from before after old new sent
 Does (tries socket) old new = IsTriedAgain socket old new
 Does counts old new = (new.queues ≡ old.queues) × (account_of new ≡ account_of old)
 Does (grows sockets) old new =
@@ -72,3 +75,20 @@ pub record PutsEach (outs : List PlainOut) (old new : Outbox Global) : Type 0 wh
   pub steps : List Step
   pub done : DoesAll steps old new
   pub these : shown_outs (all_put steps) ≡ outs
+
+-- ## Packets of a thread, gone and waiting
+-- Whatever a thread was given to send: of each port, those that waited, and behind them those that were given for it
+-- and found a place, are those that were handed to it and are gone, and those that wait, each once and in order; and
+-- each is counted as what became of it.
+-- Source: ours
+-- Rules out: a packet that a thread was given and that is neither sent nor counted as lost nor waits
+-- Stands in: `roam_outgoing` `Sending.antt`: `HasGoneOrWaits`; law `given_goes_or_waits`
+--
+pub record HasGoneOrWaits (outs : List PlainOut) (old new : Outbox Global) : Type 0 where
+  pub given : List (Out Global)
+  pub these : shown_outs given ≡ outs
+  pub become : Becomes given old new
+
+abbrev pub GivenGoesOrWaits : Type 0
+GivenGoesOrWaits =
+    (outs : List PlainOut) (old new : Outbox Global) → PutsEach outs old new → HasGoneOrWaits outs old new

@@ -8,6 +8,8 @@
 //! - each packet that a thread is given to send is put behind those that wait for its socket, once, in order, and no
 //!   other one is; those that wait are handed to their sockets as `roam_port` says | `Outgoing::put`, `put_all`, `send`,
 //!   `send_again`: `PutsEach`
+//! - so each of them was handed to its own socket in its turn and is gone, or waits for it, or is lost, and is counted as
+//!   that | law `given_goes_or_waits`
 //! - the packets that still wait at the end are given back | `Outgoing::into_outbox`
 //! - while a socket has no room and the system can't tell when it has some, a thread waits 10 ms at most before it tries
 //!   that socket again, and otherwise as long as it would. That it waits no longer is the loop's code
@@ -16,11 +18,13 @@
 
 mod carried;
 mod destination;
+mod laws;
 mod losses;
 mod old_history;
 mod outgoing;
 mod room;
 
+pub use laws::given_goes_or_waits;
 pub use losses::{CAUSES, SharedLosses};
 pub use old_history::{OldHistory, Steps};
 pub use outgoing::{Outgoing, ROOM_EVENTS, RoomEvents};

@@ -11,7 +11,7 @@ use roam_counting::ThreadCounts;
 use roam_exchange::Outs;
 use roam_port::{Account, Outbox, Sent};
 use roam_route::Out;
-use roam_sockets::{PlaceSockets, Polls};
+use roam_sockets::{PlaceSockets, Polls, Socket};
 use roam_wire::NoMemory;
 use std::alloc::Global;
 
@@ -43,7 +43,7 @@ impl Drop for RoomEvents {
 pub struct Outgoing<'s> {
     pub(crate) outbox: Outbox<Global>,
     /// In the order of their numbers.
-    pub(crate) ports: Vec<PlaceSockets<'s>>,
+    pub(crate) ports: Vec<PlaceSockets<Socket<'s>>>,
     losses: &'s SharedLosses,
     /// Where it is counted what was sent, where somebody reads it.
     counts: Option<ThreadCounts<'s>>,
@@ -103,7 +103,7 @@ impl<'s> Outgoing<'s> {
     pub fn new(
         alloc: Global,
         before: Outbox<Global>,
-        ports: Vec<PlaceSockets<'s>>,
+        ports: Vec<PlaceSockets<Socket<'s>>>,
         losses: &'s SharedLosses,
         counts: Option<ThreadCounts<'s>>,
         room: RoomEvents,

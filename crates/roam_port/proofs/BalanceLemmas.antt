@@ -1,5 +1,5 @@
 -- What was put is sent, is lost or waits.
-use Rattle.std.proofs.Common.{◌≡◌, ◌≢◌, ℕ, zero, suc, ◌+◌, List, [], ◌∷◌, ◌++◌, length, Option, Some, None}
+use Rattle.std.proofs.Common.{◌≡◌, ◌≢◌, ℕ, zero, suc, ◌+◌, List, [], ◌∷◌, ◌++◌, length, Some, None}
 use Rattle.std.proofs.Common.{Result, Ok, Err, inl, inr, refl, ap, sym, ◌∙◌, subst, arith}
 use Rattle.std.specs.Prelude.{slice_get}
 use Rattle.std.specs.List.{AllByRecursion}
@@ -85,11 +85,11 @@ module _ {A : Type 0} where
   same_waiting qs k q q2 at one = let all = waiting_set qs k q q2 at in omega arith
 
 -- what waited for a port was sent
-pub sent_balanced : {A P : Type 0} (calls : P → Option (List PortCall)) (k : ℕ) (ports ports2 : List P)
+pub sent_balanced : {A P : Type 0} (hands : P → P → PortCall → Type 0) (k : ℕ) (ports ports2 : List P)
     (qs qs2 : List (PortQueue A)) (account account2 : Account) (sent : Sent)
-    → SendsAt calls k ports ports2 qs qs2 account account2 sent
+    → SendsAt hands k ports ports2 qs qs2 account account2 sent
     → IsBalanced account (count_waiting qs) → IsBalanced account2 (count_waiting qs2)
-sent_balanced calls k ports ports2 qs qs2 account account2 sent sends so_far =
+sent_balanced hands k ports ports2 qs qs2 account account2 sent sends so_far =
     elim sends as (λ _. IsBalanced account2 (count_waiting qs2)) [
       | inl one ↦
           let over = one.drains.handed_over in

@@ -245,16 +245,16 @@ module _ {A : Type 0} (share : ℕ) (old new : List (PortQueue A)) (more : AreMo
   more_counted = ap count_listed more.behind ∙ count_more share old more.more more.unused
 
 -- what waited for a port was sent
-module _ {A P : Type 0} (calls : P → Option (List PortCall)) (k : ℕ) (ports ports2 : List P)
+module _ {A P : Type 0} (hands : P → P → PortCall → Type 0) (k : ℕ) (ports ports2 : List P)
     (qs qs2 : List (PortQueue A)) (account account2 : Account) (sent : Sent) where
-  drained : (one : SendsOne calls k ports ports2 qs qs2 account account2 sent)
+  drained : (one : SendsOne hands k ports ports2 qs qs2 account account2 sent)
       → one.queue_after.standing ≢ standing.Listed
   drained one = elim one.drains.ends as (λ _. one.queue_after.standing ≢ standing.Listed) [
     | inl emptied ↦ idle_unlisted one.queue_after.standing emptied.idle
     | inr blocked ↦ aside_unlisted one.queue_after.standing blocked.aside
   ]
 
-  pub sent_listed : SendsAt calls k ports ports2 qs qs2 account account2 sent → (ns ms : List ℕ) → ns ≡ ms ++ k ∷ []
+  pub sent_listed : SendsAt hands k ports ports2 qs qs2 account account2 sent → (ns ms : List ℕ) → ns ≡ ms ++ k ∷ []
       → AreListed qs ns → AreListed qs2 ms
   sent_listed sends ns ms left all = elim sends as (λ _. AreListed qs2 ms) [
     | inl one ↦ subst (λ x. AreListed x ms) (sym one.other_queues_stay)
@@ -262,7 +262,7 @@ module _ {A P : Type 0} (calls : P → Option (List PortCall)) (k : ℕ) (ports 
     | inr none ↦ subst (λ x. AreListed x ms) (sym none.queues_stay) (skip_left qs k ns ms left none.not_listed all)
   ]
 
-  pub sent_counted : SendsAt calls k ports ports2 qs qs2 account account2 sent → count_listed qs ≤ count_listed qs2 + 1
+  pub sent_counted : SendsAt hands k ports ports2 qs qs2 account account2 sent → count_listed qs ≤ count_listed qs2 + 1
   sent_counted sends = elim sends as (λ _. count_listed qs ≤ count_listed qs2 + 1) [
     | inl one ↦
         let counts = count_set qs k one.queue one.queue_after one.queue_is in
@@ -273,15 +273,15 @@ module _ {A P : Type 0} (calls : P → Option (List PortCall)) (k : ℕ) (ports 
   ]
 
 -- what waited for a port that is listed was handed to it
-pub sends_one : {A P : Type 0} (calls : P → Option (List PortCall)) (k : ℕ) (ports : List P) (qs : List (PortQueue A))
+pub sends_one : {A P : Type 0} (hands : P → P → PortCall → Type 0) (k : ℕ) (ports : List P) (qs : List (PortQueue A))
     (account account2 : Account) (q1 q q2 : PortQueue A) (p p2 : P) (gone : ℕ) (blocked : Bool)
     → k < length qs → length qs ≤ length ports
     → q1 ≡ get_or qs k q1 → is_listed q1.standing ≡ true → q ≡ get_or qs k q → p ≡ get_or ports k p
-    → Drains calls (get_or ports k p) p2 q q2 account account2 gone → q2.share ≡ q.share
+    → Drains hands (get_or ports k p) p2 q q2 account account2 gone → q2.share ≡ q.share
     → blocked ≡ is_aside q2.standing
-    → SendsAt calls k ports (set ports k p2) qs (set qs k q2) account account2
+    → SendsAt hands k ports (set ports k p2) qs (set qs k q2) account account2
     (record { gone = gone; is_blocked = blocked })
-sends_one {A} calls k ports qs account account2 q1 q q2 p p2 gone blocked within enough first listed at port drains
+sends_one {A} hands k ports qs account account2 q1 q q2 p p2 gone blocked within enough first listed at port drains
     share aside =
     let queue_is = get-read qs k q within at in
     let same : q1 ≡ q = is_some q1 q (sym (get-read qs k q1 within first) ∙ queue_is) in
@@ -293,7 +293,7 @@ sends_one {A} calls k ports qs account account2 q1 q q2 p p2 gone blocked within
       queue_is = queue_is;
       listed = from_listed q.standing (subst (λ (q : PortQueue A). is_listed q.standing ≡ true) same listed);
       port_is = get-read ports k p (omega arith) port;
-      drains = subst (λ x. Drains calls x p2 q q2 account account2 gone) (sym port) drains;
+      drains = subst (λ x. Drains hands x p2 q q2 account account2 gone) (sym port) drains;
       share_stays = share;
       blocked = aside;
       other_queues_stay = refl;

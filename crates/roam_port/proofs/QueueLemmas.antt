@@ -1,11 +1,11 @@
 -- What was handed to a port, packet by packet.
-use Rattle.std.proofs.Common.{◌≡◌, ◌≢◌, ℕ, suc, ◌+◌, List, [], ◌∷◌, ◌++◌, length, Bool, true, false, Option, Some, None}
-use Rattle.std.proofs.Common.{option_map, Result, Ok, Err, refl, ap, sym, ◌∙◌, subst, arith, append_assoc}
+use Rattle.std.proofs.Common.{◌≡◌, ◌≢◌, ℕ, suc, ◌+◌, List, [], ◌∷◌, ◌++◌, length, Bool, true, false}
+use Rattle.std.proofs.Common.{Result, Ok, Err, refl, ap, sym, ◌∙◌, subst, arith}
 use Rattle.std.specs.List.{AllByRecursion}
 use Rattle.std.proofs.lemmas.List.{length-append}
 use Rattle.roam_route.specs.declared.datagram.Out.{Out}
 use Rattle.roam_port.specs.Accounts.{accounted}
-use Rattle.roam_port.specs.Port.{PortCall, send_call, IsOneCall}
+use Rattle.roam_port.specs.Port.{MakesAll, PortCall, send_call}
 use Rattle.roam_port.specs.PortQueue.{Handed, HandsOldest, HandsOver, IsLeft, packets_of, calls_of, account_after}
 use Rattle.roam_port.specs.declared.account.Account.{Account}
 use Rattle.roam_port.specs.declared.port.SendFault.{SendFault}
@@ -33,12 +33,11 @@ pub none_one_more : {A : Type 0} (hs : List (Handed A)) (h : Handed A)
 none_one_more [] h all one = (one, tt)
 none_one_more (g ∷ hs) h all one = (all.0, none_one_more hs h all.1 one)
 
-pub made_one_more : (old mid new : Option (List PortCall)) (cs : List PortCall) (c : PortCall)
-    → mid ≡ option_map (λ calls. calls ++ cs) old → IsOneCall mid new c
-    → new ≡ option_map (λ calls. calls ++ (cs ++ c ∷ [])) old
-made_one_more None mid new cs c was one = one ∙ ap (option_map (λ calls. calls ++ c ∷ [])) was
-made_one_more (Some calls) mid new cs c was one =
-    one ∙ ap (option_map (λ calls. calls ++ c ∷ [])) was ∙ ap Some (append_assoc calls cs (c ∷ []))
+pub made_one_more : {P : Type 0} (hands : P → P → PortCall → Type 0) (start port next : P) (cs : List PortCall)
+    (c : PortCall) → MakesAll hands start port cs → hands port next c → MakesAll hands start next (cs ++ c ∷ [])
+made_one_more hands start port next [] c was one = (next, subst (λ p. hands p next c) was one, refl)
+made_one_more hands start port next (d ∷ cs) c was one =
+    (was.0, was.1, made_one_more hands was.0 port next cs c was.2 one)
 
 pub gone_is : {A : Type 0} (out : Out A) (behind left : List (Out A)) (answer : Result (Unit {0}) SendFault)
     → IsLeft out behind left true answer → (answer ≢ Err fault.WouldBlock) × (left ≡ behind)
@@ -48,12 +47,12 @@ gone_is out behind left (Err fault.Unreachable) is = ((λ same. cc), is.1)
 gone_is out behind left (Err fault.NotPermitted) is = ((λ same. cc), is.1)
 gone_is out behind left (Err fault.Other) is = ((λ same. cc), is.1)
 
-module _ {A P : Type 0} (calls : P → Option (List PortCall)) (start port next : P) (waited left rest : List (Out A))
+module _ {A P : Type 0} (hands : P → P → PortCall → Type 0) (start port next : P) (waited left rest : List (Out A))
     (account_0 account_1 account_2 : Account) (n : ℕ)
-    (so_far : HandsOver calls start port waited left account_0 account_1 n) where
+    (so_far : HandsOver hands start port waited left account_0 account_1 n) where
   -- one more packet is gone
-  pub one_more : (r : Bool) → r ≡ true → HandsOldest calls port next left rest account_1 account_2 r
-      → HandsOver calls start next waited rest account_0 account_2 (n + 1)
+  pub one_more : (r : Bool) → r ≡ true → HandsOldest hands port next left rest account_1 account_2 r
+      → HandsOver hands start next waited rest account_0 account_2 (n + 1)
   one_more r is_gone one =
       let h : Handed A = record { out = one.out; answer = one.answer } in
       let is = gone_is one.out one.behind rest one.answer
@@ -67,17 +66,17 @@ module _ {A P : Type 0} (calls : P → Option (List PortCall)) (start port next 
             ∙ ap (λ w. packets_of so_far.handed ++ w) (one.oldest ∙ ap (λ b. one.out ∷ b) (sym is.1))
             ∙ sym (packets_one_more so_far.handed h rest);
         none_blocked = none_one_more so_far.handed h so_far.none_blocked is.0;
-        made = made_one_more (calls start) (calls port) (calls next) (calls_of so_far.handed)
-            (send_call h.answer h.out.from h.out.to h.out.bytes) so_far.made one.made
-            ∙ ap (λ cs. option_map (λ c. c ++ cs) (calls start)) (sym (calls_one_more so_far.handed h));
+        made = subst (MakesAll hands start next) (sym (calls_one_more so_far.handed h))
+            (made_one_more hands start port next (calls_of so_far.handed)
+            (send_call h.answer h.out.from h.out.to h.out.bytes) so_far.made one.made);
         counted = one.counted_once ∙ ap (λ l. accounted l one.answer) so_far.counted
             ∙ sym (account_one_more account_0 so_far.handed h);
       }
 
 -- what waits, and what is gone, are as many as waited
-pub all_left : {A P : Type 0} (calls : P → Option (List PortCall)) (start port : P) (waited left : List (Out A))
-    (l m : Account) (n : ℕ) → HandsOver calls start port waited left l m n → n + length left ≡ length waited
-all_left calls start port waited left l m n so_far =
+pub all_left : {A P : Type 0} (hands : P → P → PortCall → Type 0) (start port : P) (waited left : List (Out A))
+    (l m : Account) (n : ℕ) → HandsOver hands start port waited left l m n → n + length left ≡ length waited
+all_left hands start port waited left l m n so_far =
     let size = length-append (packets_of so_far.handed) left in
     let packets = length_packets so_far.handed in
     let many = so_far.as_many in

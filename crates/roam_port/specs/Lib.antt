@@ -1,4 +1,5 @@
 pub mod Accounts
+pub mod Fates
 pub mod Listening
 pub mod Losses
 pub mod Outbox

@@ -84,39 +84,39 @@ Puts out old new = IsPut out old new ⊎ IsLostBehind out old new
 -- what waited for the port that was listed last was handed to it, and it is listed no more
 pub record SendsLast
     {A P : Type 0}
-    (calls : P → Option (List PortCall))
+    (hands : P → P → PortCall → Type 0)
     (old_ports new_ports : List P)
     (old new : Outbox A)
     (sent : Sent)
     : Type 0 where
   pub socket : ℕ
-  pub sends : SendsAt calls socket old_ports new_ports old.queues.items new.queues.items old.account new.account sent
+  pub sends : SendsAt hands socket old_ports new_ports old.queues.items new.queues.items old.account new.account sent
 
 -- for each port for which packets were listed, what waited was handed to it, one port after another; what waits still
 -- stands aside
 pub record SendsAll
     {A P : Type 0}
-    (calls : P → Option (List PortCall))
+    (hands : P → P → PortCall → Type 0)
     (old_ports new_ports : List P)
     (old new : Outbox A)
     (sent : Sent)
     : Type 0 where
   pub sockets : List ℕ
-  pub along : SendsAlong calls sockets old_ports new_ports old.queues.items new.queues.items
+  pub along : SendsAlong hands sockets old_ports new_ports old.queues.items new.queues.items
       old.account new.account sent
   pub none_listed : (k : ℕ) → standing_at new k ≢ Some standing.Listed
 
 -- a packet was put, where its port's share was full after what waited was sent
 pub record PutsSending
     {A P : Type 0}
-    (calls : P → Option (List PortCall))
+    (hands : P → P → PortCall → Type 0)
     (out : Out A)
     (old_ports new_ports : List P)
     (old new : Outbox A)
     (sent : Sent)
     : Type 0 where
   pub between : Outbox A
-  pub sends : SendsAll calls old_ports new_ports old between sent
+  pub sends : SendsAll hands old_ports new_ports old between sent
       ⊎ ((new_ports ≡ old_ports) × (between ≡ old) × (sent ≡ none_sent))
   pub puts : Puts out between new
 

@@ -7,11 +7,12 @@ use Rattle.roam_port.specs.declared.port.SendFault.{SendFault}
 -- ## Call of a port
 -- What is asked of a socket, with its answer: a datagram came, from where, with which octets; nothing came; a
 -- receive failed; a datagram went out, from which place and to where; a send failed. A port that keeps account has
--- each call once, the oldest first. A socket of the system keeps none: what is proved of all ports says what the code
--- asks of it, and not what it does.
+-- each receive once, the oldest first. Each port says itself to which state a send leads. Code for all ports knows
+-- nothing of that, so it makes just the sends that its contract names. What a socket of the system does with one is
+-- not said.
 -- Source: ours
--- Rules out: a second receive that nobody sees
--- Stands in: `roam_port` `Port.antt`: `PortCall`, `IsOneCall`; the trait `Port`
+-- Rules out: a second receive that nobody sees; a packet that is sent twice, or that nobody gave
+-- Stands in: `roam_port` `Port.antt`: `PortCall`, `IsOneCall`, `MakesAll`; the trait `Port`
 --
 -- a call of a port, and its answer
 pub data PortCall : Type 0 where
@@ -38,3 +39,8 @@ send_call (Err why) from to octets = send_failed why from to octets
 -- a port that keeps account of its calls keeps account of this one, and of no other
 abbrev pub IsOneCall : Option (List PortCall) → Option (List PortCall) → PortCall → Type 0
 IsOneCall old new call = new ≡ option_map (λ calls. calls ++ call ∷ []) old
+
+-- from one state of a port to another just these sends were made, the oldest first
+abbrev pub MakesAll : {P : Type 0} → (P → P → PortCall → Type 0) → P → P → List PortCall → Type 0
+MakesAll hands old new [] = new ≡ old
+MakesAll {P} hands old new (call ∷ calls) = (between : P) × hands old between call × MakesAll hands between new calls

@@ -1,10 +1,10 @@
 -- The packets that wait for one port, and how they are handed to it (ours).
-use Rattle.std.specs.Prelude.{◌≡◌, ◌≢◌, ◌⊎◌, ℕ, List, [], ◌∷◌, ◌++◌, Bool, true, false, Option, option_map, Result}
+use Rattle.std.specs.Prelude.{◌≡◌, ◌≢◌, ◌⊎◌, ℕ, List, [], ◌∷◌, ◌++◌, Bool, true, false, Result}
 use Rattle.std.specs.Prelude.{Err, length}
 use Rattle.std.specs.List.{AllByRecursion}
 use Rattle.roam_route.specs.declared.datagram.Out.{Out}
 use Rattle.roam_port.specs.Accounts.{accounted}
-use Rattle.roam_port.specs.Port.{PortCall, send_call, IsOneCall}
+use Rattle.roam_port.specs.Port.{MakesAll, PortCall, send_call}
 use Rattle.roam_port.specs.declared.account.Account.{Account}
 use Rattle.roam_port.specs.declared.port.SendFault.{SendFault}
 use Rattle.roam_port.specs.declared.port.SendFault.TheVariants as fault
@@ -73,7 +73,7 @@ IsLeft out behind left is_gone answer = (is_gone ≡ true) × (left ≡ behind)
 -- the oldest packet was handed to its port, once
 pub record HandsOldest
     {A P : Type 0}
-    (calls : P → Option (List PortCall))
+    (hands : P → P → PortCall → Type 0)
     (old_port new_port : P)
     (old new : List (Out A))
     (old_account new_account : Account)
@@ -83,7 +83,7 @@ pub record HandsOldest
   pub behind : List (Out A)
   pub oldest : old ≡ out ∷ behind
   pub answer : Result (Unit {0}) SendFault
-  pub made : IsOneCall (calls old_port) (calls new_port) (send_call answer out.from out.to out.bytes)
+  pub made : hands old_port new_port (send_call answer out.from out.to out.bytes)
   pub left : IsLeft out behind new is_gone answer
   pub counted_once : new_account ≡ accounted old_account answer
 
@@ -91,7 +91,7 @@ pub record HandsOldest
 -- each is counted
 pub record HandsOver
     {A P : Type 0}
-    (calls : P → Option (List PortCall))
+    (hands : P → P → PortCall → Type 0)
     (old_port new_port : P)
     (old new : List (Out A))
     (old_account new_account : Account)
@@ -101,7 +101,7 @@ pub record HandsOver
   pub as_many : length handed ≡ count
   pub in_order : old ≡ packets_of handed ++ new
   pub none_blocked : AllByRecursion (λ h. h.answer ≢ Err fault.WouldBlock) handed
-  pub made : calls new_port ≡ option_map (λ c. c ++ calls_of handed) (calls old_port)
+  pub made : MakesAll hands old_port new_port (calls_of handed)
   pub counted : new_account ≡ account_after old_account handed
 
 -- none waits any more
@@ -113,7 +113,7 @@ pub record IsEmptied {A P : Type 0} (old_port new_port : P) (new : PortQueue A) 
 -- the port had no room for the oldest that waits, which was handed to it once: it stands aside, with those behind it
 pub record IsBlocked
     {A P : Type 0}
-    (calls : P → Option (List PortCall))
+    (hands : P → P → PortCall → Type 0)
     (old_port new_port : P)
     (new : PortQueue A)
     : Type 0 where
@@ -121,18 +121,18 @@ pub record IsBlocked
   pub behind : List (Out A)
   pub waits_on : new.waiting.items ≡ out ∷ behind
   pub aside : new.standing ≡ standing.Aside
-  pub made : IsOneCall (calls old_port) (calls new_port) (send_call (Err fault.WouldBlock) out.from out.to out.bytes)
+  pub made : hands old_port new_port (send_call (Err fault.WouldBlock) out.from out.to out.bytes)
 
 -- the packets that waited were handed to their port in order, each once, until none waited or it had no room for one;
 -- so many are gone
 pub record Drains
     {A P : Type 0}
-    (calls : P → Option (List PortCall))
+    (hands : P → P → PortCall → Type 0)
     (old_port new_port : P)
     (old new : PortQueue A)
     (old_account new_account : Account)
     (gone : ℕ)
     : Type 0 where
   pub between : P
-  pub handed_over : HandsOver calls old_port between old.waiting.items new.waiting.items old_account new_account gone
-  pub ends : IsEmptied between new_port new ⊎ IsBlocked calls between new_port new
+  pub handed_over : HandsOver hands old_port between old.waiting.items new.waiting.items old_account new_account gone
+  pub ends : IsEmptied between new_port new ⊎ IsBlocked hands between new_port new

@@ -1,6 +1,6 @@
 -- The packets that wait for each port, in the order of the sockets' numbers, and what is sent of them (ours).
 use Rattle.std.specs.Prelude.{◌≡◌, ◌≢◌, ◌⊎◌, ⊤, ℕ, ◌+◌, ◌-◌, ◌^◌, min, List, [], ◌∷◌, ◌++◌, false, ◌||◌}
-use Rattle.std.specs.Prelude.{length, Option, Some, slice_get, slice_set}
+use Rattle.std.specs.Prelude.{length, Some, slice_get, slice_set}
 use Rattle.std.specs.List.{AllByRecursion}
 use Rattle.roam_route.specs.declared.datagram.Out.{Out}
 use Rattle.roam_port.specs.Port.{PortCall}
@@ -64,7 +64,7 @@ pub record IsBehind {A : Type 0} (out : Out A) (old new : PortQueue A) : Type 0 
 -- what waited for a port was handed to it, and nothing else was; it may have blocked
 pub record SendsOne
     {A P : Type 0}
-    (calls : P → Option (List PortCall))
+    (hands : P → P → PortCall → Type 0)
     (socket : ℕ)
     (old_ports new_ports : List P)
     (old new : List (PortQueue A))
@@ -78,7 +78,7 @@ pub record SendsOne
   pub queue_is : slice_get old socket ≡ Some queue
   pub listed : queue.standing ≡ standing.Listed
   pub port_is : slice_get old_ports socket ≡ Some port
-  pub drains : Drains calls port port_after queue queue_after old_account new_account sent.gone
+  pub drains : Drains hands port port_after queue queue_after old_account new_account sent.gone
   pub share_stays : queue_after.share ≡ queue.share
   pub blocked : sent.is_blocked ≡ is_aside queue_after.standing
   pub other_queues_stay : new ≡ slice_set old socket queue_after
@@ -100,10 +100,10 @@ pub record IsPassedOver
   pub none : sent.gone ≡ 0
   pub none_blocked : sent.is_blocked ≡ false
 
-abbrev pub SendsAt : {A P : Type 0} → (P → Option (List PortCall)) → ℕ → List P → List P → List (PortQueue A)
+abbrev pub SendsAt : {A P : Type 0} → (P → P → PortCall → Type 0) → ℕ → List P → List P → List (PortQueue A)
     → List (PortQueue A) → Account → Account → Sent → Type 0
-SendsAt calls socket old_ports new_ports old new old_account new_account sent =
-    SendsOne calls socket old_ports new_ports old new old_account new_account sent
+SendsAt hands socket old_ports new_ports old new old_account new_account sent =
+    SendsOne hands socket old_ports new_ports old new old_account new_account sent
     ⊎ IsPassedOver socket old_ports new_ports old new old_account new_account sent
 
 abbrev pub none_sent : Sent
@@ -117,21 +117,21 @@ sent_after before more = record {
 }
 
 -- what waited for these ports was handed to them, one port after another, of which the last stands first
-abbrev pub SendsAlong : {A P : Type 0} → (P → Option (List PortCall)) → List ℕ → List P → List P → List (PortQueue A)
+abbrev pub SendsAlong : {A P : Type 0} → (P → P → PortCall → Type 0) → List ℕ → List P → List P → List (PortQueue A)
     → List (PortQueue A) → Account → Account → Sent → Type 0
-SendsAlong calls [] old_ports new_ports old new old_account new_account sent =
+SendsAlong hands [] old_ports new_ports old new old_account new_account sent =
     (new_ports ≡ old_ports)
     × (new ≡ old)
     × (new_account ≡ old_account)
     × (sent ≡ none_sent)
-SendsAlong {A} {P} calls (socket ∷ before) old_ports new_ports old new old_account new_account sent =
+SendsAlong {A} {P} hands (socket ∷ before) old_ports new_ports old new old_account new_account sent =
     (ports : List P)
     × (queues : List (PortQueue A))
     × (account : Account)
     × (sent_before : Sent)
     × (more : Sent)
-    × SendsAlong calls before old_ports ports old queues old_account account sent_before
-    × SendsAt calls socket ports new_ports queues new account new_account more
+    × SendsAlong hands before old_ports ports old queues old_account account sent_before
+    × SendsAt hands socket ports new_ports queues new account new_account more
     × (sent ≡ sent_after sent_before more)
 
 -- what stood aside for a port is listed again

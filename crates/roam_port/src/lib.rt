@@ -20,8 +20,9 @@
 //!   of memory | `listen`
 //! - a receive that doesn't fail sets the count of faults to 0; at 100 in a row the answer is that the socket
 //!   is to be given up | `listen`
-//! - a packet is handed to the port of its place, once, and to no other: of any port that keeps account of its
-//!   calls, and so of the code for all; a socket of the system keeps none | `Outbox::send_all`
+//! - of each port, what waited and what was put is what was handed to it and is gone, and behind it what waits, each
+//!   packet once and in order; and just these sends were made at it, whatever a port does with one |
+//!   `Outbox::send_all`, `put_sending`: `becomes`
 //! - which place has which socket, where that is to be bound, and which worker is to serve it, with `spread`
 //!   and without | `socket_of`, `place_of`, `endpoint_of`, `socket_numbers`, `socket_count`,
 //!   `worker_of`

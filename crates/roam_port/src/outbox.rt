@@ -81,9 +81,10 @@ impl<A: Allocator + Copy> Outbox<A> {
 }
 
 impl<A: Allocator> Outbox<A> {
-    ghost use Rattle.std.specs.Prelude.{◌+◌, ◌<◌, ◌↔◌, true, false, Some, IsTrue};
+    ghost use Rattle.std.specs.Prelude.{◌+◌, ◌<◌, ◌↔◌, [], ◌∷◌, true, false, Some, IsTrue};
     ghost use Rattle.roam_port.specs.declared.port_queue.Standing.{Standing};
     ghost use Rattle.roam_port.specs.Accounts.{after_put, since};
+    ghost use Rattle.roam_port.specs.Fates.{GoesOrWaits};
     ghost use Rattle.roam_port.specs.Sockets.{socket_number};
     ghost use Rattle.roam_port.specs.Queues.{AtPort, IsBehind, IsListedAgain};
     ghost use Rattle.roam_port.specs.Outbox.{IsFullAt, IsTriedAgain, Puts, PutsSending, SendsAll, SendsLast};
@@ -179,7 +180,7 @@ impl<A: Allocator> Outbox<A> {
     fn send_last<P: Port>(&mut self, ports: &mut [P]) -> Sent
         requires listed { 0 < length self.old.listed.items }
         requires ports { port_count self.old ≤ length ports.old }
-        ensures sends { SendsLast P.calls ports.old ports.new self.old self.new result }
+        ensures sends { SendsLast P.hands ports.old ports.new self.old self.new result }
         ensures listed { length self.new.listed.items + 1 ≡ length self.old.listed.items }
         ensures count { port_count self.new ≡ port_count self.old }
         ensures ports { length ports.new ≡ length ports.old }
@@ -194,7 +195,8 @@ impl<A: Allocator> Outbox<A> {
     /// The ports stand in the order of the sockets' numbers.
     pub fn send_all<P: Port>(&mut self, ports: &mut [P]) -> Sent
         requires { port_count self.old ≤ length ports.old }
-        ensures sends { SendsAll P.calls ports.old ports.new self.old self.new result }
+        ensures sends { SendsAll P.hands ports.old ports.new self.old self.new result }
+        ensures becomes { GoesOrWaits P.hands [] ports.old ports.new self.old self.new }
         ensures count { port_count self.new ≡ port_count self.old }
     {
         let mut sent = Sent::none();
@@ -207,7 +209,8 @@ impl<A: Allocator> Outbox<A> {
     /// Puts a packet behind those that wait for its port. Where as many wait as may, what waits is sent first.
     pub fn put_sending<P: Port>(&mut self, ports: &mut [P], out: Out<A>) -> Sent
         requires { port_count self.old ≤ length ports.old }
-        ensures puts { PutsSending P.calls out ports.old ports.new self.old self.new result }
+        ensures puts { PutsSending P.hands out ports.old ports.new self.old self.new result }
+        ensures becomes { GoesOrWaits P.hands (out ∷ []) ports.old ports.new self.old self.new }
         ensures count { port_count self.new ≡ port_count self.old }
     {
         if !self.is_full_at(out.from) {

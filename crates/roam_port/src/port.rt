@@ -28,6 +28,9 @@ pub trait Port {
     /// as at a socket of the system.
     ghost calls: { Self → Option (List PortCall) };
 
+    /// Says that from one state to another just this send was made, with its answer.
+    ghost hands: { Self → Self → PortCall → Type 0 };
+
     /// Receives a datagram into the front of the buffer: its size in octets and its source, or none
     /// where none is there.
     fn receive(&mut self, buffer: &mut [u8]) -> Result<Option<(usize, Endpoint)>, PortFault>
@@ -37,5 +40,5 @@ pub trait Port {
 
     /// Sends these octets as one datagram, from the socket of a place, where there are several.
     fn send(&mut self, from: Place, to: Endpoint, octets: &[u8]) -> Result<(), SendFault>
-        ensures { IsOneCall (calls self.old) (calls self.new) (send_call result from to octets.now) };
+        ensures { hands self.old self.new (send_call result from to octets.now) };
 }

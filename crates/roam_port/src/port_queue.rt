@@ -115,7 +115,7 @@ impl<A: Allocator> PortQueue<A> {
     /// counted. Else the port has no room, and it waits on.
     fn hand_oldest<P: Port>(&mut self, port: &mut P, account: &mut Account) -> bool
         requires { 0 < length self.old.waiting.items }
-        ensures handed { HandsOldest P.calls port.old port.new self.old.waiting.items self.new.waiting.items
+        ensures handed { HandsOldest P.hands port.old port.new self.old.waiting.items self.new.waiting.items
             account.old account.new result }
         ensures standing { self.new.standing ≡ self.old.standing }
         ensures share { self.new.share ≡ self.old.share }
@@ -136,7 +136,7 @@ impl<A: Allocator> PortQueue<A> {
     /// for one: it and those behind it stand aside. Answers how many are gone.
     pub fn send<P: Port>(&mut self, port: &mut P, account: &mut Account) -> usize
         requires { self.old.standing ≡ Standing.Listed }
-        ensures drains { Drains P.calls port.old port.new self.old self.new account.old account.new result }
+        ensures drains { Drains P.hands port.old port.new self.old self.new account.old account.new result }
         ensures share { self.new.share ≡ self.old.share }
     {
         let count = self.waiting.len();

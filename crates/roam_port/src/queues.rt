@@ -17,7 +17,7 @@ pub(crate) fn send_at<P: Port, A: Allocator>(
     socket: usize,
 ) -> Sent
     requires { length queues.old.items ≤ length ports.old }
-    ensures { SendsAt P.calls socket ports.old ports.new queues.old.items queues.new.items
+    ensures { SendsAt P.hands socket ports.old ports.new queues.old.items queues.new.items
         account.old account.new result }
 {
     if socket >= queues.len() || !queues[socket].is_listed() {

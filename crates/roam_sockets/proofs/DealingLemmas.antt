@@ -34,21 +34,22 @@ heard_at_end worker all i got over before =
     before)
 
 -- of each socket from which a worker sends: it is still to come, or one of its place stands at its number
-abbrev pub AreOwnSoFar : ℕ → List BoundSocket → List BoundSocket → List PlaceSockets → Type 0
+abbrev pub AreOwnSoFar : ℕ → List BoundSocket → List BoundSocket → List (PlaceSockets Socket) → Type 0
 AreOwnSoFar worker all left ports =
     (b : BoundSocket) → Contains all b → IsOwn worker b → socket_number b.place < length ports
     → Contains left b ⊎ HasOwnAt worker all ports (socket_number b.place) (place_nth b.place)
 
-pub own_none : (worker : ℕ) (all : List BoundSocket) (ports : List PlaceSockets) → AreOwnSoFar worker all all ports
+pub own_none : (worker : ℕ) (all : List BoundSocket) (ports : List (PlaceSockets Socket))
+    → AreOwnSoFar worker all all ports
 own_none worker all ports b among own lt = inl among
 
 first_or : (b : BoundSocket) (bs : List BoundSocket) (c : BoundSocket) → Contains (b ∷ bs) c → (b ≡ c) ⊎ Contains bs c
 first_or b bs c (zero, lt, is) = inl is
 first_or b bs c (suc k, lt, is) = inr (k, omega (arith, lt), is)
 
-module _ (worker : ℕ) (all : List BoundSocket) (ports : List PlaceSockets) where
+module _ (worker : ℕ) (all : List BoundSocket) (ports : List (PlaceSockets Socket)) where
   -- a socket was put at its place
-  set_there : (b : BoundSocket) (old new : PlaceSockets) (s : Socket) → Contains all b → IsOwn worker b
+  set_there : (b : BoundSocket) (old new : PlaceSockets Socket) (s : Socket) → Contains all b → IsOwn worker b
       → socket_number b.place < length ports → IsPut (place_nth b.place) s old new → s.socket.now ≡ b.socket
       → HasOwnAt worker all (set ports (socket_number b.place) new) (socket_number b.place) (place_nth b.place)
   set_there b old new s among own lt put is = record {
@@ -65,7 +66,7 @@ module _ (worker : ℕ) (all : List BoundSocket) (ports : List PlaceSockets) whe
   }
 
   -- those of another number stay
-  kept_there : (k n m : ℕ) (new : PlaceSockets) → n ≢ k → HasOwnAt worker all ports n m
+  kept_there : (k n m : ℕ) (new : PlaceSockets Socket) → n ≢ k → HasOwnAt worker all ports n m
       → HasOwnAt worker all (set ports k new) n m
   kept_there k n m new ne h = record {
     bound = h.bound;
@@ -81,12 +82,13 @@ module _ (worker : ℕ) (all : List BoundSocket) (ports : List PlaceSockets) whe
   }
 
   -- those of another place of the number stay
-  kept_beside : (k nth m : ℕ) (old new : PlaceSockets) (s : Socket) → k < length ports → slice_get ports k ≡ Some old
-      → IsPut nth s old new → m ≢ nth → HasOwnAt worker all ports k m → HasOwnAt worker all (set ports k new) k m
+  kept_beside : (k nth m : ℕ) (old new : PlaceSockets Socket) (s : Socket) → k < length ports
+      → slice_get ports k ≡ Some old → IsPut nth s old new → m ≢ nth → HasOwnAt worker all ports k m
+      → HasOwnAt worker all (set ports k new) k m
   kept_beside k nth m old new s lt at put ne h =
       let same : h.port ≡ old = same_Some h.port old (sym h.port_is ∙ at) in
       let was : socket_at old m ≡ Some h.socket =
-      subst (λ (p : PlaceSockets). socket_at p m ≡ Some h.socket) same h.there in
+      subst (λ (p : PlaceSockets Socket). socket_at p m ≡ Some h.socket) same h.there in
       record {
         bound = h.bound;
         among = h.among;
@@ -101,9 +103,10 @@ module _ (worker : ℕ) (all : List BoundSocket) (ports : List PlaceSockets) whe
       }
 
 -- one of the first socket's place is there, or one of another's is as it was
-pub own_one : (worker : ℕ) (all bs : List BoundSocket) (b : BoundSocket) (ports : List PlaceSockets)
-    (old new : PlaceSockets) (s : Socket) → Contains all b → IsOwn worker b → socket_number b.place < length ports
-    → slice_get ports (socket_number b.place) ≡ Some old → IsPut (place_nth b.place) s old new
+pub own_one : (worker : ℕ) (all bs : List BoundSocket) (b : BoundSocket) (ports : List (PlaceSockets Socket))
+    (old new : PlaceSockets Socket) (s : Socket) → Contains all b → IsOwn worker b
+    → socket_number b.place < length ports → slice_get ports (socket_number b.place) ≡ Some old
+    → IsPut (place_nth b.place) s old new
     → s.socket.now ≡ b.socket → AreOwnSoFar worker all (b ∷ bs) ports
     → AreOwnSoFar worker all bs (set ports (socket_number b.place) new)
 own_one worker all bs b ports old new s among own within at put is before c c_among c_own c_within =
@@ -135,7 +138,7 @@ own_one worker all bs b ports old new s among own within at put is before c c_am
     ]
 
 -- one that isn't the worker's own, or has no number among these
-pub own_passed : (worker : ℕ) (all bs : List BoundSocket) (b : BoundSocket) (ports : List PlaceSockets)
+pub own_passed : (worker : ℕ) (all bs : List BoundSocket) (b : BoundSocket) (ports : List (PlaceSockets Socket))
     → (IsOwn worker b → socket_number b.place < length ports → ⊥) → AreOwnSoFar worker all (b ∷ bs) ports →
     AreOwnSoFar worker all bs ports
 own_passed worker all bs b ports isnt before c c_among c_own c_within = elim (before c c_among c_own c_within) [
@@ -147,16 +150,16 @@ own_passed worker all bs b ports isnt before c c_among c_own c_within = elim (be
   | inr there ↦ inr there
 ]
 
-pub own_all : (worker : ℕ) (all : List BoundSocket) (ports : List PlaceSockets) → AreOwnSoFar worker all [] ports →
-    AreOwnPorts worker all ports
+pub own_all : (worker : ℕ) (all : List BoundSocket) (ports : List (PlaceSockets Socket))
+    → AreOwnSoFar worker all [] ports → AreOwnPorts worker all ports
 own_all worker all ports before b among own within = elim (before b among own within) [
   | inl left ↦ absurd (let lt = left.1 in omega (arith, lt))
   | inr there ↦ there
 ]
 
 -- the same of the item at a place of the list
-pub own_at : (worker : ℕ) (all : List BoundSocket) (i : ℕ) (d : BoundSocket) (ports : List PlaceSockets)
-    (old new : PlaceSockets) (s : Socket) (number nth : ℕ)
+pub own_at : (worker : ℕ) (all : List BoundSocket) (i : ℕ) (d : BoundSocket) (ports : List (PlaceSockets Socket))
+    (old new : PlaceSockets Socket) (s : Socket) (number nth : ℕ)
     → i < length all → number ≡ socket_number (get_or all i d).place → nth ≡ place_nth (get_or all i d).place
     → IsOwn worker (get_or all i d) → number < length ports → old ≡ get_or ports number old → IsPut nth s old new
     → s.socket.now ≡ (get_or all i d).socket → AreOwnSoFar worker all (drop i all) ports
@@ -173,8 +176,8 @@ own_at worker all i d ports old new s number nth lt is nth_is own within at put 
     (omega (arith, is, within)) found (subst (λ n. IsPut n s old new) nth_is put) socket
     (subst (λ (n : ℕ). AreOwnSoFar worker all (b ∷ drop n all) ports) next seen))
 
-pub passed_at : (worker : ℕ) (all : List BoundSocket) (i : ℕ) (d : BoundSocket) (ports : List PlaceSockets) (number : ℕ)
-    → i < length all → number ≡ socket_number (get_or all i d).place
+pub passed_at : (worker : ℕ) (all : List BoundSocket) (i : ℕ) (d : BoundSocket) (ports : List (PlaceSockets Socket))
+    (number : ℕ) → i < length all → number ≡ socket_number (get_or all i d).place
     → (IsOwn worker (get_or all i d) → number < length ports → ⊥)
     → AreOwnSoFar worker all (drop i all) ports → AreOwnSoFar worker all (drop (i + 1) all) ports
 passed_at worker all i d ports number lt is isnt before =
@@ -183,7 +186,7 @@ passed_at worker all i d ports number lt is isnt before =
     own_passed worker all (drop (i + 1) all) (get_or all i d) ports (λ own within. isnt own (omega (arith, is, within)))
     (subst (λ (n : ℕ). AreOwnSoFar worker all (get_or all i d ∷ drop n all) ports) next seen)
 
-pub own_at_end : (worker : ℕ) (all : List BoundSocket) (i : ℕ) (ports : List PlaceSockets) → length all ≤ i
+pub own_at_end : (worker : ℕ) (all : List BoundSocket) (i : ℕ) (ports : List (PlaceSockets Socket)) → length all ≤ i
     → AreOwnSoFar worker all (drop i all) ports → AreOwnPorts worker all ports
 own_at_end worker all i ports over before =
     own_all worker all ports (subst (λ (l : List BoundSocket). AreOwnSoFar worker all l ports) (drop_all i all over)

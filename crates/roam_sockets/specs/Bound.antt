@@ -80,14 +80,14 @@ abbrev pub IsOwn : ℕ → BoundSocket → Type 0
 IsOwn worker bound = (bound.is_spread ≡ false) ⊎ (bound.worker ≡ worker)
 
 -- at a number, and there at a place, there stands a socket of the place of that number, from which the worker sends
-pub record HasOwnAt (worker : ℕ) (sockets : List BoundSocket) (ports : List PlaceSockets)
+pub record HasOwnAt (worker : ℕ) (sockets : List BoundSocket) (ports : List (PlaceSockets Socket))
     (number nth : ℕ) : Type 0 where
   pub bound : BoundSocket
   pub among : Contains sockets bound
   pub own : IsOwn worker bound
   pub number_is : socket_number bound.place ≡ number
   pub nth_is : place_nth bound.place ≡ nth
-  pub port : PlaceSockets
+  pub port : PlaceSockets Socket
   pub port_is : slice_get ports number ≡ Some port
   pub socket : Socket
   pub there : socket_at port nth ≡ Some socket
@@ -101,7 +101,7 @@ pub record HasOwnAt (worker : ℕ) (sockets : List BoundSocket) (ports : List Pl
 -- Rules out: what came to one realm taken as another's; a packet that leaves from another place's socket
 -- Stands in: `roam_sockets` `Bound.antt`: `AreReceiversOf`, `heard_by`, `AreOwnPorts`; `receivers`, `ports`
 --
-abbrev pub AreOwnPorts : ℕ → List BoundSocket → List PlaceSockets → Type 0
+abbrev pub AreOwnPorts : ℕ → List BoundSocket → List (PlaceSockets Socket) → Type 0
 AreOwnPorts worker sockets ports =
     (b : BoundSocket) → Contains sockets b → IsOwn worker b → socket_number b.place < length ports
     → HasOwnAt worker sockets ports (socket_number b.place) (place_nth b.place)

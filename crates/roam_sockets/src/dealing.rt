@@ -46,7 +46,7 @@ fn ports_of<'s>(
     alloc: Global,
     socket: Socket<'s>,
     count: usize,
-) -> Result<Vec<PlaceSockets<'s>>, ServeFault>
+) -> Result<Vec<PlaceSockets<Socket<'s>>>, ServeFault>
     ensures count { IfOk result (λ ports. vec_len ports ≡ count) }
     ensures err { IfErr result IsAfterBinding }
 {
@@ -71,7 +71,7 @@ pub fn ports<'s>(
     numbers: usize,
     worker: usize,
     workers: usize,
-) -> Result<Vec<PlaceSockets<'s>>, ServeFault>
+) -> Result<Vec<PlaceSockets<Socket<'s>>>, ServeFault>
     requires { 1 ≤ workers }
     ensures own { IfOk result (λ ports. AreOwnPorts (worker % workers) sockets.now ports.items) }
     ensures count { IfOk result (λ ports. 1 ≤ length sockets.now → vec_len ports ≡ numbers) }

@@ -10,6 +10,8 @@
 //!   least; a worker receives from exactly those that it hears, each at its place, and sends from the number of a
 //!   place by a socket of that place. That a socket is where it says, the system alone knows | `bind_all`,
 //!   `bind_following`: `bound`; `receivers`: `heard`; `ports`: `own`
+//! - a packet is handed to the socket of its place, of those of its number, once, and to no other one. So it is over
+//!   sockets of any kind; what one of the system does with a packet is to be believed | `PlaceSockets::send_from`
 //! - an `auth` or `acct` has eight sockets, with `spread` eight for each worker, and any other place one: so many
 //!   descriptors are wanted. To which of them a datagram goes, the system decides | `descriptors_wanted`
 //! - a drawn seed changes the seed alone; without one the fault says so | `with_drawn_seed`: `ok`, `err`

@@ -1,7 +1,8 @@
 //! The sockets of one number: of a place, or of several of one kind.
 
 ghost use Rattle.std.specs.Prelude.{◌≡◌, None, OnOk, Some};
-ghost use Rattle.roam_sockets.specs.PlaceSockets.{IsPut, socket_at};
+ghost use Rattle.roam_port.specs.Port.{send_call};
+ghost use Rattle.roam_sockets.specs.PlaceSockets.{IsPut, Makes, socket_at};
 
 use crate::socket::Socket;
 use roam_conf::{Endpoint, Place};
@@ -10,21 +11,21 @@ use std::alloc::{AllocError, Global};
 use std::os::fd::RawFd;
 
 /// The sockets from which a thread sends the packets of the places of one number: each from its own.
-pub struct PlaceSockets<'s> {
+pub struct PlaceSockets<P: Copy> {
     /// That of the first place.
-    first: Socket<'s>,
+    first: P,
     /// Those of the further ones, in their order.
-    further: Vec<Socket<'s>>,
+    further: Vec<P>,
     /// Which of them had no room for a packet when it was last tried.
     blocked: usize,
     /// Whether the system is asked to tell when that one has room.
     is_watched: bool,
-    /// The destination of a packet that had no way there, where that wasn't asked for yet.
+    /// Where a packet was to go that was lost last, since the system tells that nobody is there.
     unreachable: Option<Endpoint>,
 }
 
 // By hand, so that a proof sees one call wherever it ends, and the crates above prove nothing of it.
-impl<'s> Drop for PlaceSockets<'s> {
+impl<P: Copy> Drop for PlaceSockets<P> {
     fn drop(self) {
         let Self {
             first: _,
@@ -37,10 +38,10 @@ impl<'s> Drop for PlaceSockets<'s> {
     }
 }
 
-impl<'s> PlaceSockets<'s> {
+impl<P: Copy> PlaceSockets<P> {
     /// One socket.
-    pub fn new(alloc: Global, first: Socket<'s>) -> PlaceSockets<'s>
-        ensures { socket_at result 0 ≡ Some first.entry }
+    pub fn new(alloc: Global, first: P) -> PlaceSockets<P>
+        ensures { socket_at result 0 ≡ Some first }
     {
         PlaceSockets {
             first,
@@ -52,7 +53,7 @@ impl<'s> PlaceSockets<'s> {
     }
 
     /// The socket of a place of those of the number, if there is one.
-    fn at(&self, nth: usize) -> Option<Socket<'s>>
+    fn at(&self, nth: usize) -> Option<P>
         ensures { result ≡ socket_at self.now nth }
     {
         if nth == 0 {
@@ -62,8 +63,8 @@ impl<'s> PlaceSockets<'s> {
     }
 
     /// A place of those of the number gets a socket.
-    pub fn put(&mut self, nth: usize, socket: Socket<'s>) -> Result<(), AllocError>
-        ensures { OnOk result (IsPut nth socket.entry self.old self.new) }
+    pub fn put(&mut self, nth: usize, socket: P) -> Result<(), AllocError>
+        ensures { OnOk result (IsPut nth socket self.old self.new) }
     {
         if nth == 0 {
             self.first = socket;
@@ -75,7 +76,9 @@ impl<'s> PlaceSockets<'s> {
         self.further[nth - 1] = socket;
         Ok(())
     }
+}
 
+impl PlaceSockets<Socket<'_>> {
     /// The system's number for the one that had no room when it was last tried.
     pub fn descriptor(&self) -> RawFd {
         match self.at(self.blocked) {
@@ -83,7 +86,9 @@ impl<'s> PlaceSockets<'s> {
             None => self.first.descriptor(),
         }
     }
+}
 
+impl<P: Copy> PlaceSockets<P> {
     /// Returns whether the system is asked to tell when that one has room for a packet.
     pub fn is_watched(&self) -> bool {
         self.is_watched
@@ -93,6 +98,7 @@ impl<'s> PlaceSockets<'s> {
     pub fn take_unreachable(&mut self) -> Option<Endpoint>
         ensures answer { result ≡ self.old.unreachable }
         ensures taken { self.new.unreachable ≡ None }
+        ensures kept { (self.new.first ≡ self.old.first) × (self.new.further ≡ self.old.further) }
     {
         self.unreachable.take()
     }
@@ -103,11 +109,42 @@ impl<'s> PlaceSockets<'s> {
     }
 }
 
-impl Port for PlaceSockets<'_> {
-    ghost use Rattle.std.specs.Prelude.{None};
+impl<P: Port + Copy> PlaceSockets<P> {
+    /// Notes which socket had no room, where a packet of this place was answered so, and where nobody was, where it was
+    /// answered so.
+    fn note(&mut self, from: Place, to: Endpoint, answer: Result<(), SendFault>)
+        ensures { (self.new.first ≡ self.old.first) × (self.new.further ≡ self.old.further) }
+    {
+        match answer {
+            Err(SendFault::WouldBlock) => self.blocked = nth_of(from),
+            Err(SendFault::Unreachable) => self.unreachable = Some(to),
+            _ => {}
+        }
+    }
 
-    // The system keeps no account of its calls.
+    /// Sends these octets from the socket of a place. Without one they aren't sent.
+    fn send_from(&mut self, from: Place, to: Endpoint, octets: &[u8]) -> Result<(), SendFault>
+        ensures { Makes P.hands self.old self.new (send_call result from to octets.now) }
+    {
+        let nth = nth_of(from);
+        if nth == 0 {
+            return self.first.send(from, to, octets);
+        }
+        if nth > self.further.len() {
+            return Err(SendFault::Other);
+        }
+        self.further[nth - 1].send(from, to, octets)
+    }
+}
+
+impl<P: Port + Copy> Port for PlaceSockets<P> {
+    ghost use Rattle.std.specs.Prelude.{None};
+    ghost use Rattle.roam_sockets.specs.PlaceSockets.{Makes};
+
+    // No account is kept of what is received.
     ghost calls = { λ _. None };
+
+    ghost hands = { Makes P.hands };
 
     // Nothing is received here: a receiver has a socket of its own.
     fn receive(&mut self, buffer: &mut [u8]) -> Result<Option<(usize, Endpoint)>, PortFault> {
@@ -115,16 +152,8 @@ impl Port for PlaceSockets<'_> {
     }
 
     fn send(&mut self, from: Place, to: Endpoint, octets: &[u8]) -> Result<(), SendFault> {
-        let nth = nth_of(from);
-        let Some(mut socket) = self.at(nth) else {
-            return Err(SendFault::Other);
-        };
-        let answer = socket.send(from, to, octets);
-        match answer {
-            Err(SendFault::WouldBlock) => self.blocked = nth,
-            Err(SendFault::Unreachable) => self.unreachable = Some(to),
-            _ => {}
-        }
+        let answer = self.send_from(from, to, octets);
+        self.note(from, to, answer);
         answer
     }
 }

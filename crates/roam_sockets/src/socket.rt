@@ -89,9 +89,13 @@ fn received(size: usize, from: SocketAddr) -> Option<(usize, Endpoint)>
 
 impl Port for Socket<'_> {
     ghost use Rattle.std.specs.Prelude.{None};
+    ghost use Rattle.roam_sockets.specs.PlaceSockets.{IsAsked};
 
     // The system keeps no account of its calls.
     ghost calls = { λ _. None };
+
+    // This is where a proof of what is sent ends: what `send` below does, and the system, is to be believed.
+    ghost hands = { IsAsked };
 
     // Sockets of IPv6 are for IPv6 alone, so no source stands for an address of IPv4.
     fn receive(&mut self, buffer: &mut [u8]) -> Result<Option<(usize, Endpoint)>, PortFault> {

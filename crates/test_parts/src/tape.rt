@@ -69,10 +69,12 @@ impl Tape<'_> {
 }
 
 impl Port for Tape<'_> {
-    ghost use Rattle.std.specs.Prelude.{None};
+    ghost use Rattle.std.specs.Prelude.{None, ⊤};
 
-    // The trait's clauses on the account of calls say nothing of a port that keeps none.
+    // The trait's clauses on calls say nothing of a port that keeps no account of them.
     ghost calls = { λ _. None };
+
+    ghost hands = { λ _ _ _. ⊤ };
 
     fn receive(&mut self, buffer: &mut [u8]) -> Result<Option<(usize, Endpoint)>, PortFault> {
         let answer = self.answers.get(self.played).copied();

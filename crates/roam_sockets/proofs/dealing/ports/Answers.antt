@@ -1,6 +1,7 @@
 -- Each socket of a worker's own stands at its number.
 use Rattle.std.proofs.Common.{◌≡◌, ◌+◌, ◌%◌, ◌∙◌, List, ap, arith, drop, refl, subst, sym, vec_len}
 use Rattle.roam_sockets.specs.declared.place_sockets.PlaceSockets.{PlaceSockets}
+use Rattle.roam_sockets.specs.declared.socket.Socket.{Socket}
 use Rattle.roam_sockets.proofs.DealingLemmas.{AreOwnSoFar, own_at, own_at_end, passed_at}
 use Rattle.roam_sockets.proofs.dealing.ports.Goals.{then-number-len+then-is_own+in_ok-put, else-number-len}
 use Rattle.roam_sockets.proofs.dealing.ports.Goals.{else-number-len-via-then-number-len+else-is_own}
@@ -22,7 +23,7 @@ loop-bound-preserved c =
       count : vec_len join.ports ≡ c.args.numbers;
     }) [
       | then-number-len+then-is_own+in_ok-put w ↦ record {
-        own = subst (λ (l : List PlaceSockets). AreOwnSoFar mine all (drop (i + 1) all) l)
+        own = subst (λ (l : List (PlaceSockets Socket)). AreOwnSoFar mine all (drop (i + 1) all) l)
             (sym (ap (λ v. v.items) w.ports-is))
             (own_at mine all i _ c.loop-bound.ports.items w.index_mut.result.now w.put.new.self
             w.new-then-is_own.result c.socket_of-number.result w.nth_of.result c.loop-bound-test.true number
@@ -32,7 +33,7 @@ loop-bound-preserved c =
         count = ap vec_len w.ports-is ∙ inv.count;
       }
       | else-number-len w ↦ record {
-        own = subst (λ (l : List PlaceSockets). AreOwnSoFar mine all (drop (i + 1) all) l)
+        own = subst (λ (l : List (PlaceSockets Socket)). AreOwnSoFar mine all (drop (i + 1) all) l)
             (sym (ap (λ v. v.items) w.ports-is))
             (passed_at mine all i _ c.loop-bound.ports.items c.socket_of-number.result c.loop-bound-test.true number
             (λ own within. elim w.else-number-len.branch [

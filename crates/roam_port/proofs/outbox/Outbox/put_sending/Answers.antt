@@ -1,4 +1,5 @@
 use Rattle.std.proofs.Common.{inl, inr, refl}
+use Rattle.roam_port.proofs.PortFateLemmas.{puts_go_or_wait}
 use Rattle.roam_port.proofs.outbox.Outbox.put_sending.Goals as goal
 
 -- There was room.
@@ -16,3 +17,11 @@ returns-clause-puts g c = record {
   sends = inl c.send_all-sent.ensures.sends;
   puts = c.put-2.ensures.puts;
 }
+
+-- It waits, or is lost.
+pub returns-then-not-is_full_at-clause-becomes : goal.returns-then-not-is_full_at-clause-becomes
+returns-then-not-is_full_at-clause-becomes g c =
+    puts_go_or_wait g.P.Port.hands _ _ _ _ _ _ (returns-then-not-is_full_at-clause-puts g c)
+
+pub returns-clause-becomes : goal.returns-clause-becomes
+returns-clause-becomes g c = puts_go_or_wait g.P.Port.hands _ _ _ _ _ _ (returns-clause-puts g c)

@@ -1,4 +1,5 @@
 use Rattle.std.proofs.Common.{arith, ◌∷◌, ◌∙◌}
+use Rattle.roam_port.proofs.PortFateLemmas.{all_go_or_wait}
 use Rattle.roam_port.proofs.ListedLemmas.{none_left}
 use Rattle.roam_port.proofs.outbox.Outbox.send_all.Goals as goal
 
@@ -38,3 +39,7 @@ returns-clause-sends g c =
       along = c.loop.invariant.along;
       none_listed = none_left c.loop.self.queues.items c.loop.self.listed.items (omega arith) c.loop.self.all;
     }
+
+-- What was handed over is gone, and the rest waits.
+pub returns-clause-becomes : goal.returns-clause-becomes
+returns-clause-becomes g c = all_go_or_wait g.P.Port.hands _ _ _ _ _ (returns-clause-sends g c)

@@ -6,7 +6,7 @@ use Rattle.roam_port.proofs.port_queue.PortQueue.send.Goals as goal
 pub loop-gone-preserved : goal.loop-gone-preserved
 loop-gone-preserved g c =
     let so_far = c.loop-gone.invariant.handed in
-    let more = one_more g.P.Port.calls c.args.port.now c.loop-gone.port c.hand_oldest.new.port
+    let more = one_more g.P.Port.hands c.args.port.now c.loop-gone.port c.hand_oldest.new.port
     c.args.self.now.waiting.items c.loop-gone.self.waiting.items c.hand_oldest.new.self.waiting.items
     c.args.account.now c.loop-gone.account c.hand_oldest.new.account c.loop-gone.gone so_far
     c.hand_oldest.result c.if-not-hand_oldest.false c.hand_oldest.ensures.handed in

@@ -5,7 +5,7 @@ use Rattle.roam_port.proofs.port_queue.PortQueue.send.Given as goal
 
 abbrev pub invariant-loop-gone : goal.invariant-loop-gone
 invariant-loop-gone g l = record {
-  handed : HandsOver g.P.Port.calls l.fn.port l.port l.fn.self.waiting.items l.self.waiting.items
+  handed : HandsOver g.P.Port.hands l.fn.port l.port l.fn.self.waiting.items l.self.waiting.items
       l.fn.account l.account l.gone;
   left : l.gone + length l.self.waiting.items ≡ l.count;
   listed : l.self.standing ≡ standing.Listed;

@@ -3,7 +3,7 @@ use Rattle.roam_sockets.proofs.PlaceSocketLemmas.{AreFurther}
 use Rattle.roam_sockets.proofs.place_sockets.PlaceSockets.put.Given as goal
 
 abbrev pub invariant-loop : goal.invariant-loop
-invariant-loop l = record {
+invariant-loop g l = record {
   further : AreFurther l.fn.self l.self;
   count : length l.self.further.items ≡ l.counter;
 }
