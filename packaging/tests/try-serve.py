@@ -296,7 +296,7 @@ def silent(program):
     with served(program, tries=1, wait=300, hold=0, rest=20000) as (server, ends):
         ends.client.sendto(named(1), (HERE, AUTH))
         server.waits_for(r'result=given_up .* why=never_answered .*hint="wrong secret on either side, wrong port, or this proxy is not')
-        server.waits_for(rf"home server {HERE}:{HOME} of a\.example never answered: it rests\. .*wrong secret on either side")
+        server.waits_for(rf"home server {HERE}:{HOME} of a\.example never answered: it rests\. Wrong secret on either side")
         for order in ((), ("--problems",)):
             printed = server.ctl("status", *order).stdout
             want(re.search(rf"auth +{HERE}:{HOME} +a\.example +never answered \(1\)", printed), f"the status {order} says so: {printed}")
@@ -307,6 +307,7 @@ def silent(program):
         packet, source = heard(ends.home)
         ends.home.sendto(answer(2, packet, b"h1"), source)
         server.waits_for(r"result=accept ")
+        server.waits_for(rf"home server {HERE}:{HOME} of a\.example answers again")
         ends.client.sendto(named(3), (HERE, AUTH))
         server.waits_for(r"result=given_up .* why=stopped_answering\n")
         server.waits_for(rf"home server {HERE}:{HOME} of a\.example stopped answering: it rests")
