@@ -254,7 +254,9 @@ def late(seconds):
 def hints():
     """Datagrams that are refused, one second after the other: who sends them, where they go, and what the line says."""
     nas = b"xyzzy5461"
-    yield [("127.0.0.2", AUTH, named(1), r"4 UnknownSource at auth from 127\.0\.0\.2:\d+: no \[\[peer\]\] has this address"),
+    yield [(HERE, ACCT, bytes([4, 1, 0, 28]) + bytes(16) + bytes([1, 3, 97, 32, 7, 97, 97, 97]),
+            r"3 BadAttribute at acct .* \(peer nas1\): the Length of an attribute is wrong: its type is 32"),
+           ("127.0.0.2", AUTH, named(1), r"4 UnknownSource at auth from 127\.0\.0\.2:\d+: no \[\[peer\]\] has this address"),
            (HERE, AUTH, accounting_request(1, b"u@a.example", b"1", nas),
             r"5 WrongCode at auth .* \(peer nas1\): code 4 \(Accounting-Request\): accounting goes to acct"),
            (HERE, ACCT, named(1), r"5 WrongCode at acct .* code 1 \(Access-Request\): logins go to auth"),
