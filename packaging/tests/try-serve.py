@@ -254,7 +254,9 @@ def late(seconds):
 def hints():
     """Datagrams that are refused, one second after the other: who sends them, where they go, and what the line says."""
     nas = b"xyzzy5461"
-    yield [("127.0.0.2", AUTH, named(1), r"4 UnknownSource at auth from 127\.0\.0\.2:\d+: no \[\[peer\]\] has this address"),
+    yield [(HERE, ACCT, bytes([4, 1, 0, 28]) + bytes(16) + bytes([1, 3, 97, 32, 7, 97, 97, 97]),
+            r"3 BadAttribute at acct .* \(peer nas1\): the Length of an attribute is wrong: its type is 32"),
+           ("127.0.0.2", AUTH, named(1), r"4 UnknownSource at auth from 127\.0\.0\.2:\d+: no \[\[peer\]\] has this address"),
            (HERE, AUTH, accounting_request(1, b"u@a.example", b"1", nas),
             r"5 WrongCode at auth .* \(peer nas1\): code 4 \(Accounting-Request\): accounting goes to acct"),
            (HERE, ACCT, named(1), r"5 WrongCode at acct .* code 1 \(Access-Request\): logins go to auth"),
@@ -296,7 +298,7 @@ def silent(program):
     with served(program, tries=1, wait=300, hold=0, rest=20000) as (server, ends):
         ends.client.sendto(named(1), (HERE, AUTH))
         server.waits_for(r'result=given_up .* why=never_answered .*hint="wrong secret on either side, wrong port, or this proxy is not')
-        server.waits_for(rf"home server {HERE}:{HOME} of a\.example never answered: it rests\. .*wrong secret on either side")
+        server.waits_for(rf"home server {HERE}:{HOME} of a\.example never answered: it rests\. Wrong secret on either side")
         for order in ((), ("--problems",)):
             printed = server.ctl("status", *order).stdout
             want(re.search(rf"auth +{HERE}:{HOME} +a\.example +never answered \(1\)", printed), f"the status {order} says so: {printed}")
@@ -307,6 +309,7 @@ def silent(program):
         packet, source = heard(ends.home)
         ends.home.sendto(answer(2, packet, b"h1"), source)
         server.waits_for(r"result=accept ")
+        server.waits_for(rf"home server {HERE}:{HOME} of a\.example answers again")
         ends.client.sendto(named(3), (HERE, AUTH))
         server.waits_for(r"result=given_up .* why=stopped_answering\n")
         server.waits_for(rf"home server {HERE}:{HOME} of a\.example stopped answering: it rests")

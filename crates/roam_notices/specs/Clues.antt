@@ -12,6 +12,7 @@ octets_of realm = take (min realm.len 47) realm.octets
 
 -- a clue, with the octets of the realm that is asked for
 pub data ClueView : Type 0 where
+  attribute : ℕ → ClueView
   code : ℕ → ClueView
   no_user_name : ClueView
   no_realm_part : ClueView
@@ -20,6 +21,7 @@ pub data ClueView : Type 0 where
   ahead : ℕ → ClueView
 
 abbrev pub shown_clue : Clue → ClueView
+shown_clue (clue.Attribute kind) = attribute kind
 shown_clue (clue.Code n) = code n
 shown_clue clue.NoUserName = no_user_name
 shown_clue clue.NoRealmPart = no_realm_part

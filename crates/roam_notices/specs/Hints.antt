@@ -74,6 +74,7 @@ asked_text asked =
 
 -- what of a datagram shows what is wrong
 abbrev pub shown_text : Place → Clue → List ℕ → List ℕ
+shown_text place (clue.Attribute kind) asked = codes ": its type is " ++ decimal kind
 shown_text place (clue.Code code) asked = codes ": code " ++ decimal code ++ code_advice place code
 shown_text place clue.NoUserName asked = codes ": no User-Name: for Accounting-On and -Off set answer_unnamed = true"
 shown_text place clue.NoRealmPart asked = codes ": its User-Name names no realm"

@@ -85,9 +85,9 @@ count_text count = if count == 1 then [] else (codes " (" ++ decimal count ++ co
 
 -- ## Line of refusals
 -- `refused`, the number and the name, the place with its realm's name, the source and which peer or home server
--- that is, how often where it wasn't once, what is usually wrong, and what of the first datagram shows it: its code,
--- the realm that it asks for, or how many seconds its Event-Timestamp is off. No octet of a packet stands in it that
--- isn't printable in ASCII.
+-- that is, how often where it wasn't once, what is usually wrong, and what of the first datagram shows it: the type
+-- of its faulty attribute, its code, the realm that it asks for, or how many seconds its Event-Timestamp is off. No
+-- octet of a packet stands in it that isn't printable in ASCII.
 -- Source: ours
 -- Rules out: a line that a packet's octets forge; the name of another peer than the source's
 -- Stands in: `roam_notices` `Lines.antt`: `refused_text`; `Hints.antt`: `hint_text`, `clue_text`; `Clues.antt`:

@@ -21,6 +21,8 @@ pub struct AskedRealm {
 /// What of a refused datagram shows what is wrong with it.
 #[derive(Clone, Copy, PartialEq, Eq)]
 pub enum Clue {
+    /// The Type of its first attribute whose Length is wrong.
+    Attribute(u8),
     /// Its code, where that isn't taken.
     Code(u8),
     /// It has no User-Name.

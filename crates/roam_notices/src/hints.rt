@@ -138,6 +138,7 @@ impl Display for ShownText<'_> {
 
     fn fmt<W: Write>(&self, f: &mut Formatter<W>) -> fmt::Result {
         match self.clue {
+            Clue::Attribute(kind) => write!(f, ": its type is {kind}"),
             Clue::Code(code) => {
                 let advice = code_advice(self.place, code);
                 write!(f, ": code {code}{advice}")

@@ -78,6 +78,7 @@ fn keep_no_details(details: &mut Details)
 fn begin(exchange: &mut Exchange, outcome: ExchangeEnd)
     ensures outcome { exchange.new.outcome ≡ outcome }
     ensures once { (exchange.new.why ≡ None) × (exchange.new.times ≡ 1) }
+    ensures bare { (exchange.new.error_cause ≡ None) × (exchange.new.silence ≡ None) }
 {
     exchange.outcome = outcome;
     exchange.why = None;
@@ -98,6 +99,8 @@ fn say_nothing(exchange: &mut Exchange)
     ensures says { (fault : Refusal) → spec.IsSaidBy (Err fault) exchange.new }
     ensures outcome { exchange.new.outcome ≡ exchange.old.outcome }
     ensures once { (exchange.new.why ≡ exchange.old.why) × (exchange.new.times ≡ exchange.old.times) }
+    ensures bare { (exchange.new.error_cause ≡ exchange.old.error_cause)
+        × (exchange.new.silence ≡ exchange.old.silence) }
 {
     exchange.asked = RequestWord::Other;
     exchange.user.set(None);
@@ -110,6 +113,8 @@ fn say_of(exchange: &mut Exchange, request: &View<'_>)
     ensures says { spec.IsSaidBy (Ok request.now) exchange.new }
     ensures outcome { exchange.new.outcome ≡ exchange.old.outcome }
     ensures once { (exchange.new.why ≡ exchange.old.why) × (exchange.new.times ≡ exchange.old.times) }
+    ensures bare { (exchange.new.error_cause ≡ exchange.old.error_cause)
+        × (exchange.new.silence ≡ exchange.old.silence) }
 {
     exchange.asked = RequestWord::of(request.code());
     keep(&mut exchange.user, request, USER_NAME);
@@ -123,6 +128,7 @@ pub(crate) fn say(exchange: &mut Exchange, octets: &[u8], outcome: ExchangeEnd)
     ensures says { spec.IsSaidBy (reading octets.now) exchange.new }
     ensures outcome { exchange.new.outcome ≡ outcome }
     ensures once { (exchange.new.why ≡ None) × (exchange.new.times ≡ 1) }
+    ensures bare { (exchange.new.error_cause ≡ None) × (exchange.new.silence ≡ None) }
 {
     begin(exchange, outcome);
     match View::read(octets) {
@@ -136,6 +142,7 @@ pub fn said_by(octets: &[u8], outcome: ExchangeEnd) -> Exchange
     ensures says { spec.IsSaidBy (reading octets.now) result }
     ensures outcome { result.outcome ≡ outcome }
     ensures once { (result.why ≡ None) × (result.times ≡ 1) }
+    ensures bare { (result.error_cause ≡ None) × (result.silence ≡ None) }
 {
     let mut exchange = Exchange::unsaid(outcome);
     say(&mut exchange, octets, outcome);

@@ -9,8 +9,8 @@ use Rattle.roam_shard.specs.declared.paused.Paused.{Paused}
 use Rattle.roam_serve.specs.declared.changing.Way.{Way}
 use Rattle.roam_serve.specs.declared.changing.Way.TheVariants as way
 
--- the configuration that was to follow these shards does: where nobody agreed to lose anything, nothing of any realm is
--- lost. Where it is declined nobody did, and something would have been
+-- the configuration that was to follow these shards does: where nobody agreed to lose anything, no realm loses more
+-- than held replies. Where it is declined nobody did, and something would have been lost
 abbrev pub IsWay : Bool → ConfigView → ConfigView → List (Paused Global) → Way → Type 0
 IsWay is_agreed old new shards (way.Follows ready) = is_agreed ≡ false → NothingIsLost old new shards
 IsWay is_agreed old new shards way.Declined = (is_agreed ≡ false) × SomethingIsLost old new shards

@@ -1,1 +1,2 @@
+pub mod BadAttributeLemmas
 pub mod SaidLemmas

@@ -1,3 +1,4 @@
+pub mod BadAttributes
 pub mod Clues
 pub mod Notices
 pub mod Origins

@@ -6,11 +6,22 @@ ghost use Rattle.roam_route.specs.Freshness.{sent_at};
 ghost use Rattle.roam_telling.specs.Clues as spec;
 ghost use Rattle.roam_wire.specs.Reading.{reading};
 
+use crate::bad_attribute::bad_attribute;
 use roam_notices::{AskedRealm, Clue, number_in};
 use roam_route::{Datagram, realm_part};
 use roam_wire::attribute_type::{EVENT_TIMESTAMP, USER_NAME};
 use roam_wire::{Refusal, View};
 use std::alloc::Global;
+
+/// Returns the Type of a packet's first attribute whose Length is wrong, where one is.
+fn attribute_clue(octets: &[u8]) -> Option<Clue>
+    ensures { option_map shown_clue result ≡ spec.attribute_clue octets.now }
+{
+    match bad_attribute(octets) {
+        Some(kind) => Some(Clue::Attribute(kind)),
+        None => None,
+    }
+}
 
 /// Returns the code of a packet, where there is one.
 fn code_clue(octets: &[u8]) -> Option<Clue>
@@ -90,6 +101,7 @@ pub(crate) fn clue_of(datagram: &Datagram<Global>, refusal: Refusal) -> Option<C
 {
     let octets = datagram.octets.as_slice();
     match refusal {
+        Refusal::BadAttribute => attribute_clue(octets),
         Refusal::WrongCode => code_clue(octets),
         Refusal::NoRealm => name_in(octets),
         Refusal::Stale => time_in(datagram.seconds, octets),

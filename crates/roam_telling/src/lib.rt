@@ -16,6 +16,7 @@
 //!   Error-Cause | `origin_of`, `nak_of`
 #![tactic(auto)]
 
+mod bad_attribute;
 mod clues;
 mod ended;
 mod exchanges;

@@ -1,6 +1,6 @@
 -- Why the program doesn't do what it is asked for: the text of each fault, and the status with which the program
 -- ends. Ours.
-use Rattle.std.specs.Prelude.{◌≡◌, ℕ, ◌==◌, if◌then◌else◌, List, [], ◌++◌, Option, Some, None, codes}
+use Rattle.std.specs.Prelude.{◌≡◌, ℕ, List, [], ◌++◌, Option, Some, None, codes}
 use Rattle.std.specs.Fmt.{decimal}
 use Rattle.std.specs.Io.KnownBytes.{Appends}
 use Rattle.roam_diagnosis.specs.Lines.{IsDiagnosis, printed}
