@@ -3,3 +3,4 @@ pub mod HandlingLemmas
 pub mod TickLemmas
 pub mod WorkLemmas
 pub mod MailLemmas
+pub mod AgreeingLemmas

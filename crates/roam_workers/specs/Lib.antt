@@ -1,3 +1,4 @@
+pub mod Agreeing
 pub mod Endings
 pub mod Handlings
 pub mod Mail

@@ -30,6 +30,8 @@
 //! - and it puts into its outbox the packets of the answers that it was given, and the broker's own answers, in order,
 //!   each once, and no other; what waits there at its end it gives back | `WorkerContext::finish`: `sends`;
 //!   `receive_on`, `tick_on`: `HasWorkedTo`; law `work_is_sent`
+//! - so what it counts and tells of a call and what it puts out for it agree: the packets are those of which the
+//!   happening tells | law `calls_agree`
 //! - an Accounting-Response may be taken without its session, no other job; then the counts rise by a session that is
 //!   lost. That this is done where memory is still wanting, and once, is code | `WorkerContext::arrive`
 //! - which remedy there is for a call that a hub doesn't record: where the history is full it is let go of, each time;
@@ -64,7 +66,7 @@ pub use context::{Remedy, WorkerContext, remedy_for};
 pub use ending::{Ended, Ending, WorkerEnd, has_given_up_after};
 pub use hub_calls::{HubCalls, SESSIONS_AT_ONCE};
 pub use junk::Junk;
-pub use laws::{work_is_counted, work_is_sent};
+pub use laws::{calls_agree, work_is_counted, work_is_sent};
 pub use rest::TimerRest;
 pub use rests::Rests;
 pub use shared::Shared;
