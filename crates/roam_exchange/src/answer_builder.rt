@@ -12,7 +12,7 @@ ghost use Rattle.roam_exchange.specs.Dues.{noted_of};
 ghost use Rattle.roam_exchange.specs.Memory.{AreDues, IsOuts};
 
 use crate::answer::{Answer, Turned, refused_turn};
-use crate::happening::{DueHappening, Happening, LeftConversation, Noted};
+use crate::happening::{DueHappening, Happening, LeftConversation, Noted, keep_first};
 use crate::outs::Outs;
 use roam_route::Out;
 use roam_wire::{NoMemory, Refusal};
@@ -23,7 +23,8 @@ use std::alloc::Allocator;
 pub struct AnswerBuilder<A: Allocator> {
     pub sent: Vec<Out<A>, A>,
     pub dues: Vec<DueHappening<A>, A>,
-    pub left: Vec<LeftConversation<A>, A>,
+    /// The first conversation that was left.
+    pub left: Option<LeftConversation<A>>,
 }
 
 impl<A: Allocator + Copy> AnswerBuilder<A> {
@@ -35,8 +36,11 @@ impl<A: Allocator + Copy> AnswerBuilder<A> {
     {
         let sent = Vec::with_capacity(alloc, places)?;
         let dues = Vec::with_capacity(alloc, places)?;
-        let left = Vec::with_capacity(alloc, places)?;
-        Ok(AnswerBuilder { sent, dues, left })
+        Ok(AnswerBuilder {
+            sent,
+            dues,
+            left: None,
+        })
     }
 
     /// One packet more, where there is a place for it. Takes no memory.
@@ -50,16 +54,6 @@ impl<A: Allocator + Copy> AnswerBuilder<A> {
         self.sent.push_reserved(out);
     }
 
-    /// Notes that a conversation was left, where there is a place for that. Takes no memory.
-    fn note_left(&mut self, left: LeftConversation<A>)
-        ensures dues { self.new.dues ≡ self.old.dues }
-        ensures outs { self.new.sent ≡ self.old.sent }
-    {
-        if self.left.len() < self.left.capacity() {
-            self.left.push_reserved(left);
-        }
-    }
-
     /// What became of one entry more, if anything is noted of it, where there is a place for that. Takes no memory.
     pub fn note(&mut self, noted: Noted<A>)
         requires place { vec_len self.old.dues < vec_capacity self.old.dues }
@@ -71,7 +65,7 @@ impl<A: Allocator + Copy> AnswerBuilder<A> {
         match noted {
             Noted::Nothing => {}
             Noted::Due(due) => self.dues.push_reserved(due),
-            Noted::Left(left) => self.note_left(left),
+            Noted::Left(left) => keep_first(&mut self.left, Some(left)),
         }
     }
 
@@ -80,7 +74,7 @@ impl<A: Allocator + Copy> AnswerBuilder<A> {
         ensures packets { result.answer.outs ≡ self.sent.items }
         ensures refusal { result.answer.refusal ≡ None }
         ensures happening { shown_happening result.happening ≡ happenings.ticked (shown_dues self.dues.items) }
-        ensures left { left_in result.happening ≡ self.left.items }
+        ensures left { left_in result.happening ≡ self.left }
     {
         let AnswerBuilder { sent, dues, left } = self;
         Turned {

@@ -97,6 +97,16 @@ impl<A: Allocator> Drop for LeftConversation<A> {
     }
 }
 
+/// Keeps the first conversation that was left: this one, where none was kept so far. Takes no memory.
+pub fn keep_first<A: Allocator>(
+    first: &mut Option<LeftConversation<A>>,
+    more: Option<LeftConversation<A>>,
+) {
+    if first.is_none() {
+        *first = more;
+    }
+}
+
 /// What is noted of an entry that was due.
 #[derive(Drop)]
 pub enum Noted<A: Allocator> {
@@ -140,8 +150,9 @@ pub enum Happening<A: Allocator> {
         /// The request that waited for it.
         waited: Waited<A>,
     },
-    /// A shard's timer fired: what became of the requests that were due, in order, and which conversations were left.
-    Ticked(Vec<DueHappening<A>, A>, Vec<LeftConversation<A>, A>),
+    /// A shard's timer fired: what became of the requests that were due, in order; and the first conversation that was left,
+    /// if one was: for more a tick takes no memory.
+    Ticked(Vec<DueHappening<A>, A>, Option<LeftConversation<A>>),
     /// The broker answered by itself, before a realm was asked.
     Local {
         /// The answer's code.

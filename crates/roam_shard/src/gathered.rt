@@ -8,7 +8,7 @@ ghost use Rattle.roam_core.specs.HappeningsTo.{dues_told};
 ghost use Rattle.roam_shard.specs.Private.Rooms.{HasPlaces};
 
 use crate::answers::append_reserved;
-use roam_exchange::{Answer, DueHappening, Happening, LeftConversation, Outs, Turned};
+use roam_exchange::{Answer, DueHappening, Happening, LeftConversation, Outs, Turned, keep_first};
 use roam_route::Out;
 use roam_wire::NoMemory;
 use std::alloc::Allocator;
@@ -17,7 +17,8 @@ use std::alloc::Allocator;
 pub(crate) struct Gathered<A: Allocator> {
     pub sent: Vec<Out<A>, A>,
     pub dues: Vec<DueHappening<A>, A>,
-    pub left: Vec<LeftConversation<A>, A>,
+    /// The first conversation that was left.
+    pub left: Option<LeftConversation<A>>,
 }
 
 /// Appends what became of requests, for which there are places. Takes no memory.
@@ -30,15 +31,6 @@ fn append_dues<A: Allocator>(dues: &mut Vec<DueHappening<A>, A>, mut more: Vec<D
     dues.append(&mut more).unwrap();
 }
 
-/// Appends which conversations were left. Where there are places for all of them it takes no memory; where there are
-/// not, and none is to be had, they aren't told.
-fn append_left<A: Allocator>(
-    left: &mut Vec<LeftConversation<A>, A>,
-    mut more: Vec<LeftConversation<A>, A>,
-) {
-    let _told = left.append(&mut more);
-}
-
 impl<A: Allocator + Copy> Gathered<A> {
     /// None of either yet, and places for so many of each.
     pub(crate) fn new(alloc: A, most: usize) -> Result<Gathered<A>, NoMemory>
@@ -48,8 +40,11 @@ impl<A: Allocator + Copy> Gathered<A> {
     {
         let sent = Vec::with_capacity(alloc, most)?;
         let dues = Vec::with_capacity(alloc, most)?;
-        let left = Vec::with_capacity(alloc, most)?;
-        Ok(Gathered { sent, dues, left })
+        Ok(Gathered {
+            sent,
+            dues,
+            left: None,
+        })
     }
 
     /// None of either, and no places. Takes no memory.
@@ -60,7 +55,19 @@ impl<A: Allocator + Copy> Gathered<A> {
         Gathered {
             sent: Vec::new(alloc),
             dues: Vec::new(alloc),
-            left: Vec::new(alloc),
+            left: None,
+        }
+    }
+
+    /// Only this conversation that was left, if one was. Takes no memory.
+    pub(crate) fn only_left(alloc: A, left: Option<LeftConversation<A>>) -> Gathered<A>
+        ensures sent { result.sent.items ≡ [] }
+        ensures dues { result.dues.items ≡ [] }
+    {
+        Gathered {
+            sent: Vec::new(alloc),
+            dues: Vec::new(alloc),
+            left,
         }
     }
 
@@ -77,7 +84,7 @@ impl<A: Allocator + Copy> Gathered<A> {
         append_reserved(&mut self.sent, turned.answer.outs);
         if let Happening::Ticked(dues, left) = turned.happening {
             append_dues(&mut self.dues, dues);
-            append_left(&mut self.left, left);
+            keep_first(&mut self.left, left);
         }
     }
 
