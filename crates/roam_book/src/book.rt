@@ -233,7 +233,7 @@ impl<'c, A: Allocator + Copy> Book<'c, A> {
         ensures realm { self.new.realm ≡ self.old.realm }
     {
         let settings = RealmSettings::new(self.config, self.realm);
-        let mut untold = None;
+        let mut untold = Vec::new(self.numbers.alloc);
         let mut realm = RealmBroker {
             settings: &settings,
             entries: &mut self.entries,

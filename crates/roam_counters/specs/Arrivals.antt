@@ -8,7 +8,6 @@ use Rattle.roam_exchange.specs.Happenings as happenings
 use Rattle.roam_exchange.specs.Happenings.{PlainHappening}
 use Rattle.roam_exchange.specs.HappeningsShown.{left_in, shown_happening}
 use Rattle.roam_exchange.specs.declared.happening.Happening.{Happening}
-use Rattle.roam_exchange.specs.declared.happening.LeftConversation.{LeftConversation}
 use Rattle.roam_counters.specs.Increments.{due_increments, left_increments, one}
 use Rattle.roam_counters.specs.Turns.{arrival_event, sender_of}
 use Rattle.roam_counters.specs.declared.cell.Subject.{Subject}
@@ -66,10 +65,6 @@ tick_increments (happenings.ticked dues) = flat_map due_increments dues
 tick_increments (happenings.refused why) = refused_here_increments why
 tick_increments _ = []
 
--- and of the conversation that it says was left, if any
-abbrev pub left_counts : {A : Type 0} → Option (LeftConversation A) → List (Option Increment)
-left_counts None = []
-left_counts (Some left) = left_increments left
-
+-- and of each conversation that it says was left
 abbrev pub tick_counts : {A : Type 0} → Happening A → List (Option Increment)
-tick_counts h = tick_increments (shown_happening h) ++ left_counts (left_in h)
+tick_counts h = tick_increments (shown_happening h) ++ flat_map left_increments (left_in h)

@@ -3,7 +3,8 @@ use Rattle.std.specs.Prelude.{◌≡◌, ℕ, List, Option, Some, None, slice_ge
 use Rattle.std.specs.List.{flat_map}
 use Rattle.roam_exchange.specs.Happenings.{PlainDue}
 use Rattle.roam_conf.specs.Config.{ConfigView, RealmView}
-use Rattle.roam_counters.specs.Increments.{due_increments}
+use Rattle.roam_exchange.specs.declared.happening.LeftConversation.{LeftConversation}
+use Rattle.roam_counters.specs.Increments.{due_increments, left_increments}
 use Rattle.roam_counters.specs.OwnCounts.{CountsView, raised_all}
 use Rattle.roam_counters.specs.declared.increments.Increment.{Increment}
 use Rattle.roam_counting.specs.declared.counting.Counting.{Counting}
@@ -33,3 +34,7 @@ IsCounted old new increments = counts_in new ≡ raised_all (counts_in old) incr
 -- by what became of requests that were due
 abbrev pub dues_counted : List PlainDue → List (Option Increment)
 dues_counted dues = flat_map due_increments dues
+
+-- by conversations that were left
+abbrev pub left_counted : {A : Type 0} → List (LeftConversation A) → List (Option Increment)
+left_counted left = flat_map left_increments left

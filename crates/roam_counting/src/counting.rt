@@ -134,24 +134,24 @@ impl Counting<'_> {
         }
     }
 
-    /// A conversation was left, if one was.
-    fn left(&mut self, left: &Option<LeftConversation<Global>>)
-        ensures { IsCounted self.old self.new (arrivals.left_counts left.now) }
+    /// Which conversations were left.
+    fn left(&mut self, left: &[LeftConversation<Global>])
+        ensures { IsCounted self.old self.new (spec.left_counted left.now) }
     {
-        if let Some(left) = left {
-            self.add(&left_increments(left));
+        for conversation in left {
+            self.add(&left_increments(conversation));
         }
     }
 
-    /// What happened by a tick: it was refused, or something became of each request that was due and waited, and a
-    /// conversation was left, if one was.
+    /// What happened by a tick: it was refused, or something became of each request that was due and waited, and
+    /// conversations were left.
     pub fn ticked(&mut self, happening: &Happening<Global>)
         ensures { IsCounted self.old self.new (arrivals.tick_counts happening.now) }
     {
         match happening {
             Happening::Ticked(dues, left) => {
                 self.dues(dues.as_slice());
-                self.left(left);
+                self.left(left.as_slice());
             }
             Happening::Refused(why) => self.refused_here(*why),
             _ => {}

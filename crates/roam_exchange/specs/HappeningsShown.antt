@@ -1,5 +1,5 @@
 -- What the code's happenings are seen as (ours).
-use Rattle.std.specs.Prelude.{ℕ, List, length, map, Option, None, option_map}
+use Rattle.std.specs.Prelude.{ℕ, List, [], length, map, Option, option_map}
 use Rattle.roam_exchange.specs.Happenings.{PlainDue, PlainHappening, PlainWaited}
 use Rattle.roam_exchange.specs.Happenings as happenings
 use Rattle.roam_exchange.specs.declared.happening.DueHappening.{DueHappening}
@@ -46,7 +46,7 @@ abbrev pub dues_in : {A : Type 0} → Happening A → ℕ
 dues_in (happening.Ticked dues left) = length dues.items
 dues_in _ = 0
 
--- which conversation it says was left, if any
-abbrev pub left_in : {A : Type 0} → Happening A → Option (LeftConversation A)
-left_in (happening.Ticked dues left) = left
-left_in _ = None
+-- which conversations it says were left
+abbrev pub left_in : {A : Type 0} → Happening A → List (LeftConversation A)
+left_in (happening.Ticked dues left) = left.items
+left_in _ = []

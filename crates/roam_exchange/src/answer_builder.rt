@@ -12,7 +12,7 @@ ghost use Rattle.roam_exchange.specs.Dues.{noted_of};
 ghost use Rattle.roam_exchange.specs.Memory.{AreDues, IsOuts};
 
 use crate::answer::{Answer, Turned, refused_turn};
-use crate::happening::{DueHappening, Happening, LeftConversation, Noted, keep_first};
+use crate::happening::{DueHappening, Happening, LeftConversation, Noted, note_left};
 use crate::outs::Outs;
 use roam_route::Out;
 use roam_wire::{NoMemory, Refusal};
@@ -23,8 +23,8 @@ use std::alloc::Allocator;
 pub struct AnswerBuilder<A: Allocator> {
     pub sent: Vec<Out<A>, A>,
     pub dues: Vec<DueHappening<A>, A>,
-    /// The first conversation that was left.
-    pub left: Option<LeftConversation<A>>,
+    /// The conversations that were left, of which there is memory to tell.
+    pub left: Vec<LeftConversation<A>, A>,
 }
 
 impl<A: Allocator + Copy> AnswerBuilder<A> {
@@ -39,7 +39,7 @@ impl<A: Allocator + Copy> AnswerBuilder<A> {
         Ok(AnswerBuilder {
             sent,
             dues,
-            left: None,
+            left: Vec::new(alloc),
         })
     }
 
@@ -54,7 +54,8 @@ impl<A: Allocator + Copy> AnswerBuilder<A> {
         self.sent.push_reserved(out);
     }
 
-    /// What became of one entry more, if anything is noted of it, where there is a place for that. Takes no memory.
+    /// What became of one entry more, if anything is noted of it, where there is a place for that. Takes memory only to
+    /// tell of a conversation that was left.
     pub fn note(&mut self, noted: Noted<A>)
         requires place { vec_len self.old.dues < vec_capacity self.old.dues }
         ensures dues { (places : ℕ) (dues : List PlainDue) → AreDues (places + 1) dues self.old.dues
@@ -65,7 +66,7 @@ impl<A: Allocator + Copy> AnswerBuilder<A> {
         match noted {
             Noted::Nothing => {}
             Noted::Due(due) => self.dues.push_reserved(due),
-            Noted::Left(left) => keep_first(&mut self.left, Some(left)),
+            Noted::Left(left) => note_left(&mut self.left, Some(left)),
         }
     }
 
@@ -74,7 +75,7 @@ impl<A: Allocator + Copy> AnswerBuilder<A> {
         ensures packets { result.answer.outs ≡ self.sent.items }
         ensures refusal { result.answer.refusal ≡ None }
         ensures happening { shown_happening result.happening ≡ happenings.ticked (shown_dues self.dues.items) }
-        ensures left { left_in result.happening ≡ self.left }
+        ensures left { left_in result.happening ≡ self.left.items }
     {
         let AnswerBuilder { sent, dues, left } = self;
         Turned {

@@ -97,13 +97,13 @@ impl<A: Allocator> Drop for LeftConversation<A> {
     }
 }
 
-/// Keeps the first conversation that was left: this one, where none was kept so far. Takes no memory.
-pub fn keep_first<A: Allocator>(
-    first: &mut Option<LeftConversation<A>>,
+/// Notes that a conversation was left, if one was. Where memory for that is wanting it isn't told.
+pub fn note_left<A: Allocator>(
+    left: &mut Vec<LeftConversation<A>, A>,
     more: Option<LeftConversation<A>>,
 ) {
-    if first.is_none() {
-        *first = more;
+    if let Some(more) = more {
+        let _is_told = left.push(more);
     }
 }
 
@@ -150,9 +150,9 @@ pub enum Happening<A: Allocator> {
         /// The request that waited for it.
         waited: Waited<A>,
     },
-    /// A shard's timer fired: what became of the requests that were due, in order; and the first conversation that was left,
-    /// if one was: for more a tick takes no memory.
-    Ticked(Vec<DueHappening<A>, A>, Option<LeftConversation<A>>),
+    /// A shard's timer fired: what became of the requests that were due, in order, and which conversations were left, of
+    /// which there was memory to tell.
+    Ticked(Vec<DueHappening<A>, A>, Vec<LeftConversation<A>, A>),
     /// The broker answered by itself, before a realm was asked.
     Local {
         /// The answer's code.

@@ -14,13 +14,13 @@ use roam_realm::RealmSettings;
 use std::alloc::Allocator;
 
 impl<'c, A: Allocator + Copy> Shard<'c, A> {
-    /// A realm's part of a tick at which only done entries are due: they go. The first conversation that is left is
-    /// kept. Takes no memory.
+    /// A realm's part of a tick at which only done entries are due: they go. Takes memory only
+    /// to tell of conversations that are left.
     pub(crate) fn let_one_go(
         &mut self,
         now: u64,
         realm: usize,
-        left: &mut Option<LeftConversation<A>>,
+        left: &mut Vec<LeftConversation<A>, A>,
     )
         requires there { realm < length self.old.states }
         requires moment { now ≤ 2 ^ 62 }
@@ -47,9 +47,9 @@ impl<'c, A: Allocator + Copy> Shard<'c, A> {
         one.let_go(now, left);
     }
 
-    /// A tick at which only done entries are due: they go, and nothing is sent. The first conversation that is left
-    /// is kept. Takes no memory.
-    pub(crate) fn let_go(&mut self, now: u64, left: &mut Option<LeftConversation<A>>)
+    /// A tick at which only done entries are due: they go, and nothing is sent. Takes memory
+    /// only to tell of conversations that are left.
+    pub(crate) fn let_go(&mut self, now: u64, left: &mut Vec<LeftConversation<A>, A>)
         requires moment { now ≤ 2 ^ 62 }
         requires done { only_done_from self.old.opening.config now self.old.opening.shard 0
             self.old.states ≡ true }

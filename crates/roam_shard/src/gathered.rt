@@ -8,7 +8,7 @@ ghost use Rattle.roam_core.specs.HappeningsTo.{dues_told};
 ghost use Rattle.roam_shard.specs.Private.Rooms.{HasPlaces};
 
 use crate::answers::append_reserved;
-use roam_exchange::{Answer, DueHappening, Happening, LeftConversation, Outs, Turned, keep_first};
+use roam_exchange::{Answer, DueHappening, Happening, LeftConversation, Outs, Turned};
 use roam_route::Out;
 use roam_wire::NoMemory;
 use std::alloc::Allocator;
@@ -17,8 +17,8 @@ use std::alloc::Allocator;
 pub(crate) struct Gathered<A: Allocator> {
     pub sent: Vec<Out<A>, A>,
     pub dues: Vec<DueHappening<A>, A>,
-    /// The first conversation that was left.
-    pub left: Option<LeftConversation<A>>,
+    /// The conversations that were left, of which there is memory to tell.
+    pub left: Vec<LeftConversation<A>, A>,
 }
 
 /// Appends what became of requests, for which there are places. Takes no memory.
@@ -29,6 +29,14 @@ fn append_dues<A: Allocator>(dues: &mut Vec<DueHappening<A>, A>, mut more: Vec<D
     ensures capacity { vec_capacity dues.old ≤ vec_capacity dues.new }
 {
     dues.append(&mut more).unwrap();
+}
+
+/// Appends which conversations were left. Where memory for that is wanting they aren't told.
+fn append_left<A: Allocator>(
+    left: &mut Vec<LeftConversation<A>, A>,
+    mut more: Vec<LeftConversation<A>, A>,
+) {
+    let _are_told = left.append(&mut more);
 }
 
 impl<A: Allocator + Copy> Gathered<A> {
@@ -43,7 +51,7 @@ impl<A: Allocator + Copy> Gathered<A> {
         Ok(Gathered {
             sent,
             dues,
-            left: None,
+            left: Vec::new(alloc),
         })
     }
 
@@ -55,12 +63,12 @@ impl<A: Allocator + Copy> Gathered<A> {
         Gathered {
             sent: Vec::new(alloc),
             dues: Vec::new(alloc),
-            left: None,
+            left: Vec::new(alloc),
         }
     }
 
-    /// Only this conversation that was left, if one was. Takes no memory.
-    pub(crate) fn only_left(alloc: A, left: Option<LeftConversation<A>>) -> Gathered<A>
+    /// Only these conversations that were left. Takes no memory.
+    pub(crate) fn only_left(alloc: A, left: Vec<LeftConversation<A>, A>) -> Gathered<A>
         ensures sent { result.sent.items ≡ [] }
         ensures dues { result.dues.items ≡ [] }
     {
@@ -71,7 +79,8 @@ impl<A: Allocator + Copy> Gathered<A> {
         }
     }
 
-    /// Appends the packets of a realm's tick, and what became of its requests. Takes no memory.
+    /// Appends the packets of a realm's tick, and what became of its requests. Takes memory only to tell of
+    /// conversations that were left.
     pub(crate) fn append(&mut self, turned: Turned<A>)
         requires sent { vec_len self.old.sent + length turned.answer.outs ≤ vec_capacity self.old.sent }
         requires dues { vec_len self.old.dues + dues_in turned.happening ≤ vec_capacity self.old.dues }
@@ -84,7 +93,7 @@ impl<A: Allocator + Copy> Gathered<A> {
         append_reserved(&mut self.sent, turned.answer.outs);
         if let Happening::Ticked(dues, left) = turned.happening {
             append_dues(&mut self.dues, dues);
-            keep_first(&mut self.left, left);
+            append_left(&mut self.left, left);
         }
     }
 

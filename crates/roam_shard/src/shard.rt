@@ -275,7 +275,7 @@ impl<'c, A: Allocator + Copy> Shard<'c, A> {
             return Ok(Gathered::none(self.alloc).into_turned());
         }
         if all_done(&self.entries, &self.numbers, now) {
-            let mut left = None;
+            let mut left = Vec::new(self.alloc);
             self.let_go(now, &mut left);
             return Ok(Gathered::only_left(self.alloc, left).into_turned());
         }

@@ -161,19 +161,24 @@ impl<H: HubCalls<N>, N: Opened> WorkerContext<'_, '_, H, N> {
         }
     }
 
-    /// Tells of the conversation that a tick found left, if it found one.
-    fn end_left(&mut self, left: &Option<LeftConversation<Global>>)
+    /// Tells of the conversations that a tick found left.
+    fn end_left(&mut self, left: &[LeftConversation<Global>])
         ensures kept { (self.new.seat ≡ self.old.seat) × (self.new.datagrams ≡ self.old.datagrams)
             × (self.new.now ≡ self.old.now)
             × (counts_in self.new.counting ≡ counts_in self.old.counting)
             × (self.new.outgoing ≡ self.old.outgoing) }
     {
-        if let Some(left) = left {
-            self.tell_waited(left.realm, &left.last, ExchangeEnd::Abandoned, &[]);
+        for conversation in left {
+            self.tell_waited(
+                conversation.realm,
+                &conversation.last,
+                ExchangeEnd::Abandoned,
+                &[],
+            );
         }
     }
 
-    /// Tells of the requests that a tick gave up, and of the conversation that it found left.
+    /// Tells of the requests that a tick gave up, and of the conversations that it found left.
     pub fn end_by_tick(&mut self, happening: &Happening<Global>)
         ensures kept { (self.new.seat ≡ self.old.seat) × (self.new.datagrams ≡ self.old.datagrams)
             × (self.new.now ≡ self.old.now)
@@ -183,7 +188,7 @@ impl<H: HubCalls<N>, N: Opened> WorkerContext<'_, '_, H, N> {
         let Happening::Ticked(dues, left) = happening else {
             return;
         };
-        self.end_left(left);
+        self.end_left(left.as_slice());
         for due in dues {
             if let Became::GivenUp { .. } = due.became {
                 self.tell_waited(due.realm, &due.waited, ExchangeEnd::GivenUp, &[]);

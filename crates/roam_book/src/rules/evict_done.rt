@@ -10,7 +10,7 @@ ghost use Rattle.roam_exchange.specs.Rooms.{done_or_gone, only_done_due};
 ghost use Rattle.roam_exchange.specs.Turn.{sends};
 
 use crate::realm_broker::RealmBroker;
-use roam_exchange::{LeftConversation, keep_first, left_with};
+use roam_exchange::{LeftConversation, left_with, note_left};
 use roam_pending::{Entries, Entry, Standing};
 use std::alloc::Allocator;
 
@@ -45,9 +45,9 @@ pub fn only_done_due<A: Allocator, E: Entries<A>>(entries: &E, realm: u16, now: 
 }
 
 impl<A: Allocator + Copy, E: Entries<A>> RealmBroker<'_, '_, '_, '_, A, E> {
-    /// Lets a done entry go: it holds no Identifier. Where its conversation is left with it, that is kept, if it is the
-    /// first.
-    fn let_one_go(&mut self, ticket: u64, left: &mut Option<LeftConversation<A>>)
+    /// Lets a done entry go: it holds no Identifier. That its conversation is left with it is noted, where there is
+    /// memory for that.
+    fn let_one_go(&mut self, ticket: u64, left: &mut Vec<LeftConversation<A>, A>)
         requires realm { IsRealm E.Entries self.old }
         requires done { done_or_gone (find_ticket ticket (entries E.Entries self.old)) ≡ true }
         ensures state { state E.Entries self.new ≡ with_entries (state E.Entries self.old)
@@ -55,12 +55,12 @@ impl<A: Allocator + Copy, E: Entries<A>> RealmBroker<'_, '_, '_, '_, A, E> {
         ensures keeps { Keeps E.Entries self.old self.new }
     {
         let gone = self.entries.remove(self.settings.index(), ticket);
-        keep_first(left, left_with(self.settings, gone));
+        note_left(left, left_with(self.settings, gone));
     }
 
-    /// A tick at a moment in milliseconds at which only done entries are due: they go, and nothing is sent. The
-    /// first conversation that is left is kept. Takes no memory.
-    pub fn let_go(&mut self, now: u64, left: &mut Option<LeftConversation<A>>)
+    /// A tick at a moment in milliseconds at which only done entries are due: they go, and nothing is sent. Takes
+    /// memory only to note conversations that are left.
+    pub fn let_go(&mut self, now: u64, left: &mut Vec<LeftConversation<A>, A>)
         requires realm { IsRealm E.Entries self.old }
         requires moment { now ≤ 2 ^ 62 }
         requires done { only_done_due now (entries E.Entries self.old) ≡ true }
