@@ -233,12 +233,13 @@ impl<'c, A: Allocator + Copy> Book<'c, A> {
         ensures realm { self.new.realm ≡ self.old.realm }
     {
         let settings = RealmSettings::new(self.config, self.realm);
+        let mut untold = Vec::new(self.numbers.alloc);
         let mut realm = RealmBroker {
             settings: &settings,
             entries: &mut self.entries,
             numbers: &mut self.numbers,
         };
-        realm.let_go(now);
+        realm.let_go(now, &mut untold);
     }
 
     /// Returns whether each entry that is due at a moment in milliseconds was answered. Takes no memory.

@@ -12,7 +12,7 @@ ghost use Rattle.roam_exchange.specs.Dues.{noted_of};
 ghost use Rattle.roam_exchange.specs.Memory.{AreDues, IsOuts};
 
 use crate::answer::{Answer, Turned, refused_turn};
-use crate::happening::{DueHappening, Happening, LeftConversation, Noted};
+use crate::happening::{DueHappening, Happening, LeftConversation, Noted, note_left};
 use crate::outs::Outs;
 use roam_route::Out;
 use roam_wire::{NoMemory, Refusal};
@@ -23,6 +23,7 @@ use std::alloc::Allocator;
 pub struct AnswerBuilder<A: Allocator> {
     pub sent: Vec<Out<A>, A>,
     pub dues: Vec<DueHappening<A>, A>,
+    /// The conversations that were left, of which there is memory to tell.
     pub left: Vec<LeftConversation<A>, A>,
 }
 
@@ -35,8 +36,11 @@ impl<A: Allocator + Copy> AnswerBuilder<A> {
     {
         let sent = Vec::with_capacity(alloc, places)?;
         let dues = Vec::with_capacity(alloc, places)?;
-        let left = Vec::with_capacity(alloc, places)?;
-        Ok(AnswerBuilder { sent, dues, left })
+        Ok(AnswerBuilder {
+            sent,
+            dues,
+            left: Vec::new(alloc),
+        })
     }
 
     /// One packet more, where there is a place for it. Takes no memory.
@@ -50,17 +54,8 @@ impl<A: Allocator + Copy> AnswerBuilder<A> {
         self.sent.push_reserved(out);
     }
 
-    /// Notes that a conversation was left, where there is a place for that. Takes no memory.
-    fn note_left(&mut self, left: LeftConversation<A>)
-        ensures dues { self.new.dues ≡ self.old.dues }
-        ensures outs { self.new.sent ≡ self.old.sent }
-    {
-        if self.left.len() < self.left.capacity() {
-            self.left.push_reserved(left);
-        }
-    }
-
-    /// What became of one entry more, if anything is noted of it, where there is a place for that. Takes no memory.
+    /// What became of one entry more, if anything is noted of it, where there is a place for that. Takes memory only to
+    /// tell of a conversation that was left.
     pub fn note(&mut self, noted: Noted<A>)
         requires place { vec_len self.old.dues < vec_capacity self.old.dues }
         ensures dues { (places : ℕ) (dues : List PlainDue) → AreDues (places + 1) dues self.old.dues
@@ -71,7 +66,7 @@ impl<A: Allocator + Copy> AnswerBuilder<A> {
         match noted {
             Noted::Nothing => {}
             Noted::Due(due) => self.dues.push_reserved(due),
-            Noted::Left(left) => self.note_left(left),
+            Noted::Left(left) => note_left(&mut self.left, Some(left)),
         }
     }
 

@@ -1,6 +1,6 @@
 //! What became of a request that was due and waited.
 
-ghost use Rattle.std.specs.Prelude.{◌≡◌, ◌+◌, [], Some, is_some, length, true};
+ghost use Rattle.std.specs.Prelude.{◌≡◌, ◌+◌, [], IfSome, Some, is_some, length, true};
 ghost use Rattle.roam_pending.specs.Shown.{shown, shown_request, shown_standing};
 ghost use Rattle.roam_pending.specs.declared.entry.Standing.TheVariants as standing;
 ghost use Rattle.roam_conf.specs.declared.exchange_lines.ExchangeLines.{ExchangeLines};
@@ -147,6 +147,39 @@ fn left_by<A: Allocator>(
     Noted::Left(LeftConversation {
         realm: settings.index(),
         last: answered_as(&entry.request, entry.ticket, done, link, octets),
+    })
+}
+
+/// Returns the conversation that was left with an entry, which is done and was taken out since its time is over, if it
+/// was: with the octets of its request, which nobody else has. Takes no memory.
+pub fn left_with<A: Allocator>(
+    settings: &RealmSettings<'_>,
+    gone: Option<Entry<A>>,
+) -> Option<LeftConversation<A>>
+    ensures { IfSome result (λ left. left.realm ≡ settings.now.index) }
+{
+    let Some(entry) = gone else {
+        return None;
+    };
+    if settings.hold() == 0 || !is_left(&entry) {
+        return None;
+    }
+    let Entry {
+        request,
+        ticket,
+        standing,
+    } = entry;
+    let Standing::Done(done) = standing else {
+        return None;
+    };
+    let Some(link) = done.from else {
+        return None;
+    };
+    let mut last = answered_as(&request, ticket, &done, link, None);
+    last.octets = Some(request.octets);
+    Some(LeftConversation {
+        realm: settings.index(),
+        last,
     })
 }
 

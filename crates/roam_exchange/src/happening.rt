@@ -97,6 +97,16 @@ impl<A: Allocator> Drop for LeftConversation<A> {
     }
 }
 
+/// Notes that a conversation was left, if one was. Where memory for that is wanting it isn't told.
+pub fn note_left<A: Allocator>(
+    left: &mut Vec<LeftConversation<A>, A>,
+    more: Option<LeftConversation<A>>,
+) {
+    if let Some(more) = more {
+        let _is_told = left.push(more);
+    }
+}
+
 /// What is noted of an entry that was due.
 #[derive(Drop)]
 pub enum Noted<A: Allocator> {
@@ -140,7 +150,8 @@ pub enum Happening<A: Allocator> {
         /// The request that waited for it.
         waited: Waited<A>,
     },
-    /// A shard's timer fired: what became of the requests that were due, in order, and which conversations were left.
+    /// A shard's timer fired: what became of the requests that were due, in order, and which conversations were left, of
+    /// which there was memory to tell.
     Ticked(Vec<DueHappening<A>, A>, Vec<LeftConversation<A>, A>),
     /// The broker answered by itself, before a realm was asked.
     Local {

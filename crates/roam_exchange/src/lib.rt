@@ -33,9 +33,9 @@ pub use answer::{Answer, Turned, answer_of, nothing, one_packet, refused, refuse
 pub use answer_builder::AnswerBuilder;
 pub use buffers::Buffers;
 pub use due_action::{DueAction, act_on_due};
-pub use due_happening::{code_in, happening_of};
+pub use due_happening::{code_in, happening_of, left_with};
 pub use forwarding::{Hop, RequestRef, packet_to_requester, send_new};
-pub use happening::{Became, DueHappening, Happening, LeftConversation, Noted, Waited};
+pub use happening::{Became, DueHappening, Happening, LeftConversation, Noted, Waited, note_left};
 pub use kept_request::waited_in;
 pub use outs::Outs;
 pub use reply_outcome::{ReplyOutcome, to_standing};

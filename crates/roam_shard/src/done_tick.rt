@@ -9,12 +9,19 @@ ghost use Rattle.roam_core.specs.ShardRooms.{only_done_from};
 
 use crate::shard::Shard;
 use roam_book::RealmBroker;
+use roam_exchange::LeftConversation;
 use roam_realm::RealmSettings;
 use std::alloc::Allocator;
 
 impl<'c, A: Allocator + Copy> Shard<'c, A> {
-    /// A realm's part of a tick at which only done entries are due: they go. Takes no memory.
-    pub(crate) fn let_one_go(&mut self, now: u64, realm: usize)
+    /// A realm's part of a tick at which only done entries are due: they go. Takes memory only
+    /// to tell of conversations that are left.
+    pub(crate) fn let_one_go(
+        &mut self,
+        now: u64,
+        realm: usize,
+        left: &mut Vec<LeftConversation<A>, A>,
+    )
         requires there { realm < length self.old.states }
         requires moment { now ≤ 2 ^ 62 }
         requires done { is_in_shard self.old.opening.config self.old.opening.shard realm ≡ true
@@ -37,11 +44,12 @@ impl<'c, A: Allocator + Copy> Shard<'c, A> {
             entries: &mut self.entries,
             numbers,
         };
-        one.let_go(now);
+        one.let_go(now, left);
     }
 
-    /// A tick at which only done entries are due: they go, and nothing is sent. Takes no memory.
-    pub(crate) fn let_go(&mut self, now: u64)
+    /// A tick at which only done entries are due: they go, and nothing is sent. Takes memory
+    /// only to tell of conversations that are left.
+    pub(crate) fn let_go(&mut self, now: u64, left: &mut Vec<LeftConversation<A>, A>)
         requires moment { now ≤ 2 ^ 62 }
         requires done { only_done_from self.old.opening.config now self.old.opening.shard 0
             self.old.states ≡ true }
@@ -52,7 +60,7 @@ impl<'c, A: Allocator + Copy> Shard<'c, A> {
         ensures opening { self.new.opening ≡ self.old.opening }
     {
         for realm in 0..self.numbers.len() {
-            self.let_one_go(now, realm);
+            self.let_one_go(now, realm, left);
         }
     }
 }

@@ -17,6 +17,7 @@ use std::alloc::Allocator;
 pub(crate) struct Gathered<A: Allocator> {
     pub sent: Vec<Out<A>, A>,
     pub dues: Vec<DueHappening<A>, A>,
+    /// The conversations that were left, of which there is memory to tell.
     pub left: Vec<LeftConversation<A>, A>,
 }
 
@@ -30,13 +31,12 @@ fn append_dues<A: Allocator>(dues: &mut Vec<DueHappening<A>, A>, mut more: Vec<D
     dues.append(&mut more).unwrap();
 }
 
-/// Appends which conversations were left. Where there are places for all of them it takes no memory; where there are
-/// not, and none is to be had, they aren't told.
+/// Appends which conversations were left. Where memory for that is wanting they aren't told.
 fn append_left<A: Allocator>(
     left: &mut Vec<LeftConversation<A>, A>,
     mut more: Vec<LeftConversation<A>, A>,
 ) {
-    let _told = left.append(&mut more);
+    let _are_told = left.append(&mut more);
 }
 
 impl<A: Allocator + Copy> Gathered<A> {
@@ -48,8 +48,11 @@ impl<A: Allocator + Copy> Gathered<A> {
     {
         let sent = Vec::with_capacity(alloc, most)?;
         let dues = Vec::with_capacity(alloc, most)?;
-        let left = Vec::with_capacity(alloc, most)?;
-        Ok(Gathered { sent, dues, left })
+        Ok(Gathered {
+            sent,
+            dues,
+            left: Vec::new(alloc),
+        })
     }
 
     /// None of either, and no places. Takes no memory.
@@ -64,7 +67,20 @@ impl<A: Allocator + Copy> Gathered<A> {
         }
     }
 
-    /// Appends the packets of a realm's tick, and what became of its requests. Takes no memory.
+    /// Only these conversations that were left. Takes no memory.
+    pub(crate) fn only_left(alloc: A, left: Vec<LeftConversation<A>, A>) -> Gathered<A>
+        ensures sent { result.sent.items ≡ [] }
+        ensures dues { result.dues.items ≡ [] }
+    {
+        Gathered {
+            sent: Vec::new(alloc),
+            dues: Vec::new(alloc),
+            left,
+        }
+    }
+
+    /// Appends the packets of a realm's tick, and what became of its requests. Takes memory only to tell of
+    /// conversations that were left.
     pub(crate) fn append(&mut self, turned: Turned<A>)
         requires sent { vec_len self.old.sent + length turned.answer.outs ≤ vec_capacity self.old.sent }
         requires dues { vec_len self.old.dues + dues_in turned.happening ≤ vec_capacity self.old.dues }

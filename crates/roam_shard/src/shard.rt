@@ -213,7 +213,7 @@ impl<'c, A: Allocator + Copy> Shard<'c, A> {
         ensures places { (n : ℕ) → HasPlaces (most_of room + n) gathered.old → HasPlaces n gathered.new }
     {
         let Some(room) = room else {
-            self.let_one_go(now, realm);
+            self.let_one_go(now, realm, &mut gathered.left);
             return;
         };
         let turned = self.tick_realm(now, realm, room);
@@ -275,8 +275,9 @@ impl<'c, A: Allocator + Copy> Shard<'c, A> {
             return Ok(Gathered::none(self.alloc).into_turned());
         }
         if all_done(&self.entries, &self.numbers, now) {
-            self.let_go(now);
-            return Ok(Gathered::none(self.alloc).into_turned());
+            let mut left = Vec::new(self.alloc);
+            self.let_go(now, &mut left);
+            return Ok(Gathered::only_left(self.alloc, left).into_turned());
         }
         let (entries, numbers) = (&self.entries, &self.numbers);
         let room = room_of_shard(self.alloc, &self.opening, entries, numbers, now, lines)?;

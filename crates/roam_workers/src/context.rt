@@ -1,6 +1,6 @@
 //! What a worker has: its seat at the hub, its packets on their way out, and its notices.
 
-ghost use Rattle.std.specs.Prelude.{◌≡◌, ◌≤◌, []};
+ghost use Rattle.std.specs.Prelude.{◌≡◌, []};
 ghost use Rattle.roam_counters.specs.OwnCounts.{raised_all};
 ghost use Rattle.roam_workers.specs.Remedies as remedies;
 ghost use Rattle.roam_exchange.specs.Turn.{shown_outs};
@@ -95,15 +95,13 @@ pub fn remedy_for(fault: HubFault, is_second: bool) -> Remedy
 }
 
 impl<H: HubCalls<N>, N: Opened> WorkerContext<'_, '_, H, N> {
-    /// Looks at the clock, and at the wall clock where Event-Timestamps are looked at. The thread's moment doesn't go
-    /// back.
+    /// Looks at the clock, and at the wall clock where Event-Timestamps are looked at.
     pub fn look_at_clock<R: Clock>(&mut self, rt: &R)
-        ensures rises { self.old.now ≤ self.new.now }
         ensures kept { (self.new.seat ≡ self.old.seat) × (counts_in self.new.counting ≡ counts_in self.old.counting)
             × (self.new.outgoing ≡ self.old.outgoing) }
     {
         self.now = now(rt, self.shared.start, self.now);
-        self.seconds = match self.shared.config.top.fresh {
+        self.seconds = match self.shared.config.fresh {
             Some(_) => wall_seconds(rt),
             None => None,
         };
@@ -169,7 +167,7 @@ impl<H: HubCalls<N>, N: Opened> WorkerContext<'_, '_, H, N> {
     {
         let shared = self.shared;
         let until = self.now.saturating_add(milliseconds);
-        for shard in 0..shared.config.top.shards {
+        for shard in 0..shared.config.shards {
             match shared.hub.is_due(rt, &mut self.seat, until, shard) {
                 Ok(false) => {}
                 _ => return false,
@@ -193,7 +191,7 @@ impl<H: HubCalls<N>, N: Opened> WorkerContext<'_, '_, H, N> {
         }
         self.outgoing.put_all(answered.answer.outs);
         self.shared.old_history.free_beside(answered.number);
-        if answered.octets > u64::from(self.shared.config.top.trace_octets) {
+        if answered.octets > u64::from(self.shared.config.trace_octets) {
             self.let_go(rt, answered.shard);
         }
     }

@@ -10,6 +10,7 @@ ghost use Rattle.roam_exchange.specs.Rooms.{done_or_gone, only_done_due};
 ghost use Rattle.roam_exchange.specs.Turn.{sends};
 
 use crate::realm_broker::RealmBroker;
+use roam_exchange::{LeftConversation, left_with, note_left};
 use roam_pending::{Entries, Entry, Standing};
 use std::alloc::Allocator;
 
@@ -44,20 +45,22 @@ pub fn only_done_due<A: Allocator, E: Entries<A>>(entries: &E, realm: u16, now: 
 }
 
 impl<A: Allocator + Copy, E: Entries<A>> RealmBroker<'_, '_, '_, '_, A, E> {
-    /// Lets a done entry go: it holds no Identifier.
-    fn let_one_go(&mut self, ticket: u64)
+    /// Lets a done entry go: it holds no Identifier. That its conversation is left with it is noted, where there is
+    /// memory for that.
+    fn let_one_go(&mut self, ticket: u64, left: &mut Vec<LeftConversation<A>, A>)
         requires realm { IsRealm E.Entries self.old }
         requires done { done_or_gone (find_ticket ticket (entries E.Entries self.old)) ≡ true }
         ensures state { state E.Entries self.new ≡ with_entries (state E.Entries self.old)
             (without ticket (entries E.Entries self.old)) }
         ensures keeps { Keeps E.Entries self.old self.new }
     {
-        let _gone = self.entries.remove(self.settings.index(), ticket);
+        let gone = self.entries.remove(self.settings.index(), ticket);
+        note_left(left, left_with(self.settings, gone));
     }
 
-    /// A tick at a moment in milliseconds at which only done entries are due: they go, and nothing is
-    /// sent. Takes no memory.
-    pub fn let_go(&mut self, now: u64)
+    /// A tick at a moment in milliseconds at which only done entries are due: they go, and nothing is sent. Takes
+    /// memory only to note conversations that are left.
+    pub fn let_go(&mut self, now: u64, left: &mut Vec<LeftConversation<A>, A>)
         requires realm { IsRealm E.Entries self.old }
         requires moment { now ≤ 2 ^ 62 }
         requires done { only_done_due now (entries E.Entries self.old) ≡ true }
@@ -66,7 +69,7 @@ impl<A: Allocator + Copy, E: Entries<A>> RealmBroker<'_, '_, '_, '_, A, E> {
         ensures keeps { Keeps E.Entries self.old self.new }
     {
         while let Some(due) = self.entries.due_after(self.settings.index(), now, None) {
-            self.let_one_go(due.ticket);
+            self.let_one_go(due.ticket, left);
         }
     }
 }

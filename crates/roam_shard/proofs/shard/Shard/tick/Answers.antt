@@ -103,7 +103,7 @@ returns-then-all_done-clause-turn g c =
     let gone = c.let_go.ensures in
     let sent : shown_outs c.into_turned-then-all_done.result.answer.outs ≡ [] =
     ap shown_outs c.into_turned-then-all_done.ensures.sent
-    ∙ ap (λ l. shown_outs l) c.none-then-all_done.ensures.sent in
+    ∙ ap (λ l. shown_outs l) c.only_left.ensures.sent in
     let own = subst (λ ns. HaveNumbers (shown_opening c.self.inside.opening) ns) (sym c.deref-2.ensures.value)
     c.self.invariant.own in
     let done = sym (c.all_done.ensures (shown_opening c.self.inside.opening) own
@@ -112,9 +112,9 @@ returns-then-all_done-clause-turn g c =
     (states_in (shown_opening c.self.inside.opening) c.self.inside.entries ns)) c.deref-2.ensures.value
     ∙ ap (λ (v : ShardView).
     only_done_from v.opening.config c.args.now v.opening.shard 0 v.states) c.self.view_is) ∙ c.if-all_done.true in
-    let dues : shown_dues c.none-then-all_done.result.dues.items ≡ dues_from c.args.lines o.config c.args.now o.shard 0
+    let dues : shown_dues c.only_left.result.dues.items ≡ dues_from c.args.lines o.config c.args.now o.shard 0
     states =
-    ap (λ l. shown_dues l) c.none-then-all_done.ensures.dues
+    ap (λ l. shown_dues l) c.only_left.ensures.dues
     ∙ sym (quiet_from c.args.lines o.config c.args.now o.shard 0 states done) in
     record {
       answer = ticked c.into_turned-then-all_done.result.answer o.config states c.let_go.new.self.states c.args.now
