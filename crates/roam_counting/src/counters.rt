@@ -46,12 +46,12 @@ impl Counters {
         config: &Config,
     ) -> Result<Counters, AllocError> {
         let mut threads = Vec::new(alloc);
-        for _ in 0..config.shards + 1 {
+        for _ in 0..config.top.shards + 1 {
             threads.push(Sheet::new(alloc, before, config)?)?;
         }
         Ok(Counters {
             threads,
-            history: zeros(alloc, usize::from(config.shards))?,
+            history: zeros(alloc, usize::from(config.top.shards))?,
         })
     }
 
