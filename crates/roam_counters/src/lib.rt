@@ -8,9 +8,8 @@
 //! - which counts rise by what happened, of whom and by how much: by a packet for a realm, by what became of each request
 //!   in a tick, by an answer of the broker's own, by an arrival and a refusal, by what a change of the configuration drops |
 //!   `job_increments`, `due_increments`, `left_increments`, `dropped_increments`, `local_increments`, `arrival_increments`, `failed_increments`, `refused_increments`, `refused_here_increments`
-//! - each datagram that was received, and each job that was taken over from another worker, is one that was taken,
-//!   answered, refused or dropped, one that failed, or one whose job was handed on: so many together, also of several
-//!   threads | `Datagrams`: `balanced`; `Datagrams::after`, `and`
+//! - each datagram that was received is one that was taken, answered, refused or dropped, or one that failed: so many
+//!   together as were received, also of several threads | `Datagrams`: `balanced`; `Datagrams::after`, `and`
 //! - two counts stand at one place of one list only where they are one: of the same realm, home server or peer and of
 //!   the same event | law `cells_are_apart`; `Subject::holder`, `cell`, `Holder::cells`, `Process::cell`
 //! - each count of a thread's own is the sum of the increments of its event and its subject that the thread was told,
