@@ -101,7 +101,7 @@ impl<H: HubCalls<N>, N: Opened> WorkerContext<'_, '_, H, N> {
             × (self.new.outgoing ≡ self.old.outgoing) }
     {
         self.now = now(rt, self.shared.start, self.now);
-        self.seconds = match self.shared.config.fresh {
+        self.seconds = match self.shared.config.top.fresh {
             Some(_) => wall_seconds(rt),
             None => None,
         };
@@ -167,7 +167,7 @@ impl<H: HubCalls<N>, N: Opened> WorkerContext<'_, '_, H, N> {
     {
         let shared = self.shared;
         let until = self.now.saturating_add(milliseconds);
-        for shard in 0..shared.config.shards {
+        for shard in 0..shared.config.top.shards {
             match shared.hub.is_due(rt, &mut self.seat, until, shard) {
                 Ok(false) => {}
                 _ => return false,
@@ -191,7 +191,7 @@ impl<H: HubCalls<N>, N: Opened> WorkerContext<'_, '_, H, N> {
         }
         self.outgoing.put_all(answered.answer.outs);
         self.shared.old_history.free_beside(answered.number);
-        if answered.octets > u64::from(self.shared.config.trace_octets) {
+        if answered.octets > u64::from(self.shared.config.top.trace_octets) {
             self.let_go(rt, answered.shard);
         }
     }
