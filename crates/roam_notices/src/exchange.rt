@@ -42,6 +42,29 @@ pub enum Silence {
     Stopped,
 }
 
+/// Returns how the home server of an exchange that was given up is silent.
+pub(crate) fn silence_words(silence: Option<Silence>) -> &'static str
+    ensures { result.now ≡ spec.silence_text silence }
+{
+    match silence {
+        Some(Silence::Never) => " why=never_answered",
+        Some(Silence::Stopped) => " why=stopped_answering",
+        None => "",
+    }
+}
+
+/// Returns what is usually wrong where a home server is silent so.
+pub(crate) fn advice_words(silence: Option<Silence>) -> &'static str
+    ensures { result.now ≡ spec.advice_text silence }
+{
+    match silence {
+        Some(Silence::Never) => {
+            " hint=\"wrong secret on either side, wrong port, or this proxy is not a client there\""
+        }
+        Some(Silence::Stopped) | None => "",
+    }
+}
+
 /// A request's code, as a line names it.
 #[derive(Clone, Copy, PartialEq, Eq)]
 pub enum RequestWord {

@@ -9,7 +9,7 @@ ghost use Rattle.roam_notices.specs.Values.{digit, is_plain, quoted_octet, quote
 
 use crate::details::push_details;
 use crate::error_cause::push_error_cause;
-use crate::exchange::{Exchange, ExchangeEnd, RequestWord, Silence};
+use crate::exchange::{Exchange, ExchangeEnd, RequestWord, advice_words, silence_words};
 use crate::server_text::push_server;
 use crate::station_text::push_station;
 use itoa::Buffer;
@@ -197,29 +197,6 @@ fn push_why(line: &mut Vec<u8>, why: Option<RejectCause>) -> Result<(), AllocErr
     };
     push(line, b" why=")?;
     push(line, cause_word(cause).as_bytes())
-}
-
-/// Returns how the home server of an exchange that was given up is silent.
-fn silence_words(silence: Option<Silence>) -> &'static str
-    ensures { result.now ≡ spec.silence_text silence }
-{
-    match silence {
-        Some(Silence::Never) => " why=never_answered",
-        Some(Silence::Stopped) => " why=stopped_answering",
-        None => "",
-    }
-}
-
-/// Returns what is usually wrong where a home server is silent so.
-fn advice_words(silence: Option<Silence>) -> &'static str
-    ensures { result.now ≡ spec.advice_text silence }
-{
-    match silence {
-        Some(Silence::Never) => {
-            " hint=\"wrong secret on either side, wrong port, or this proxy is not a client there\""
-        }
-        Some(Silence::Stopped) | None => "",
-    }
 }
 
 /// Adds how many they were, where it was not one.

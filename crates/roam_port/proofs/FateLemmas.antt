@@ -39,7 +39,8 @@ module _ {A : Type 0} where
   account-both a [] g = refl
   account-both a (x ∷ f) g = account-both (account_one a x) f g
 
-  pub each-both : (f g : List (Fate A)) → AllByRecursion IsFate f → AllByRecursion IsFate g → AllByRecursion IsFate (f ++ g)
+  pub each-both : (f g : List (Fate A)) → AllByRecursion IsFate f → AllByRecursion IsFate g
+      → AllByRecursion IsFate (f ++ g)
   each-both [] g first second = second
   each-both (x ∷ f) g first second = (first.0, each-both f g first.1 second)
 
