@@ -134,7 +134,7 @@ def try_counts(server, stops):
         want(server.count('roam_server_abandoned_total', realm=name) == stops, f'{name}: and of its home server')
     of_peers = [server.count('roam_peer_abandoned_total', peer=it) for it in ('nas1', 'nas2')]
     want(of_peers == [2 * stops - 2, 2], f'of the peers {of_peers}')
-    status = server.ctl('status').stdout.splitlines()
+    status = [line.strip() for line in server.ctl('status').stdout.splitlines()]
     heads = next(line for line in status if line.startswith('REALM '))
     rows = [re.split(r'  +', line) for line in status if line.startswith(REALMS)]
     column = re.split(r'  +', heads).index('ABANDONED')
