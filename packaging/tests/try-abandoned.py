@@ -140,7 +140,7 @@ def try_counts(server, stops):
     column = re.split(r'  +', heads).index('ABANDONED')
     want([row[column] for row in rows] == [str(stops)] * 2, '`ctl status` has them')
     text = json.loads(server.ctl('status', '--json').stdout)
-    want([it['abandoned'] for it in text['realms']] == [stops] * 2, 'and so has its JSON')
+    want([it['abandoned'] for it in text['realms']] == [stops] * 2 + [0], 'and so has its JSON')
     problems = server.ctl('status', '--problems').stdout
     want(all(name in problems for name in REALMS), '`--problems` names both realms')
 
