@@ -63,7 +63,7 @@ impl Subject {
     /// Returns where its events begin there.
     pub fn first_cell(self) -> usize
         ensures value { result ≡ spec.first_cell self }
-        ensures small { result ≤ 26214 }
+        ensures small { result ≤ 26471 }
     {
         match self {
             Subject::All => PROCESSES,

@@ -20,8 +20,8 @@ returns-in-Some-clause-err c =
     inr (first_fault c.args.text.now (table_view c.in_ok-table.table) config c.in-Some.fault reads is)
 
 -- A configuration without duplicates has no fault.
-pub returns-clause-faultless : goal.returns-clause-faultless
-returns-clause-faultless c =
+pub returns-in_ok-new-in-None-clause-faultless : goal.returns-in_ok-new-in-None-clause-faultless
+returns-in_ok-new-in-None-clause-faultless c =
     let config = shown_parts c.in_ok-parts.parts in
     let reads : Reads c.args.text.now (table_view c.in_ok-table.table) config =
     record {

@@ -9,8 +9,8 @@ use Rattle.roam_conf_reader.proofs.RangeLemmas.{optional_number_at}
 use Rattle.roam_conf_reader.proofs.stated.top_text.Goals as goal
 
 -- each is in its range
-pub invariant_of-top : goal.invariant_of-top
-invariant_of-top c =
+pub invariant_of-result : goal.invariant_of-result
+invariant_of-result c =
     let members = table_view c.args.table.now in
     record {
       shards_range = c.in_ok-number_or.ensures.bounds;

@@ -55,7 +55,11 @@ returns-in_default-clause-states g c =
 
 pub returns-in_default-clause-places : goal.returns-in_default-clause-places
 returns-in_default-clause-places g c = λ n has.
-    fewer_places (most_of c.args.room + n) n c.args.gathered.now (omega arith) has
+    let fewer = fewer_places (most_of c.args.room + n) n c.args.gathered.now (omega arith) has in
+    record {
+      sent = fewer.sent;
+      dues = fewer.dues;
+    }
 
 -- with one it takes part
 pub tick_realm-turned-requires-clause-own : goal.tick_realm-turned-requires-clause-own
