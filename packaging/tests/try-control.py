@@ -134,7 +134,7 @@ def try_status(server, sent):
     want(answer.returncode == 0 and 'realms 4 peers 1 shards 2' in answer.stdout, 'status as text')
     rows = [line.split() for line in answer.stdout.splitlines()]
     heads, realm = ([row for row in rows if row[:1] == [word]][0] for word in ('REALM', 'a.example'))
-    want(heads[4:7] == ['REQUESTS', 'FORWARDED', 'RETURNED'] and realm[1:4] == ['0', 'of', '4096'] and realm[5:] == ['0', 'of', '100'] + [str(sent)] * 3 + ['0'] * 3,
+    want(heads[4:7] == ['REQUESTS', 'FORWARDED', 'RETURNED'] and realm[1:4] == ['0', 'of', '4096'] and realm[5:] == ['0', 'of', '100'] + [str(sent)] * 3 + ['0'] * 4,
          f'of a realm {sent} requests that came, were forwarded and returned')
     want(len({len(line) for line in answer.stdout.splitlines() if line.startswith('  ') and '.example' in line and '127' not in line}) == 1, 'in columns')
     auth, acct = ([row for row in rows if row[:3] == [word, f'{HERE}:{HOME + more}', 'a.example']][0] for word, more in (('auth', 0), ('acct', 10)))
