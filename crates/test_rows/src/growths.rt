@@ -1,6 +1,7 @@
 //! Growths of events refused in turn: the call answers want of memory, and then all is as if it had never been made.
 
 use roam_conf::Config;
+use roam_core::Event;
 use roam_exchange::Answer;
 use std::mem::swap;
 use test_playing::{Over, Player, Playing, Row, Step, WANTING};
@@ -19,9 +20,18 @@ fn plays_probes<'r>(
     }
 }
 
+/// Returns whether an event was answered though a growth was refused: a tick takes memory to tell of a login that stopped,
+/// and does without.
+pub(crate) fn does_without<'r>(player: &Player<'_, 'r>, step: &Step<Over<'r>>) -> bool {
+    match step.event {
+        Event::Tick { .. } => player.got.as_slice() != WANTING.as_bytes(),
+        Event::Arrive { .. } => false,
+    }
+}
+
 /// Gives an event to a broker, and its `n`-th growth is refused: want of memory is answered, and then the
-/// probes are answered as the row says. Whether there is such a growth; where there is none, the event was
-/// answered.
+/// probes are answered as the row says. Whether there is such a growth without which the event isn't answered; where
+/// there is none, the event was answered.
 fn refuses<'r>(
     player: &mut Player<'_, 'r>,
     row: &Row<Over<'r>>,
@@ -33,12 +43,16 @@ fn refuses<'r>(
     player.give(broker, step);
     let was_refused = player.over.was_refused();
     player.over.refuse_nth(0);
-    if was_refused {
-        player.tally.count_growth();
-        player.is_answer(step.line, "a growth refused", WANTING.as_bytes());
-        plays_probes(player, row, broker, step.place);
+    if !was_refused {
+        return false;
     }
-    was_refused
+    player.tally.count_growth();
+    if does_without(player, step) {
+        return false;
+    }
+    player.is_answer(step.line, "a growth refused", WANTING.as_bytes());
+    plays_probes(player, row, broker, step.place);
+    true
 }
 
 /// Gives an event to a broker, where each of its growths is refused in turn before it is answered.

@@ -7,6 +7,7 @@ ghost use Rattle.roam_shard.specs.ShardView.{AreStarts};
 ghost use Rattle.roam_calls.specs.HubOpening.{fresh_opening};
 ghost use Rattle.roam_calls.specs.Books.{books_of, count_of};
 
+use crate::growths::does_without;
 use roam_conf::Config;
 use roam_hub::{Blanks, Hub, Opened, Receipt, Report, Seat};
 use roam_realm::Start;
@@ -81,7 +82,8 @@ fn is_called<'r, N: Opened, R: Wait>(
 }
 
 /// Gives an event to a hub, and its `n`-th growth is refused: want of memory is answered, and then the probes are
-/// answered as the row says. Whether there is such a growth; where there is none, the event was answered.
+/// answered as the row says. Whether there is such a growth without which the event isn't answered; where there is none,
+/// the event was answered.
 fn is_call_refused<'r, N: Opened, R: Wait>(
     player: &mut Player<'_, 'r>,
     rt: &R,
@@ -94,22 +96,26 @@ fn is_call_refused<'r, N: Opened, R: Wait>(
     calls(player, rt, caller, step, "hub");
     let was_refused = player.over.was_refused();
     player.over.refuse_nth(0);
-    if was_refused {
-        player.tally.count_growth();
-        player.is_answer(step.line, "hub, a growth refused", WANTING.as_bytes());
-        for probe in row.probes.iter() {
-            if probe.place == step.place {
-                is_called(
-                    player,
-                    rt,
-                    caller,
-                    probe,
-                    "hub, probe after a growth refused",
-                );
-            }
+    if !was_refused {
+        return false;
+    }
+    player.tally.count_growth();
+    if does_without(player, step) {
+        return false;
+    }
+    player.is_answer(step.line, "hub, a growth refused", WANTING.as_bytes());
+    for probe in row.probes.iter() {
+        if probe.place == step.place {
+            is_called(
+                player,
+                rt,
+                caller,
+                probe,
+                "hub, probe after a growth refused",
+            );
         }
     }
-    was_refused
+    true
 }
 
 /// Gives an event to a hub, where each of its growths is refused in turn before it is answered. Whether it is

@@ -19,16 +19,23 @@ fn others_of(losses: &[Vec<u8>], place: usize) -> &[u8] {
     }
 }
 
-/// Notes whether a call wanted memory: it does just where a growth was refused. Whether one was.
-fn is_refused<'r>(player: &mut Player<'_, 'r>, line: usize, how: &str, is_wanting: bool) -> bool {
+/// Notes whether a growth was refused, and counts it.
+fn was_refused(player: &mut Player<'_, '_>) -> bool {
     let was_refused = player.over.was_refused();
     player.over.refuse_nth(0);
     if was_refused {
         player.tally.count_growth();
     }
-    if is_wanting != was_refused {
-        let wanted = "want of memory just where a growth is refused";
-        player.tell(line, how, wanted, "another answer");
+    was_refused
+}
+
+/// Notes whether a run wanted memory: it does only where a growth was refused. Where one was and it doesn't, a tick did
+/// without what it tells of a login that stopped. Whether one was.
+fn is_refused<'r>(player: &mut Player<'_, 'r>, line: usize, how: &str, is_wanting: bool) -> bool {
+    let was_refused = was_refused(player);
+    if is_wanting && !was_refused {
+        let wanted = "want of memory only where a growth is refused";
+        player.tell(line, how, wanted, "it without");
     }
     was_refused
 }
@@ -38,7 +45,12 @@ pub(crate) fn opens_refused<'r>(player: &mut Player<'_, 'r>, row: &Row<Over<'r>>
     for n in 1..u64::MAX {
         player.over.refuse_nth(n);
         let is_wanting = Playing::new(player.over, config, player.kept).is_err();
-        if !is_refused(player, row.line, "a fresh broker", is_wanting) {
+        let was_refused = was_refused(player);
+        if is_wanting != was_refused {
+            let wanted = "want of memory just where a growth is refused";
+            player.tell(row.line, "a fresh broker", wanted, "another answer");
+        }
+        if !was_refused {
             return;
         }
     }
@@ -170,7 +182,11 @@ fn simulates_refused<'r>(
         if !is_refused(player, row.line, "simulate", is_wanting) {
             return;
         }
-        is_cut_short(player, row, losses);
+        if is_wanting {
+            is_cut_short(player, row, losses);
+        } else {
+            player.is_answer(row.line, "simulate", row.packets.as_bytes());
+        }
     }
 }
 
