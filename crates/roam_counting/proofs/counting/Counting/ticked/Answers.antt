@@ -13,5 +13,5 @@ returns-in-Ticked c =
     let dues = c.dues.ensures ∙ ap (λ l. raised_all before (dues_counted (shown_dues l))) c.as_slice.ensures.value in
     let left = c.left.ensures ∙ ap (λ l. raised_all between (left_counted l)) c.as_slice-in-Ticked.ensures.value in
     let both = counted-both before between (counts_in c.left.new.self)
-        (dues_counted (shown_dues c.in-Ticked.dues.items)) (left_counted c.in-Ticked.left.items) dues left in
+    (dues_counted (shown_dues c.in-Ticked.dues.items)) (left_counted c.in-Ticked.left.items) dues left in
     rw c.in-Ticked.is both
