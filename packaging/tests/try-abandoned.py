@@ -10,7 +10,8 @@ Access-Challenge has a State that the next Access-Request gives back. It fails u
    neither;
 3. one that stops and begins anew is told as stopped once, and so is one of two peers whose Challenges have one State;
 4. one State that is sent twice, with two Identifiers, is no stop where the second goes on;
-5. the metrics, `ctl status`, its JSON and `--problems` count the stops;
+5. the metrics, `ctl status` and its JSON count the stops, and `--problems` names the realm until a hundred times as many replies were
+   returned;
 6. a realm that holds no replies tells of none.
 
 It needs no root, and takes four seconds.
@@ -143,6 +144,10 @@ def try_counts(server, stops):
     want([it['abandoned'] for it in text['realms']] == [stops] * 2 + [0], 'and so has its JSON')
     problems = server.ctl('status', '--problems').stdout
     want(all(name in problems for name in REALMS), '`--problems` names both realms')
+    codes = [Login(f'done1-{number}@{REALMS[0]}').sends() for number in range(490)]
+    problems = server.ctl('status', '--problems').stdout
+    want(codes == [ACCEPT] * 490 and [name in problems for name in REALMS] == [False, True],
+         '`--problems` names one no more where a hundred times as many replies were returned')
 
 
 def main(program):

@@ -4,8 +4,9 @@
 # Has a real Prometheus ask a running broker for its counts. It needs promtool and prometheus (Debian: prometheus) and
 # curl. PROGRAM serves a configuration on loopback, whose metrics are at 127.0.0.1:19813.
 #
-# It fails unless the page says which program serves and since when, promtool finds no fault in the page and in roam.rules.yml, Prometheus scrapes the broker and has its
-# counts, and goes on to while others open a thousand connections, send an octet a second, or ten megabytes of header.
+# It fails unless the page says which program serves and since when, promtool finds no fault in the page and in
+# roam.rules.yml, whose alerts are those of roam.rules.test.yml, Prometheus scrapes the broker and has its counts, and
+# goes on to while others open a thousand connections, send an octet a second, or ten megabytes of header.
 set -euo pipefail
 
 if [ $# -ne 1 ] || [ ! -x "$1" ]; then
@@ -62,6 +63,7 @@ scrape_configs:
 YML
 
 promtool check rules "$here/../installed/roam.rules.yml"
+promtool test rules "$here/roam.rules.test.yml"
 promtool check config "$work/prometheus.yml"
 "$program" serve "$work/roam.conf" 120000 2> "$work/roam.log" &
 jobs+=($!)

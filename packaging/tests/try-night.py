@@ -264,6 +264,12 @@ def dies(night):
     three(night)
 
 
+def stops(night):
+    """A login whose device sends nothing behind the first Access-Challenge, until that isn't held any more."""
+    want(night.logs_in("User-Password =", EAP) == "Access-Challenge", "a login gets an Access-Challenge")
+    time.sleep(1)
+
+
 def loses_one(night):
     """A login whose first packet is answered late."""
     login = threading.Thread(target=night.logs_in, kwargs={"waits": 3})
@@ -447,8 +453,8 @@ PLAYS = {
     ],
     "Some devices": [
         ("result=accept", [], lambda night: night.logs_in()),
-        ("result=challenge", [], lambda night: night.logs_in("User-Password =", EAP)),
-        ("nothing", [('"all"', '"final"')], lambda night: night.logs_in("User-Password =", EAP)),
+        ("result=abandoned", [of_realm("hold = 1000")], stops),
+        ("result=abandoned", [of_realm("hold = 1000"), ('"all"', '"final"')], stops),
         ("MissingMessageAuthenticator", [("require_seal = true\n", "")], lambda night: night.logs_in("User-Password =", "Message-Authenticator =", EAP)),
         ("TooManyAttributes", [at_top("max_attributes = 3")], lambda night: night.logs_in()),
         ("unknown_realm", [], lambda night: night.logs_in('User-Name = "u@wlan.mnc001.mcc001.3gppnetwork.org"')),

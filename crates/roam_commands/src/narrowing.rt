@@ -3,6 +3,7 @@
 //! A table begins with the heads of its columns, by which cells are found. At least two blanks stand between cells, and
 //! an empty line between tables.
 
+use roam_conf::decimal;
 use roam_words::{ControlOrder, shown};
 use std::alloc::{AllocError, Global};
 use std::str;
@@ -104,12 +105,17 @@ fn is_refused_peer(heads: &str, row: &str) -> bool {
         && under(heads, "REFUSED", row) != Some("0")
 }
 
-/// Returns whether the row is of a realm where logins stopped midway.
-fn has_abandoned(heads: &str, row: &str) -> bool {
-    match under(heads, "ABANDONED", row) {
-        Some(count) => count != "0",
-        None => false,
+/// Returns the count that a row has under a head, 0 where it has none.
+fn count_under(heads: &str, head: &str, row: &str) -> u64 {
+    match under(heads, head, row) {
+        Some(count) => decimal(count, 0, u64::MAX).unwrap_or(0),
+        None => 0,
     }
+}
+
+/// Returns whether the row is of a realm where logins stopped midway behind more than one reply of a hundred.
+fn has_abandoned(heads: &str, row: &str) -> bool {
+    count_under(heads, "ABANDONED", row) > count_under(heads, "RETURNED", row) / 100
 }
 
 /// Returns the rank of a row in which something is wrong, from 0 for the worst.
