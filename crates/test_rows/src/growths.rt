@@ -20,8 +20,8 @@ fn plays_probes<'r>(
     }
 }
 
-/// Returns whether an event was answered though a growth was refused: a tick takes memory to tell of a login that stopped,
-/// and does without.
+/// Returns whether an event was answered though a growth was refused: a tick takes memory to tell of a login that
+/// stopped, and does without.
 pub(crate) fn does_without<'r>(player: &Player<'_, 'r>, step: &Step<Over<'r>>) -> bool {
     match step.event {
         Event::Tick { .. } => player.got.as_slice() != WANTING.as_bytes(),

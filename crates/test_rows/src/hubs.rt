@@ -82,8 +82,8 @@ fn is_called<'r, N: Opened, R: Wait>(
 }
 
 /// Gives an event to a hub, and its `n`-th growth is refused: want of memory is answered, and then the probes are
-/// answered as the row says. Whether there is such a growth without which the event isn't answered; where there is none,
-/// the event was answered.
+/// answered as the row says. Whether there is such a growth without which the event isn't answered; where there is
+/// none, the event was answered.
 fn is_call_refused<'r, N: Opened, R: Wait>(
     player: &mut Player<'_, 'r>,
     rt: &R,
