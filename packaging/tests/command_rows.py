@@ -19,17 +19,18 @@ usage: roam check CONF
 # Words that ask for nothing, though a command begins with the first one.
 NO_COMMANDS = [
     [], ["check"], ["check", "a", "b", "c"], ["check", "--all"], ["check", "--all", "a", "b"], ["sim"], ["sim", "a"],
-    ["sim", "a", "b", "c"], ["serve"], ["serve", "a", ""], ["serve", "a", "0"], ["serve", "a", "00"], ["serve", "a", "01"],
-    ["serve", "a", "86400001"], ["serve", "a", "18446744073709551617"], ["serve", "a", "+5"], ["serve", "a", "-5"],
-    ["serve", "a", "5 "], ["serve", "a", "5ms"], ["serve", "a", "5", "5"], ["serve", "--seed-of-file"],
-    ["serve", "a", "--seed-of-file"], ["serve", "--seed-of-file", "a", "0"], ["serve", "--seed-of-file", "a", "5", "5"],
-    ["serve", "--seed-of-files", "a"], ["check", "--seed-of-file", "a", "b"], ["sim", "--seed-of-file", "a", "b"], ["ctl"], ["ctl", "a"],
+    ["sim", "a", "b", "c"], ["serve"], ["serve", "a", "5", "5"], ["serve", "--seed-of-file"], ["serve", "--seed-of-file", "a", "5", "5"],
+    ["check", "--seed-of-file", "a", "b"], ["sim", "--seed-of-file", "a", "b"], ["ctl"], ["ctl", "a"],
     ["ctl", "a", "status", "--jsn"], ["ctl", "a", "status", "--json", "--watch"], ["ctl", "a", "metrics", "--json"],
     ["ctl", "a", "trace"], ["ctl", "a", "trace", "x"], ["ctl", "a", "trace", "65536"], ["ctl", "status", "--problem"],
     ["ctl", "a", "stop", "0"], ["ctl", "a", "reload", "0"], ["ctl", "a", "reload", "--lose", "0"],
     ["ctl", "reload", "a"], ["ctl", "trace"], ["ctl", "trace", "x"], ["ctl", "stop", "status"], ["ctl", "status", "status", "--json"],
     ["ctl", "status", "a", "b"], ["help", "a"], ["--version", "a"],
 ]
+
+# Words of which the last stands where milliseconds stand, and is no number of them.
+UNTIMED_WORDS = [["serve", "a", it] for it in ("", "0", "00", "01", "86400001", "18446744073709551617", "+5", "-5", "5 ", "5ms", "5s",
+                                                "--seed-of-file")] + [["serve", "--seed-of-file", "a", "0"], ["serve", "--seed-of-files", "a"]]
 
 # Words with whose first one no command begins.
 UNKNOWN_WORDS = [

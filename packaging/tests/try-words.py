@@ -40,6 +40,8 @@ def look_at_words(trial):
     """Other words than those of a command give the usage."""
     for words in rows.NO_COMMANDS:
         trial.ends(words, 2, "", rows.USAGE)
+    for words in rows.UNTIMED_WORDS:
+        trial.ends(words, 2, "", f"roam: {words[-1]}: no number of milliseconds from 1 to 86400000\n{rows.USAGE}")
     for words in rows.UNKNOWN_WORDS:
         trial.ends(words, 2, "", f"roam: {words[0]}: no such command\n{rows.USAGE}")
     for word in ("help", "--help", "-h"):

@@ -123,7 +123,8 @@ def lost_texts() -> list[str]:
     code = (ROOT / "crates" / "roam_words" / "src" / "fault_text.rt").read_text(encoding="utf-8")
     stands_for = {"number": "N", "wanted": "N", "seconds": "S", "endpoint": "ENDPOINT", "fault": "NAME", "why": "WHY", "what": "WHAT"}
     # What begins with a colon stands behind a path, or behind the first word.
-    code = re.sub(r'"(: [^"]*")', r'"roam: PATH\1', code).replace("PATH: no such command", "WORD: no such command")
+    code = re.sub(r'"(: [^"]*")', r'"roam: PATH\1', code)
+    code = re.sub(r"PATH: (no such command|no number of)", r"WORD: \1", code)
     texts = {re.sub(r"\{(\w+)\}", lambda it: stands_for.get(it.group(1), "REASON"), it).replace("error REASON", "REASON")
              for it in re.findall(r'"(roam: [^"]*?)(?:\\n)?"', code)} | COMPOSED
     page = (ROOT / "docs" / "REFUSALS.md").read_text(encoding="utf-8")

@@ -17,6 +17,7 @@ pub first_fails : (a b : TextFile) (out : Option (List ℕ)) (f : Fault) → Che
     → CompareFails a b out out f
 first_fails a b out fault.Usage fails = absurd fails
 first_fails a b out (fault.NoCommand word) fails = absurd fails
+first_fails a b out (fault.NoTime word) fails = absurd fails
 first_fails a b out (fault.Unreadable path reason) fails = absurd fails
 first_fails a b out (fault.NotText path line) fails = absurd fails
 first_fails a b out (fault.MayNotFollow path) fails = absurd fails
@@ -45,6 +46,7 @@ pub second_fails : (a b : TextFile) (out : Option (List ℕ)) (f : Fault) → Ch
     → CompareFails a b out out f
 second_fails a b out fault.Usage fails = absurd fails
 second_fails a b out (fault.NoCommand word) fails = absurd fails
+second_fails a b out (fault.NoTime word) fails = absurd fails
 second_fails a b out (fault.Unreadable path reason) fails = absurd fails
 second_fails a b out (fault.NotText path line) fails = absurd fails
 second_fails a b out (fault.MayNotFollow path) fails = absurd fails

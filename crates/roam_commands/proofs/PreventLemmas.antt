@@ -33,6 +33,7 @@ pub run-prevents : {T : Type 0} (words : List (List ℕ)) (configuration script 
 run-prevents words configuration script old new (Ok x) worded fails = tt
 run-prevents words configuration script old new (Err fault.Usage) worded fails = absurd fails
 run-prevents words configuration script old new (Err (fault.NoCommand word)) worded fails = absurd fails
+run-prevents words configuration script old new (Err (fault.NoTime word)) worded fails = absurd fails
 run-prevents words configuration script old new (Err (fault.Unreadable path reason)) worded fails = absurd fails
 run-prevents words configuration script old new (Err (fault.NotText path line)) worded fails = absurd fails
 run-prevents words configuration script old new (Err (fault.MayNotFollow path)) worded fails = absurd fails
@@ -68,6 +69,7 @@ check-prevents : (words : List (List ℕ)) (file : TextFile) (old new : Option (
     Asks words (to_check file.path.now) → CheckFails file old new f → Prevents words old new f
 check-prevents words file old new fault.Usage worded fails = absurd fails
 check-prevents words file old new (fault.NoCommand word) worded fails = absurd fails
+check-prevents words file old new (fault.NoTime word) worded fails = absurd fails
 check-prevents words file old new (fault.Unreadable path reason) worded fails = absurd fails
 check-prevents words file old new (fault.NotText path line) worded fails = absurd fails
 check-prevents words file old new (fault.MayNotFollow path) worded fails = absurd fails
@@ -107,6 +109,7 @@ state-prevents : (words : List (List ℕ)) (file : TextFile) (old new : Option (
     Asks words (to_check_all file.path.now) → StateFails file old new f → Prevents words old new f
 state-prevents words file old new fault.Usage worded fails = absurd fails
 state-prevents words file old new (fault.NoCommand word) worded fails = absurd fails
+state-prevents words file old new (fault.NoTime word) worded fails = absurd fails
 state-prevents words file old new (fault.Unreadable path reason) worded fails = absurd fails
 state-prevents words file old new (fault.NotText path line) worded fails = absurd fails
 state-prevents words file old new (fault.MayNotFollow path) worded fails = absurd fails
@@ -161,6 +164,7 @@ compare_prevents : {T : Type 0} (words : List (List ℕ)) (configuration next : 
 compare_prevents words configuration next old new (Ok x) worded fails = tt
 compare_prevents words configuration next old new (Err fault.Usage) worded fails = absurd fails
 compare_prevents words configuration next old new (Err (fault.NoCommand word)) worded fails = absurd fails
+compare_prevents words configuration next old new (Err (fault.NoTime word)) worded fails = absurd fails
 compare_prevents words configuration next old new (Err (fault.Unreadable path reason)) worded fails = absurd fails
 compare_prevents words configuration next old new (Err (fault.NotText path line)) worded fails = absurd fails
 compare_prevents words configuration next old new (Err (fault.MayNotFollow path)) worded fails =

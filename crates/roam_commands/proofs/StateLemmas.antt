@@ -23,6 +23,7 @@ pub read_fails : (file : TextFile) (out : Option (List ℕ)) (f : Fault) → Che
     → StateFails file out out f
 read_fails file out fault.Usage fails = absurd fails
 read_fails file out (fault.NoCommand word) fails = absurd fails
+read_fails file out (fault.NoTime word) fails = absurd fails
 read_fails file out (fault.Unreadable path reason) fails = absurd fails
 read_fails file out (fault.NotText path line) fails = absurd fails
 read_fails file out (fault.MayNotFollow path) fails = absurd fails
@@ -52,6 +53,7 @@ pub unstated_fails : (file : TextFile) (config : ConfigView) (out : Option (List
     IsConfiguration (text_in file) config → IsUnstated file.path.now f → StateFails file out out f
 unstated_fails file config out fault.Usage read fails = absurd fails
 unstated_fails file config out (fault.NoCommand word) read fails = absurd fails
+unstated_fails file config out (fault.NoTime word) read fails = absurd fails
 unstated_fails file config out (fault.Unreadable path reason) read fails = absurd fails
 unstated_fails file config out (fault.NotText path line) read fails = absurd fails
 unstated_fails file config out (fault.MayNotFollow path) read fails = absurd fails

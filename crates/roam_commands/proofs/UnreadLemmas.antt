@@ -29,6 +29,7 @@ pub unread-says : (words : List (List ℕ)) (asked : Asked) (path : List ℕ) (o
     Contains (files_of asked) path → Asks words asked → IsUnread path why → Prevents words out out why
 unread-says words asked path out fault.Usage named worded unread = absurd unread
 unread-says words asked path out (fault.NoCommand word) named worded unread = absurd unread
+unread-says words asked path out (fault.NoTime word) named worded unread = absurd unread
 unread-says words asked path out (fault.Unreadable given reason) named worded unread =
     ((asked, worded, rw unread named), Keeps-refl out)
 unread-says words asked path out (fault.NotText given line) named worded unread =

@@ -65,6 +65,7 @@ pub record IsFaulty (file : TextFile) (path : List ℕ) (number : ℕ) : Type 0 
 abbrev pub CheckFails : TextFile → Option (List ℕ) → Option (List ℕ) → Fault → Type 0
 CheckFails file old new fault.Usage = ⊥
 CheckFails file old new (fault.NoCommand word) = ⊥
+CheckFails file old new (fault.NoTime word) = ⊥
 CheckFails file old new (fault.Unreadable path reason) = ⊥
 CheckFails file old new (fault.NotText path line) = ⊥
 CheckFails file old new (fault.MayNotFollow path) = ⊥
@@ -100,6 +101,7 @@ pub record AreRead (configuration script : List ℕ) : Type 0 where
 abbrev pub RunFails : TextFile → TextFile → Option (List ℕ) → Option (List ℕ) → Fault → Type 0
 RunFails configuration script old new fault.Usage = ⊥
 RunFails configuration script old new (fault.NoCommand word) = ⊥
+RunFails configuration script old new (fault.NoTime word) = ⊥
 RunFails configuration script old new (fault.Unreadable path reason) = ⊥
 RunFails configuration script old new (fault.NotText path line) = ⊥
 RunFails configuration script old new (fault.MayNotFollow path) = ⊥
@@ -141,6 +143,7 @@ RunFails configuration script old new fault.Audit = ⊥
 abbrev pub ServeFails : TextFile → Fault → Type 0
 ServeFails file fault.Usage = ⊥
 ServeFails file (fault.NoCommand word) = ⊥
+ServeFails file (fault.NoTime word) = ⊥
 ServeFails file (fault.Unreadable path reason) = ⊥
 ServeFails file (fault.NotText path line) = ⊥
 ServeFails file (fault.MayNotFollow path) = ⊥

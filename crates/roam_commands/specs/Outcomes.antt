@@ -2,7 +2,7 @@
 use Rattle.std.specs.Prelude.{◌≡◌, ◌⊎◌, ℕ, List, Option, OnOk, Contains}
 use Rattle.std.specs.Io.KnownBytes.{Keeps, Appends}
 use Rattle.roam_sim.specs.Simulation.{IsAccepted, Simulates, SimulatesInPart}
-use Rattle.roam_words.specs.CommandLine.{Asked, to_check, to_check_all, to_compare, to_simulate, to_serve, to_serve_with_its_seed, to_control, to_help, to_tell_version, Asks, AsksToServe, AsksNothing, IsUnknown, files_of, IsConfigurationOf}
+use Rattle.roam_words.specs.CommandLine.{Asked, to_check, to_check_all, to_compare, to_simulate, to_serve, to_serve_with_its_seed, to_control, to_help, to_tell_version, Asks, AsksToServe, AsksNothing, IsUnknown, IsUntimed, files_of, IsConfigurationOf}
 use Rattle.roam_commands.specs.CommandFaults.{Checks, StatesAnew, Follows}
 use Rattle.roam_printing.specs.Printed.{IsPrinted}
 use Rattle.roam_words.specs.declared.command_line.ControlOrder.{ControlOrder}
@@ -89,7 +89,9 @@ pub record IsAnsweredInPart (words : List (List ℕ)) (old new : Option (List �
 abbrev pub Prevents : List (List ℕ) → Option (List ℕ) → Option (List ℕ) → Fault → Type 0
 Prevents words old new fault.Usage =
     AsksNothing words × Keeps old new × ((word : List ℕ) → ¬ (IsUnknown words word))
+    × ((word : List ℕ) → ¬ (IsUntimed words word))
 Prevents words old new (fault.NoCommand word) = AsksNothing words × Keeps old new × IsUnknown words word.now
+Prevents words old new (fault.NoTime word) = AsksNothing words × Keeps old new × IsUntimed words word.now
 Prevents words old new (fault.Unreadable path reason) = NamesFile words path.now × Keeps old new
 Prevents words old new (fault.NotText path line) = NamesFile words path.now × Keeps old new
 Prevents words old new (fault.MayNotFollow path) = NamesNext words path.now × IsPrinted old new

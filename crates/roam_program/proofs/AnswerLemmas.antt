@@ -36,6 +36,7 @@ pub serve-prevents : {T : Type 0} (words : List (List ℕ)) (file : TextFile) (m
 serve-prevents words file milliseconds out (Ok x) asks kept fails = tt
 serve-prevents words file milliseconds out (Err fault.Usage) asks kept fails = absurd fails
 serve-prevents words file milliseconds out (Err (fault.NoCommand word)) asks kept fails = absurd fails
+serve-prevents words file milliseconds out (Err (fault.NoTime word)) asks kept fails = absurd fails
 serve-prevents words file milliseconds out (Err (fault.Unreadable path reason)) asks kept fails = absurd fails
 serve-prevents words file milliseconds out (Err (fault.NotText path line)) asks kept fails = absurd fails
 serve-prevents words file milliseconds out (Err (fault.MayNotFollow path)) asks kept fails = absurd fails
@@ -120,6 +121,7 @@ pub usage-status : (words : List (List ℕ)) (old new : Option (List ℕ)) (f : 
     (status ≡ 2 → AsksNothing words) × (AsksNothing words → status ≡ 2)
 usage-status words old new fault.Usage status is prevents = (λ two. prevents.0, λ nothing. is)
 usage-status words old new (fault.NoCommand word) status is prevents = (λ two. prevents.0, λ nothing. is)
+usage-status words old new (fault.NoTime word) status is prevents = (λ two. prevents.0, λ nothing. is)
 usage-status words old new (fault.Unreadable path reason) status is prevents =
     (λ two. absurd (omega arith), λ nothing. absurd (nothing prevents.0.0 prevents.0.1))
 usage-status words old new (fault.NotText path line) status is prevents =
@@ -172,6 +174,7 @@ pub usage-keeps : (words : List (List ℕ)) (old new : Option (List ℕ)) (f : F
     status_of f ≡ status → Prevents words old new f → status ≡ 2 → Keeps old new
 usage-keeps words old new fault.Usage status is prevents two = prevents.1
 usage-keeps words old new (fault.NoCommand word) status is prevents two = prevents.1
+usage-keeps words old new (fault.NoTime word) status is prevents two = prevents.1
 usage-keeps words old new (fault.Unreadable path reason) status is prevents two = absurd (omega arith)
 usage-keeps words old new (fault.NotText path line) status is prevents two = absurd (omega arith)
 usage-keeps words old new (fault.MayNotFollow path) status is prevents two = absurd (omega arith)

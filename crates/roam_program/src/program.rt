@@ -11,7 +11,9 @@ use log::Log;
 use roam_commands::{ask, check_file, compare_files, simulate_files, state_file};
 use roam_diagnosis::Lines;
 use roam_keeping::KeepsFiles;
-use roam_words::{Command, Fault, ProgramEnd, tell_advice, tell_usage, tell_version, unknown_word};
+use roam_words::{
+    Command, Fault, ProgramEnd, tell_advice, tell_usage, tell_version, unknown_word, untimed_word,
+};
 use std::convert::AsStr;
 use std::io::Write;
 use std::net::Net;
@@ -36,7 +38,10 @@ fn run<
     match Command::from_words(words) {
         None => match unknown_word(words) {
             Some(word) => Err(Fault::NoCommand { word }),
-            None => Err(Fault::Usage),
+            None => match untimed_word(words) {
+                Some(word) => Err(Fault::NoTime { word }),
+                None => Err(Fault::Usage),
+            },
         },
         Some(Command::Check { configuration }) => check_file(rt, configuration, out, lines),
         Some(Command::CheckAll { configuration }) => state_file(rt, configuration, out, lines),

@@ -1,2 +1,3 @@
 pub mod EscapedLemmas
 pub mod WriteLemmas
+pub mod WordLemmas

@@ -129,6 +129,14 @@ IsCommandWord word = IsTaskWord word ⊎ IsHelpWord word ⊎ IsVersionWord word
 abbrev pub IsUnknown : List (List ℕ) → List ℕ → Type 0
 IsUnknown words word = (slice_get words 0 ≡ Some word) × ¬ (IsCommandWord word)
 
+-- the words would ask for a server, but this one, where a time may stand, is none
+abbrev pub IsUntimed : List (List ℕ) → List ℕ → Type 0
+IsUntimed words word =
+    (decimal_in 1 86400000 word ≡ None)
+    × (((configuration : List ℕ) × (codes "serve" ∷ configuration ∷ word ∷ [] ≡ words)
+    × ¬ (configuration ≡ seed_of_file))
+    ⊎ ((configuration : List ℕ) × (codes "serve" ∷ seed_of_file ∷ configuration ∷ word ∷ [] ≡ words)))
+
 -- the words ask to check a configuration
 abbrev pub AsksToCheck : List (List ℕ) → Type 0
 AsksToCheck words = (configuration : List ℕ) × Asks words (to_check configuration)

@@ -60,6 +60,10 @@ not_text_text line = codes ":" ++ decimal line ++ codes ": isn't UTF-8\n"
 abbrev pub unknown_text : List ℕ → List ℕ
 unknown_text word = about_text word (codes ": no such command\n")
 
+-- what is printed of a word that stands where a number of milliseconds may, and is none
+abbrev pub untimed_text : List ℕ → List ℕ
+untimed_text word = about_text word (codes ": no number of milliseconds from 1 to 86400000\n")
+
 -- behind the path of a control socket: that no answer came in so many seconds; that a server which is asked to stop
 -- hasn't ended in so many
 abbrev pub late_text : ℕ → List ℕ
@@ -85,8 +89,9 @@ why_text number = codes ": " ++ reason_text number ++ codes "\n"
 
 -- ## Text of a fault, status
 -- What is printed of each fault, with its line feed, and the status with which the program ends: 2 for the
--- usage, also behind a word that is no command, 3 for lack of memory, of something to wait with and of a thread, 4
--- for a failed audit, else 1. What ends a server is one of these faults. The usage and the version are texts too.
+-- usage, also behind a word that is no command or no number of milliseconds, 3 for lack of memory, of something to wait
+-- with and of a thread, 4 for a failed audit, else 1. What ends a server is one of these faults. The usage and the
+-- version are texts too.
 -- Source: ours
 -- Rules out: a fault of one file reported of another
 -- Stands in: `roam_words` `Report.antt`: `text_of`, `status_of`, `fault_of`, `usage_text`, `version_text`;
@@ -96,6 +101,7 @@ why_text number = codes ": " ++ reason_text number ++ codes "\n"
 abbrev pub text_of : Fault → List ℕ
 text_of fault.Usage = usage_text
 text_of (fault.NoCommand word) = unknown_text word.now ++ usage_text
+text_of (fault.NoTime word) = untimed_text word.now ++ usage_text
 text_of (fault.Unreadable path reason) = named_text path.now ++ why_text reason
 text_of (fault.NotText path line) = named_text path.now ++ not_text_text line
 text_of (fault.MayNotFollow path) = about_text path.now (codes ": may not follow\n")
@@ -127,6 +133,7 @@ text_of fault.Audit = codes "roam: audit failed\n"
 abbrev pub status_of : Fault → ℕ
 status_of fault.Usage = 2
 status_of (fault.NoCommand word) = 2
+status_of (fault.NoTime word) = 2
 status_of (fault.Unreadable path reason) = 1
 status_of (fault.NotText path line) = 1
 status_of (fault.MayNotFollow path) = 1

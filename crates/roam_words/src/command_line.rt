@@ -9,7 +9,7 @@ use roam_conf::decimal;
 use std::convert::AsStr;
 
 /// The most milliseconds for which a server can be asked: a day.
-const LONGEST: u64 = 86_400_000;
+pub(crate) const LONGEST: u64 = 86_400_000;
 
 /// What a server is asked for through its control socket.
 #[derive(Clone, Copy)]

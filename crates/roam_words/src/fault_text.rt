@@ -33,6 +33,27 @@ fn print_no_command<W: Write>(writer: &mut W, word: &str) -> io::Result<()>
     print_usage(writer)
 }
 
+/// Prints that a word is no number of milliseconds.
+fn print_untimed<W: Write>(writer: &mut W, word: &str) -> io::Result<()>
+    ensures { OnOk result
+        (Appends (W.contents writer.old) (W.contents writer.new) (spec.untimed_text word.now)) }
+{
+    print_about(
+        writer,
+        word,
+        b": no number of milliseconds from 1 to 86400000\n",
+    )
+}
+
+/// Prints that a word is no number of milliseconds, and the usage.
+fn print_no_time<W: Write>(writer: &mut W, word: &str) -> io::Result<()>
+    ensures { OnOk result
+        (Appends (W.contents writer.old) (W.contents writer.new) (spec.text_of (Fault.NoTime word.entry))) }
+{
+    print_untimed(writer, word)?;
+    print_usage(writer)
+}
+
 /// Prints to which endpoint a socket can't be bound.
 fn print_unbound<W: Write>(writer: &mut W, endpoint: Endpoint) -> io::Result<()>
     ensures { OnOk result
@@ -197,6 +218,7 @@ impl<'a> Fault<'a> {
         match self {
             Fault::Usage => print_usage(writer),
             Fault::NoCommand { word } => print_no_command(writer, word),
+            Fault::NoTime { word } => print_no_time(writer, word),
             Fault::Unreadable { path, reason } => print_unreadable(writer, path, reason),
             Fault::NotText { path, line } => print_not_text(writer, path, line),
             Fault::MayNotFollow { path } => print_about(writer, path, b": may not follow\n"),

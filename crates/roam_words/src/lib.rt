@@ -3,7 +3,8 @@
 //! # Proved
 //!
 //! - words ask for a command, or for nothing; a word of milliseconds is a decimal number from 1 to 86400000; a first
-//!   word with which no command begins is named | `Command::from_words`, `unknown_word`
+//!   word with which no command begins is named, and a word for milliseconds that is none | `Command::from_words`,
+//!   `unknown_word`, `untimed_word`
 //! - each fault's text and status; paths and words of the command line stand in it escaped | `Fault::print`,
 //!   `Fault::status`
 //! - a file that isn't read is told by its path, or memory is wanting. That the reason is the system's, and the line
@@ -23,6 +24,7 @@ mod showing;
 mod telling;
 mod text_file;
 mod unknown;
+mod untimed;
 mod usage;
 
 pub use command_line::{Command, ControlOrder};
@@ -32,3 +34,4 @@ pub use showing::shown;
 pub use telling::{tell_advice, tell_usage, tell_version};
 pub use text_file::TextFile;
 pub use unknown::unknown_word;
+pub use untimed::untimed_word;

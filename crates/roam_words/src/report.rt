@@ -20,6 +20,11 @@ pub enum Fault<'a> {
         /// The first word.
         word: &'a str,
     },
+    /// The words would ask for a server, but the last of them is no number of milliseconds.
+    NoTime {
+        /// That word.
+        word: &'a str,
+    },
     /// The system doesn't let a file be read.
     Unreadable {
         /// The path of the file.
@@ -194,7 +199,7 @@ impl<'a> Fault<'a> {
         ensures { result ≡ spec.status_of self.entry }
     {
         match self {
-            Fault::Usage | Fault::NoCommand { .. } => 2,
+            Fault::Usage | Fault::NoCommand { .. } | Fault::NoTime { .. } => 2,
             Fault::Memory | Fault::Wait { .. } | Fault::Thread => 3,
             Fault::Audit => 4,
             _ => 1,

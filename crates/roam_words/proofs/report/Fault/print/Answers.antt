@@ -4,6 +4,9 @@ use Rattle.roam_words.proofs.report.Fault.print.Goals as goal
 pub returns-in-NoCommand : goal.returns-in-NoCommand
 returns-in-NoCommand g c = rw c.in-NoCommand.is c.print_no_command.ensures
 
+pub returns-in-NoTime : goal.returns-in-NoTime
+returns-in-NoTime g c = rw c.in-NoTime.is c.print_no_time.ensures
+
 pub returns-in-Unreadable : goal.returns-in-Unreadable
 returns-in-Unreadable g c = rw c.in-Unreadable.is c.print_unreadable.ensures
 
