@@ -2,7 +2,7 @@
 SHELL = bash
 # What `rt run` or the gate built; another one is said so: make trials ROAM=/usr/bin/roam.
 ROAM = $(CURDIR)/crates/roam/out/roam
-# A crate, for `make proof` and `make look`: make proof CRATE=roam_book.
+# A crate, for `make proof` and `make look`: make proof CRATE=roam_rules.
 CRATE =
 
 .PHONY: help quick see run test pages look proof scripts trials around deb

@@ -143,7 +143,7 @@ def told():
     sums = {"steps": 0, "let go of": 0, "packets lost": 0, "notices dropped": 0}
     with open(LOG, "rb") as log:
         for line in log:
-            if found := re.search(rb"ended after (\d+) steps, let go of (\d+) times: audited", line):
+            if found := re.search(rb"ended after (\d+) steps, history cleared (\d+) times: audited", line):
                 sums["steps"] += int(found.group(1))
                 sums["let go of"] += int(found.group(2))
             elif found := re.search(rb"(\d+) packets lost ", line):

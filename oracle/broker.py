@@ -160,7 +160,7 @@ class Config:
         operator = request.first(OPERATOR_NAME)
         if operator is not None and any("operator_name" in peer for peer in self.peers):
             fitting = [index for index, peer in enumerate(self.peers)
-                       if "operator_name" in peer and operator.lower() == b"1" + peer["operator_name"].encode().lower()]
+                       if "operator_name" in peer and means_the_same(operator, operator_of(peer))]
         else:
             fitting = self.named_by_nas(*(request.first(kind) for kind in self.names_of_nas()))
         return next((index for index in fitting if self.is_reached(realm, index) and self.is_peer_of(realm, index)), None)

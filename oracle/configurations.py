@@ -219,6 +219,15 @@ OTHER_WORLD = configuration(
     shards=3, trace_limit=7, ip="127.0.0.9")
 
 
+def at_prefix(name, prefix):
+    """An access server, or many, at the addresses of a prefix; its secret is its name."""
+    return f"""
+[[peer]]
+name = "{name}"
+ip = "{prefix}"
+secret = "{name}"
+"""
+
 
 def decided(peer=None, second=None, top=None, servers_of_first=None, peers=None, **keys):
     """One realm or two, with keys of the first access server, of the second realm (None: there is none) and of the
@@ -229,6 +238,8 @@ def decided(peer=None, second=None, top=None, servers_of_first=None, peers=None,
     return configuration(*realms, peers=peers or (NAS1 + stated(**(peer or {})),), **(top or {}))
 
 
+# An operator of the Wireless Broadband Alliance.
+ACME = {"operator_name": "ACME:US", "operator_namespace": "4"}
 REJECTING = {"reject": ["x.a.example", "*.gone"]}
 POLICIES = {
     "names-to-reject": decided(second={"also": []}, top=REJECTING, also=["*.a.example", "*"]),
@@ -274,6 +285,23 @@ secret = "xyzzy5461"
     "operator": decided({"operator_name": "inst.example", "ask_cui": True}),
     "operator-replaced": decided({"operator_name": "inst.example", "ask_cui": True, "request_without": ["126"]},
                                  request_without=["89"]),
+    "operator-by-id": decided(ACME),
+    "operator-by-id-replaced": decided(ACME, request_without=["126"]),
+    "operators-of-ten-namespaces": decided(peers=(NAS1, *(
+        at_prefix(f"p{n}", f"10.0.0.{n}").replace(f'secret = "p{n}"', 'secret = "xyzzy5461"')
+        + stated(operator_name="inst.example", operator_namespace=str(n), coa=f"10.0.0.{n}:3799") for n in range(10)))),
+    "operator-in-two-namespaces": decided(peers=(
+        NAS1 + stated(operator_name="ACME.us"), N2_COA + stated(operator_name="acme.us", operator_namespace="4"))),
+    "operators-that-differ-in-case": decided(peers=(
+        NAS1 + stated(**ACME), N2 + stated(coa="192.0.2.2:3799", operator_name="acme:us", operator_namespace="4"))),
+    "operator-by-id-of-two-servers": decided(
+        {"operator_name": "x" * 252, "operator_namespace": "0"}, tries=1, servers_of_first=servers(2)),
+    "own-sessions-behind-operators": decided(
+        own_sessions=True, peers_of="n2", peers=(
+            NAS1 + stated(**ACME), N2 + stated(coa="192.0.2.2:3799", operator_name="acme:us", operator_namespace="4"))),
+    "operator-of-a-namespace-that-is-said": decided(peers=(
+        NAS1 + stated(operator_name="inst.example", operator_namespace="1"),
+        N2 + stated(coa="192.0.2.2:3799", operator_name="b.example"))),
     "operator-of-two-servers": decided({"operator_name": "\u00e9" * 126, "ask_cui": True}, tries=1,
                                        servers_of_first=servers(2)),
     "proxy-states-limited": decided({"limit_proxy_state": True}),
@@ -366,16 +394,6 @@ LOGINS = {
 NAS6 = in_ipv6(NAS1).replace("nas1", "nas6").replace("xyzzy5461", "k6")
 NAS7 = in_ipv6(N2).replace("n2", "nas7").replace("s2", "k7").replace("::2", "::/64") + 'coa = "192.0.2.7:3799"\nnas_id = "nas7"\n'
 SERVER6 = server("2001:db8:1::1", "h6", "[2001:db8:1::1]:1812", "[2001:db8:1::1]:1813")
-
-
-def at_prefix(name, prefix):
-    """An access server, or many, at the addresses of a prefix; its secret is its name."""
-    return f"""
-[[peer]]
-name = "{name}"
-ip = "{prefix}"
-secret = "{name}"
-"""
 
 
 def at_ipv6(table):

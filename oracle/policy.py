@@ -57,11 +57,21 @@ def what_is_left(kind, value, named):
     return value[:4] + b"".join(bytes([k, len(v) + 2]) + v for k, v in stays) if stays else None
 
 
+def operator_of(peer):
+    """The Operator-Name of an access server: the octet of its namespace and a name; None where it has none."""
+    return None if "operator_name" not in peer else (peer.get("operator_namespace", "1") + peer["operator_name"]).encode()
+
+
+def means_the_same(one, other):
+    """Whether two Operator-Names mean the same: names of realms without case."""
+    return one == other or one[:1] == other[:1] == b"1" and one.lower() == other.lower()
+
+
 def added(request, peer, attributes):
     """What is added behind the attributes of a request of that access server."""
     more = []
     if "operator_name" in peer and all(kind != OPERATOR_NAME for kind, _ in attributes):
-        more.append((OPERATOR_NAME, b"1" + peer["operator_name"].encode()))
+        more.append((OPERATOR_NAME, operator_of(peer)))
     if (request.code == ACCESS_REQUEST and peer.get("ask_cui", False)
             and all(kind != CHARGEABLE_USER_IDENTITY for kind, _ in attributes)):
         more.append((CHARGEABLE_USER_IDENTITY, b"\0"))

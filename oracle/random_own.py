@@ -134,8 +134,8 @@ class OwnScript(PolicyScript):
         peer, known = self.config.peers[index], self.known(nas)
         attributes = [it for it in (known if known and self.chance(0.85) else self.nas(peer)) if self.chance(0.85)]
         if "operator_name" in peer and self.chance(0.4):
-            name = self.random.choice((peer["operator_name"], peer["operator_name"].swapcase()))
-            self.put(attributes, (OPERATOR_NAME, b"1" + name.encode()))
+            value = operator_of(peer)
+            self.put(attributes, (OPERATOR_NAME, self.random.choice((value, value.swapcase()))))
         elif "nas_ip" in peer and self.chance(0.45):
             attributes = [(NAS_IP_ADDRESS, address(peer["nas_ip"]))]
         elif "nas_ipv6" in peer and self.chance(0.45):

@@ -11,7 +11,7 @@ Each second it looks at the processes below CMD: what they took so far, for whic
 edits (a proof in a folder of its own), or a program that runs. What a process takes in its last second isn't seen.
 
 A processor second is worth less on a machine whose host gives its processors to others too: the same proofs took twice as many on one
-day as on another. It times a loop meanwhile, and writes its pace too, which says little of a proof: compare runs by what roam_md5 takes.
+day as on another. It times a loop meanwhile, and writes its pace too, which says little of a proof: compare runs by what roam_crypto takes.
 """
 import collections
 import datetime

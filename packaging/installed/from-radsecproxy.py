@@ -332,6 +332,8 @@ class Conversion:
         request, reply = self.rewriting(block, "request"), self.rewriting(block, "reply")
         if request and request.operator_name:
             out.put(f"operator_name = {toml(request.operator_name)}")
+            if request.operator_namespace != "1":
+                out.put(f'operator_namespace = "{request.operator_namespace}"')
         if request and request.asks_cui:
             out.put("ask_cui = true")
         self.write_lists(request and request.without, reply and reply.without)

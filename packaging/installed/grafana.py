@@ -41,13 +41,13 @@ HERE_ALONE = 'instance=~"$instance"'
 # Each panel: its title, its kind, its unit, how many of 24 columns it is wide and how high, and its series as an
 # expression with the legend. IR stands for the labels of the instance and the realm that are chosen, I for the instance.
 PANELS = [
-    ("Serves for", "stat", "s", 5, 3, [("time() - process_start_time_seconds{I}", "{{instance}}")]),
+    ("Up for", "stat", "s", 5, 3, [("time() - process_start_time_seconds{I}", "{{instance}}")]),
     ("Version", "stat", "none", 5, 3, [("roam_build_info{I}", "{{version}}")]),
     ("Last reload, ago", "stat", "s", 7, 3, [("time() - roam_last_reload_timestamp_seconds{I}", "{{outcome}}")]),
     ("Packets lost in the last hour", "stat", "short", 7, 3, [("sum(increase(roam_lost_packets_total{I}[1h]))", "lost")]),
     ("Requests by realm", "timeseries", "reqps", 8, 8,
      [("sum by (realm) (rate(roam_realm_requests_total{IR}[$__rate_interval]))", "{{realm}}")]),
-    ("Answers that were returned", "timeseries", "reqps", 8, 8,
+    ("Replies returned", "timeseries", "reqps", 8, 8,
      [("sum by (code) (rate(roam_realm_returned_total{IR}[$__rate_interval]))", "{{code}}")]),
     ("Given up, failed over", "timeseries", "reqps", 8, 8,
      [("sum by (realm) (rate(roam_realm_given_up_total{IR}[$__rate_interval]))", "{{realm}}: given up"),
@@ -55,7 +55,7 @@ PANELS = [
     ("Answer time of home servers, 95 %", "timeseries", "s", 8, 8,
      [("histogram_quantile(0.95, sum by (le, realm, server) (rate(roam_server_answer_seconds_bucket{IR}[$__rate_interval])))",
        "{{server}}")]),
-    ("Home servers that rest", "state-timeline", "none", 8, 8,
+    ("Home servers marked dead", "state-timeline", "none", 8, 8,
      [("max by (realm, server, service) (roam_server_rests{IR})", "{{server}} {{service}}")]),
     ("Identifiers in use, of 256 for each out", "timeseries", "none", 8, 8,
      [("max by (server, service) (roam_server_identifiers_in_use{IR})", "{{server}} {{service}}")]),
@@ -63,9 +63,9 @@ PANELS = [
      [("max by (realm) (roam_realm_waiting_requests{IR} / roam_realm_max_pending{IR})", "{{realm}}")]),
     ("Open sessions", "timeseries", "none", 8, 8, [("max by (realm) (roam_realm_sessions{IR})", "{{realm}}")]),
     ("Reloads", "timeseries", "none", 8, 8, [("sum by (outcome) (roam_reloads_total{I})", "{{outcome}}")]),
-    ("Refused of peers, by number", "timeseries", "reqps", 12, 8,
+    ("Dropped of clients, by number", "timeseries", "reqps", 12, 8,
      [("sum by (peer, number) (rate(roam_peer_refusals_total{I}[$__rate_interval]))", "{{peer}}: {{number}}")]),
-    ("Refused of home servers, by number", "timeseries", "reqps", 12, 8,
+    ("Dropped of home servers, by number", "timeseries", "reqps", 12, 8,
      [("sum by (server, number) (rate(roam_server_refusals_total{IR}[$__rate_interval]))", "{{server}}: {{number}}")]),
 ]
 
@@ -99,7 +99,7 @@ def panel(number: int) -> dict:
         options = {"showValue": "never", "mergeValues": True, "rowHeight": 0.8, "tooltip": {"mode": "single"},
                    "legend": {"displayMode": "list", "placement": "bottom", "showLegend": True}}
         defaults["mappings"] = [{"type": "value", "options": {"0": {"text": "asked", "color": "green", "index": 0},
-                                                              "1": {"text": "rests", "color": "orange", "index": 1}}}]
+                                                              "1": {"text": "dead", "color": "orange", "index": 1}}}]
         defaults["custom"] = {"fillOpacity": 80, "lineWidth": 0}
     else:
         defaults["custom"] = {"drawStyle": "line", "lineWidth": 2, "fillOpacity": 8, "showPoints": "never",
@@ -464,7 +464,7 @@ def draw_states(x: float, y: float, wide: float, high: float, series: list[dict]
             a, b = (left + (right - left) * min(at, SECONDS) / SECONDS for at in (moment, after))
             drawn.append(f'<rect x="{a:.1f}" y="{level + 2:.1f}" width="{b - a:.1f}" height="{each - 4:.1f}" '
                          f'fill="{"#e08a1e" if value else "#2e9e5b"}"/>')
-    return drawn + [words(left, bottom + 14, "green: asked, orange: rests", 9, colour="#666")]
+    return drawn + [words(left, bottom + 14, "green: in use, orange: marked dead", 9, colour="#666")]
 
 
 def drawing(data: list) -> str:

@@ -17,13 +17,13 @@ class Rewriting:
     """What doesn't pass, what is added, and what of a block has no key, with the reason."""
 
     def __init__(self):
-        self.without, self.operator_name, self.asks_cui, self.lost = [], None, False, []
+        self.without, self.operator_name, self.operator_namespace, self.asks_cui, self.lost = [], None, None, False, []
 
     def add(self, number, value, why):
         """An attribute that is added where none stands there."""
         text = value[1:] if value.startswith("'") else "" if re.match(r"\d", value) else value
-        if number == OPERATOR_NAME and text.startswith("1") and 2 <= len(text.encode(errors="surrogateescape")) <= 253:
-            self.operator_name = text[1:]
+        if number == OPERATOR_NAME and "0" <= text[:1] <= "9" and 2 <= len(text.encode(errors="surrogateescape")) <= 253:
+            self.operator_namespace, self.operator_name = text[0], text[1:]
         elif number == CHARGEABLE_USER_IDENTITY and text == "\0":
             self.asks_cui = True
         else:

@@ -80,7 +80,7 @@ def stand_in(path):
             sockets[place].sendto(octets, to)
         rests = {apart.at(*realm.endpoint_of((*link, 0))) for realm in core.realms for link in realm.rests}
         for endpoint in rests - resting:
-            say(f"home server {endpoint} stopped answering: it rests")
+            say(f"home server {endpoint} stopped answering: marked dead")
         for endpoint in resting - rests:
             say(f"home server {endpoint} answers again")
         resting = rests

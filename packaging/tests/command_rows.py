@@ -330,14 +330,14 @@ server = [{ auth = "198.51.100.1:1812", acct = "198.51.100.1:1813", secret = "h"
 
 # What is printed where the second configuration follows the first, and the status and what is printed the other way round.
 ADDED = """\
-may follow
+can be reloaded
 realm a.example: unchanged
 realm b.example: unchanged
 realm c.example: unchanged
 realm d.example: new
 """
 REMOVED = (0, """\
-may follow
+can be reloaded
 realm a.example: unchanged
 realm b.example: unchanged
 realm c.example: unchanged
@@ -345,23 +345,23 @@ realm d.example: gone: loses all
 """)
 
 # What is advised of the first one: a line of the file (none where the key is absent from the top table), and what is said there.
-ABSENT = (None, "advice: status_server: is absent: a peer that asks by Status-Server whether the broker is there gets no answer")
+ABSENT = (None, "advice: status_server: is absent: a peer that asks by Status-Server whether the proxy is up gets no answer")
 LEAST_ADVICE = [
     ABSENT,
     (16, "advice: realm \"a.example\": own_sessions: isn't true beside reverse: a Disconnect or CoA may name a session of another realm"),
-    (29, 'advice: realm "a.example", server 1: secret: has less than 8 octets, and can be found by trying'),
+    (29, 'advice: realm "a.example", server 1: secret: has less than 8 octets, and can be guessed'),
 ]
 
 # What is advised of the larger one.
 ADVICE = [
     ABSENT,
-    (10, 'advice: peer "nas1": secret: has less than 8 octets, and can be found by trying (and so in 1 more)'),
-    (7, "advice: peer \"nas1\": require_seal: isn't true: an Access-Request without a Message-Authenticator, which can be forged, is taken (and so in 1 more)"),
-    (17, 'advice: realm "a.example": peer_share: is absent where several peers may ask: one may take all Identifiers, 256 for each out, from the others (and so in 2 more)'),
-    (22, 'advice: realm "a.example": wait: is in milliseconds, not in seconds: did you mean 1000? (and so in 2 more)'),
-    (20, 'advice: realm "a.example": reverse: is there, and no peer that may ask has coa: no Disconnect or CoA is delivered (and so in 2 more)'),
-    (26, 'advice: realm "a.example", server 1: secret: has less than 8 octets, and can be found by trying (and so in 2 more)'),
-    (26, "advice: realm \"a.example\", server 1: require_seal: isn't true: an Access-Accept without a Message-Authenticator, which can be forged, is taken (and so in 2 more)"),
+    (10, 'advice: peer "nas1": secret: has less than 8 octets, and can be guessed (and in 1 more)'),
+    (7, "advice: peer \"nas1\": require_seal: isn't true: an Access-Request without a Message-Authenticator, which can be forged, is taken (and in 1 more)"),
+    (17, 'advice: realm "a.example": peer_share: is absent where several peers may ask: one may take all Identifiers, 256 for each out, from the others (and in 2 more)'),
+    (22, 'advice: realm "a.example": wait: is in milliseconds, not in seconds: did you mean 1000? (and in 2 more)'),
+    (20, 'advice: realm "a.example": reverse: is there, but no peer that may ask has coa: no Disconnect or CoA is delivered (and in 2 more)'),
+    (26, 'advice: realm "a.example", server 1: secret: has less than 8 octets, and can be guessed (and in 2 more)'),
+    (26, "advice: realm \"a.example\", server 1: require_seal: isn't true: an Access-Accept without a Message-Authenticator, which can be forged, is taken (and in 2 more)"),
 ]
 
 # A line of the configuration, what stands in its place, the fault, and what is told behind the path of the file.
@@ -369,11 +369,11 @@ REFUSED = [
     ("shards = 1", "shards = ", "Syntax", ":1:10: invalid value, expected a string, number, boolean, date-time, array or inline table: shards is a whole number in 1..64"),
     ('auth = "127', '# "127', "Missing", ": auth: is missing"),
     ("wait = 1000", "wait = 0", "BadValue", ':21: realm "a.example": wait: 0 is not in 1..60000'),
-    ('[[realm]]\nname = "a.example"', SECOND_REALM, "DuplicateRealm", ':32: realm "a.example": name: "a.example" stands also in line 17: realm "A.EXAMPLE": name'),
-    ('[[realm]]\nname = "a.example"', SECOND_PEER, "DuplicatePeer", ':18: peer "nas2": ip: "192.0.2.1" stands also in line 9: peer "nas1": ip'),
-    ("127.0.0.1:2000", "127.0.0.1:1812", "DuplicateEndpoint", ':18: realm "a.example": out: "127.0.0.1:1812" stands also in line 3: auth'),
-    ("198.51.100.1:1813", "198.51.100.1:1812", "DuplicateServer", ':28: realm "a.example", server 1: acct: "198.51.100.1:1812" stands also in line 27: realm "a.example", server 1: auth'),
-    ("192.0.2.1:3799", "198.51.100.1:1812", "DuplicateLink", ':27: realm "a.example", server 1: auth: "198.51.100.1:1812" stands also in line 11: peer "nas1": coa'),
+    ('[[realm]]\nname = "a.example"', SECOND_REALM, "DuplicateRealm", ':32: realm "a.example": name: "a.example" is also in line 17: realm "A.EXAMPLE": name'),
+    ('[[realm]]\nname = "a.example"', SECOND_PEER, "DuplicatePeer", ':18: peer "nas2": ip: "192.0.2.1" is also in line 9: peer "nas1": ip'),
+    ("127.0.0.1:2000", "127.0.0.1:1812", "DuplicateEndpoint", ':18: realm "a.example": out: "127.0.0.1:1812" is also in line 3: auth'),
+    ("198.51.100.1:1813", "198.51.100.1:1812", "DuplicateServer", ':28: realm "a.example", server 1: acct: "198.51.100.1:1812" is also in line 27: realm "a.example", server 1: auth'),
+    ("192.0.2.1:3799", "198.51.100.1:1812", "DuplicateLink", ':27: realm "a.example", server 1: auth: "198.51.100.1:1812" is also in line 11: peer "nas1": coa'),
 ]
 
 # What is wrong with a line of a script, and the line.

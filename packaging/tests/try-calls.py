@@ -154,7 +154,7 @@ def send_not_permitted(program, folder):
     for server in serves(program, folder, "sendto:error=EPERM:when=20..31", least=12):
         lost = server.count("roam_lost_packets_total", cause="not_permitted")
         want(lost == server.injected(), f"{lost} packets are counted as lost, of {server.injected()}")
-        want(server.tells("packets lost since they may not be sent"), "and it is told")
+        want(server.tells("packets lost since the system does not permit them"), "and it is told")
 
 
 # Waits and connections

@@ -191,7 +191,7 @@ def try_watch(server):
 
 def end_watch(watch):
     shown = watch.communicate(timeout=30)[0].split('\x1b[H\x1b[2J')
-    want(watch.returncode == 0 and len(shown) > 3 and all('serves for' in one for one in shown) and shown[-1].endswith('no answer any more\n'),
+    want(watch.returncode == 0 and len(shown) > 3 and all('up for' in one for one in shown) and shown[-1].endswith('no more answers\n'),
          f'and showed {len(shown)} times how it stands, and that it answers no more')
 
 

@@ -116,7 +116,7 @@ rewrite defaultClient {
 }
 rewrite guests { removeAttribute 64; removeAttribute 65; removeAttribute 81; removeAttribute 81; supplementAttribute 27:3600 }
 rewrite only-some { whitelistMode on; whitelistAttribute 1 }
-rewrite towards-home { removeAttribute 30; supplementAttribute 126:'1everybody.example }
+rewrite towards-home { removeAttribute 30; supplementAttribute 126:'4EVERYBODY:US }
 rewrite spare { removeAttribute 6 }
 
 client one { host 192.0.2.1; type udp; secret of-one; rewriteOut guests }
@@ -144,7 +144,7 @@ DECIDED_TOLD = [("Not carried over", what) for what in (
     "the block rewrite defaultClient, for requests of a client: removeattribute 33",
     "the block rewrite guests, for replies of a client: supplementattribute 27:3600",
     "the block rewrite only-some, for requests of a client: whitelistmode on",
-    "the block rewrite towards-home, for requests of a server: supplementattribute 126:'1everybody.example",
+    "the block rewrite towards-home, for requests of a server: supplementattribute 126:'4EVERYBODY:US",
     "the block rewrite spare: nothing uses it", "loopprevention of server elsewhere: the client of this name has another address",
     "accountingresponse on: accounting of a name that is rejected")]
 DECIDED_TOLD += [("Changed", what) for what in (
@@ -303,7 +303,7 @@ def keeps_the_rules(conf):
                          "log_station", "peer", "realm"})
     want(1 <= len(conf["peer"]) <= 1024 and 1 <= len(conf["realm"]) <= 1024)
     for peer in conf["peer"]:
-        want(set(peer) <= {"name", "ip", "secret", "require_seal", "limit_proxy_state", "operator_name", "ask_cui",
+        want(set(peer) <= {"name", "ip", "secret", "require_seal", "limit_proxy_state", "operator_name", "operator_namespace", "ask_cui",
                              "request_without", "reply_without", "coa", "nas_ip", "nas_ipv6"})
         keeps_lists(peer)
         want(str(ipaddress.ip_network(peer["ip"])).removesuffix("/32").removesuffix("/128") == peer["ip"])
@@ -518,9 +518,9 @@ def read_addresses():
 
 
 def network():
-    """The network of docs/MIGRATING.md: what the page has of it is what the converter writes, but for what is new there."""
-    with open(os.path.join(ROOT, "docs", "MIGRATING.md"), encoding="utf-8") as file:
-        page = tomllib.loads(file.read().split("```toml\n")[1].split("```")[0])
+    """The network of examples/migrating: its roam.conf is what the converter writes, but for what is new there."""
+    with open(os.path.join(ROOT, "examples", "migrating", "roam.conf"), "rb") as file:
+        page = tomllib.load(file)
     written, counted = converted(os.path.join(ROOT, "examples", "migrating", "radsecproxy.conf"), [])
     made, usual = tomllib.loads(written), {"tries": 3, "wait": 2000, "rest": 30000, "rest_after": 3, "hold": 10000}
     for here, there in ((page, made), (page["peer"][0], made["peer"][0]), (page["realm"][0], made["realm"][0])):
@@ -528,17 +528,17 @@ def network():
             want(key in ("peer", "realm", "control") or here.get(key, usual.get(key)) == value, f"{key} is {value}")
         new = {key for key in here if key not in there and usual.get(key) != here[key]}
         want(new <= {"require_seal", "coa", "nas_id", "reverse", "own_sessions"}, f"{new}")
-    print(f"examples/migrating: {counted.strip()}; as docs/MIGRATING.md has it")
+    print(f"examples/migrating: {counted.strip()}; as its roam.conf has it")
 
 
 def decided(conf):
     """What became of each option of DECIDED."""
     one, two, upper, elsewhere = conf["peer"]
-    want(one["operator_name"] == "visited.example" and one["ask_cui"] and one["request_without"] == ["126", "26.9.1", "26.311"])
+    want(one["operator_name"] == "visited.example" and "operator_namespace" not in one and one["ask_cui"] and one["request_without"] == ["126", "26.9.1", "26.311"])
     want(one["reply_without"] == ["64", "65", "81"])
     want(set(two) == {"name", "ip", "secret"})
     want(upper["request_without"] == ["64", "65", "81"] and "reply_without" not in upper and "operator_name" not in upper)
-    want(elsewhere["operator_name"] == "everybody.example" and elsewhere["request_without"] == ["30"])
+    want((elsewhere["operator_namespace"], elsewhere["operator_name"]) == ("4", "EVERYBODY:US") and elsewhere["request_without"] == ["30"])
     a, b, c, every = conf["realm"]
     want(a["name"] == "a.example" and a["request_without"] == ["30"] and "accounting" not in a and "loop_prevention" not in a)
     want(b["accounting"] == "answer" and c["accounting"] == "drop" and "loop_prevention" not in b)

@@ -97,7 +97,7 @@ the_unit() {
     put_sample
     chmod 644 $conf
     must "one that others can read is served" quiet systemctl enable --now roam
-    must "with a word about that" said "others than root may read"
+    must "with a word about that" said "not only root may read"
     chmod 600 $conf
     must "it serves" within 20 serves
     cp -p $conf kept

@@ -153,7 +153,7 @@ def twice(fault, header, key, nth, first):
         text = sample.lines[i].split(" = ", 1)[1]
         number = sample.put(header, key, text, nth)
         i = sample.key(other_header, other_key, other_nth)
-        return fault, [f"PATH:{number}: {table(header, nth)}{key}: {text} stands also in line {i + 1}: "
+        return fault, [f"PATH:{number}: {table(header, nth)}{key}: {text} is also in line {i + 1}: "
                        f"{table(other_header, other_nth)}{other_key}"]
     return f"{fault}: {(header or 'top').strip('[]')} {key} as {(first[0] or 'top').strip('[]')} {first[1]}", make
 
@@ -252,7 +252,7 @@ def client_twice(sample):
     """Two coa_clients of one address in a realm."""
     first = sample.add(CLIENT_TEXT) + 1
     number = sample.add(CLIENT_TEXT) + 1
-    return "DuplicateServer", [f'PATH:{number}: {COLLEGE}, coa_client 2: ip: "198.51.100.9" stands also in line {first}: {COLLEGE}, coa_client 1: ip']
+    return "DuplicateServer", [f'PATH:{number}: {COLLEGE}, coa_client 2: ip: "198.51.100.9" is also in line {first}: {COLLEGE}, coa_client 1: ip']
 
 
 def client_without_secret(sample):
@@ -330,7 +330,7 @@ def two_peers(key, text):
         first = sample.key(ONE_PEER, key) + 1
         number = sample.add("\n".join(["[[peer]]", *(f"{k} = {v}" for k, v in texts.items())]))
         number += 1 + list(texts).index(key)
-        return "DuplicatePeer", [f"PATH:{number}: peer {texts['name']}: {key}: {text} stands also in line {first}: "
+        return "DuplicatePeer", [f"PATH:{number}: peer {texts['name']}: {key}: {text} is also in line {first}: "
                                  f"{PEER}: {key}"]
     return f"DuplicatePeer: {key}", make
 
@@ -345,7 +345,7 @@ def two_names(sample):
     """Two realms of one name, in other case."""
     first = sample.key(REALM, "name", 0) + 1
     number = sample.put(REALM, "name", '"UNIVERSITY.example"', 1)
-    return "DuplicateRealm", [f'PATH:{number}: realm "UNIVERSITY.example": name: "UNIVERSITY.example" stands also in '
+    return "DuplicateRealm", [f'PATH:{number}: realm "UNIVERSITY.example": name: "UNIVERSITY.example" is also in '
                               f"line {first}: {UNIVERSITY}: name"]
 
 
@@ -354,7 +354,7 @@ def name_and_also(sample):
     sample.put(REALM, "also", '["*.example", # all\n"university.EXAMPLE"]', 1)
     number = sample.key(REALM, "also", 1) + 1
     first = sample.key(REALM, "name", 0) + 1
-    return "DuplicateRealm", [f'PATH:{number}: {COLLEGE}: also: "university.EXAMPLE" stands also in line {first}: '
+    return "DuplicateRealm", [f'PATH:{number}: {COLLEGE}: also: "university.EXAMPLE" is also in line {first}: '
                               f"{UNIVERSITY}: name"]
 
 
@@ -362,13 +362,13 @@ def patterns(sample):
     """One pattern in two realms."""
     first = sample.put(REALM, "also", '["*.example", "*"]', 0)
     number = sample.put(REALM, "also", '["a.example", "*"]', 1)
-    return "DuplicateRealm", [f'PATH:{number}: {COLLEGE}: also: "*" stands also in line {first}: {UNIVERSITY}: also']
+    return "DuplicateRealm", [f'PATH:{number}: {COLLEGE}: also: "*" is also in line {first}: {UNIVERSITY}: also']
 
 
 def pattern_in_itself(sample):
     """One pattern twice in a realm."""
     number = sample.put(REALM, "also", '["*.example", "*.Example"]', 0)
-    return "DuplicateRealm", [f'PATH:{number}: {UNIVERSITY}: also: "*.Example" stands also in line {number}: '
+    return "DuplicateRealm", [f'PATH:{number}: {UNIVERSITY}: also: "*.Example" is also in line {number}: '
                               f"{UNIVERSITY}: also"]
 
 
@@ -376,14 +376,14 @@ def coa_twice(sample):
     """Two peers with one coa."""
     first = sample.key(ONE_PEER, "coa") + 1
     number = sample.add(PEER_TEXT.format(name="second", ip="192.0.2.9") + 'coa = "192.0.2.1:3799"') + 4
-    return "DuplicateLink", [f'PATH:{number}: peer "second": coa: "192.0.2.1:3799" stands also in line {first}: {PEER}: coa']
+    return "DuplicateLink", [f'PATH:{number}: peer "second": coa: "192.0.2.1:3799" is also in line {first}: {PEER}: coa']
 
 
 def coa_is_server(sample):
     """A peer's coa is a server's endpoint."""
     first = sample.put(ONE_PEER, "coa", '"198.51.100.17:1812"')
     number = sample.key(SERVER, "auth", 2) + 1
-    return "DuplicateLink", [f'PATH:{number}: {COLLEGE}, server 1: auth: "198.51.100.17:1812" stands also in line {first}: '
+    return "DuplicateLink", [f'PATH:{number}: {COLLEGE}, server 1: auth: "198.51.100.17:1812" is also in line {first}: '
                              f"{PEER}: coa"]
 
 

@@ -231,7 +231,7 @@ def try_silent(program, work, homes):
         found = server.counts()
         waiting = [total(found, *it) for it in [('roam_realm_waiting_requests',), ('roam_server_identifiers_in_use', '28120', 'auth')]]
     want(waiting == [1, 1], 'a request that waits is told of its realm, and of the endpoint at which it does')
-    is_told = server.tells('home server 127.0.0.1:28120 of a.example never answered: it rests')
+    is_told = server.tells('home server 127.0.0.1:28120 of a.example never answered: marked dead')
     rests = server.count('roam_server_rests', '28120', 'auth')
     want(is_told and rests == 1, 'a line and a gauge for a home server that keeps silent')
     homes[0].silent = False

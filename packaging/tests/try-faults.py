@@ -357,11 +357,11 @@ def threads_gone(program, work):
         want(answered(50) == 50, '50 exchanges are answered')
         reload = reload_without_threads(server, user)
         said = reload.communicate(timeout=20)[0]
-        want(reload.returncode == 1 and said.startswith('roam: cannot start a thread\n') and 'tried again' in said,
+        want(reload.returncode == 1 and said.startswith('roam: cannot start a thread\n') and 'trying again' in said,
              f'the reload ends with {reload.returncode}: {said}')
         status = server.ctl('status')
         want(status.returncode == 1 and status.stdout.startswith('roam: cannot start a thread\n'), f'`status` says so: {status.stdout}')
-        want('tried again' in server.said(), f'the log too: {server.last()}')
+        want('trying again' in server.said(), f'the log too: {server.last()}')
         lift_limit(server.process.pid, user)
         more = answered(50, name=b'v%d')
         want(more == 50, f'{more} of 50 more are answered once it can')

@@ -315,15 +315,15 @@ def main():
     look_at_stock(roam)
     files = {it: open(os.path.join(ROOT, "examples", "migrating", it), encoding="utf-8").read() for it in ("clients.conf", "proxy.conf")}
     conf, _ = look_over("examples/migrating", files, roam, [])
-    with open(os.path.join(ROOT, "docs", "MIGRATING.md"), encoding="utf-8") as file:
-        page = tomllib.loads(file.read().split("```toml\n")[1].split("```")[0])
+    with open(os.path.join(ROOT, "examples", "migrating", "roam.conf"), "rb") as file:
+        page = tomllib.load(file)
     for key in ("auth", "acct", "max_hops", "status_server", "answer_unnamed"):
         want(conf[key] == page[key], key)
     for key in ("name", "ip", "secret", "require_seal", "coa"):
         want(conf["peer"][0][key] == page["peer"][0][key], key)
     for key in ("name", "out", "server"):
         want(conf["realm"][0][key] == page["realm"][0][key], key)
-    return end("examples/migrating is as docs/MIGRATING.md has it")
+    return end("examples/migrating is as its roam.conf has it")
 
 
 if __name__ == "__main__":

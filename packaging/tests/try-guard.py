@@ -123,7 +123,7 @@ def try_to_and_fro(server, seconds):
     want(server.count('roam_reloads_total', outcome='served') == done
          and server.count('roam_reloads_total', outcome='declined') == declined, 'each change is counted as it went')
     # Lines may be written after what they tell.
-    last, lines = time.monotonic() + 5, ('reload: the file is served', 'reload declined: nothing is changed')
+    last, lines = time.monotonic() + 5, ('reload: the file is served', 'reload declined: nothing has changed')
     while [server.said().count(line) for line in lines] != [done, declined] and time.monotonic() < last:
         time.sleep(.05)
     want([server.said().count(line) for line in lines] == [done, declined] and 'dropped' not in server.said(), 'and told so')

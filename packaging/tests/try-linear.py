@@ -51,7 +51,7 @@ def instructions(program, *paths):
     ran = subprocess.run(["valgrind", "--tool=cachegrind", "--cache-sim=no", "--cachegrind-out-file=/dev/null", program, "check", *paths],
                          capture_output=True, text=True, timeout=300, check=False)
     told = [line for line in ran.stderr.splitlines() if line.startswith(f"{paths[0]}:")]
-    if ran.returncode or not ran.stdout.startswith(("ok realms", "may follow")[len(paths) - 1]) or told:
+    if ran.returncode or not ran.stdout.startswith(("ok realms", "can be reloaded")[len(paths) - 1]) or told:
         sys.exit(f"try-linear: check ends with {ran.returncode}: {ran.stdout} {told or ran.stderr}")
     return int(re.search(r"I\s+refs:\s+([\d,]+)", ran.stderr).group(1).replace(",", ""))
 

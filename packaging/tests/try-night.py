@@ -330,7 +330,7 @@ def on_full_disk(night):
                 file.write(bytes(1024))
         night.serve(("fresh = 300", f'fresh = 300\nstate = "{folder}/sessions"\nstate_every = 1'))
         night.sends("acct", START)
-        night.proxy.tells("kept in")
+        night.proxy.tells("saved in")
     finally:
         night.leave()
         subprocess.run(["umount", folder], check=True)
@@ -485,13 +485,13 @@ PLAYS = {
         ("is served", [], lambda night: reloads(night, ("wait = 400", "wait = 500"))),
         ("BadValue", [], lambda night: reloads(night, ("wait = 400", "wait = 0"))),
         ("would lose", [OTHER_SECRET, LONG], lambda night: (night.logs_in(), reloads(night, OTHER_SECRET, LONG, ("10:2000", "10:2005")))),
-        ("may not follow", [], lambda night: reloads(night, at_top("shards = 2"))),
+        ("needs a restart", [], lambda night: reloads(night, at_top("shards = 2"))),
         ("never answered", [], lambda night: (reloads(night, OTHER_SECRET), night.types(["systemctl reload roam"]), three(night), time.sleep(1.5))),
     ],
     "After an upgrade": [
-        ("taken up from", with_state, takes_up),
-        ("fit no realm", with_state, lambda night: takes_up(night, [('"uni.example"', '"cs.example"')])),
-        ("is read from", with_state, lambda night: takes_up(night, spoil="nonsense")),
+        ("sessions restored", with_state, takes_up),
+        ("belong to no realm", with_state, lambda night: takes_up(night, [('"uni.example"', '"cs.example"')])),
+        ("no session restored", with_state, lambda night: takes_up(night, spoil="nonsense")),
         ("BadValue", None, lambda night: (reloads(night, ("wait = 400", "wait = 0")), night.proxy.start(), night.proxy.ends(5))),
     ],
     "The log is silent": [

@@ -160,10 +160,12 @@ def try_commands(name, page, shell, booted, tally):
 
 
 def configurations(page):
-    """The page's configurations: each that begins one, with the tables that the page adds to it."""
+    """The page's configurations: each that begins one, with the tables that the page adds to it, or to the file of examples/migrating."""
     blocks = re.findall(r"^```toml\n(.*?)^```$", page, re.DOTALL | re.MULTILINE)
     whole = [block for block in blocks if not block.startswith("[")]
-    return whole + [whole[0] + block for block in blocks if whole and block.startswith("[")]
+    with open(os.path.join(ROOT, "examples", "migrating", "roam.conf"), encoding="utf-8") as file:
+        begun = whole[0] if whole else file.read()
+    return whole + [begun + block for block in blocks if block.startswith("[")]
 
 
 def try_configurations(page, program, tally):

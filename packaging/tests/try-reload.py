@@ -352,7 +352,7 @@ def faults(server):
             (good + 'this is no toml', 'roam.conf'),
             (good + str(Realm(9, out=f'{HERE}:{PORT + 500}')), 'cannot bind'),
             (good + str(Realm(9, out=f'{HERE}:{PORT + 200}')), 'Duplicate'),
-            (changed(good, 'shards = 2', 'shards = 3'), 'may not follow: shards')]
+            (changed(good, 'shards = 2', 'shards = 3'), 'needs a restart: shards')]
 
 
 def try_fifty(server):

@@ -129,7 +129,7 @@ def try_stop(server):
     server.peers.reverse()
     server.realms.reverse()
     server.start()
-    want('sessions taken up from ' + server.state in server.said(), 'it says what it takes up')
+    want('sessions restored from ' + server.state in server.said(), 'it says what it takes up')
     sessions.are_disconnected('after a stop, with all tables turned about')
 
 
@@ -164,16 +164,16 @@ def try_faulty(server):
     server.stop()
     with open(server.state, 'rb') as file:
         whole = file.read()
-    faulty = [('cut', whole[:-1]), ('cut', whole[:len(whole) // 2]), ('cut', whole[:15]), ('no file of ledgers', b''),
-              ("another version's file of ledgers", changed(whole, b'ledgers 2\n', b'ledgers 1\n', 1)),
-              ('no file of ledgers', b'somebody else\'s\n'), ('octets behind the end', whole + b'\0')]
+    faulty = [('cut', whole[:-1]), ('cut', whole[:len(whole) // 2]), ('cut', whole[:15]), ('no file of sessions', b''),
+              ("another version's file of sessions", changed(whole, b'ledgers 2\n', b'ledgers 1\n', 1)),
+              ('no file of sessions', b'somebody else\'s\n'), ('octets behind the end', whole + b'\0')]
     for word, octets in faulty:
         with open(server.state, 'wb') as file:
             file.write(octets)
         server.start()
         with open(server.state + '.old', 'rb') as file:
             kept = file.read()
-        want(f'{word}; it is {server.state}.old now' in server.said() and kept == octets, f'said and put aside: {word}')
+        want(f'{word}; the file is {server.state}.old now' in server.said() and kept == octets, f'said and put aside: {word}')
         server.stop()
     with open(server.state, 'wb') as file:
         file.write(whole)
@@ -185,7 +185,7 @@ def try_faulty(server):
 def try_unwritable(server):
     state, server.state = server.state, os.path.join(server.folder, 'no', 'sessions')
     server.start()
-    want(server.tells(f"sessions aren't kept in {server.state}: No such file or directory"), 'where it cannot be written that is said')
+    want(server.tells(f"sessions are not saved in {server.state}: No such file or directory"), 'where it cannot be written that is said')
     sessions = Sessions()
     sessions.some(4)
     sessions.are_disconnected('and all else goes on')

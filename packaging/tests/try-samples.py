@@ -44,9 +44,9 @@ def refused(number):
     return ("refused", number)
 
 
-def named(name):
+def named(name, namespace="1"):
     """The attributes of an Operator-Name, and of the question for a Chargeable-User-Identity."""
-    return [(OPERATOR, b"1" + name.encode()), (CUI, b"\0")]
+    return [(OPERATOR, (namespace + name).encode()), (CUI, b"\0")]
 
 
 # Of which sample and peer a request of which code is for which User-Name (none: without), and what comes of it; and how it is made
@@ -83,7 +83,7 @@ CASES = [
     ("federation", "above-1", ACCOUNTING, "u@school.example", refused(25)),
     ("federation", "university", ACCOUNTING, "u@nobody.example", refused(9)),
     ("hub", "airport", ACCESS, "0001@mnc001.mcc001.3gppnetwork.org",
-     to("198.51.100.1:1812", [*named("airport.example"), ASKED[1]], (), (VLAN + [CISCO, CLASS], [CLASS]))),
+     to("198.51.100.1:1812", [*named("AIRPORT:US", "4"), ASKED[1]], (), (VLAN + [CISCO, CLASS], [CLASS]))),
     ("hub", "airport", ACCESS, "0002@wlan.mnc002.mcc001.3gppnetwork.org", to("198.51.100.17:1812", (), (CALLED,))),
     ("hub", "trains", ACCESS, "u@operator.example", to("198.51.100.17:1812", named("trains.example"), (CALLED,)), [(OPERATOR, b"1another.example")]),
     ("hub", "airport", ACCESS, "u@operator.example", to("198.51.100.17:1812", [(OPERATOR, b"1another.example")]), [(OPERATOR, b"1another.example")]),
@@ -93,7 +93,7 @@ CASES = [
     ("hub", "stadium", ACCOUNTING, "0001@mnc001.mcc001.3gppnetwork.org", refused(25)),
     ("hub", "airport", ACCESS, "u@a.members.example", to("198.51.100.33:1812")),
     ("hub", "airport", ACCOUNTING, "u@a.members.example", refused(26)),
-    ("hub", "airport", ACCOUNTING, "u@operator.example", to("198.51.100.17:1813", named("airport.example")[:1], (CALLED,))),
+    ("hub", "airport", ACCOUNTING, "u@operator.example", to("198.51.100.17:1813", named("AIRPORT:US", "4")[:1], (CALLED,))),
     ("hub", "airport", ACCESS, "u@unknown.example", REJECT),
     ("visited-network", "visited-network", ACCESS, "u@university.example", to("198.51.100.1:1812", ASKED, (OPERATOR, CUI), (VLAN, VLAN))),
     ("visited-network", "visited-network", ACCOUNTING, "u@college.example", to("198.51.100.17:1813")),
@@ -240,7 +240,7 @@ def share(played):
 # What `roam check` advises of each sample: that its secrets are everybody's, and what it says of itself that a proxy is old.
 ADVISED = {
     "federation": ("secret: is a sample's, ", 'advice: peer "school": require_seal: ', 'advice: realm "school.example", server 1: require_seal: ',
-                   'advice: realm "school.example": name: is without *. '),
+                   'advice: realm "school.example": name: has no *. '),
     "hub": ("secret: is a sample's, ",),
     "visited-network": ("secret: is a sample's, ",),
 }

@@ -132,7 +132,7 @@ def text_of(letters="a", shards=1, limit=1000000, tries=2, wait=1000, hold=5000,
 
 def steps_of(server):
     """How many steps it recorded until it ended, and how often it let go of some: it is audited."""
-    found = server.waits_for(r"ended after (\d+) steps, let go of (\d+) times: audited")
+    found = server.waits_for(r"ended after (\d+) steps, history cleared (\d+) times: audited")
     return int(found[1]), int(found[2])
 
 
@@ -228,7 +228,7 @@ def unreachable(program):
     with served(program, tries=1, servers=("255.255.255.255", HERE)) as (server, ends):
         ends.complete(FAILED_OVER)
         want(server.count("roam_lost_packets_total", cause="not_permitted") > 0, "a packet that can't be sent isn't counted")
-        server.waits_for(r"packets lost since they may not be sent")
+        server.waits_for(r"packets lost since the system does not permit them")
 
 
 def no_way(program):
@@ -265,10 +265,10 @@ def hints():
            (HERE, REVERSE, late(-1000),
             r"29 Stale at reverse:0 \(a\.example\) .* its Event-Timestamp is 1[01]\d\d s behind the clock here")]
     yield [(HERE, AUTH, signed(12, 1, b"", nas), r"5 WrongCode at auth .* code 12 \(Status-Server\): set status_server = true"),
-           (HERE, ACCT, signed(40, 1, b"", nas), r"5 WrongCode at acct .* code 40 \(session control\): it goes to a realm's reverse"),
+           (HERE, ACCT, signed(40, 1, b"", nas), r"5 WrongCode at acct .* code 40 \(Disconnect or CoA\): it goes to a realm's reverse"),
            (HERE, ACCT, signed(4, 3, attribute(40, bytes([0, 0, 0, 7])), nas),
             r"9 NoRealm at acct .*: no User-Name: for Accounting-On and -Off set answer_unnamed = true"),
-           (HERE, OUT, named(1), r"4 UnknownSource at out:0 .*: no server of this realm, and no coa of a peer, has this address and port"),
+           (HERE, OUT, named(1), r"4 UnknownSource at out:0 .*: no home server of this realm, and no coa of a peer, has this address and port"),
            (HERE, REVERSE, late(2000), r"29 Stale at reverse:0 .* its Event-Timestamp is (199\d|2000) s ahead of the clock here")]
     yield [(HERE, ACCT, accounting_request(4, b"u", b"1", nas), r"9 NoRealm at acct .*: its User-Name names no realm")]
     yield [(HERE, ACCT, accounting_request(5, b"u@\x1b[2J.example", b"1", nas), r"9 NoRealm at acct .*: its realm is not printable")]
@@ -298,7 +298,7 @@ def silent(program):
     with served(program, tries=1, wait=300, hold=0, rest=20000) as (server, ends):
         ends.client.sendto(named(1), (HERE, AUTH))
         server.waits_for(r'result=given_up .* why=never_answered .*hint="wrong secret on either side, wrong port, or this proxy is not')
-        server.waits_for(rf"home server {HERE}:{HOME} of a\.example never answered: it rests\. Wrong secret on either side")
+        server.waits_for(rf"home server {HERE}:{HOME} of a\.example never answered: marked dead\. Wrong secret on either side")
         for order in ((), ("--problems",)):
             printed = server.ctl("status", *order).stdout
             want(re.search(rf"auth +{HERE}:{HOME} +a\.example +never answered \(1\)", printed), f"the status {order} says so: {printed}")
@@ -312,8 +312,8 @@ def silent(program):
         server.waits_for(rf"home server {HERE}:{HOME} of a\.example answers again")
         ends.client.sendto(named(3), (HERE, AUTH))
         server.waits_for(r"result=given_up .* why=stopped_answering\n")
-        server.waits_for(rf"home server {HERE}:{HOME} of a\.example stopped answering: it rests")
-        want(re.search(rf"auth +{HERE}:{HOME} +a\.example +rests \d+ s more", server.ctl("status", "--problems").stdout), "and that it rests")
+        server.waits_for(rf"home server {HERE}:{HOME} of a\.example stopped answering: marked dead")
+        want(re.search(rf"auth +{HERE}:{HOME} +a\.example +dead for \d+ s more", server.ctl("status", "--problems").stdout), "and that it rests")
 
 
 def forwarded(ends, clients):

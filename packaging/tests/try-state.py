@@ -128,7 +128,7 @@ def try_unreadable(server):
     server.stop()
     said = server.said()
     want(os.path.exists(server.state + '.old') and server.octets('.old') == octets, 'a file that the disk does not give stays')
-    want(f'no session is read from {server.state}: Input/output error; it is {server.state}.old now' in said, 'which is said')
+    want(f'no session restored from {server.state}: Input/output error; the file is {server.state}.old now' in said, 'which is said')
     comes_back(server, octets, sessions, 'of that file')
 
 
@@ -149,7 +149,7 @@ def try_forbidden(server):
     os.chmod(server.state, 0o600)
     said = server.said()
     want(server.octets() == octets, 'a file that may be neither read nor renamed stays as it is')
-    want(said.count('Permission denied') == 1 and f'it can\'t be renamed to {server.state}.old, so nothing is written' in said,
+    want(said.count('Permission denied') == 1 and f'the file can\'t be renamed to {server.state}.old, so nothing is saved' in said,
          'which is said once')
     want(says_lost(said, more), 'and at the end it is said what is lost')
     comes_back(server, octets, sessions, 'of that file')
@@ -165,8 +165,8 @@ def try_renamed(server):
     said = server.said()
     told.REALMS[0] = 'a.example'
     server.realms = list(told.REALMS)
-    want(f'{of_b} of {len(sessions.open)} sessions taken up from {server.state}' in said, 'it says how many it took up')
-    want(f'the file as it was is {server.state}.old' in said and server.octets('.old') == octets, 'and keeps the file as it was')
+    want(f'{of_b} of {len(sessions.open)} sessions restored from {server.state}' in said, 'it says how many it took up')
+    want(f'the old file is {server.state}.old' in said and server.octets('.old') == octets, 'and keeps the file as it was')
     comes_back(server, octets, sessions, 'of that file under the old name')
 
 
@@ -176,8 +176,8 @@ def try_fewer(server):
     server.start()
     server.stop()
     said, server.edits = server.said(), []
-    want(f'6 of {len(sessions.open)} sessions taken up from {server.state}' in said, 'where max_sessions fell that is said')
-    want(f'the file as it was is {server.state}.old' in said and server.octets('.old') == octets, 'and the file as it was stays')
+    want(f'6 of {len(sessions.open)} sessions restored from {server.state}' in said, 'where max_sessions fell that is said')
+    want(f'the old file is {server.state}.old' in said and server.octets('.old') == octets, 'and the file as it was stays')
     comes_back(server, octets, sessions, 'of that file')
 
 
@@ -186,7 +186,7 @@ def try_all(server):
     server.start()
     server.stop()
     said = server.said()
-    want(f'{len(sessions.open)} of {len(sessions.open)} sessions taken up from {server.state}' in said, 'all are taken up')
+    want(f'{len(sessions.open)} of {len(sessions.open)} sessions restored from {server.state}' in said, 'all are taken up')
     want(not os.path.exists(server.state + '.old') and 'the file as it was' not in said, 'and no other file is left')
     want(sorted(server.octets()) == sorted(octets), 'it holds them again')
 
@@ -261,7 +261,7 @@ def try_end(server):
     time.sleep(1)
     server.stop()
     said, server.state = server.said(), state
-    want(f'sessions aren\'t kept in {server.folder}/no/sessions: No such file or directory' in said, 'a fault is said in words')
+    want(f'sessions are not saved in {server.folder}/no/sessions: No such file or directory' in said, 'a fault is said in words')
     want(says_lost(said, sessions), 'and what is lost, at the end')
 
 
@@ -290,7 +290,7 @@ def try_slow(server):
     want(server.ends(60) == 0 and stop.wait(timeout=60) == 0,
          f'which waits for the last writing: {time.monotonic() - before:.1f} s')
     said = server.said()
-    want(1 <= said.count('the disk is still at the writing before') <= 2 and 'dropped' not in said,
+    want(1 <= said.count('the disk is still busy with the save before') <= 2 and 'dropped' not in said,
          'a writing that is skipped is said once a minute, and again after a reload')
     server.start()
     sessions.open.update(more.open)

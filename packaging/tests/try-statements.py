@@ -22,7 +22,7 @@ from server import run
 ROOT = os.path.dirname(os.path.dirname(os.path.dirname(os.path.abspath(__file__))))
 FOLDERS = ("packaging/samples", "examples")
 # What counts where one of these is absent can't be written.
-WITHOUT_DEFAULT = {"max_hops", "metrics", "control", "coa", "nas_ip", "nas_ipv6", "nas_id", "reverse", "operator_name", "peers", "share", "acct",
+WITHOUT_DEFAULT = {"max_hops", "metrics", "control", "coa", "nas_ip", "nas_ipv6", "nas_id", "reverse", "operator_name", "operator_namespace", "peers", "share", "acct",
                    "max_attributes", "fresh", "peer_share", "coa_client", "state"}
 ENDPOINTS = {"auth", "acct", "out", "reverse", "coa", "metrics"}
 USAGE = "usage: roam check CONF\n"
@@ -82,7 +82,7 @@ def look_at_file(program, path, keys, folder):
     want(run(program, "check", "--all", again) == (0, stated, ""), f"{path}: what is printed is printed otherwise")
     # Each realm goes on as it stands.
     status, fates, said = run(program, "check", path, again)
-    want((status, said) == (0, "") and fates.startswith("may follow\n"), f"{path}: what is printed may not follow")
+    want((status, said) == (0, "") and fates.startswith("can be reloaded\n"), f"{path}: what is printed may not follow")
     for line in fates.splitlines()[1:]:
         want(line.endswith(": unchanged"), f"{path}: {line}")
 
@@ -124,11 +124,11 @@ def look_at_faults(program, folder):
         text = file.read()
     fewer = write("fewer.conf", changed(text, re.compile(rb"\n\[\[realm\]\].*?(?=\n\[\[realm\]\])", re.S), b"", 1))
     gone = run(program, "check", old, fewer)
-    want((gone[0], gone[2]) == (0, "") and re.match(r"may follow\nrealm \S+: gone: loses all\n", gone[1]), f"fewer realms: {gone}")
+    want((gone[0], gone[2]) == (0, "") and re.match(r"can be reloaded\nrealm \S+: gone: loses all\n", gone[1]), f"fewer realms: {gone}")
     want(tomllib.loads(text.decode()).get("shards") != 2, "the sample has another number of shards")
     shards = write("shards.conf", b"shards = 2\n" + re.sub(rb"(?m)^shards = .*\n", b"", text))
     status, printed, said = run(program, "check", old, shards)
-    want((status, said) == (1, f"roam: {shards}: may not follow\n") and printed.startswith("may not follow: "), f"shards: {status} {printed}{said}")
+    want((status, said) == (1, f"roam: {shards}: needs a restart\n") and printed.startswith("needs a restart: "), f"shards: {status} {printed}{said}")
 
 
 def main():

@@ -329,11 +329,11 @@ FILES = (
     ("one table in place of several", '[server]\nat = ["127.2.0.1:1812"]\n', "BadValue\n:1: server: a table is no array of 0..1024 tables: write [[server]]\n"),
     ("IPv6", STREAMS.replace(f'"{AUTH[0]}:{AUTH[1]}"', '"[::1]:1812"'),
      'BadValue\n:2: auth: "[::1]:1812" is no IPv4 address with a port of 1..65535, as "127.0.0.1:1812"\n'),
-    ("one endpoint in two at", STREAMS + f'[[server]]\nat = ["{AT}"]\n', f'DuplicateEndpoint\n:11: server 2: at: "{AT}" stands also in line 7: server 1: at\n'),
-    ("auth that is acct", STREAMS.replace(f":{ACCT[1]}", f":{AUTH[1]}"), 'DuplicateEndpoint\n:3: acct: "%s:%d" stands also in line 2: auth\n' % AUTH),
-    ("a reverse that is an at", STREAMS + SECOND % ("127.2.0.3:1812", AT), f'DuplicateEndpoint\n:12: server 2: reverse: "{AT}" stands also in line 7: server 1: at\n'),
+    ("one endpoint in two at", STREAMS + f'[[server]]\nat = ["{AT}"]\n', f'DuplicateEndpoint\n:11: server 2: at: "{AT}" is also in line 7: server 1: at\n'),
+    ("auth that is acct", STREAMS.replace(f":{ACCT[1]}", f":{AUTH[1]}"), 'DuplicateEndpoint\n:3: acct: "%s:%d" is also in line 2: auth\n' % AUTH),
+    ("a reverse that is an at", STREAMS + SECOND % ("127.2.0.3:1812", AT), f'DuplicateEndpoint\n:12: server 2: reverse: "{AT}" is also in line 7: server 1: at\n'),
     ("a reverse that is a later at", STREAMS + SECOND % (TO, TO),
-     f'DuplicateEndpoint\n:8: server 1: reverse: "{TO}" stands also in line 11: server 2: at\n:12: server 2: reverse: "{TO}" stands also in line 11: server 2: at\n'),
+     f'DuplicateEndpoint\n:8: server 1: reverse: "{TO}" is also in line 11: server 2: at\n:12: server 2: reverse: "{TO}" is also in line 11: server 2: at\n'),
 )
 
 

@@ -41,7 +41,7 @@ def look_at_words(trial):
     for words in rows.NO_COMMANDS:
         trial.ends(words, 2, "", rows.USAGE)
     for words in rows.UNTIMED_WORDS:
-        trial.ends(words, 2, "", f"roam: {words[-1]}: no number of milliseconds from 1 to 86400000\n{rows.USAGE}")
+        trial.ends(words, 2, "", f"roam: {words[-1]}: not a number of milliseconds from 1 to 86400000\n{rows.USAGE}")
     for words in rows.UNKNOWN_WORDS:
         trial.ends(words, 2, "", f"roam: {words[0]}: no such command\n{rows.USAGE}")
     for word in ("help", "--help", "-h"):
@@ -65,7 +65,7 @@ def look_at_configurations(trial):
         trial.ends(["check", "--all", trial.file("stated.conf", text)], 0, stated, "")
     more = trial.file("more.conf", rows.LARGER + rows.FOURTH)
     trial.ends(["check", larger, more], 0, rows.ADDED, "")
-    trial.ends(["check", more, larger], *rows.REMOVED, f"roam: {larger}: may not follow\n" if rows.REMOVED[0] else "")
+    trial.ends(["check", more, larger], *rows.REMOVED, f"roam: {larger}: needs a restart\n" if rows.REMOVED[0] else "")
 
 
 def look_at_faults(trial):

@@ -6,8 +6,7 @@
   (crates/roam_wire/src/refusal.rt) compared with it.
 - The faults of a configuration: the table of docs/FILES.md. The manual page's are made of it, and the names in their order
   (crates/roam_conf_reader/src/fault.rt) compared with it.
-- The usage: what docs/REFUSALS.md has of it is what the program prints (crates/roam_words/src/usage.rt).
-- The texts of the program's faults: each of crates/roam_words/src/fault_text.rt has a row of docs/REFUSALS.md, and each row one of these.
+- The texts of the program's faults: each of crates/roam_cli/src/fault_text.rt has a row of docs/REFUSALS.md, and each row one of these.
 """
 import pathlib
 import re
@@ -24,7 +23,7 @@ HEADS = {
 }
 # What the manual page doesn't list: no datagram that a server received meets them, or nothing is logged of them.
 NOT_LOGGED = {11, 20, 22, 23}
-# Texts that begin as others do, and go on in crates/roam_words/src/reasons.rt.
+# Texts that begin as others do, and go on in crates/roam_cli/src/reasons.rt.
 COMPOSED = {"roam: PATH: REASON", "roam: PATH:LINE: isn't UTF-8"}
 
 
@@ -120,11 +119,11 @@ def keys_of_the_reader() -> dict[str, set[str]]:
 
 def lost_texts() -> list[str]:
     """The program's texts that have no row, and the rows whose text the program doesn't have."""
-    code = (ROOT / "crates" / "roam_words" / "src" / "fault_text.rt").read_text(encoding="utf-8")
+    code = (ROOT / "crates" / "roam_cli" / "src" / "fault_text.rt").read_text(encoding="utf-8")
     stands_for = {"number": "N", "wanted": "N", "seconds": "S", "endpoint": "ENDPOINT", "fault": "NAME", "why": "WHY", "what": "WHAT"}
     # What begins with a colon stands behind a path, or behind the first word.
     code = re.sub(r'"(: [^"]*")', r'"roam: PATH\1', code)
-    code = re.sub(r"PATH: (no such command|no number of)", r"WORD: \1", code)
+    code = re.sub(r"PATH: (no such command|not a number of)", r"WORD: \1", code)
     texts = {re.sub(r"\{(\w+)\}", lambda it: stands_for.get(it.group(1), "REASON"), it).replace("error REASON", "REASON")
              for it in re.findall(r'"(roam: [^"]*?)(?:\\n)?"', code)} | COMPOSED
     page = (ROOT / "docs" / "REFUSALS.md").read_text(encoding="utf-8")
@@ -160,9 +159,6 @@ def faults() -> list[str]:
     code = (ROOT / "crates" / "roam_conf_reader" / "src" / "fault.rt").read_text(encoding="utf-8").split("pub enum ConfFault {")[1].split("\n}")[0]
     if [it for it in re.findall(r"^    ([A-Z]\w+),$", code, re.M) if it != "Memory"] != fault_names():
         said.append("the faults of docs/FILES.md aren't those of roam_conf_reader, in their order")
-    usage = (ROOT / "crates" / "roam_words" / "src" / "usage.rt").read_text(encoding="utf-8").split('b"usage: ')[1].split('",')[0].replace("\\n", "\n")
-    if f"```text\nusage: {usage}```" not in (ROOT / "docs" / "REFUSALS.md").read_text(encoding="utf-8"):
-        said.append("the usage in docs/REFUSALS.md isn't the one that the program prints")
     said += lost_texts()
     return said
 

@@ -14,14 +14,14 @@ RUN = ("roam_core", "src/runs.rt")
 # and the relation in their place, and the functions at its end. A function, and its law.
 TIES = [
     (("roam_wire", "Reading", "reading"), ("roam_wire", "Laws", "ReadingIsRight")),
-    (("roam_auth", "Deciding", "is_signed_reply"), ("roam_auth", "DecidingLaws", "SignedReplyIsDecided")),
-    (("roam_auth", "Deciding", "is_signed_request"), ("roam_auth", "DecidingLaws", "SignedRequestIsDecided")),
-    (("roam_auth", "Deciding", "is_well_sealed"), ("roam_auth", "DecidingLaws", "WellSealedIsDecided")),
-    (("roam_hide", "Hiding", "hidden_anew"), ("roam_hide", "HidingLaws", "OneTextAnew")),
-    (("roam_hide", "SaltedFunctions", "salted_hidden_anew"), ("roam_hide", "SaltedLaws", "OneAttributeAnew")),
-    (("roam_hide", "Salted", "is_salted"), ("roam_hide", "SaltedLaws", "SaltedIsDecided")),
+    (("roam_crypto", "Deciding", "is_signed_reply"), ("roam_crypto", "DecidingLaws", "SignedReplyIsDecided")),
+    (("roam_crypto", "Deciding", "is_signed_request"), ("roam_crypto", "DecidingLaws", "SignedRequestIsDecided")),
+    (("roam_crypto", "Deciding", "is_well_sealed"), ("roam_crypto", "DecidingLaws", "WellSealedIsDecided")),
+    (("roam_crypto", "Hiding", "hidden_anew"), ("roam_crypto", "HidingLaws", "OneTextAnew")),
+    (("roam_crypto", "SaltedFunctions", "salted_hidden_anew"), ("roam_crypto", "SaltedLaws", "OneAttributeAnew")),
+    (("roam_crypto", "Salted", "is_salted"), ("roam_crypto", "SaltedLaws", "SaltedIsDecided")),
     (("roam_ids", "NextIdentifier", "next_identifier"), ("roam_ids", "Laws", "AnswersTheNext")),
-    (("roam_back", "ReplyCheck", "reply_fault"), ("roam_back", "ReplyCheck", "TakenHasNoFault")),
+    (("roam_reply", "ReplyCheck", "reply_fault"), ("roam_reply", "ReplyCheck", "TakenHasNoFault")),
 ]
 
 # Values for a place that isn't there, in functions that have to answer something: no premise reaches them.

@@ -1,15 +1,15 @@
 //! The program `roam`: does what the words of its command line ask for, and says how it ended.
 //!
-//! What is done stands in `roam_program`, the words and texts in `roam_words`; here are the standard streams and the
+//! What is done stands in `roam_program`, the words and texts in `roam_cli`; here are the standard streams and the
 //! status alone.
 #![tactic(auto)]
 
 use log::Log;
+use roam_cli::Fault;
 use roam_keeping::{Keeper, KeepsFiles, keep_on};
 use roam_outlet::{LogReader, Outlet, OutletWriter, ToOutlet, log_reader, write_on};
 use roam_program::command;
-use roam_stream_program::{ask_for_streams, stream_command};
-use roam_words::Fault;
+use roam_stream_server::{ask_for_streams, stream_command};
 use std::alloc::Global;
 use std::io::{BufWriter, Write};
 use std::net::Net;

@@ -1,4 +1,4 @@
--- How the prefixes of an index are kept. Ours.
+-- The keys under which an index keeps prefixes. Ours.
 use Rattle.std.specs.Prelude.{◌≡◌, ℕ, ◌+◌, Bool, true, false, List, length, filter, Some, slice_get, slice_index_or, slice_range, if◌then◌else◌}
 use Rattle.roam_address.specs.declared.leading.Leading.{Leading}
 

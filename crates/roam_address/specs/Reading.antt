@@ -1,4 +1,4 @@
--- What it is to read a text. Ours.
+-- The reading of a text. Ours.
 use Rattle.std.specs.Prelude.{ℕ, List, Option, MatchOption}
 
 -- what the text states is answered, and nothing just where it states nothing

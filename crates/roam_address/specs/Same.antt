@@ -1,4 +1,4 @@
--- When two addresses, or two prefixes, are the same, and the longest prefix that has an address, as functions, for
+-- The sameness of two addresses, and of two prefixes, and the longest prefix that has an address, as functions, for
 -- definitions above. Ours: that these answer what `IsIn` and `IsLongestMatch` say is proved (`Prefix::has`,
 -- `PrefixIndex::longest`).
 use Rattle.std.specs.Prelude.{ℕ, ◌&&◌, ◌||◌, not, nat_le, Bool, List, Option}

@@ -1,4 +1,4 @@
--- What an index stands for. Ours.
+-- The meaning of an index. Ours.
 use Rattle.std.specs.Prelude.{◌≡◌, ℕ, Bool, List, map, position, Option}
 use Rattle.roam_address.specs.contracts.leading.LeadingPartialEq.TheImpl as leadings
 use Rattle.roam_address.specs.declared.leading.Leading.{Leading}

@@ -1,4 +1,4 @@
--- What texts state, as functions of them, for definitions above. Ours: that each answers what is stated and nothing
+-- The meaning of texts, as functions of them, for definitions above. Ours: that each answers what is stated and nothing
 -- else is proved (`from_text`).
 use Rattle.std.specs.Prelude.{ℕ, ◌-◌, ◌%◌, ◌^◌, ◌==◌, Bool, false, List, [], ◌∷◌, take, Option, Some, None, option_map, option_and_then, if◌then◌else◌}
 use Rattle.std.specs.Option.{option_or}

@@ -1,4 +1,4 @@
-//! Where a packet comes from or goes to: an address and a UDP port.
+//! An endpoint, where a packet comes from or goes to: an address and a UDP port.
 
 ghost use Rattle.std.specs.Prelude.{Some};
 ghost use Rattle.roam_address.specs.Endpoints.{endpoint_text};

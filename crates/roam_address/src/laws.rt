@@ -10,7 +10,7 @@ ghost use Rattle.roam_address.specs.Reading.{Reads};
 
 use crate::{Address, Endpoint, Prefix};
 
-/// What is printed of an IPv6 address is its one text (RFC 5952, section 4).
+/// Says that an IPv6 address is printed as its one text (RFC 5952, section 4).
 pub fn ipv6_text_is_canonical(address: Address)
     ensures { MatchIp (ip_of address) (λ _. ⊤) (λ a. IsCanonicalText (ipv6_segments a) (address_text address)) }
 {}

@@ -8,7 +8,7 @@ use crate::Address;
 #[derive(Clone, Copy, Debug, PartialEq, Eq, Hash)]
 pub struct Leading {
     pub is_ipv6: bool,
-    /// How many bits.
+    /// The number of bits.
     pub length: u8,
     /// The number that they are, the most significant first.
     pub bits: u128,

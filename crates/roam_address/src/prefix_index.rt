@@ -8,7 +8,7 @@ use indexmap::IndexSet;
 use std::alloc::{AllocError, Allocator};
 use std::hash::{BuildHasherDefault, FoldHasher};
 
-/// How many pairs of a kind and a length there are: 33 of IPv4 and 129 of IPv6.
+/// The number of pairs of a kind and a length: 33 of IPv4 and 129 of IPv6.
 const LENGTHS: usize = 162;
 
 /// Returns where it is marked that a prefix of this kind and length is there.

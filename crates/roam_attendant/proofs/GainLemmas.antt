@@ -2,12 +2,12 @@
 use Rattle.std.proofs.Common.{◌≡◌, inl, inr, ℕ, List, [], ◌∷◌, ◌++◌, ◌∙◌, ap, sym, append_assoc, append-nil, map}
 use Rattle.std.specs.List.{flat_map}
 use Rattle.std.proofs.lemmas.List.Concat.{flat_map-append}
-use Rattle.roam_ledgers.specs.Ledgers.{SavedItem, end_text, head, item_text, ledgers_text, realm, session}
+use Rattle.roam_sessions.specs.Ledgers.{SavedItem, end_text, head, item_text, ledgers_text, realm, session}
 use Rattle.roam_realm.specs.RealmConfig.{RealmConfig, realm_config}
 use Rattle.roam_realm.specs.Written.{GainsItems, GainsRealm}
-use Rattle.roam_calls.specs.HubOpening.{HubOpening}
-use Rattle.roam_calls.specs.Seats.{SeatView}
-use Rattle.roam_calls.specs.Written.{BeginsRealm, SavesThen}
+use Rattle.roam_history.specs.HubOpening.{HubOpening}
+use Rattle.roam_history.specs.Seats.{SeatView}
+use Rattle.roam_history.specs.Written.{BeginsRealm, SavesThen}
 
 gains_same : (old new : List ℕ) → new ≡ old → GainsItems old new
 gains_same old new same = ([], same ∙ sym (append-nil old))

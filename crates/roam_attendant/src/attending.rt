@@ -1,4 +1,4 @@
-//! What the server's own thread does while the others serve: it answers what it is asked for.
+//! The work of the server's own thread while the others serve: it answers what it is asked for.
 
 ghost use Rattle.std.specs.Prelude.{◌≡◌, IfOk, IfSome};
 ghost use Rattle.roam_conf.specs.Shown.{shown};
@@ -12,14 +12,13 @@ use crate::next::{Next, following_of, prepare_next};
 use crate::overview::Overview;
 use crate::source::{Following, Source};
 use log::Log;
-use roam_calls::{Opened, Seat};
 use roam_counters::Process;
 use roam_counting::ThreadCounts;
 use roam_desk::{Course, Desk, FileOrder, Order, Reply, done, grace, plain_reply};
-use roam_metrics::page;
-use roam_notices::ReloadEnd;
+use roam_history::{Opened, Seat};
+use roam_log::ReloadEnd;
+use roam_metrics::{StatusForm, page, status};
 use roam_sockets::{BoundSocket, now};
-use roam_status::{StatusForm, status};
 use roam_telling::tell_reload;
 use roam_workers::{HubCalls, Shared};
 use std::alloc::{AllocError, Global};
@@ -28,7 +27,7 @@ use std::sync::Wait;
 use std::thread::Threads;
 use std::time::Clock;
 
-/// What the server's own thread has while the others serve.
+/// The means of the server's own thread while the others serve.
 #[derive(Drop)]
 pub struct Attendant<'s, 'c, R, H, N: Opened> {
     pub rt: &'s R,
@@ -38,10 +37,11 @@ pub struct Attendant<'s, 'c, R, H, N: Opened> {
     pub seat: Seat<Global, N>,
     /// In milliseconds since the server's start.
     pub now: u64,
-    /// Where ledgers of sessions outlast the server, if anywhere, and at which moment they are kept there next.
+    /// The place where session tables outlast the server, if anywhere, and the moment at which they are kept there
+    /// next.
     pub state: Option<&'s StateFile>,
     pub dues: Dues,
-    /// Where the file has each realm; none where that is by the server's own numbers.
+    /// The place that each realm has in the file; none where that is by the server's own numbers.
     pub order: Option<&'s FileOrder>,
 }
 

@@ -11,7 +11,7 @@ pub struct Configured {
     pub config: Config,
     pub sockets: Vec<BoundSocket>,
     pub manner: Manner,
-    /// What is counted; none where nobody watches the server.
+    /// The counts; none where nobody watches the server.
     pub counters: Option<Counters>,
 }
 
@@ -31,13 +31,13 @@ impl Drop for Configured {
     }
 }
 
-/// What is left of a change for when the threads run again: it holds nobody up then.
+/// The part of a change that waits until the threads run again: it holds nobody up then.
 pub struct Handover {
-    /// What is answered to who asked for the configuration.
+    /// The answer to whoever asked for the configuration.
     pub reply: Option<Reply>,
     /// The configuration that isn't served any more, with its descriptors.
     pub before: Option<Configured>,
-    /// Whether who asked for it still waits for the answer.
+    /// True where whoever asked for it still waits for the answer.
     pub is_awaited: bool,
 }
 

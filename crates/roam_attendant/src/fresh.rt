@@ -1,22 +1,22 @@
-//! What is made anew for a configuration that is to be served.
+//! The parts that are made anew for a configuration that is to be served.
 
 ghost use Rattle.std.specs.Prelude.{◌≡◌, IfErr, IfOk};
-ghost use Rattle.roam_calls.specs.Books.{count_of};
+ghost use Rattle.roam_history.specs.Books.{count_of};
 ghost use Rattle.roam_sockets.specs.Faults.{IsAfterBinding};
 
 use crate::configured::Configured;
-use roam_calls::Blanks;
+use roam_history::Blanks;
 use roam_kits::{Kits, make_kits};
 use roam_sockets::ServeFault;
 use roam_workers::Rests;
 use std::alloc::Global;
 use std::net::Net;
 
-/// What is made anew: what the threads are made of, and the blanks of the hub.
+/// The parts that are made anew: those of the threads, and the blanks of the hub.
 #[derive(Drop)]
 pub struct FreshMeans {
     pub kits: Kits,
-    /// Where it isn't known what was told of servers.
+    /// The state in which it isn't known what was told of servers.
     pub rests: Rests,
     pub blanks: Blanks<Global>,
 }

@@ -1,17 +1,18 @@
-//! How the time under a configuration ended.
+//! The end of the time under a configuration.
 
 use crate::configured::Handover;
 use crate::next::Next;
 use roam_sockets::ServeFault;
 
-/// How the time under a configuration ended.
+/// The end of the time under a configuration.
 #[derive(Drop)]
 pub enum HubEnd {
     /// The server ends.
     Over,
     /// This configuration is to follow.
     Follows(Next),
-    /// What serves couldn't be started, for this fault: who asked for the configuration isn't answered yet.
+    /// The threads and sockets couldn't be started, for this fault: whoever asked for the configuration isn't answered
+    /// yet.
     Failed(ServeFault, Handover),
 }
 

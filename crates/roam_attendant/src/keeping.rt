@@ -7,7 +7,7 @@ use crate::hub_end::HubEnd;
 use crate::saving::ledgers_of;
 use crate::source::{Keeping, Source};
 use log::Log;
-use roam_calls::Opened;
+use roam_history::Opened;
 use roam_sockets::now;
 use roam_telling::tell_not_kept;
 use roam_workers::HubCalls;
@@ -15,33 +15,32 @@ use std::sync::Wait;
 use std::thread;
 use std::time::{Clock, Duration};
 
-/// How long it is before a writing that is under way is looked at again, in milliseconds: while others serve, and at
-/// the end.
+/// The time before a writing that is under way is looked at again, in milliseconds: while others serve, and at the end.
 const WHILE_WRITING: u64 = 200;
 
 const BETWEEN_LOOKS: u64 = 10;
 
-/// How often it is looked at most, and for how long in all, in milliseconds.
+/// The number of such looks at most, and for how long in all, in milliseconds.
 const LOOKS: u32 = 1000;
 
 const FOR_LAST: u64 = 10_000;
 
-/// How often it is said that a disk is too slow, in milliseconds.
+/// The time within which a slow disk is named once, in milliseconds.
 const MINUTE: u64 = 60_000;
 
-/// Why the ledgers aren't kept.
+/// The cause where memory is wanting for the sessions' file.
 const OUT_OF_MEMORY: &str = "out of memory";
 
-const STILL_WRITING: &str = "the disk is still at the writing before this one";
+const STILL_WRITING: &str = "the disk is still busy with the save before this one";
 
 const TOO_SLOW: &str = "the disk took more than 10 s";
 
 const SPARED: &str = "it is left as it was at the start";
 
-/// When something is to be done next about the file of ledgers, in milliseconds since the server's start.
+/// The times at which something is to be done next about the sessions' file, in milliseconds since the server's start.
 #[derive(Clone, Copy)]
 pub struct Dues {
-    /// When it is to be written.
+    /// The moment at which it is to be written.
     keeping: u64,
     /// From when on it may be said again that its disk is slow.
     slow: u64,

@@ -1,5 +1,5 @@
-//! What the server's own thread does while the others serve: it answers what it is asked for, keeps the ledgers of
-//! sessions, and makes all that is needed for the configuration that is to follow, before anything changes.
+//! The work of the server's own thread while the others serve: it answers what it is asked for, keeps the session
+//! tables, and makes all that is needed for the configuration that is to follow, before anything changes.
 //!
 //! It starts no thread and opens no hub: it has a seat of the one that is served.
 #![tactic(auto)]

@@ -1,17 +1,18 @@
-//! What a change takes of each realm: told where it was made; and why it isn't made, where nobody agreed to lose that.
+//! The losses of each realm by a change: told where it was made; and why it isn't made, where nobody agreed to lose
+//! that.
 
 ghost use Rattle.std.specs.Prelude.{IfOk};
 ghost use Rattle.roam_conf.specs.Shown.{shown};
-ghost use Rattle.roam_carry.specs.Carrying.{AreChanged};
+ghost use Rattle.roam_migrate.specs.Carrying.{AreChanged};
 
 use crate::attending::Attendant;
 use crate::next::out_of_memory;
 use log::Log;
-use roam_calls::{Opened, Seat};
-use roam_carry::{Loss, changed_peers};
 use roam_conf::{Config, Realm};
 use roam_desk::{Course, Reply, plain_reply};
-use roam_notices::{DropCause, DroppedText};
+use roam_history::{Opened, Seat};
+use roam_log::{DropCause, DroppedText};
+use roam_migrate::{Loss, changed_peers};
 use roam_realm::Gauges;
 use roam_reload::{RealmKey, has_same_outs, has_same_servers, is_other_in};
 use roam_telling::tell_dropped;
@@ -100,7 +101,7 @@ fn change_of(before: &Realm, next: Option<&Config>, realm: usize) -> &'static st
     };
     match next.realms.get(realm) {
         Some(after) if !after.gone => table_change(before, after),
-        _ => ": it is in the file no more",
+        _ => ": it is no longer in the file",
     }
 }
 
@@ -126,7 +127,7 @@ fn why_not(alloc: Global, config: &Config, next: Option<&Config>, losses: &[Loss
             let _is_said = push_line(&mut text, realm.name.as_str(), loss, change);
         }
     }
-    let words = b"nothing is changed; to change it all the same: roam ctl reload --lose\n";
+    let words = b"nothing has changed; to do it anyway: roam ctl reload --lose\n";
     let _is_said = text.extend_from_slice(words.as_slice()).is_ok();
     text
 }

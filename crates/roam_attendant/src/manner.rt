@@ -1,26 +1,26 @@
-//! How a configuration is served, beside what the broker does by it.
+//! The manner in which a configuration is served, beside what the proxy does by it.
 
 use roam_conf::ExchangeLines;
 use roam_desk::FileOrder;
-use roam_stations::StationForm;
+use roam_log::StationForm;
 
 /// The file by which ledgers of sessions outlast a server.
 #[derive(Drop)]
 pub struct StateFile {
     pub path: String,
-    /// How many milliseconds pass between two writings of it.
+    /// The milliseconds between two writings of it.
     pub every: u64,
 }
 
-/// How a configuration is served.
+/// The manner in which a configuration is served.
 pub struct Manner {
     /// Of which exchanges that end a line tells.
     pub told_exchanges: ExchangeLines,
-    /// How these lines have a station.
+    /// The form of a Calling-Station-Id in these lines.
     pub stations: StationForm,
-    /// Where ledgers of sessions outlast the server, if anywhere.
+    /// The place where session tables outlast the server, if anywhere.
     pub state: Option<StateFile>,
-    /// Where its file has each realm; none where that is by the numbers that the server has for them.
+    /// The place that its file has for each realm; none where that is by the numbers that the server has for them.
     pub order: Option<FileOrder>,
 }
 

@@ -3,17 +3,17 @@
 ghost use Rattle.std.specs.Prelude.{◌≡◌, IfOk};
 ghost use Rattle.roam_conf.specs.Shown.{shown};
 ghost use Rattle.roam_reload.specs.Reload.{MayFollow};
-ghost use Rattle.roam_calls.specs.Books.{count_of};
+ghost use Rattle.roam_history.specs.Books.{count_of};
 
 use crate::configured::Configured;
 use crate::fresh::FreshMeans;
 use crate::manner::Manner;
 use crate::source::{Following, Source};
 use log::Log;
-use roam_calls::{Blanks, Opened};
 use roam_conf::Config;
 use roam_counting::Counters;
 use roam_desk::{Course, Reply, plain_reply};
+use roam_history::{Blanks, Opened};
 use roam_kits::{Kits, can_start, tell_or_drop};
 use roam_sockets::{
     BoundSocket, RECEIVE_BUFFER, ServeFault, bind_following, descriptors_wanted, open_beside, widen,
@@ -30,19 +30,20 @@ use std::thread::Threads;
 #[derive(Drop)]
 pub struct Next {
     pub configured: Configured,
-    /// What is answered to who asked for it.
+    /// The answer to whoever asked for it.
     pub report: Vec<u8>,
     pub kits: Kits,
     pub rests: Rests,
     pub blanks: Blanks<Global>,
-    /// Whether it was agreed to lose by it what waits, is held or is open. Else it follows only where nothing is lost.
+    /// True where whoever asked agreed to lose by it what waits, is held or is open. Else it follows only where nothing
+    /// is lost.
     pub is_agreed: bool,
     /// Memory that is given back before the threads start again, for what they are made of then.
     pub spare: Vec<u8>,
     ghost one_for_each: { count_of blanks ≡ configured.config.top.shards },
 }
 
-/// How many octets are spare: for each socket, for the stack of each thread, and beside them.
+/// The spare octets: for each socket, for the stack of each thread, and beside them.
 const SPARE_OF_A_SOCKET: usize = 64;
 
 const SPARE_OF_A_THREAD: usize = 9 << 20;
@@ -150,7 +151,7 @@ fn words_of<S: Source>(source: &mut S, sockets: &[BoundSocket], fault: ServeFaul
     words
 }
 
-/// All that the server needs for a configuration that follows the one that is served.
+/// Makes all that the server needs for a configuration that follows the one that is served.
 fn make_next<R: Threads + Wait + Net + Log + Sync, H: HubCalls<N>, N: Opened>(
     rt: &R,
     shared: &Shared<'_, '_, H, N>,

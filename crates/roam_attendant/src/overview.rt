@@ -1,15 +1,15 @@
-//! What was counted, and how the realms stand at a moment.
+//! The counts, and the state of the realms at a moment.
 
-use roam_calls::{Gauges, Opened, Seat};
 use roam_conf::Config;
 use roam_counters::{CountedEvent, Process, Subject};
 use roam_counting::Counters;
+use roam_history::{Gauges, Opened, Seat};
 use roam_metrics::{Counts, Gauge};
 use roam_workers::{HubCalls, Shared};
 use std::alloc::{AllocError, Global};
 use std::sync::Wait;
 
-/// What was counted, and how the realms stood, each at a moment of its own.
+/// The counts, and how the realms stood, each at a moment of its own.
 #[derive(Drop)]
 pub struct Overview<'p> {
     config: &'p Config,
@@ -60,7 +60,7 @@ impl<'p> Overview<'p> {
         Some(u64::from(*self.of(realm)?.in_use_at.get(place)?))
     }
 
-    /// For how many milliseconds more a link of a realm rests; 0 where it doesn't.
+    /// Returns for how many milliseconds more a link of a realm is dead; 0 where it isn't.
     fn rest(&self, realm: u16, place: usize) -> Option<u64> {
         match self.of(realm)?.rests.get(place)?.until {
             Some(until) => Some(until.saturating_sub(self.now)),

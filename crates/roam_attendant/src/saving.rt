@@ -1,11 +1,11 @@
 //! The ledgers of sessions as octets, while the others serve.
 
 ghost use Rattle.std.specs.Prelude.{◌≡◌, ◌<◌, IfOk, List, OnOk, vec_len};
-ghost use Rattle.roam_ledgers.specs.Ledgers.{SavedItem, ledgers_text};
+ghost use Rattle.roam_sessions.specs.Ledgers.{SavedItem, ledgers_text};
 ghost use Rattle.roam_realm.specs.Written.{GainsItems};
 
-use roam_calls::{Opened, Seat};
-use roam_ledgers::Writing;
+use roam_history::{Opened, Seat};
+use roam_sessions::Writing;
 use roam_workers::{HubCalls, SESSIONS_AT_ONCE, Shared};
 use std::alloc::{AllocError, Global};
 use std::sync::Wait;

@@ -1,4 +1,4 @@
-//! Where the configuration comes from that follows one while it is served.
+//! The source of the configuration that follows one while it is served.
 
 ghost use Rattle.std.specs.Prelude.{IfOk};
 ghost use Rattle.roam_conf.specs.Shown.{shown};
@@ -13,11 +13,11 @@ use roam_sockets::ServeFault;
 pub struct Following {
     pub config: Config,
     pub manner: Manner,
-    /// What is answered to who asked for it, once it is served.
+    /// The answer to whoever asked for it, once it is served.
     pub report: Vec<u8>,
 }
 
-/// What becomes of octets that are to be kept.
+/// The fate of octets that are to be kept.
 #[derive(Clone, Copy, Debug, PartialEq, Eq)]
 pub enum Keeping {
     /// They are being written.
@@ -30,17 +30,17 @@ pub enum Keeping {
     Declined(&'static str),
 }
 
-/// How a writing ended.
+/// The end of a writing.
 #[derive(Drop)]
 pub struct KeepEnd {
     /// The path of the file.
     pub path: String,
-    /// Why the file is as it was; none where it holds what was to be kept.
+    /// The cause why the file is as it was; none where it holds what was to be kept.
     pub fault: Option<&'static str>,
 }
 
-/// Where the configuration comes from that follows one while it is served, and what is said where none does; and where
-/// octets outlast the server.
+/// The source of the configuration that follows one while it is served, with the answer where none does; and the place
+/// where octets outlast the server.
 pub trait Source {
     /// The configuration that is to follow this one, and may; or what is said of why there is none, or of why it may
     /// not.

@@ -2,9 +2,9 @@
 
 use crate::attending::{Attendant, bare};
 use log::Log;
-use roam_calls::{HubFault, Opened};
 use roam_desk::{Course, Handed, Numbering, Reply, script_of};
-use roam_trace::Step;
+use roam_history::{HubFault, Opened};
+use roam_shard::Step;
 use roam_workers::HubCalls;
 use std::alloc::{AllocError, Global};
 use std::net::Net;

@@ -8,6 +8,7 @@ pub mod LookupLaws
 pub mod NameLemmas
 pub mod OneLinkLemmas
 pub mod OneServerLemmas
+pub mod OperatorLemmas
 pub mod PeerLemmas
 pub mod PrefixLemmas
 pub mod ShortNameLemmas

@@ -1,20 +1,19 @@
 -- What the index of what reverse requests name finds is what the look-ups in the list of peers say.
-use Rattle.std.proofs.Common.{◌≡◌, ℕ, ◌+◌, ◌<◌, ◌≤◌, suc, Bool, true, false, cond, ◌||◌, not, List, [], ◌∷◌, ◌++◌, length, map, get_or, drop, drop-cons, take, Option, Some, None, option_map, String, Global, string_bytes, refl, sym, ap, ◌∙◌, inl, inr, arith}
+use Rattle.std.proofs.Common.{◌≡◌, ℕ, ◌+◌, ◌<◌, ◌≤◌, suc, Bool, true, false, cond, ◌||◌, not, List, [], ◌∷◌, ◌++◌, length, map, get_or, drop, drop-cons, take, Option, Some, None, String, Global, string_bytes, refl, sym, ap, ◌∙◌, inl, inr, arith}
 use Rattle.std.proofs.lemmas.Bool.{cases_Bool, false≢true}
 use Rattle.std.proofs.lemmas.List.{length-map, map-append}
 use Rattle.std.proofs.lemmas.Slice.Eq.{bytes_eq-Decides}
-use Rattle.std.specs.Char.{to_ascii_lowercase}
-use Rattle.std.specs.List.{list_any, position_from}
+use Rattle.std.specs.List.{list_any}
 use Rattle.std.specs.Option.{option_or, IfSome}
-use Rattle.std.specs.Str.{bytes_eq, str_to_ascii_lowercase}
+use Rattle.std.specs.Str.{bytes_eq}
 use Rattle.std.specs.declared.vec.Vec.{Vec}
 use Rattle.roam_conf.specs.declared.peer.Peer.{Peer}
 use Rattle.roam_conf.specs.Config.{PeerView}
-use Rattle.roam_conf.specs.Duplicates.{has_pair, nas_texts, nas_texts_of, same_name_if_there}
+use Rattle.roam_conf.specs.Duplicates.{has_pair, nas_texts, nas_texts_of}
 use Rattle.roam_conf.specs.Index.{all_new, is_marked, of_nobody}
 use Rattle.roam_conf.specs.Lookup.{first_place, first_answer}
 use Rattle.roam_conf.specs.Parts.{shown_peer}
-use Rattle.roam_conf.specs.Targets.{NasPattern, begins, nas_said, has_nas, same_nas, fronts_to, peer_with_nas, peer_with_operator}
+use Rattle.roam_conf.specs.Targets.{NasPattern, begins, nas_said, has_nas, same_nas, fronts_to, peer_with_nas}
 use Rattle.roam_conf.proofs.IndexLemmas.{or_more}
 use Rattle.roam_conf.proofs.NameLemmas.{within, same_entry, new_or_pair, not_not}
 use Rattle.roam_conf.proofs.SuffixLemmas.{is_among}
@@ -109,36 +108,6 @@ nearest_bound peers patterns n (Some i) size is =
     let here : i < length views =
     answer_bound (peer_with_nas views) (length views) (peer_with_nas_within views) patterns i (sym is) in
     omega (arith, size, length-map peers shown_peer, here)
-
--- No peer has an `operator_name` of more than 252 octets.
-
-same_long : (a b : List ℕ) → length a ≤ 252 → 252 < length b →
-    bytes_eq (str_to_ascii_lowercase a) (str_to_ascii_lowercase b) ≡ false
-same_long a b short long =
-    elim (cases_Bool (bytes_eq (str_to_ascii_lowercase a) (str_to_ascii_lowercase b))) [
-      | inl yes' ↦ (
-          let same = ap length ((bytes_eq-Decides (str_to_ascii_lowercase a) (str_to_ascii_lowercase b)).0 yes') in
-          absurd (omega (arith, short, long, same, length-map a to_ascii_lowercase, length-map b to_ascii_lowercase)))
-      | inr no' ↦ no'
-    ]
-
-none_long : (name : List ℕ) → 252 < length name → (n : ℕ) (peers : List Peer) →
-    position_from (λ (peer : PeerView). same_name_if_there peer.operator_name (Some name)) n (map shown_peer peers)
-    ≡ None
-none_long name long n [] = refl
-none_long name long n (p ∷ ps) = by_operator p.operator_name p.operator_name_length (none_long name long (n + 1) ps)
-  where
-    by_operator : (o : Option (String Global)) →
-        ((s : String Global) → o ≡ Some s → (1 ≤ length (string_bytes s)) × (length (string_bytes s) ≤ 252)) →
-        {rest : Option ℕ} → rest ≡ None →
-        cond (same_name_if_there (option_map string_bytes o) (Some name)) (Some n) rest ≡ None
-    by_operator None bound none = none
-    by_operator (Some s) bound none = rw (same_long (string_bytes s) name (bound s refl).1 long) none
-
-pub no_long_operator : (peers : List Peer) (name : List ℕ) → 252 < length name →
-    None ≡ peer_with_operator (map shown_peer peers) name
-unfolding peer_with_operator
-no_long_operator peers name long = sym (none_long name long 0 peers)
 
 -- Texts that stand twice.
 

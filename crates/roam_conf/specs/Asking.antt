@@ -1,4 +1,4 @@
--- Who may ask whom: which peers' requests a realm takes. Ours.
+-- The peers whose requests a realm takes. Ours.
 use Rattle.std.specs.Prelude.{ℕ, ◌&&◌, ◌||◌, not, Bool, true, false, List, Option, Some, None, slice_get}
 use Rattle.std.specs.List.{list_any}
 use Rattle.std.specs.Option.{option_map_or}

@@ -21,7 +21,8 @@ pub record CoaClientView : Type 0 where
 
 -- an access server, or the proxy of a visited network, or all at the addresses of a prefix: how it is known and named,
 -- what its Access-Requests need, what is added to its requests, and what is taken out of them and of what is sent to
--- it; or one that went from the file while it was served, which nothing means any more
+-- it; or one that went from the file while it was served, which nothing means any more. Its `operator_name` is the
+-- value of an Operator-Name: the octet of its namespace, and the name behind it (RFC 5580, section 4.1)
 pub record PeerView : Type 0 where
   pub gone : Bool
   pub name : List ℕ

@@ -1,4 +1,4 @@
--- What a configuration's values have to be beside each other. Ours.
+-- The consistency of a configuration's values. Ours.
 use Rattle.std.specs.Prelude.{◌≡◌, false}
 use Rattle.roam_conf.specs.Asking.{has_unknown_peer}
 use Rattle.roam_conf.specs.Config.{ConfigView}

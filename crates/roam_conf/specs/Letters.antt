@@ -1,4 +1,4 @@
--- What the names of peers, of access servers and of realms may be. Ours.
+-- The letters of the names of peers, of access servers and of realms. Ours.
 use Rattle.std.specs.Prelude.{ℕ, ◌==◌, ◌&&◌, ◌||◌, nat_le, Bool, List, length}
 use Rattle.std.specs.Char.{is_ascii_alphanumeric}
 

@@ -5,6 +5,7 @@ pub mod Duplicates
 pub mod Index
 pub mod Letters
 pub mod Lookup
+pub mod Operators
 pub mod Parts
 pub mod Patterns
 pub mod PeerIndex

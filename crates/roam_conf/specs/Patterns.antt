@@ -1,4 +1,4 @@
--- What names a realm beside its name: a whole name, `*.` and a name, or `*`. Ours.
+-- The names of a realm beside its own: a whole name, `*.` and a name, or `*`. Ours.
 use Rattle.std.specs.Prelude.{ℕ, Bool, true, false, List, [], ◌∷◌, length, nat_le, ◌&&◌, string_bytes, if◌then◌else◌}
 use Rattle.std.specs.List.{list_all}
 use Rattle.std.specs.Str.{str_eq_ignore_ascii_case}

@@ -1,4 +1,4 @@
--- How a place of several of a kind is told from the first. Ours.
+-- The text of a place of several of a kind. Ours.
 use Rattle.std.specs.Prelude.{ℕ, zero, suc, List, [], ◌++◌, codes}
 use Rattle.std.specs.Fmt.{decimal}
 

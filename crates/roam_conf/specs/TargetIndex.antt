@@ -1,12 +1,12 @@
 -- The index of what reverse requests name a peer by. Ours.
 use Rattle.std.specs.Prelude.{◌≡◌, ℕ, List, Option}
-use Rattle.std.specs.Str.{str_to_ascii_lowercase}
 use Rattle.roam_conf.specs.declared.nas_index.NasIndex.{NasIndex}
 use Rattle.roam_conf.specs.declared.nas_index.NasRef.{NasRef}
 use Rattle.roam_conf.specs.declared.nas_index.NasRef.TheVariants.{Exactly, Begins}
 use Rattle.roam_conf.specs.declared.target_index.TargetIndex.{TargetIndex}
 use Rattle.roam_conf.specs.Config.{PeerView}
 use Rattle.roam_conf.specs.Index.{owners, owner_of}
+use Rattle.roam_conf.specs.Operators.{operator_key}
 use Rattle.roam_conf.specs.Targets.{NasPattern, exactly, begins, peer_with_nas, peer_with_nas_ip, peer_with_nas_ipv6, peer_with_operator, some_nas_ipv6, some_operator}
 
 -- a pattern that is noted or looked for
@@ -25,6 +25,6 @@ pub record FindsTargets (index : TargetIndex) (peers : List PeerView) : Type 0 w
   pub nas_ips : (ip : List ℕ) → owner_of (owners index.nas_ips) ip ≡ peer_with_nas_ip peers ip
   pub nas_ipv6s : (ip : List ℕ) → owner_of (owners index.nas_ipv6s) ip ≡ peer_with_nas_ipv6 peers ip
   pub some_nas_ipv6 : index.some_nas_ipv6 ≡ some_nas_ipv6 peers
-  pub operators : (name : List ℕ)
-      → owner_of (owners index.operators) (str_to_ascii_lowercase name) ≡ peer_with_operator peers name
+  pub operators : (value : List ℕ)
+      → owner_of (owners index.operators) (operator_key value) ≡ peer_with_operator peers value
   pub some_operator : index.some_operator ≡ some_operator peers

@@ -1,11 +1,12 @@
--- Which peer the names in a reverse request mean (RFC 5176, section 3; RFC 8559; the patterns are ours).
+-- The peer that the names in a Disconnect- or CoA-Request mean (RFC 5176, section 3; RFC 8559; the patterns are ours).
 use Rattle.std.specs.Prelude.{◌≡◌, ◌≢◌, ℕ, zero, suc, ◌-◌, ◌==◌, ◌&&◌, nat_le, Bool, false, if◌then◌else◌, List, [], ◌∷◌, ◌++◌, length, map, take, slice_index, Option, Some, is_some}
 use Rattle.std.specs.List.{list_any}
 use Rattle.std.specs.Option.{option_to_list}
 use Rattle.std.specs.Str.{bytes_eq}
 use Rattle.roam_conf.specs.Config.{PeerView}
-use Rattle.roam_conf.specs.Duplicates.{same_if_there, same_name_if_there}
+use Rattle.roam_conf.specs.Duplicates.{same_if_there}
 use Rattle.roam_conf.specs.Lookup.{first_place, first_answer}
+use Rattle.roam_conf.specs.Operators.{same_operator_if_there}
 
 -- the NAS-Identifiers of a peer: one, or all that begin with some octets
 pub data NasPattern : Type 0 where
@@ -74,10 +75,10 @@ peer_with_nas_ipv6 peers ip = first_place (λ peer. same_if_there peer.nas_ipv6 
 abbrev pub some_nas_ipv6 : List PeerView → Bool
 some_nas_ipv6 peers = list_any (λ peer. is_some peer.nas_ipv6) peers
 
--- the peer with this name as its `operator_name`, without ASCII case
+-- the peer whose Operator-Name means the same as this value
 unfoldable pub peer_with_operator : List PeerView → List ℕ → Option ℕ
-peer_with_operator peers name = first_place (λ peer. same_name_if_there peer.operator_name (Some name)) peers
+peer_with_operator peers value = first_place (λ peer. same_operator_if_there peer.operator_name (Some value)) peers
 
--- some peer has an `operator_name`
+-- some peer has an Operator-Name
 abbrev pub some_operator : List PeerView → Bool
 some_operator peers = list_any (λ peer. is_some peer.operator_name) peers

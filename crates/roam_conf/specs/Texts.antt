@@ -1,4 +1,4 @@
--- What the texts of a configuration say of attributes to remove. Ours.
+-- The meaning of a configuration's texts for attributes to remove. Ours.
 use Rattle.std.specs.Prelude.{ℕ, ◌==◌, if◌then◌else◌, List, [], ◌∷◌, take, drop, Option, Some, None, option_map}
 use Rattle.std.specs.List.{slice_split}
 use Rattle.std.specs.Str.{bytes_eq}

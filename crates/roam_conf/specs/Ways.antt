@@ -1,4 +1,5 @@
--- Which endpoints the sockets of a realm send to: those of IPv4 to those of IPv4, those of IPv6 to those of IPv6. Ours.
+-- The endpoints that the sockets of a realm send to: those of IPv4 to those of IPv4, those of IPv6 to those of IPv6.
+-- Ours.
 use Rattle.std.specs.Prelude.{◌&&◌, not, ℕ, Bool, true, false, List, Option, Some, None, nat_le, slice_get, if◌then◌else◌}
 use Rattle.std.specs.List.{list_all, list_any}
 use Rattle.std.specs.Option.{option_map_or}

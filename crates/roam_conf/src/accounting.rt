@@ -1,6 +1,6 @@
-//! What becomes of a realm's accounting.
+//! The fate of a realm's accounting.
 
-/// What becomes of the Accounting-Requests for a realm (the key `accounting`).
+/// The fate of the Accounting-Requests for a realm (the key `accounting`).
 #[derive(Clone, Copy, Debug, PartialEq, Eq)]
 pub enum Accounting {
     /// `"forward"`: they are forwarded to its servers.

@@ -1,4 +1,4 @@
-//! Which peers' requests a realm takes. None of this takes memory.
+//! The peers whose requests a realm takes. None of this takes memory.
 
 ghost use Rattle.std.specs.Prelude.{◌≡◌, Some, false, map, option_map, string_bytes};
 ghost use Rattle.std.specs.List.{list_any};

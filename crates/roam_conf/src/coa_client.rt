@@ -3,7 +3,7 @@
 ghost use Rattle.std.specs.Prelude.{◌≡◌, ◌≤◌, length};
 
 use crate::{Address, SharedSecret};
-use roam_auth::Secret;
+use roam_crypto::Secret;
 
 /// A source of a realm's reverse requests (RFC 5176) beside its home servers, known by its address.
 #[derive(Drop, PartialEq, Eq)]

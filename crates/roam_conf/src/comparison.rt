@@ -1,4 +1,4 @@
-//! When two endpoints, or the names of two realms, are the same.
+//! The comparison of two endpoints, and of the names of two realms.
 
 ghost use Rattle.std.specs.Prelude.{◌≡◌};
 ghost use Rattle.std.specs.Str.{str_eq_ignore_ascii_case};

@@ -35,7 +35,7 @@ pub struct Config {
     pub peers: Vec<Peer>,
     /// 1 to 1024 realms.
     pub realms: Vec<Realm>,
-    /// What the look-ups find by.
+    /// The indexes by which the look-ups find.
     pub(crate) found_by: Indexes,
     ghost auth_count: { (1 ≤ vec_len auth) × (vec_len auth ≤ 8) },
     ghost acct_count: { (1 ≤ vec_len acct) × (vec_len acct ≤ 8) },

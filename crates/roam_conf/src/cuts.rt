@@ -1,4 +1,4 @@
-//! Where the text of a list of attributes to remove is cut.
+//! The cuts in the text of a list of attributes to remove.
 
 ghost use Rattle.std.specs.Prelude.{◌≡◌, MatchOption, [], ◌∷◌};
 ghost use Rattle.roam_conf.specs.Texts.{parts};

@@ -1,4 +1,4 @@
-//! When two configurations are equal.
+//! The equality of two configurations.
 
 use crate::Config;
 

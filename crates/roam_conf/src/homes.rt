@@ -1,7 +1,7 @@
 //! The sources of a realm's reverse requests. None of this takes memory.
 
 use crate::{Address, Config, Realm, list_search};
-use roam_auth::Secret;
+use roam_crypto::Secret;
 
 impl Realm {
     ghost use Rattle.std.specs.Prelude.{◌≡◌, ◌≤◌, ◌<◌, ◌+◌, length, option_map};

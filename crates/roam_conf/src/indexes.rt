@@ -22,7 +22,7 @@ use std::alloc::{AllocError, Global};
 pub(crate) struct Indexes {
     /// The realm of each name and pattern; behind the realms comes what is rejected.
     pub(crate) names: Index,
-    /// Which lengths the suffixes among them have, in octets: one of another length isn't looked for.
+    /// The lengths of the suffixes among them, in octets: one of another length isn't looked for.
     pub(crate) suffix_lengths: [bool; 254],
     /// The peer of each address.
     pub(crate) ips: PeerIndex,

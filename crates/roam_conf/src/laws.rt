@@ -31,7 +31,7 @@ pub fn link_of_finds_each_link(config: &Config, realm: u16, endpoint: Endpoint, 
     ensures { link_in (shown config.now) realm (out_of link) endpoint ≡ Some link }
 {}
 
-/// Whose the name itself is decides, whatever patterns there are.
+/// States that the realm whose name it is comes first, whatever patterns there are.
 pub fn whole_name_comes_first(config: &Config, name: &[u8], owner: u16)
     requires { owner_with (shown config.now) (whole name.now) ≡ Some owner }
     ensures { realm_named (shown config.now) name.now ≡ realm_owning (shown config.now) owner }
@@ -64,8 +64,8 @@ pub fn ill_formed_names_are_matched_whole(config: &Config, name: &[u8])
         ≡ realm_owned (shown config.now) (owner_with (shown config.now) (whole name.now)) }
 {}
 
-/// Where no realm has a pattern, and nothing is rejected, a name means the realm that is here whose name it is, matched
-/// whole.
+/// States that where no realm has a pattern, and nothing is rejected, a name means the realm that is here whose name it
+/// is, matched whole.
 pub fn names_alone_are_matched_whole(config: &Config, name: &[u8])
     requires realms { AllByRecursion (λ realm. realm.also ≡ []) (shown config.now).realms }
     requires reject { (shown config.now).reject ≡ [] }
@@ -74,7 +74,7 @@ pub fn names_alone_are_matched_whole(config: &Config, name: &[u8])
         (shown config.now).realms }
 {}
 
-/// Whose a NAS-Identifier is as a whole decides, whatever patterns there are.
+/// States that the peer that has a NAS-Identifier as a whole comes first, whatever patterns there are.
 pub fn whole_identifier_comes_first(config: &Config, name: &[u8], peer: u16)
     requires { peer_with_nas (shown config.now).peers (exactly name.now) ≡ Some peer }
     ensures { peer_meant (shown config.now).peers name.now ≡ Some peer }

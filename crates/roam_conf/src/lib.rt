@@ -35,6 +35,7 @@ mod names;
 mod nas_index;
 mod nas_texts;
 mod nth_text;
+mod operators;
 mod parts;
 mod pattern;
 mod peer;
@@ -65,6 +66,7 @@ pub use laws::{
 };
 pub use nas_texts::has_duplicate_nas_text;
 pub use nth_text::NthText;
+pub use operators::is_same_operator;
 pub use parts::ConfigParts;
 pub use pattern::RealmPattern;
 pub use peer::Peer;

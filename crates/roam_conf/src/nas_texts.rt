@@ -1,4 +1,4 @@
-//! Whether a text stands twice among the NAS-Identifiers of all peers.
+//! The check that no text stands twice among the NAS-Identifiers of all peers.
 
 ghost use Rattle.std.specs.Prelude.{◌≡◌, ◌++◌, IfOk, true, map, string_bytes};
 ghost use Rattle.std.specs.Str.{bytes_eq};

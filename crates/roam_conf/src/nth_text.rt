@@ -1,4 +1,4 @@
-//! How a place of several of a kind is told from the first.
+//! The number that tells a place of several of a kind from the first.
 
 ghost use Rattle.std.specs.Prelude.{Some};
 ghost use Rattle.roam_conf.specs.PlaceTexts.{nth_text};
@@ -6,7 +6,7 @@ ghost use Rattle.roam_conf.specs.PlaceTexts.{nth_text};
 use std::fmt;
 use std::fmt::{Display, Formatter, Write};
 
-/// Which of several places of a kind it is, behind a colon: of the first nothing.
+/// The number of a place among several of its kind, behind a colon: of the first nothing.
 #[derive(Clone, Copy)]
 pub struct NthText(pub u16);
 

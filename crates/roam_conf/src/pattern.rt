@@ -1,6 +1,6 @@
-//! What names a realm beside its name.
+//! The names and patterns of a realm beside its own name.
 
-/// What names a realm beside its name: compared without ASCII case.
+/// A name or pattern of a realm beside its own name: compared without ASCII case.
 #[derive(Drop, PartialEq, Eq)]
 pub enum RealmPattern {
     /// One more whole name: 1 to 253 ASCII letters, digits, `.` and `-`.

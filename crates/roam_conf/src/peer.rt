@@ -7,14 +7,14 @@ ghost use Rattle.std.specs.Option.{ForSome};
 ghost use Rattle.roam_wire.specs.RemovedAttributes.{is_removal_in_requests, is_removal_in_replies};
 
 use crate::{Endpoint, Prefix, SharedSecret};
-use roam_auth::Secret;
+use roam_crypto::Secret;
 use roam_wire::RemovedAttribute;
 
 /// An access server (NAS), or the proxy of a visited network, known by its address, or all that are at the addresses of
 /// a prefix.
 #[derive(Drop, PartialEq, Eq)]
 pub struct Peer {
-    /// Whether it went from the file while that was served: its index stays empty, and nothing means it. A file's
+    /// True where it went from the file while that was served: its index stays empty, and nothing means it. A file's
     /// never is.
     pub gone: bool,
     /// 1 to 64 ASCII letters, digits, `.`, `-` and `_`.
@@ -33,13 +33,14 @@ pub struct Peer {
     /// Further NAS-Identifiers of what stands behind the peer, at most 1024, each of 1 to 253 octets. One that ends in
     /// `*` behind at least one octet stands for all that begin with what is before it.
     pub nas_ids: Vec<String>,
-    /// Whether each Access-Request of the peer needs a Message-Authenticator.
+    /// True where each Access-Request of the peer needs a Message-Authenticator.
     pub require_seal: bool,
-    /// Whether an Access-Request of the peer with a Proxy-State needs a Message-Authenticator.
+    /// True where an Access-Request of the peer with a Proxy-State needs a Message-Authenticator.
     pub limit_proxy_state: bool,
-    /// The peer's realm, which its requests go out with as Operator-Name (RFC 5580): 1 to 252 octets.
+    /// The value of the Operator-Name with which the peer's requests go out (RFC 5580, section 4.1): the octet of its
+    /// namespace, and a name of 1 to 252 octets behind it.
     pub operator_name: Option<String>,
-    /// Whether a Chargeable-User-Identity (RFC 4372) is asked for in the peer's Access-Requests.
+    /// True where a Chargeable-User-Identity (RFC 4372) is asked for in the peer's Access-Requests.
     pub ask_cui: bool,
     /// The attributes of the peer's requests that aren't forwarded: at most 64.
     pub request_without: Vec<RemovedAttribute>,
@@ -53,7 +54,7 @@ pub struct Peer {
     ghost nas_ids_count: { vec_len nas_ids ≤ 1024 },
     ghost nas_ids_lengths: { list_all is_nas_text (map string_bytes nas_ids.items) ≡ true },
     ghost operator_name_length: { ForSome operator_name
-        (λ s. (1 ≤ length (string_bytes s)) × (length (string_bytes s) ≤ 252)) },
+        (λ s. (2 ≤ length (string_bytes s)) × (length (string_bytes s) ≤ 253)) },
     ghost few_without: { (vec_len request_without ≤ 64) × (vec_len reply_without ≤ 64) },
     ghost request_removals: { list_all is_removal_in_requests request_without.items ≡ true },
     ghost reply_removals: { list_all is_removal_in_replies reply_without.items ≡ true },

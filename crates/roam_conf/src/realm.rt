@@ -16,32 +16,32 @@ use roam_wire::RemovedAttribute;
 /// A realm: its home servers, and the sockets that the broker keeps for it.
 #[derive(Drop, PartialEq, Eq)]
 pub struct Realm {
-    /// Whether it went from the file while that was served: its index stays empty, it has no sockets, and nothing is
+    /// True where it went from the file while that was served: its index stays empty, it has no sockets, and nothing is
     /// for it. A file's never is.
     pub gone: bool,
     /// 1 to 253 ASCII letters, digits, `.` and `-`.
     pub name: String,
-    /// What names the realm besides: at most 256 patterns.
+    /// The other names of the realm: at most 256 patterns.
     pub also: Vec<RealmPattern>,
     /// The names of the peers whose requests the realm takes, where it doesn't take all peers': at most 1024.
     pub peers: Option<Vec<String>>,
-    /// Whether the realm takes no requests of a peer at the address of one of its servers.
+    /// True where the realm takes no requests of a peer at the address of one of its servers.
     pub loop_prevention: bool,
-    /// What becomes of the realm's Accounting-Requests.
+    /// The fate of the realm's Accounting-Requests.
     pub accounting: Accounting,
     /// The attributes of the realm's requests that aren't forwarded: at most 64.
     pub request_without: Vec<RemovedAttribute>,
     /// The attributes of the realm's replies, and of its CoA-Requests, that aren't returned: at most 64.
     pub reply_without: Vec<RemovedAttribute>,
-    /// How many requests of one code for one name may wait, where that is limited: 1 to 4096.
+    /// The number of requests of one code for one name that may wait, where that is limited: 1 to 4096.
     pub share: Option<u16>,
-    /// How many requests of one peer may wait, where that is limited: 1 to 4096.
+    /// The number of requests of one peer that may wait, where that is limited: 1 to 4096.
     pub peer_share: Option<u16>,
-    /// Whether an Access-Accept keeps only those User-Names that name the realm part that the request named.
+    /// True where an Access-Accept keeps only those User-Names that name the realm part that the request named.
     pub own_names: bool,
-    /// Whether the rounds of a login go to the server that sent its last Access-Challenge.
+    /// True where the rounds of a login go to the server that sent its last Access-Challenge.
     pub conversations: bool,
-    /// Whether a reverse request is forwarded only where it names one session of the realm's own.
+    /// True where a Disconnect- or CoA-Request is forwarded only if it names one session of the realm's own.
     pub own_sessions: bool,
     /// From where reverse requests come beside the realm's servers: at most 8.
     pub coa_clients: Vec<CoaClient>,
@@ -50,18 +50,18 @@ pub struct Realm {
     /// The broker's sockets that take the realm's reverse requests (RFC 5176): at most 8, of which no port is 0; none
     /// where it takes none.
     pub reverse: Vec<Endpoint>,
-    /// How often a packet is sent to one server: 1 to 10.
+    /// The number of times that a packet is sent to one server: 1 to 10.
     pub tries: u8,
     /// The time from one sending to the next, in milliseconds: 1 to 60000.
     pub wait: u32,
     /// The time for which a reply is held for retransmissions, in milliseconds: at most 60000.
     pub hold: u32,
-    /// How many requests may be pending: 1 to 4096.
+    /// The number of requests that may be pending: 1 to 4096.
     pub max_pending: u16,
-    /// How many sessions are remembered: at most 65536.
+    /// The number of sessions that are remembered: at most 65536.
     pub max_sessions: u32,
-    /// For how long a server that was silent isn't asked while another can be, in milliseconds: at most
-    /// 3600000; 0 where no server rests.
+    /// The time for which a server that did not answer is dead, so that another one is asked if it can be, in
+    /// milliseconds: at most 3600000; 0 where no server is ever dead.
     pub rest: u32,
     /// After how many requests in a row that a server left without an answer it rests: 1 to 256.
     pub rest_after: u16,

@@ -1,4 +1,4 @@
-//! What the texts of a list of attributes to remove say.
+//! The meaning of the texts of a list of attributes to remove.
 
 ghost use Rattle.std.specs.Prelude.{◌≡◌};
 ghost use Rattle.roam_address.specs.Decimals.{decimal_in};

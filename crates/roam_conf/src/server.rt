@@ -4,7 +4,7 @@ ghost use Rattle.std.specs.Prelude.{◌≡◌, ◌≤◌, length};
 ghost use Rattle.std.specs.Option.{ForSome};
 
 use crate::{Endpoint, SharedSecret};
-use roam_auth::Secret;
+use roam_crypto::Secret;
 
 /// A home server of a realm: where it takes requests, and the secret shared with it.
 #[derive(Drop, PartialEq, Eq)]
@@ -15,7 +15,7 @@ pub struct Server {
     pub acct: Option<Endpoint>,
     /// The shared secret: 1 to 64 octets.
     pub secret: SharedSecret,
-    /// Whether each Access-Accept, -Reject and -Challenge of the server needs a Message-Authenticator.
+    /// True where each Access-Accept, -Reject and -Challenge of the server needs a Message-Authenticator.
     pub require_seal: bool,
     ghost secret_length: { (1 ≤ length secret) × (length secret ≤ 64) },
     ghost ports: { (1 ≤ auth.port) × ForSome acct (λ e. 1 ≤ e.port) },

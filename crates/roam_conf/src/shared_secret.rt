@@ -5,7 +5,7 @@ ghost use Rattle.std.proofs.Common.{rules};
 ghost use Rattle.std.specs.Cmp.Lexicographic.{pointwise};
 ghost use Rattle.std.specs.Cmp.Rules.{comparing};
 
-use roam_auth::Secret;
+use roam_crypto::Secret;
 use std::alloc::{AllocError, Global};
 use std::marker::Model;
 

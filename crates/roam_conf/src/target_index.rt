@@ -10,17 +10,17 @@ use crate::nas_index::NasIndex;
 pub(crate) struct TargetIndex {
     /// By NAS-Identifier.
     pub(crate) nas: NasIndex,
-    /// Which lengths the fronts among them have, in octets: one of another length isn't looked for.
+    /// The lengths of the fronts among them, in octets: one of another length isn't looked for.
     pub(crate) front_lengths: [bool; 254],
     /// By NAS-IP-Address.
     pub(crate) nas_ips: Index,
     /// By NAS-IPv6-Address.
     pub(crate) nas_ipv6s: Index,
-    /// Whether some peer has a `nas_ipv6`.
+    /// True where some peer has a `nas_ipv6`.
     pub(crate) some_nas_ipv6: bool,
-    /// By the realm of Operator-Name, in lower case.
+    /// By Operator-Name: of the namespace REALM in lower case, else as it stands.
     pub(crate) operators: Index,
-    /// Whether some peer has an `operator_name`.
+    /// True where some peer has an `operator_name`.
     pub(crate) some_operator: bool,
     ghost marked: { AreLengths front_lengths (owners nas.fronts) },
 }

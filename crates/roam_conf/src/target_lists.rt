@@ -1,10 +1,10 @@
-//! How the index of what reverse requests name a peer by is made, from the list of peers.
+//! The index of what Disconnect- and CoA-Requests name a peer by, as it is made from the list of peers.
 
 ghost use Rattle.std.specs.Prelude.{◌≡◌, ℕ, List, ◌≤◌, ◌^◌, IfOk, OnOk, Some, None, if◌then◌else◌, length, map};
 ghost use Rattle.std.specs.Option.{option_or};
-ghost use Rattle.std.specs.Str.{str_to_ascii_lowercase};
-ghost use Rattle.roam_conf.specs.Duplicates.{same_if_there, same_name_if_there};
+ghost use Rattle.roam_conf.specs.Duplicates.{same_if_there};
 ghost use Rattle.roam_conf.specs.Index.{owners, owner_of};
+ghost use Rattle.roam_conf.specs.Operators.{operator_key, same_operator_if_there};
 ghost use Rattle.roam_conf.specs.Parts.{shown_peer};
 ghost use Rattle.roam_conf.specs.TargetIndex.{FindsTargets};
 ghost use Rattle.roam_conf.specs.Targets.{peer_with_nas_ip, peer_with_nas_ipv6, peer_with_operator, some_nas_ipv6};
@@ -12,8 +12,8 @@ ghost use Rattle.roam_conf.specs.Targets.{some_operator};
 
 use crate::Peer;
 use crate::index::{Index, note_key, row_of};
-use crate::names::lower_row;
 use crate::nas_index::{lengths_of, nas_of};
+use crate::operators::operator_row;
 use crate::target_index::TargetIndex;
 use indexmap::IndexMap;
 use std::alloc::{AllocError, Global};
@@ -89,28 +89,28 @@ fn some_nas_ipv6(peers: &[Peer]) -> bool
     false
 }
 
-/// Notes a peer for its `operator_name`, where it has one.
+/// Notes a peer for its Operator-Name, where it has one.
 fn note_operator(
     index: &mut Index,
     alloc: Global,
     peer: &Peer,
     place: u16,
 ) -> Result<(), AllocError>
-    ensures { OnOk result ((name : List ℕ) → owner_of (owners index.new) (str_to_ascii_lowercase name)
-        ≡ option_or (owner_of (owners index.old) (str_to_ascii_lowercase name))
-        (if same_name_if_there (shown_peer peer.now).operator_name (Some name) then Some place else None)) }
+    ensures { OnOk result ((value : List ℕ) → owner_of (owners index.new) (operator_key value)
+        ≡ option_or (owner_of (owners index.old) (operator_key value))
+        (if same_operator_if_there (shown_peer peer.now).operator_name (Some value) then Some place else None)) }
 {
     match &peer.operator_name {
-        Some(name) => note_key(index, lower_row(alloc, name.as_bytes())?, place),
+        Some(value) => note_key(index, operator_row(alloc, value.as_bytes())?, place),
         None => Ok(()),
     }
 }
 
-/// The first peer of each `operator_name`.
+/// The first peer of each Operator-Name.
 fn operators_of(alloc: Global, peers: &[Peer]) -> Result<Index, AllocError>
     requires { length peers.now ≤ 2 ^ 16 }
-    ensures { IfOk result (λ index. (name : List ℕ) → owner_of (owners index) (str_to_ascii_lowercase name)
-        ≡ peer_with_operator (map shown_peer peers.now) name) }
+    ensures { IfOk result (λ index. (value : List ℕ) → owner_of (owners index) (operator_key value)
+        ≡ peer_with_operator (map shown_peer peers.now) value) }
 {
     let mut index = IndexMap::new(alloc);
     for (place, peer) in peers.iter().enumerate() {

@@ -4,8 +4,8 @@ ghost use Rattle.std.specs.Prelude.{◌≡◌};
 
 use crate::Config;
 use crate::index::owner_of;
-use crate::names::lower_in;
 use crate::nas_index::front_of;
+use crate::operators::owner_of_operator;
 
 impl Config {
     ghost use Rattle.std.specs.Prelude.{◌≡◌, ℕ, List, ◌<◌, IfSome, IsFalse, None, length, map, vec_len};
@@ -82,17 +82,15 @@ impl Config {
         self.found_by.targets.some_nas_ipv6
     }
 
-    /// The index of the peer with this name as its `operator_name`, without ASCII case.
-    pub fn peer_by_operator(&self, name: &[u8]) -> Option<u16>
-        ensures value { result ≡ peer_with_operator (shown self.now).peers name.now }
+    /// The index of the peer whose Operator-Name means the same as this value. Nobody has one of more than 253 octets.
+    pub fn peer_by_operator(&self, value: &[u8]) -> Option<u16>
+        ensures value { result ≡ peer_with_operator (shown self.now).peers value.now }
         ensures bound { IfSome result (λ p. p < vec_len self.now.peers) }
     {
-        if name.len() > 252 {
+        if value.len() > 253 {
             return None;
         }
-        let mut buffer = [0; 254];
-        lower_in(&mut buffer, name);
-        owner_of(&self.found_by.targets.operators, &buffer[..name.len()])
+        owner_of_operator(&self.found_by.targets.operators, value)
     }
 
     /// Returns whether some peer has an `operator_name`.

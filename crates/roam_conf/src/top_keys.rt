@@ -6,25 +6,25 @@ ghost use Rattle.std.specs.Option.{ForSome};
 /// The keys at the top of a document that are plain values, each in its range.
 #[derive(Clone, Copy, PartialEq, Eq)]
 pub struct TopKeys {
-    /// How many shards the realms are spread over: 1 to 64.
+    /// The number of shards that the realms are spread over: 1 to 64.
     pub shards: u16,
     /// The key of the random words.
     pub seed: [u8; 32],
-    /// How many steps a shard's trace holds: 1 to 1000000.
+    /// The number of steps that a shard's trace holds: 1 to 1000000.
     pub trace_limit: u32,
-    /// How many octets of datagrams and packets a shard's trace holds: 1 to 1073741824.
+    /// The number of octets of datagrams and packets that a shard's trace holds: 1 to 1073741824.
     pub trace_octets: u32,
-    /// How many attributes Proxy-State (type 33) a request may have, where that is limited: 1 to 100.
+    /// The number of attributes Proxy-State (type 33) that a request may have, where that is limited: 1 to 100.
     pub max_hops: Option<u8>,
-    /// How many attributes a request may have, where that is limited: 1 to 2000.
+    /// The number of attributes that a request may have, where that is limited: 1 to 2000.
     pub max_attributes: Option<u16>,
-    /// Whether Status-Server (RFC 5997) is answered.
+    /// True where Status-Server (RFC 5997) is answered.
     pub status_server: bool,
-    /// Whether each worker has an `auth` and an `acct` socket of its own.
+    /// True where each worker has an `auth` and an `acct` socket of its own.
     pub spread: bool,
-    /// Whether a name has to be well formed (RFC 7542, section 2.2) to fit a pattern.
+    /// True where a name has to be well formed (RFC 7542, section 2.2) to fit a pattern.
     pub well_formed: bool,
-    /// Whether an Accounting-Request without a User-Name is answered by the broker itself.
+    /// True where an Accounting-Request without a User-Name is answered by the proxy itself.
     pub answer_unnamed: bool,
     /// By how many seconds the Event-Timestamp of a reverse request may differ from the clock, where it is looked
     /// at: 10 to 3600.

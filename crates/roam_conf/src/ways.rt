@@ -1,4 +1,4 @@
-//! Which endpoints a realm's sockets send to. None of this takes memory.
+//! The endpoints that a realm's sockets send to. None of this takes memory.
 
 ghost use Rattle.std.specs.Prelude.{◌≡◌, ◌≤◌, map};
 ghost use Rattle.std.specs.List.{count_by, list_all};

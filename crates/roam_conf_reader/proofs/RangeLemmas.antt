@@ -1,5 +1,5 @@
 -- What is stated is in its range.
-use Rattle.std.proofs.Common.{◌≡◌, ◌≤◌, ℕ, suc, pos, true, Bool, List, [], ◌∷◌, length, map, Option, Some, None, sym, ap, ◌∙◌, refl, String, Global, string_bytes, option_map, arith}
+use Rattle.std.proofs.Common.{◌≡◌, ◌≤◌, ℕ, suc, pos, true, Bool, List, [], ◌∷◌, ◌++◌, ◌+◌, length, length-append, codes, map, Option, Some, None, sym, ap, ◌∙◌, refl, String, Global, string_bytes, option_map, arith}
 use Rattle.std.proofs.lemmas.Bool.{and_parts}
 use Rattle.std.proofs.lemmas.Bool.Decides.{nat_tests}
 use Rattle.std.proofs.lemmas.Option.{same_Some, cond_some, option_and_then_some}
@@ -10,7 +10,9 @@ use Rattle.toml.specs.Data.{Data, string, integer, array, table, Items, no_items
 use Rattle.roam_address.specs.declared.endpoint.Endpoint.{Endpoint}
 use Rattle.roam_address.proofs.TextLemmas.{endpoint_in-port}
 use Rattle.roam_conf_reader.specs.Document.{StatesEach}
-use Rattle.roam_conf_reader.specs.Values.{number, number_or, text, text_fits, endpoint, array_of, item_count, value_at, optional_at, if_there}
+use Rattle.roam_conf_reader.specs.Operators.{operator_at, operator_if_both}
+use Rattle.roam_conf_reader.specs.declared.values.Letters.TheVariants.{Any, Digit}
+use Rattle.roam_conf_reader.specs.Values.{letters_of, namespace, number, number_or, text, text_fits, endpoint, array_of, item_count, value_at, optional_at, if_there}
 
 -- a text of 1 to `most` octets, all of them letters
 pub record IsInRange (most : ℕ) (letters : ℕ → Bool) (octets : List ℕ) : Type 0 where
@@ -102,6 +104,38 @@ optional_text_at most letters key members o copy is copied s there =
     let copy_is : o ≡ Some (string_bytes s) = sym copied ∙ ap (option_map string_bytes) there in
     (optional_range (text most letters) (IsInRange most letters) (text_range most letters) (get_member key members) o
     is (string_bytes s) copy_is).size
+
+-- the value of an Operator-Name, from its two keys
+value_range : (name space : Option (Option (List ℕ))) (value : List ℕ) →
+    ((x : List ℕ) → name ≡ Some (Some x) → (1 ≤ length x) × (length x ≤ 252)) →
+    ((x : List ℕ) → space ≡ Some (Some x) → (1 ≤ length x) × (length x ≤ 1)) →
+    operator_if_both name space ≡ Some (Some value) → (2 ≤ length value) × (length value ≤ 253)
+value_range None space value of_name of_space is = cc
+value_range (Some name) None value of_name of_space is = cc
+value_range (Some None) (Some None) value of_name of_space is = cc
+value_range (Some None) (Some (Some space)) value of_name of_space is = cc
+value_range (Some (Some name)) (Some None) value of_name of_space is =
+    let same : codes "1" ++ name ≡ value = same_Some _ _ (same_Some _ _ is) in
+    let size = of_name name refl in
+    (omega (arith, size, ap length same), omega (arith, size, ap length same))
+value_range (Some (Some name)) (Some (Some space)) value of_name of_space is =
+    let same : space ++ name ≡ value = same_Some _ _ (same_Some _ _ is) in
+    let size = of_name name refl in
+    let one = of_space space refl in
+    let whole : length value ≡ length space + length name = sym (ap length same) ∙ length-append space name in
+    (omega (arith, size, one, whole), omega (arith, size, one, whole))
+
+pub operator_value_at : (members : Members) (o : Option (List ℕ)) (copy : Option (String Global)) →
+    operator_at members ≡ Some o → option_map string_bytes copy ≡ o → (s : String Global) → copy ≡ Some s →
+    (2 ≤ length (string_bytes s)) × (length (string_bytes s) ≤ 253)
+operator_value_at members o copy is copied s there =
+    let copy_is : o ≡ Some (string_bytes s) = sym copied ∙ ap (option_map string_bytes) there in
+    value_range (optional_at (text 252 (letters_of Any)) (codes "operator_name") members)
+    (optional_at namespace (codes "operator_namespace") members) (string_bytes s)
+    (λ x read. (optional_range (text 252 (letters_of Any)) (IsInRange 252 (letters_of Any))
+    (text_range 252 (letters_of Any)) (get_member (codes "operator_name") members) (Some x) read x refl).size)
+    (λ x read. (optional_range namespace (IsInRange 1 (letters_of Digit)) (text_range 1 (letters_of Digit))
+    (get_member (codes "operator_namespace") members) (Some x) read x refl).size) (is ∙ ap (λ v. Some v) copy_is)
 
 -- as many values as items
 pub each_count : {V : Type 0} (States : Members → V → Type 0) (items : Items) (values : List V) →

@@ -1,4 +1,4 @@
--- What a TOML document states, table by table and key by key: the configuration format. Ours.
+-- The statements of a TOML document, table by table and key by key: the configuration format. Ours.
 use Rattle.std.specs.Prelude.{◌≡◌, ◌≤◌, ℕ, codes, ◌&&◌, ◌||◌, not, Bool, true, false, List, [], ◌∷◌, Option, Some, None, is_some}
 use Rattle.std.specs.List.{list_any, list_all}
 use Rattle.std.specs.Str.{bytes_eq}
@@ -8,6 +8,7 @@ use Rattle.roam_wire.specs.RemovedAttributes.{is_removal_in_requests, is_removal
 use Rattle.roam_conf.specs.declared.accounting.Accounting.{Accounting}
 use Rattle.roam_conf.specs.declared.accounting.Accounting.TheVariants as kinds
 use Rattle.roam_conf.specs.Config.{ServerView, CoaClientView, PeerView, RealmView, ConfigView}
+use Rattle.roam_conf_reader.specs.Operators.{operator_at}
 use Rattle.roam_conf_reader.specs.Values.{number, letters_of, text, address, ipv4, ipv6, prefix, endpoint, endpoints, endpoints_if_there, seed_or_zeros, flag, exchange_lines, station_word, number_or, pattern, list_of, rejects, removed, nas_ids, peer_names, accounting, array_of, item_count, value_at, optional_at, file_path, socket_path}
 
 -- the required keys of the five tables
@@ -39,8 +40,8 @@ server_optional = codes "acct" ∷ codes "require_seal" ∷ []
 abbrev pub peer_optional : List (List ℕ)
 peer_optional =
     codes "coa" ∷ codes "nas_ip" ∷ codes "nas_ipv6" ∷ codes "nas_id" ∷ codes "nas_ids" ∷ codes "require_seal"
-    ∷ codes "limit_proxy_state" ∷ codes "operator_name" ∷ codes "ask_cui" ∷ codes "request_without" ∷ codes
-    "reply_without" ∷ []
+    ∷ codes "limit_proxy_state" ∷ codes "operator_name" ∷ codes "operator_namespace" ∷ codes "ask_cui"
+    ∷ codes "request_without" ∷ codes "reply_without" ∷ []
 
 abbrev pub realm_optional : List (List ℕ)
 realm_optional =
@@ -110,7 +111,7 @@ pub record StatesPeer (members : Members) (peer : PeerView) : Type 0 where
   pub nas_ids : nas_ids (get_member (codes "nas_ids") members) ≡ Some peer.nas_ids
   pub require_seal : flag (get_member (codes "require_seal") members) ≡ Some peer.require_seal
   pub limit_proxy_state : flag (get_member (codes "limit_proxy_state") members) ≡ Some peer.limit_proxy_state
-  pub operator_name : optional_at (text 252 (letters_of Any)) (codes "operator_name") members ≡ Some peer.operator_name
+  pub operator_name : operator_at members ≡ Some peer.operator_name
   pub ask_cui : flag (get_member (codes "ask_cui") members) ≡ Some peer.ask_cui
   pub request_without :
       list_of (removed is_removal_in_requests) 64 (get_member (codes "request_without") members)

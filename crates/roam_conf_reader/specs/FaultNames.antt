@@ -1,4 +1,4 @@
--- What is printed of a fault of a configuration: its name. Ours.
+-- The text of a fault of a configuration: its name. Ours.
 use Rattle.std.specs.Prelude.{ℕ, List, codes}
 use Rattle.roam_conf_reader.specs.declared.fault.ConfFault.{ConfFault}
 use Rattle.roam_conf_reader.specs.declared.fault.ConfFault.TheVariants as conf

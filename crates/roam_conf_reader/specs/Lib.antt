@@ -1,6 +1,7 @@
 pub mod Document
 pub mod FaultNames
 pub mod Faults
+pub mod Operators
 pub mod Reading
 pub mod Removals
 pub mod Settings

@@ -1,4 +1,4 @@
--- How a reading function answers: what is stated, or `BadValue` where nothing is, or `Memory`. Ours.
+-- The answer of a reading function: what is stated, or `BadValue` where nothing is, or `Memory`. Ours.
 use Rattle.std.specs.Prelude.{◌≡◌, ◌⊎◌, Option, Some, None, Result, MatchResult, IfErr}
 use Rattle.roam_conf_reader.specs.declared.fault.ConfFault.{ConfFault}
 use Rattle.roam_conf_reader.specs.declared.fault.ConfFault.TheVariants.{BadValue, Memory}

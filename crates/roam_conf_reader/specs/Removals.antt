@@ -1,4 +1,4 @@
--- Which attributes the lists of a table may name, by what they are taken out of. Ours.
+-- The attributes that the lists of a table may name, by what they are taken out of. Ours.
 use Rattle.std.specs.Prelude.{ℕ, Bool, List}
 use Rattle.roam_wire.specs.RemovedAttributes.{kept_in_requests, kept_in_replies, is_removal_in_requests, is_removal_in_replies}
 use Rattle.roam_wire.specs.declared.removed_attribute.RemovedAttribute.{RemovedAttribute}

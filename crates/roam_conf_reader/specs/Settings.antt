@@ -1,4 +1,4 @@
--- What a document states beside its configuration. Ours.
+-- The statements of a document beside its configuration. Ours.
 use Rattle.std.specs.Prelude.{◌≡◌, ℕ, codes, List, Some, None, ◌⊎◌, option_map, string_bytes}
 use Rattle.toml.specs.Data.{Members, get_member}
 use Rattle.toml.specs.Parse.{parse_document}

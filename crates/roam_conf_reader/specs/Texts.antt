@@ -1,5 +1,5 @@
--- What tables state, with the texts and the arrays still in the document, as plain records. Ours.
-use Rattle.std.specs.Prelude.{◌≡◌, ℕ, codes, true, List, Option, Some, false}
+-- The statements of tables, with the texts and the arrays still in the document, as plain records. Ours.
+use Rattle.std.specs.Prelude.{◌≡◌, ℕ, codes, true, List, Option, Some, false, option_map}
 use Rattle.std.specs.Option.{option_copied}
 use Rattle.toml.specs.Data.{Members, get_member}
 use Rattle.toml.specs.View.{array_view}
@@ -16,6 +16,7 @@ use Rattle.roam_conf_reader.specs.declared.peer.PeerText.{PeerText}
 use Rattle.roam_conf_reader.specs.declared.realm.RealmText.{RealmText}
 use Rattle.roam_conf_reader.specs.declared.stated.TopText.{TopText}
 use Rattle.roam_conf_reader.specs.Document.{StatesEach, StatesFew, StatesClient, StatesServer, StatesPeer, StatesRealm, StatesConfig, are_accounted}
+use Rattle.roam_conf_reader.specs.Operators.{operator_said}
 use Rattle.roam_conf_reader.specs.Values.{pattern, list_of, rejects, removed, nas_ids, peer_names, endpoints, endpoints_if_there, value_at, optional_at}
 
 -- a text of `also`
@@ -49,7 +50,7 @@ peer_in text identifiers request reply = record {
   nas_ids = identifiers;
   require_seal = text.require_seal;
   limit_proxy_state = text.limit_proxy_state;
-  operator_name = option_copied text.operator_name;
+  operator_name = option_map operator_said text.operator;
   ask_cui = text.ask_cui;
   request_without = request;
   reply_without = reply;

@@ -1,5 +1,6 @@
--- What a single TOML value states: a number, a text, an address, an endpoint, a seed, an array. Ours.
+-- The meaning of a single TOML value: a number, a text, an address, an endpoint, a seed, an array. Ours.
 use Rattle.std.specs.Prelude.{ℕ, suc, pos, ◌&&◌, ◌==◌, not, nat_le, Bool, true, false, if◌then◌else◌, codes, List, [], ◌∷◌, take, drop, length, Option, Some, None, option_map, option_and_then}
+use Rattle.std.specs.Char.{is_ascii_digit}
 use Rattle.std.specs.List.{list_all, repeat}
 use Rattle.std.specs.Result.{result_ok}
 use Rattle.std.specs.Str.{bytes_eq}
@@ -14,7 +15,7 @@ use Rattle.roam_conf.specs.declared.exchange_lines.ExchangeLines.TheVariants as 
 use Rattle.roam_conf_reader.specs.declared.station_word.StationWord.{StationWord}
 use Rattle.roam_conf_reader.specs.declared.station_word.StationWord.TheVariants as station
 use Rattle.roam_conf_reader.specs.declared.values.Letters.{Letters}
-use Rattle.roam_conf_reader.specs.declared.values.Letters.TheVariants.{Any, NoZero, PeerName, RealmName}
+use Rattle.roam_conf_reader.specs.declared.values.Letters.TheVariants.{Any, NoZero, Digit, PeerName, RealmName}
 use Rattle.roam_conf.specs.Config.{PatternView, whole, suffix, any}
 use Rattle.roam_conf.specs.Letters.{is_peer_letter, is_realm_letter}
 use Rattle.roam_conf.specs.Patterns.{is_realm_name, is_reject}
@@ -29,10 +30,11 @@ unfoldable pub number : ℕ → ℕ → Data → Option ℕ
 number least most (integer (pos n)) = if nat_le least n && nat_le n most then Some n else None
 number least most _ = None
 
--- the octets that a text may have: any, any but 0, those of a peer's name, those of a realm's name
+-- the octets that a text may have: any, any but 0, digits, those of a peer's name, those of a realm's name
 abbrev pub letters_of : Letters → ℕ → Bool
 letters_of Any = λ octet. true
 letters_of NoZero = λ octet. not (octet == 0)
+letters_of Digit = is_ascii_digit
 letters_of PeerName = is_peer_letter
 letters_of RealmName = is_realm_letter
 
@@ -53,6 +55,10 @@ socket_path = text 107 (letters_of NoZero)
 -- a path of a file: 1 to 1024 octets, none of them 0
 abbrev pub file_path : Data → Option (List ℕ)
 file_path = text 1024 (letters_of NoZero)
+
+-- the namespace of an Operator-Name: a text of one digit (RFC 5580, section 4.1)
+abbrev pub namespace : Data → Option (List ℕ)
+namespace = text 1 (letters_of Digit)
 
 -- a text that is an address
 unfoldable pub address : Data → Option Address

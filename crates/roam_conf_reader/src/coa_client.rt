@@ -17,7 +17,7 @@ use std::alloc::Global;
 use toml::Table;
 use toml::value::Array;
 
-/// What a table states of a source of reverse requests. Its secret still stands in the document.
+/// The table of a source of Disconnect- and CoA-Requests, as stated. Its secret still stands in the document.
 #[derive(Clone, Copy)]
 struct ClientText<'a> {
     ip: Address,

@@ -1,4 +1,4 @@
-//! What may not stand twice in a configuration.
+//! The values that may not stand twice in a configuration.
 //!
 //! What may be many is found by an index: names and patterns of realms, NAS-Identifiers, the sockets of the broker, and
 //! the endpoints of peers among those of all servers. The other searches compare all pairs: of at most 1024 peers, 8

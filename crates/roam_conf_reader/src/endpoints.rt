@@ -1,4 +1,4 @@
-//! Where the broker's own sockets are, as tables state it: an endpoint, or a list of them.
+//! The endpoints of the proxy's own sockets, as tables state them: an endpoint, or a list of them.
 
 ghost use Rattle.std.specs.Prelude.{◌≡◌, Err, IfOk, None, Some};
 ghost use Rattle.toml.specs.Data.{get_member};

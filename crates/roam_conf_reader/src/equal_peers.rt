@@ -1,14 +1,15 @@
-//! Which peers may not stand beside each other in a configuration.
+//! The peers that may not stand beside each other in a configuration.
 
 ghost use Rattle.std.specs.Prelude.{◌≡◌, IfOk, map};
 ghost use Rattle.std.specs.List.{list_any};
-ghost use Rattle.roam_conf.specs.Duplicates.{has_pair, same_if_there, same_name_if_there, same_peer, has_duplicate_peer};
+ghost use Rattle.roam_conf.specs.Duplicates.{has_pair, same_if_there, same_peer, has_duplicate_peer};
+ghost use Rattle.roam_conf.specs.Operators.{same_operator_if_there};
 ghost use Rattle.roam_conf.specs.Parts.{shown_peer};
 ghost use Rattle.roam_conf_reader.specs.Reading.{IsMemoryFault};
 
 use crate::ConfFault;
 use crate::duplicates::from_place;
-use roam_conf::{Peer, has_duplicate_nas_text, is_same_name};
+use roam_conf::{Peer, has_duplicate_nas_text, is_same_operator};
 use std::alloc::Global;
 
 fn have_same_ipv6(a: Option<[u8; 16]>, b: Option<[u8; 16]>) -> bool
@@ -30,10 +31,10 @@ fn have_same_ip(a: Option<[u8; 4]>, b: Option<[u8; 4]>) -> bool
 }
 
 fn have_same_operator(a: &Peer, b: &Peer) -> bool
-    ensures { result ≡ same_name_if_there (shown_peer a.now).operator_name (shown_peer b.now).operator_name }
+    ensures { result ≡ same_operator_if_there (shown_peer a.now).operator_name (shown_peer b.now).operator_name }
 {
     match (&a.operator_name, &b.operator_name) {
-        (Some(a), Some(b)) => is_same_name(a.as_bytes(), b.as_bytes()),
+        (Some(a), Some(b)) => is_same_operator(a.as_bytes(), b.as_bytes()),
         _ => false,
     }
 }
@@ -61,8 +62,8 @@ fn is_among_peers(peer: &Peer, others: &[Peer]) -> bool
     false
 }
 
-/// Returns whether two peers that are here are equal in their name, prefix, NAS-IP-Address, NAS-IPv6-Address or
-/// Operator-Name.
+/// Returns whether two peers that are here are equal in their name, prefix, NAS-IP-Address or NAS-IPv6-Address, or
+/// have Operator-Names that mean the same.
 fn has_equal_peers(peers: &[Peer]) -> bool
     ensures { result ≡ has_pair same_peer (map shown_peer peers.now) }
 {

@@ -1,4 +1,4 @@
-//! Why a configuration is refused.
+//! The causes why a configuration is refused.
 
 ghost use Rattle.std.specs.Prelude.{◌≡◌, Some};
 ghost use Rattle.roam_conf_reader.specs.FaultNames as names;
@@ -21,8 +21,8 @@ pub enum ConfFault {
     BadValue,
     /// Two names, two suffixes `*.` and a name, or two `*` of realms and of `reject` are equal without ASCII case.
     DuplicateRealm,
-    /// Two peers have equal names, prefixes, NAS-IP-Addresses, NAS-IPv6-Addresses or, without ASCII case,
-    /// Operator-Names, or two texts of `nas_id` and `nas_ids` of all peers are equal.
+    /// Two peers have equal names, prefixes, NAS-IP-Addresses or NAS-IPv6-Addresses, or Operator-Names that mean the
+    /// same, or two texts of `nas_id` and `nas_ids` of all peers are equal.
     DuplicatePeer,
     /// Two of the broker's own sockets are at one endpoint.
     DuplicateEndpoint,

@@ -1,4 +1,4 @@
-//! What the keys of a table state: nothing where a key is absent or has no fitting value.
+//! The values of the keys of a table: nothing where a key is absent or has no fitting value.
 
 ghost use Rattle.std.specs.Prelude.{◌≡◌, ◌≤◌, IfSome, option_map};
 ghost use Rattle.std.specs.Option.{option_copied};
@@ -143,6 +143,17 @@ pub(crate) fn optional_text<'a>(table: &'a Table, key: &str, most: usize) -> Opt
 {
     match value(table, key) {
         Some(value) => Some(Some(values::text_of(value, most, Letters::Any)?)),
+        None => Some(None),
+    }
+}
+
+/// The namespace of an Operator-Name, a digit, or `Some(None)` where the key is absent.
+pub(crate) fn optional_namespace<'a>(table: &'a Table, key: &str) -> Option<Option<&'a str>>
+    ensures { option_map (λ text. option_copied text) result
+        ≡ optional_at spec.namespace key.now (table_view table.now) }
+{
+    match value(table, key) {
+        Some(value) => Some(Some(values::text_of(value, 1, Letters::Digit)?)),
         None => Some(None),
     }
 }

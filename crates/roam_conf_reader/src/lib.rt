@@ -10,7 +10,7 @@
 //! - a configuration is laid out by the one which it is to follow: each realm and peer of both has the index that it
 //!   had | `following_config`
 //! - what is printed of each fault | the `Display` of `ConfFault`; of `SimFault` (`roam_sim`), `TraceFault`
-//!   (`roam_trace`), `AuditFault` (`roam_calls`) and `HubFault` (`roam_calls`)
+//!   (`roam_shard`), `AuditFault` (`roam_history`) and `HubFault` (`roam_history`)
 #![tactic(auto)]
 
 mod coa_client;
@@ -24,6 +24,7 @@ mod fault;
 mod following;
 mod keys;
 mod names;
+mod operator;
 mod pattern;
 mod peer;
 mod realm;

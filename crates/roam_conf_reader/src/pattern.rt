@@ -16,7 +16,7 @@ use std::alloc::Global;
 use toml::value::Array;
 use toml::{Table, Value};
 
-/// What a text says beside a realm's name. The name in it still stands in the text.
+/// The meaning of a text beside a realm's name. The name in it still stands in the text.
 #[derive(Clone, Copy)]
 enum PatternText<'a> {
     Name(&'a str),

@@ -10,15 +10,16 @@ ghost use Rattle.roam_conf_reader.specs.Reading.{IsValueFault, IsMemoryFault};
 ghost use Rattle.roam_conf_reader.specs.declared.peer.PeerText.{PeerText};
 ghost use Rattle.roam_conf_reader.specs.Texts.{StatesPeerBesideLists};
 
+use crate::operator::{OperatorText, operator_text};
 use crate::tables::{PEER_KEYS, PEER_OPTIONAL_KEYS, has_only};
 use crate::values::Letters;
-use crate::{ConfFault, keys, names, removed};
+use crate::{ConfFault, keys, names, operator, removed};
 use roam_conf::{Endpoint, Peer, Prefix, SharedSecret};
 use std::alloc::Global;
 use toml::Table;
 use toml::value::Array;
 
-/// What a table states of a peer, beside its lists. Its texts still stand in the document.
+/// The table of a peer, as stated, beside its lists. Its texts still stand in the document.
 #[derive(Clone, Copy)]
 struct PeerText<'a> {
     name: &'a str,
@@ -30,7 +31,7 @@ struct PeerText<'a> {
     nas_id: Option<&'a str>,
     require_seal: bool,
     limit_proxy_state: bool,
-    operator_name: Option<&'a str>,
+    operator: Option<OperatorText<'a>>,
     ask_cui: bool,
 }
 
@@ -58,10 +59,10 @@ fn peer_text(table: &Table) -> Option<PeerText<'_>>
     ) else {
         return None;
     };
-    let (Some(require_seal), Some(limit_proxy_state), Some(operator_name), Some(ask_cui)) = (
+    let (Some(require_seal), Some(limit_proxy_state), Some(operator), Some(ask_cui)) = (
         keys::flag(table, "require_seal"),
         keys::flag(table, "limit_proxy_state"),
-        keys::optional_text(table, "operator_name", 252),
+        operator_text(table),
         keys::flag(table, "ask_cui"),
     ) else {
         return None;
@@ -76,7 +77,7 @@ fn peer_text(table: &Table) -> Option<PeerText<'_>>
         nas_id,
         require_seal,
         limit_proxy_state,
-        operator_name,
+        operator,
         ask_cui,
     })
 }
@@ -115,7 +116,7 @@ fn from_table(alloc: Global, table: &Table) -> Result<Peer, ConfFault>
         nas_ids: names::of_access_servers(alloc, table)?,
         require_seal: text.require_seal,
         limit_proxy_state: text.limit_proxy_state,
-        operator_name: copied(alloc, text.operator_name)?,
+        operator_name: operator::copied(alloc, text.operator)?,
         ask_cui: text.ask_cui,
         request_without: removed::of_requests(alloc, table)?,
         reply_without: removed::of_replies(alloc, table)?,

@@ -20,7 +20,7 @@ use std::alloc::Global;
 use toml::value::Array;
 use toml::{Table, Value};
 
-/// What a table states of a realm. Its name, its lists and its servers' tables still stand in the document.
+/// The table of a realm, as stated. Its name, its lists and its servers' tables still stand in the document.
 #[derive(Clone, Copy)]
 struct RealmText<'a> {
     name: &'a str,

@@ -16,7 +16,7 @@ use std::alloc::Global;
 use toml::Table;
 use toml::value::Array;
 
-/// What a table states of a home server. Its secret still stands in the document.
+/// The table of a home server, as stated. Its secret still stands in the document.
 #[derive(Clone, Copy)]
 struct ServerText<'a> {
     auth: Endpoint,

@@ -1,4 +1,4 @@
-//! What a text states beside its configuration: how it is served, which isn't the broker's.
+//! The settings that a text states beside its configuration: how it is served, which isn't the proxy's.
 
 ghost use Rattle.std.specs.Prelude.{◌≡◌, ◌⊎◌, ℕ, List, Some, IfOk, IfErr};
 ghost use Rattle.toml.specs.Parse.{parse_document};
@@ -13,21 +13,21 @@ use roam_conf::{Endpoint, ExchangeLines};
 use std::alloc::Global;
 use toml::Table;
 
-/// How a configuration is served.
+/// The settings by which a configuration is served.
 #[derive(Debug, Drop, PartialEq, Eq)]
 pub struct Settings {
-    /// Where the counts of the server are answered over HTTP; nowhere where the key `metrics` is absent.
+    /// The endpoint where the counts of the server are answered over HTTP; none where the key `metrics` is absent.
     pub metrics: Option<Endpoint>,
     /// The path of the UNIX socket through which the server is asked and stopped; none where the key `control` is
     /// absent.
     pub control: Option<String>,
     /// Of which exchanges that end a line tells: of all where the key `log_exchanges` is absent.
     pub log_exchanges: ExchangeLines,
-    /// How these lines have a station: as it stands where the key `log_station` is absent.
+    /// The form of a Calling-Station-Id in these lines: as it stands where the key `log_station` is absent.
     pub log_station: StationWord,
     /// The path of the file in which ledgers of sessions outlast the server; none where the key `state` is absent.
     pub state: Option<String>,
-    /// How many seconds pass between two writings of it: 60 where the key `state_every` is absent.
+    /// The seconds between two writings of it: 60 where the key `state_every` is absent.
     pub state_every: u32,
 }
 

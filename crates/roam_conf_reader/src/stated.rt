@@ -1,4 +1,4 @@
-//! What a document states, before duplicates are looked for.
+//! The statements of a document, before duplicates are looked for.
 
 ghost use Rattle.std.specs.Prelude.{◌≡◌, codes, Err, IfOk, MatchOption, Some};
 ghost use Rattle.toml.specs.View.{array_view, table_view};
@@ -16,8 +16,8 @@ use std::alloc::Global;
 use toml::Table;
 use toml::value::Array;
 
-/// What a document states. Its endpoints, the names to reject, and the tables of its peers and realms still stand in
-/// it.
+/// The top of a document, as stated. Its endpoints, the names to reject, and the tables of its peers and realms still
+/// stand in it.
 #[derive(Clone, Copy)]
 struct TopText<'a> {
     top: TopKeys,

@@ -1,6 +1,6 @@
-//! How lines have a station, as a configuration says it.
+//! The form of a Calling-Station-Id in lines, as a configuration says it.
 
-/// How lines have a station (the key `log_station`).
+/// The form of a Calling-Station-Id in lines (the key `log_station`).
 #[derive(Clone, Copy, Debug, PartialEq, Eq)]
 pub enum StationWord {
     /// As it stands.

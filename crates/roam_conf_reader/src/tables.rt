@@ -1,4 +1,4 @@
-//! Which keys the tables of a document have.
+//! The keys of the tables of a document.
 
 ghost use Rattle.std.specs.Prelude.{◌≡◌, codes};
 ghost use Rattle.toml.specs.Data.{get_member};
@@ -27,7 +27,7 @@ pub(crate) const CLIENT_KEYS: [&str; 2] = ["ip", "secret"];
 pub(crate) const PEER_KEYS: [&str; 3] = ["name", "ip", "secret"];
 
 /// The keys that a peer's table may have besides.
-pub(crate) const PEER_OPTIONAL_KEYS: [&str; 11] = [
+pub(crate) const PEER_OPTIONAL_KEYS: [&str; 12] = [
     "coa",
     "nas_ip",
     "nas_ipv6",
@@ -36,6 +36,7 @@ pub(crate) const PEER_OPTIONAL_KEYS: [&str; 11] = [
     "require_seal",
     "limit_proxy_state",
     "operator_name",
+    "operator_namespace",
     "ask_cui",
     "request_without",
     "reply_without",

@@ -1,4 +1,4 @@
-//! What a single value of the document states, and what a key of a table does.
+//! The meaning of a single value of the document, and of a key of a table.
 
 ghost use Rattle.std.specs.Prelude.{◌≡◌, ◌≤◌, Some, None, IfSome};
 ghost use Rattle.std.specs.Prelude.{option_map, true};
@@ -22,6 +22,8 @@ pub(crate) enum Letters {
     Any,
     /// All but 0.
     NoZero,
+    /// `0` to `9`.
+    Digit,
     /// ASCII letters and digits, `.`, `-` and `_`.
     PeerName,
     /// ASCII letters and digits, `.` and `-`.
@@ -36,6 +38,7 @@ impl Letters {
         match self {
             Letters::Any => true,
             Letters::NoZero => octet != 0,
+            Letters::Digit => octet.is_ascii_digit(),
             Letters::PeerName => {
                 octet.is_ascii_alphanumeric() || octet == b'.' || octet == b'-' || octet == b'_'
             }

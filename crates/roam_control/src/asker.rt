@@ -1,4 +1,4 @@
-//! What is answered to who asks over HTTP: each order is put on a desk, and the server's own thread answers it.
+//! The answers over HTTP: each order is put on a desk, and the server's own thread answers it.
 
 use bytes::{BufMut, Bytes};
 use http::{HeaderValue, Method, Request, StatusCode, header};
@@ -6,13 +6,13 @@ use http_server::{Response, Service};
 use log::{Log, warn};
 use roam_conf::decimal;
 use roam_desk::{Asked, Caller, Course, Desk, Handed, NoReply, Office, Order, Reply};
-use roam_status::StatusForm;
+use roam_metrics::StatusForm;
 use std::alloc::AllocError;
 use std::fmt;
 use std::fmt::{Display, Formatter};
 use std::sync::Wait;
 
-/// Where somebody asks.
+/// The socket at which somebody asks.
 #[derive(Clone, Copy, PartialEq, Eq)]
 pub enum Door {
     /// The endpoint of metrics, which has nothing else.
@@ -30,7 +30,7 @@ impl Display for Door {
     }
 }
 
-/// What is answered at a door, and by whom.
+/// The questions that a socket answers, and who answers them.
 #[derive(Drop)]
 pub struct Asker<'d, R> {
     pub rt: &'d R,
@@ -42,7 +42,7 @@ pub struct Asker<'d, R> {
     pub handed: Option<Handed>,
 }
 
-/// What a path asks for.
+/// The order that a path stands for.
 #[derive(Clone, Copy, PartialEq, Eq)]
 enum ControlRequest {
     Metrics,
@@ -206,7 +206,7 @@ impl<R: Wait + Log> Asker<'_, R> {
     /// Tells that an order isn't carried out, since whoever asked for it had closed the connection.
     fn tell_withdrawn(&self, order: Order, no_reply: NoReply) {
         if no_reply == NoReply::Withdrawn {
-            warn!(self.rt; "{} not carried out: whoever asked for it closed the connection before", word_of(order));
+            warn!(self.rt; "{} not carried out: the caller closed the connection first", word_of(order));
         }
     }
 

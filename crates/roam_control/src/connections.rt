@@ -25,25 +25,26 @@ use std::sync::atomic::Ordering;
 use std::time::{Clock, Duration};
 use std::{io, thread};
 
-/// How many connections are open at once. One more closes the quietest.
+/// The number of connections that are open at once. One more closes the quietest.
 const CONNECTIONS: usize = 16;
 
-/// How many are taken in a round: each can ask before others take its place.
+/// The number that are taken in a round: each can ask before others take its place.
 const TAKEN_AT_ONCE: usize = 8;
 
-/// How long a connection may take to ask, and from then on how long it may take none of its answer, in milliseconds.
+/// The time that a connection may take to ask, and from then on the time that it may take none of its answer, in
+/// milliseconds.
 const TIME: u64 = 5000;
 
-/// How long whoever is handed stored steps may take none of them, and from the last one on may take to close the
+/// The time that the receiver of stored steps may take none of them, and from the last one on may take to close the
 /// connection, in milliseconds: until then it isn't known that all were taken.
 const TIME_OF_STEPS: u64 = 60_000;
 
-/// How long a round waits for something to happen, in milliseconds. Then it looks whether the server ends.
+/// The time that a round waits for something to happen, in milliseconds. Then it looks whether the server ends.
 const WAIT: i32 = 100;
 
 /// A socket that takes connections, and doesn't wait for them.
 pub trait Listener: AsFd + AsRawFd {
-    /// What they are. It doesn't wait either.
+    /// The type of connections. It doesn't wait either.
     type Stream: Read + Write + AsRawFd + Drop;
 
     /// The next connection, or `WouldBlock` where there is none.
@@ -69,7 +70,7 @@ impl Listener for UnixListener {
     }
 }
 
-/// Where connections are taken, and the descriptor in hand.
+/// The place at which connections are taken, and the descriptor in hand.
 #[derive(Drop)]
 struct Entrance<'l, L> {
     listener: &'l L,
@@ -259,7 +260,7 @@ pub fn answer_on<R: Wait + Clock + RandomSource + Log, L: Listener>(
         if pause.is_over(moment) {
             if let Some(error) = accept_all(rt, alloc, &mut entrance, &mut open, office, moment) {
                 if pause.begin(moment) {
-                    warn!(rt; "no connection is taken at {}: {}", asker.door, error);
+                    warn!(rt; "no connections are accepted at {}: {}", asker.door, error);
                 }
             }
         }

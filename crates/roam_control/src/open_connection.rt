@@ -10,10 +10,10 @@ use std::io::{ErrorKind, Read, Write};
 use std::os::fd::AsRawFd;
 use std::sync::Wait;
 
-/// How often a connection reads or writes in a round.
+/// The number of times that a connection reads or writes in a round.
 const TURNS: u32 = 64;
 
-/// That nothing is written any more (shutdown(2), `SHUT_WR`).
+/// The word that nothing is written any more (shutdown(2), `SHUT_WR`).
 const NO_MORE: i32 = 1;
 
 /// A connection, and when it is closed at the latest.
@@ -24,11 +24,11 @@ pub struct OpenConnection<T> {
     pub until: u64,
     /// The stored steps that its answer has, until whoever asked has taken them all.
     pub handed: Option<Handed>,
-    /// Whether its answer is written, and only that it is taken is waited for.
+    /// True where its answer is written, and only that it is taken is waited for.
     pub is_written: bool,
 }
 
-/// How a connection goes on.
+/// The next step of a connection.
 #[derive(Clone, Copy, PartialEq, Eq)]
 pub enum Turn {
     /// It waits for the other side. Nothing of its answer was taken.

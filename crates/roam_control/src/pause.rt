@@ -1,14 +1,14 @@
-//! How long no connection is taken, and whether that is said.
+//! The time for which no connection is taken, and whether that is said.
 
 ghost use Rattle.std.specs.Prelude.{◌≡◌, ◌↔◌, ◌≤◌, ◌<◌, ◌^◌, ◌-◌, ◌+◌, min, IsTrue, IsFalse};
 
-/// For how long no connection is taken where the system gives none, in milliseconds.
+/// The time for which no connection is taken where the system gives none, in milliseconds.
 const PAUSE: u64 = 1000;
 
 /// From one time at which that is said to the next, in milliseconds.
 const MINUTE: u64 = 60_000;
 
-/// For how long no connection is taken, where the system gives none.
+/// The pause in which no connection is taken, since the system gives none.
 #[derive(Clone, Copy)]
 pub struct Pause {
     /// In milliseconds since the server's start.

@@ -10,18 +10,18 @@ use Rattle.roam_conf.specs.declared.accounting.Accounting.{Accounting}
 use Rattle.roam_conf.specs.declared.accounting.Accounting.TheVariants.{Forwarded, Answered, Dropped}
 use Rattle.roam_conf.specs.declared.place.Place.{Place}
 use Rattle.roam_conf.specs.declared.place.Place.TheVariants as place
-use Rattle.roam_route.specs.UserName.{realm_of}
-use Rattle.roam_route.specs.LocalAnswer.{accounting_answer}
-use Rattle.roam_route.specs.Freshness.{is_fresh}
-use Rattle.roam_route.specs.LocalReject.{is_rejected, takes_of}
-use Rattle.roam_route.specs.Shapings.{sent_length}
-use Rattle.roam_route.specs.declared.local_answer.LocalAnswer.TheVariants as local
-use Rattle.roam_route.specs.declared.local_answer.LocalAnswer.{LocalAnswer}
-use Rattle.roam_route.specs.declared.local_answer.RejectCause.{RejectCause}
-use Rattle.roam_route.specs.RejectCauses.{reject_cause}
-use Rattle.roam_route.specs.Admission.{Arrival, PlainJob, PlainOut, Admission, refused, answered_here, admitted, sender, checked, job_of, forwarded_for, rejected_for, for_named_realm, accounted, accounting_in, answered_by, by_accounting, is_answered_unnamed, route_request, request_admission, packet_admission, sent_admission, read_admission, admission, is_taken, peer_secret, home_secret, has_few_attributes, is_rightly_signed, is_rightly_sealed, has_needed_seal, has_few_hops, seal_required, has_seal, is_status_request, status_admission, status_from}
-use Rattle.roam_route.specs.declared.job.Side.{Side}
-use Rattle.roam_route.specs.declared.job.Side.TheVariants as side
+use Rattle.roam_admission.specs.UserName.{realm_of}
+use Rattle.roam_admission.specs.LocalAnswer.{accounting_answer}
+use Rattle.roam_admission.specs.Freshness.{is_fresh}
+use Rattle.roam_admission.specs.LocalReject.{is_rejected, takes_of}
+use Rattle.roam_admission.specs.Shapings.{sent_length}
+use Rattle.roam_admission.specs.declared.local_answer.LocalAnswer.TheVariants as local
+use Rattle.roam_admission.specs.declared.local_answer.LocalAnswer.{LocalAnswer}
+use Rattle.roam_admission.specs.declared.local_answer.RejectCause.{RejectCause}
+use Rattle.roam_admission.specs.RejectCauses.{reject_cause}
+use Rattle.roam_admission.specs.Admission.{Arrival, PlainJob, PlainOut, Admission, refused, answered_here, admitted, sender, checked, job_of, forwarded_for, rejected_for, for_named_realm, accounted, accounting_in, answered_by, by_accounting, is_answered_unnamed, route_request, request_admission, packet_admission, sent_admission, read_admission, admission, is_taken, peer_secret, home_secret, has_few_attributes, is_rightly_signed, is_rightly_sealed, has_needed_seal, has_few_hops, seal_required, has_seal, is_status_request, status_admission, status_from}
+use Rattle.roam_admission.specs.declared.job.Side.{Side}
+use Rattle.roam_admission.specs.declared.job.Side.TheVariants as side
 
 -- if it is a local reject, it is for no realm
 unfoldable pub RejectsForNone : Admission → Type 0

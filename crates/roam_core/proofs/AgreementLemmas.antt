@@ -8,12 +8,12 @@ use Rattle.roam_wire.specs.Reading.{packet_of}
 use Rattle.roam_wire.specs.declared.refusal.Refusal.{Refusal}
 use Rattle.roam_wire.specs.declared.refusal.Refusal.TheVariants as refusal
 use Rattle.roam_wire.specs.declared.packet_size.TheConstants.{MAX_PACKET_LENGTH}
-use Rattle.roam_back.specs.Nak.{nak, nak_code}
-use Rattle.roam_back.specs.ReplyCheck.{reply_fault}
-use Rattle.roam_back.specs.Returned.{returned, returned_length}
+use Rattle.roam_reply.specs.Nak.{nak, nak_code}
+use Rattle.roam_reply.specs.ReplyCheck.{reply_fault}
+use Rattle.roam_reply.specs.Returned.{returned, returned_length}
 use Rattle.roam_conf.specs.declared.exchange_lines.ExchangeLines.{ExchangeLines}
 use Rattle.roam_conf.specs.declared.place.Link.{Link}
-use Rattle.roam_route.specs.Admission.{PlainOut}
+use Rattle.roam_admission.specs.Admission.{PlainOut}
 use Rattle.roam_pending.specs.declared.key.Key.{Key}
 use Rattle.roam_pending.specs.EntryList.{find_client, find_link, first_done, without, without_client}
 use Rattle.roam_pending.specs.PlainEntry.{PlainEntry, PlainRequest, PlainStanding, waiting, done}

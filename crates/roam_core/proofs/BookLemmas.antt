@@ -4,7 +4,7 @@ use Rattle.std.specs.Prelude.{Result, Ok, Err, replicate}
 use Rattle.std.proofs.lemmas.List.{get_or-map, length-set, length-append, length-replicate, map-set, map-append, set-get_or, replicate-append-replicate}
 use Rattle.roam_wire.specs.declared.refusal.NoMemory.{NoMemory}
 use Rattle.roam_conf.specs.Config.{ConfigView}
-use Rattle.roam_book.specs.BookView.{BookView, settings_of}
+use Rattle.roam_rules.specs.BookView.{BookView, settings_of}
 use Rattle.roam_realm.specs.RealmConfig.{RealmConfig, realm_config}
 use Rattle.roam_realm.specs.RealmState.{RealmState, opening}
 use Rattle.roam_exchange.specs.Turn.{Turn, refuses, sends, state_after, Gives, hears}

@@ -5,8 +5,8 @@ use Rattle.std.specs.Cmp.Lexicographic.{pointwise}
 use Rattle.roam_wire.specs.Packet.{Packet}
 use Rattle.roam_wire.specs.Reading.{packet_of}
 use Rattle.roam_wire.specs.declared.refusal.Refusal.{Refusal}
-use Rattle.roam_back.specs.Returned.{returned_length}
-use Rattle.roam_back.specs.ReplyCheck.{reply_fault}
+use Rattle.roam_reply.specs.Returned.{returned_length}
+use Rattle.roam_reply.specs.ReplyCheck.{reply_fault}
 use Rattle.roam_address.specs.declared.endpoint.Endpoint.{Endpoint}
 use Rattle.roam_conf.specs.Lookup.{out_of}
 use Rattle.roam_conf.specs.declared.place.Link.{Link}

@@ -4,7 +4,7 @@ use Rattle.std.specs.List.{AllByRecursion, cons_option, filter_map}
 use Rattle.roam_pending.specs.declared.key.Requester.{Requester}
 use Rattle.roam_pending.specs.PlainEntry.{PlainEntry, PlainRequest, PlainStanding, is_done}
 use Rattle.roam_realm.specs.RealmConfig.{RealmConfig}
-use Rattle.roam_carry.specs.Reload.{entries_then, entry_of, entry_then, outgrows, request_from, request_then, requester_then, standing_then, without_done}
+use Rattle.roam_migrate.specs.Reload.{entries_then, entry_of, entry_then, outgrows, request_from, request_then, requester_then, standing_then, without_done}
 
 -- ---- what holds of each that was there
 

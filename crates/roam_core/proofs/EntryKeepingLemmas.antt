@@ -8,8 +8,8 @@ use Rattle.std.proofs.lemmas.Bool.Decides.{nat_tests}
 use Rattle.roam_wire.specs.Packet.{Packet}
 use Rattle.roam_wire.specs.Reading.{packet_of}
 use Rattle.roam_wire.specs.declared.refusal.Refusal.{Refusal}
-use Rattle.roam_back.specs.Returned.{returned_length}
-use Rattle.roam_back.specs.ReplyCheck.{reply_fault}
+use Rattle.roam_reply.specs.Returned.{returned_length}
+use Rattle.roam_reply.specs.ReplyCheck.{reply_fault}
 use Rattle.roam_conf.specs.declared.place.Link.{Link}
 use Rattle.roam_pending.specs.ListLaws.{IsIn}
 use Rattle.roam_pending.specs.declared.due.Due.{Due}
@@ -24,7 +24,7 @@ use Rattle.roam_exchange.specs.Turn.{Turn, state_after}
 use Rattle.roam_exchange.specs.Shares.{share_taken}
 use Rattle.roam_exchange.specs.OnRequest.{forwarded_entry, make_way, at_target, is_reverse, nak_octets, nak_or_new, of_key, reverse_cause, targets}
 use Rattle.roam_exchange.specs.OnReply.{reply_turn, passing_to, returned_octets, returning, to_entry, to_standing, shows_life}
-use Rattle.roam_reverse.specs.declared.error_cause.TheConstants.{OTHER_PROXY_PROCESSING_ERROR}
+use Rattle.roam_sessions.specs.declared.error_cause.TheConstants.{OTHER_PROXY_PROCESSING_ERROR}
 use Rattle.roam_exchange.specs.OnTick.{Progress, fail_over, given_up_at, once_refused, due_standing, due_entry, due_one, due_each}
 use Rattle.roam_exchange.specs.OneRealm.{request_came, reply_came, tick_came, on_event}
 use Rattle.roam_realm.specs.Conversing.{new_target}

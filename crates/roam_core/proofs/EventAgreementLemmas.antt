@@ -3,18 +3,18 @@
 use Rattle.std.proofs.Common.{◌≡◌, ℕ, ◌+◌, List, [], ◌∷◌, ◌++◌, Option, Some, None, refl, sym, ap, subst, ◌∙◌, ltb, inl, inr, append_assoc}
 use Rattle.std.proofs.lemmas.Bool.{cases_Bool}
 use Rattle.std.proofs.lemmas.List.{append-nil}
-use Rattle.roam_back.specs.Nak.{nak_code}
+use Rattle.roam_reply.specs.Nak.{nak_code}
 use Rattle.roam_conf.specs.Config.{ConfigView}
 use Rattle.roam_conf.specs.declared.exchange_lines.ExchangeLines.{ExchangeLines}
 use Rattle.roam_conf.specs.declared.place.Link.{Link}
-use Rattle.roam_route.specs.Admission as route
-use Rattle.roam_route.specs.Admission.{Admission, PlainOut, admission}
+use Rattle.roam_admission.specs.Admission as route
+use Rattle.roam_admission.specs.Admission.{Admission, PlainOut, admission}
 use Rattle.roam_pending.specs.declared.due.Due.{Due}
 use Rattle.roam_pending.specs.declared.key.Key.{Key}
 use Rattle.roam_pending.specs.DueOrder.{due_list}
 use Rattle.roam_pending.specs.EntryList.{find_ticket, without}
 use Rattle.roam_pending.specs.PlainEntry.{PlainEntry, PlainStanding, waiting, done}
-use Rattle.roam_reverse.specs.declared.error_cause.TheConstants.{OTHER_PROXY_PROCESSING_ERROR}
+use Rattle.roam_sessions.specs.declared.error_cause.TheConstants.{OTHER_PROXY_PROCESSING_ERROR}
 use Rattle.roam_realm.specs.RealmConfig.{RealmConfig, later_targets, realm_config}
 use Rattle.roam_realm.specs.RealmState.{RealmState, Target, chosen_target}
 use Rattle.roam_realm.specs.Rests.{after_silence}

@@ -8,8 +8,8 @@ use Rattle.std.proofs.lemmas.Bool.Decides.{nat_tests}
 use Rattle.std.proofs.lemmas.List.{append-nil, length-set, get_or-set_same, get_or-set_other}
 use Rattle.roam_wire.specs.declared.refusal.Refusal.TheVariants as refusal
 use Rattle.roam_conf.specs.Config.{ConfigView}
-use Rattle.roam_route.specs.Admission.{Arrival, Admission, refused, answered_here, admitted, admission}
-use Rattle.roam_route.proofs.EventLemmas.{admitted_realm}
+use Rattle.roam_admission.specs.Admission.{Arrival, Admission, refused, answered_here, admitted, admission}
+use Rattle.roam_admission.proofs.EventLemmas.{admitted_realm}
 use Rattle.roam_realm.specs.RealmConfig.{RealmConfig, realm_config}
 use Rattle.roam_realm.specs.RealmState.{RealmState}
 use Rattle.roam_exchange.specs.Turn.{Turn, refuses, hears, sends, packets_of, state_after, in_time}

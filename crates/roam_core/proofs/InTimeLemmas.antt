@@ -20,7 +20,7 @@ use Rattle.roam_exchange.specs.OnRequest.{targets}
 use Rattle.roam_exchange.specs.OnTick.{due_each}
 use Rattle.roam_exchange.specs.OneRealm.{RealmEvent, request_came, reply_came, tick_came, on_event, one_realm_run}
 use Rattle.roam_realm.specs.declared.start.Start.{Start}
-use Rattle.roam_book.proofs.LeastLemmas.{none-due_after}
+use Rattle.roam_rules.proofs.LeastLemmas.{none-due_after}
 use Rattle.roam_core.specs.Amplification.{counted_links, is_counted, one_each}
 use Rattle.roam_core.specs.InTime.{AreInTime, NoneWaitsLonger, last_moment, last_tick, longest_wait, moment_of}
 use Rattle.roam_core.specs.Openings.{state_then}

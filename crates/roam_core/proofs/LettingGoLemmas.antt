@@ -4,7 +4,7 @@ use Rattle.std.specs.Prelude.{not}
 use Rattle.std.proofs.Math.Seq.{get_or-append_seam, set-append_seam}
 use Rattle.std.proofs.lemmas.List.{drop_all, get_or-set_same, length-map}
 use Rattle.roam_conf.specs.Config.{ConfigView}
-use Rattle.roam_book.specs.BookView.{BookView}
+use Rattle.roam_rules.specs.BookView.{BookView}
 use Rattle.roam_exchange.specs.OnTick.{on_tick}
 use Rattle.roam_realm.specs.RealmConfig.{realm_config}
 use Rattle.roam_realm.specs.RealmState.{RealmState}

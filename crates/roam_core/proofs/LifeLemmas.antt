@@ -1,6 +1,6 @@
 -- Lives: what happens in two lists in a row, and what stays the same.
 use Rattle.std.proofs.Common.{◌≡◌, ℕ, List, [], ◌∷◌, ◌++◌, map, refl, sym, ap, ◌∙◌, append_assoc}
-use Rattle.roam_route.specs.Admission.{PlainOut}
+use Rattle.roam_admission.specs.Admission.{PlainOut}
 use Rattle.roam_realm.specs.RealmConfig.{RealmConfig}
 use Rattle.roam_realm.specs.RealmState.{RealmState}
 use Rattle.roam_exchange.specs.Turn.{packets_of, state_after}

@@ -18,17 +18,17 @@ use Rattle.roam_address.specs.declared.address.Address.{Address}
 use Rattle.roam_address.specs.declared.endpoint.Endpoint.{Endpoint}
 use Rattle.roam_conf.specs.declared.place.Place.{Place}
 use Rattle.roam_conf.specs.declared.place.Place.TheVariants as place
-use Rattle.roam_route.specs.UserName.{realm_of, realm_part}
-use Rattle.roam_route.specs.Freshness.{is_fresh}
-use Rattle.roam_route.specs.LocalAnswer.{accounting_answer}
-use Rattle.roam_route.specs.LocalReject.{has_bad_password, has_too_many_hops, takes_of}
-use Rattle.roam_route.specs.Shapings.{sent_length}
-use Rattle.roam_route.specs.declared.local_answer.LocalAnswer.TheVariants as local
-use Rattle.roam_route.specs.RejectCauses.{reject_cause}
-use Rattle.roam_route.specs.Admission.{Arrival, Admission, sender, checked, forwarded_for, answered_by, accounted, accounting_in, is_answered_unnamed, route_request, request_admission, packet_admission, sent_admission, read_admission, admission, is_taken, peer_secret, home_secret, has_few_attributes, is_rightly_signed, is_rightly_sealed, has_needed_seal, has_few_hops, seal_required}
-use Rattle.roam_route.specs.declared.job.Side.{Side}
-use Rattle.roam_route.specs.declared.job.Side.TheVariants as side
-use Rattle.roam_route.proofs.AlikeLemmas.{came, there-same}
+use Rattle.roam_admission.specs.UserName.{realm_of, realm_part}
+use Rattle.roam_admission.specs.Freshness.{is_fresh}
+use Rattle.roam_admission.specs.LocalAnswer.{accounting_answer}
+use Rattle.roam_admission.specs.LocalReject.{has_bad_password, has_too_many_hops, takes_of}
+use Rattle.roam_admission.specs.Shapings.{sent_length}
+use Rattle.roam_admission.specs.declared.local_answer.LocalAnswer.TheVariants as local
+use Rattle.roam_admission.specs.RejectCauses.{reject_cause}
+use Rattle.roam_admission.specs.Admission.{Arrival, Admission, sender, checked, forwarded_for, answered_by, accounted, accounting_in, is_answered_unnamed, route_request, request_admission, packet_admission, sent_admission, read_admission, admission, is_taken, peer_secret, home_secret, has_few_attributes, is_rightly_signed, is_rightly_sealed, has_needed_seal, has_few_hops, seal_required}
+use Rattle.roam_admission.specs.declared.job.Side.{Side}
+use Rattle.roam_admission.specs.declared.job.Side.TheVariants as side
+use Rattle.roam_admission.proofs.AlikeLemmas.{came, there-same}
 use Rattle.roam_core.specs.Isolation.{is_realm}
 use Rattle.roam_core.specs.OwnPart.{AgreeFor}
 use Rattle.roam_core.proofs.ToRealmLemmas.{acct-given, auth-given, gives, none-out, none-reverse, own-reversed, same-checked, sent-judged, where_accounted, where_asked}

@@ -9,9 +9,9 @@ use Rattle.roam_wire.specs.Attributes.{first_value}
 use Rattle.roam_wire.specs.Reading.{packet_of}
 use Rattle.roam_wire.specs.declared.attribute_type.TheConstants.{ACCT_SESSION_ID, USER_NAME}
 use Rattle.roam_conf.specs.Config.{PeerView, RealmView}
-use Rattle.roam_reverse.specs.Causes.{cause, cause_at_target, cause_by_count, cause_by_meant, cause_by_name, cause_by_names, cause_by_salt, cause_by_user, meant, names_sessions}
-use Rattle.roam_reverse.specs.Sessions.{Session}
-use Rattle.roam_reverse.specs.Target.{target_in}
+use Rattle.roam_sessions.specs.Causes.{cause, cause_at_target, cause_by_count, cause_by_meant, cause_by_name, cause_by_names, cause_by_salt, cause_by_user, meant, names_sessions}
+use Rattle.roam_sessions.specs.Sessions.{Session}
+use Rattle.roam_sessions.specs.Target.{target_in}
 use Rattle.roam_pending.specs.PlainEntry.{PlainRequest, PlainEntry}
 use Rattle.roam_pending.specs.EntryList.{find_client}
 use Rattle.roam_realm.specs.RealmConfig.{RealmConfig}

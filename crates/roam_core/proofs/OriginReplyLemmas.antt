@@ -6,10 +6,10 @@ use Rattle.std.proofs.lemmas.Bool.Decides.{nat_tests}
 use Rattle.roam_wire.specs.Packet.{Packet}
 use Rattle.roam_wire.specs.Reading.{packet_of}
 use Rattle.roam_wire.specs.declared.refusal.Refusal.{Refusal}
-use Rattle.roam_back.specs.Returned.{returned_length}
+use Rattle.roam_reply.specs.Returned.{returned_length}
 use Rattle.roam_conf.specs.declared.place.Link.{Link}
 use Rattle.roam_conf.specs.declared.place.Link.TheVariants as link
-use Rattle.roam_route.specs.Admission.{PlainOut}
+use Rattle.roam_admission.specs.Admission.{PlainOut}
 use Rattle.roam_pending.specs.PlainEntry.{PlainRequest, PlainStanding, PlainEntry, waiting, done, same_link, stands_at, waits_at}
 use Rattle.roam_pending.specs.EntryList.{find_link}
 use Rattle.roam_pending.specs.Realms.{with_standing}
@@ -20,7 +20,7 @@ use Rattle.roam_realm.specs.RealmConfig.{RealmConfig, link_secret, seal_required
 use Rattle.roam_realm.specs.RealmState.{RealmState}
 use Rattle.roam_exchange.specs.Turn.{packets_of}
 use Rattle.roam_exchange.specs.OnRequest.{packet_to_requester}
-use Rattle.roam_back.specs.ReplyCheck.{reply_fault}
+use Rattle.roam_reply.specs.ReplyCheck.{reply_fault}
 use Rattle.roam_exchange.specs.OnReply.{reply_turn, on_reply, passing_to, return_reply, returned_octets, returning, to_entry, to_standing, shows_life}
 use Rattle.roam_exchange.specs.OneRealm.{RealmEvent, reply_came}
 use Rattle.roam_realm.specs.declared.start.Start.{Start}

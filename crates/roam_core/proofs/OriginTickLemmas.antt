@@ -9,14 +9,14 @@ use Rattle.roam_pending.specs.DueOrder.{due_list}
 use Rattle.roam_pending.specs.PlainEntry.{PlainRequest, PlainStanding, PlainEntry, waiting, done, has_ticket}
 use Rattle.roam_pending.specs.EntryList.{find_ticket, without}
 use Rattle.roam_pending.specs.Realms.{sent_again, waits_on, with_standing}
-use Rattle.roam_reverse.specs.declared.error_cause.TheConstants.{OTHER_PROXY_PROCESSING_ERROR}
+use Rattle.roam_sessions.specs.declared.error_cause.TheConstants.{OTHER_PROXY_PROCESSING_ERROR}
 use Rattle.roam_pending.proofs.TestLemmas.{all-append, all-filter, all-find, all-weaker}
 use Rattle.roam_pending.proofs.OrderLemmas.{all-put}
 use Rattle.roam_realm.specs.RealmConfig.{RealmConfig, later_targets}
 use Rattle.roam_realm.specs.Rests.{after_silence, after_choice, signs_of}
 use Rattle.roam_realm.specs.RealmState.{RealmState, Target, chosen_target, with_rests}
 use Rattle.roam_exchange.specs.Turn.{packets_of}
-use Rattle.roam_route.specs.Admission.{PlainOut}
+use Rattle.roam_admission.specs.Admission.{PlainOut}
 use Rattle.roam_exchange.specs.OnRequest.{draws, forwarded_entry, is_reverse, nak_octets, once_forwarded, packet_to_requester, packet_to_link}
 use Rattle.roam_exchange.specs.OnTick.{Progress, fail_over, given_up, once_refused, due_standing, due_entry, due_one, due_each, as_turn, on_tick, given_up_at}
 use Rattle.roam_exchange.specs.OneRealm.{RealmEvent, tick_came}

@@ -6,7 +6,7 @@ use Rattle.std.proofs.lemmas.Bool.{cases_Bool}
 use Rattle.std.proofs.lemmas.Bool.Decides.{nat_tests}
 use Rattle.std.proofs.lemmas.List.{append-nil}
 use Rattle.roam_conf.specs.Config.{ConfigView}
-use Rattle.roam_route.specs.Admission.{PlainOut}
+use Rattle.roam_admission.specs.Admission.{PlainOut}
 use Rattle.roam_pending.specs.declared.due.Due.{Due}
 use Rattle.roam_pending.specs.DueOrder.{due_list, is_before}
 use Rattle.roam_pending.specs.EntryList.{IsEntryList, IsInOrder, without}
@@ -20,9 +20,9 @@ use Rattle.roam_exchange.specs.Rooms.{is_done_at}
 use Rattle.roam_exchange.specs.Turn.{Turn, in_time, packets_of, sends, state_after}
 use Rattle.roam_exchange.specs.OnTick.{Progress, as_turn, due_each, silent}
 use Rattle.roam_exchange.specs.OneRealm.{RealmEvent, request_came, reply_came, tick_came, one_realm_run}
-use Rattle.roam_book.specs.LostTicks.{without_each}
-use Rattle.roam_book.proofs.LettingGoLemmas.{all-without, both, goes-one}
-use Rattle.roam_book.proofs.LostTickLemmas.{nothing-is_lost, only-done_go}
+use Rattle.roam_rules.specs.LostTicks.{without_each}
+use Rattle.roam_rules.proofs.LettingGoLemmas.{all-without, both, goes-one}
+use Rattle.roam_rules.proofs.LostTickLemmas.{nothing-is_lost, only-done_go}
 use Rattle.roam_core.specs.Events.{PlainEvent, events_of_realm, given_to_realm, is_lost, kept_from}
 use Rattle.roam_core.specs.Isolation.{IsIsolated}
 use Rattle.roam_core.specs.ManyRealms.{state_at}

@@ -6,9 +6,9 @@ use Rattle.std.specs.Prelude.{◌==◌, if◌then◌else◌}
 use Rattle.std.proofs.lemmas.Option.{unwrap_or-slice_get}
 use Rattle.std.specs.Option.{unwrap_or}
 use Rattle.roam_conf.specs.Config.{ConfigView, PeerView, RealmView}
-use Rattle.roam_route.specs.Admission.{Admission, PlainJob, refused, answered_here, admitted, admission}
-use Rattle.roam_route.specs.OwnPart.{HaveSamePart, own}
-use Rattle.roam_route.proofs.OwnLemmas.{own_part_decides}
+use Rattle.roam_admission.specs.Admission.{Admission, PlainJob, refused, answered_here, admitted, admission}
+use Rattle.roam_admission.specs.OwnPart.{HaveSamePart, own}
+use Rattle.roam_admission.proofs.OwnLemmas.{own_part_decides}
 use Rattle.roam_realm.specs.RealmConfig.{RealmConfig, no_realm, realm_config}
 use Rattle.roam_realm.specs.RealmState.{RealmState, opening}
 use Rattle.roam_exchange.specs.OnTick.{Progress}

@@ -9,16 +9,16 @@ use Rattle.roam_wire.specs.Reading.{packet_of}
 use Rattle.roam_wire.specs.declared.refusal.Refusal.{Refusal}
 use Rattle.roam_wire.specs.declared.refusal.Refusal.TheVariants as refusal
 use Rattle.roam_conf.specs.declared.place.Link.{Link}
-use Rattle.roam_fwd.proofs.LawLemmas.{code-forwarded}
-use Rattle.roam_fwd.proofs.ShapedLemmas.{code-shaped}
-use Rattle.roam_fwd.specs.Shaped.{shaped}
-use Rattle.roam_back.specs.Nak.{nak}
-use Rattle.roam_back.specs.ReplyCheck.{answers, reply_fault}
-use Rattle.roam_back.proofs.EveryCodeLemmas.{code-returned}
-use Rattle.roam_route.specs.Admission.{PlainOut}
-use Rattle.roam_reverse.specs.CauseLaws.{IsOfOneSession}
-use Rattle.roam_reverse.specs.Causes.{cause}
-use Rattle.roam_reverse.proofs.OneSessionLemmas.{forwarded_is_of_one_session}
+use Rattle.roam_forward.proofs.LawLemmas.{code-forwarded}
+use Rattle.roam_forward.proofs.ShapedLemmas.{code-shaped}
+use Rattle.roam_forward.specs.Shaped.{shaped}
+use Rattle.roam_reply.specs.Nak.{nak}
+use Rattle.roam_reply.specs.ReplyCheck.{answers, reply_fault}
+use Rattle.roam_reply.proofs.EveryCodeLemmas.{code-returned}
+use Rattle.roam_admission.specs.Admission.{PlainOut}
+use Rattle.roam_sessions.specs.CauseLaws.{IsOfOneSession}
+use Rattle.roam_sessions.specs.Causes.{cause}
+use Rattle.roam_sessions.proofs.OneSessionLemmas.{forwarded_is_of_one_session}
 use Rattle.roam_pending.specs.ListLaws.{IsIn}
 use Rattle.roam_pending.specs.PlainEntry.{PlainEntry, PlainRequest}
 use Rattle.roam_pending.specs.EntryList.{find_client}

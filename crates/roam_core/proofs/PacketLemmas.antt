@@ -4,7 +4,7 @@ use Rattle.std.specs.Prelude.{◌==◌}
 use Rattle.std.specs.List.{AllByRecursion, filter}
 use Rattle.std.proofs.lemmas.Bool.Decides.{nat_tests}
 use Rattle.std.proofs.lemmas.List.Elements.{filter-append}
-use Rattle.roam_route.specs.Admission.{PlainOut}
+use Rattle.roam_admission.specs.Admission.{PlainOut}
 use Rattle.roam_core.specs.Isolation.{is_realm, is_none, packets_for, packets_for_none, IsRealmBelow, HasRealm}
 
 -- a packet is for a realm from `low` to below `high`

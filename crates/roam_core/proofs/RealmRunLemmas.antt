@@ -2,7 +2,7 @@
 use Rattle.std.proofs.Common.{◌≡◌, List, [], ◌∷◌, ◌++◌, refl, ap, sym, ◌∙◌, subst, inl, inr, append_assoc}
 use Rattle.std.specs.List.{AllByRecursion}
 use Rattle.std.proofs.lemmas.List.{append-nil}
-use Rattle.roam_route.specs.Admission.{PlainOut}
+use Rattle.roam_admission.specs.Admission.{PlainOut}
 use Rattle.roam_pending.specs.ListLaws.{IsIn}
 use Rattle.roam_realm.specs.RealmConfig.{RealmConfig}
 use Rattle.roam_realm.specs.RealmState.{RealmState, opening}

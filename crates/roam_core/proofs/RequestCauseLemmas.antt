@@ -6,8 +6,8 @@ use Rattle.roam_wire.specs.Packet.{Packet}
 use Rattle.roam_wire.specs.Reading.{packet_of}
 use Rattle.roam_wire.specs.declared.refusal.Refusal.{Refusal}
 use Rattle.roam_wire.specs.declared.refusal.Refusal.TheVariants as refusal
-use Rattle.roam_back.specs.Returned.{returned_length}
-use Rattle.roam_back.specs.ReplyCheck.{reply_fault}
+use Rattle.roam_reply.specs.Returned.{returned_length}
+use Rattle.roam_reply.specs.ReplyCheck.{reply_fault}
 use Rattle.roam_conf.specs.declared.place.Link.{Link}
 use Rattle.roam_pending.specs.ListLaws.{IsIn}
 use Rattle.roam_pending.specs.PlainEntry.{PlainRequest, PlainStanding, PlainEntry, waiting, done, has_key, has_ticket, waits_at}

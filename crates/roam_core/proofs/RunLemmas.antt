@@ -3,7 +3,7 @@ use Rattle.std.proofs.Common.{◌≡◌, ℕ, ◌+◌, ◌<◌, ◌≤◌, Bool,
 use Rattle.std.specs.List.{AllByRecursion}
 use Rattle.std.proofs.lemmas.List.{append-nil, take_more, take_all, length-take}
 use Rattle.roam_conf.specs.Config.{ConfigView}
-use Rattle.roam_route.specs.Admission.{PlainOut}
+use Rattle.roam_admission.specs.Admission.{PlainOut}
 use Rattle.roam_realm.specs.RealmState.{RealmState}
 use Rattle.roam_core.specs.Events.{PlainEvent, kept, local_rejects}
 use Rattle.roam_core.specs.Isolation.{IsIsolated, IsIsolatedFromStart, packets_for_none, HasRealm}

@@ -5,8 +5,8 @@ use Rattle.std.proofs.Math.Seq.{get_or-append_seam, set-append_seam}
 use Rattle.std.proofs.lemmas.Bool.Decides.{nat_tests}
 use Rattle.std.proofs.lemmas.List.{append-nil, length-append, map-append, length-map, take_more}
 use Rattle.roam_conf.specs.Config.{ConfigView}
-use Rattle.roam_route.specs.Admission.{PlainOut}
-use Rattle.roam_book.specs.BookView.{BookView}
+use Rattle.roam_admission.specs.Admission.{PlainOut}
+use Rattle.roam_rules.specs.BookView.{BookView}
 use Rattle.roam_realm.specs.RealmState.{RealmState}
 use Rattle.roam_exchange.specs.Turn.{Turn, packets_of, state_after, shown_outs}
 use Rattle.roam_exchange.specs.declared.answer.Answer.{Answer}

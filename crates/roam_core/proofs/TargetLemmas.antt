@@ -11,7 +11,7 @@ use Rattle.roam_conf.specs.Config.{ServerView}
 use Rattle.roam_conf.specs.declared.place.Link.{Link}
 use Rattle.roam_conf.specs.declared.place.Link.TheVariants as link
 use Rattle.roam_wire.specs.Reading.{packet_of}
-use Rattle.roam_reverse.specs.Target as reverse
+use Rattle.roam_sessions.specs.Target as reverse
 use Rattle.roam_pending.specs.PlainEntry.{PlainRequest}
 use Rattle.roam_pending.proofs.TestLemmas.{all-append, all-weaker}
 use Rattle.roam_realm.specs.Conversing.{same_end}

@@ -2,7 +2,7 @@
 use Rattle.std.proofs.Common.{◌≡◌, ℕ, zero, suc, ◌+◌, ◌<◌, List, [], ◌∷◌, ◌++◌, length, refl, sym, ap, subst, ◌∙◌, arith}
 use Rattle.std.proofs.lemmas.List.{append-nil}
 use Rattle.roam_conf.specs.Config.{ConfigView}
-use Rattle.roam_route.specs.Admission.{PlainOut}
+use Rattle.roam_admission.specs.Admission.{PlainOut}
 use Rattle.roam_realm.specs.RealmConfig.{realm_config}
 use Rattle.roam_realm.specs.RealmState.{RealmState}
 use Rattle.roam_exchange.specs.Turn.{sends, packets_of, state_after}

@@ -6,7 +6,7 @@ use Rattle.std.proofs.lemmas.List.{append-nil}
 use Rattle.roam_wire.specs.Packet.{Packet}
 use Rattle.roam_wire.specs.Reading.{packet_of}
 use Rattle.roam_wire.specs.declared.refusal.Refusal.{Refusal}
-use Rattle.roam_back.specs.Returned.{returned_length}
+use Rattle.roam_reply.specs.Returned.{returned_length}
 use Rattle.roam_conf.specs.declared.place.Link.{Link}
 use Rattle.roam_pending.specs.declared.due.Due.{Due}
 use Rattle.roam_pending.specs.DueOrder.{due_list}
@@ -18,7 +18,7 @@ use Rattle.roam_realm.specs.RealmState.{RealmState, Target, chosen_target, with_
 use Rattle.roam_exchange.specs.Turn.{Turn, state_after, in_time}
 use Rattle.roam_exchange.specs.Shares.{share_taken}
 use Rattle.roam_exchange.specs.OnRequest.{make_way, at_target, is_reverse, nak_or_new, new_request, of_key, reverse_cause, targets}
-use Rattle.roam_back.specs.ReplyCheck.{reply_fault}
+use Rattle.roam_reply.specs.ReplyCheck.{reply_fault}
 use Rattle.roam_exchange.specs.OnReply.{reply_turn, passing_to, returning, to_entry, to_standing, shows_life}
 use Rattle.roam_exchange.specs.OnTick.{Progress, fail_over, once_refused, due_standing, due_entry, due_one, due_each, as_turn, given_up_at}
 use Rattle.roam_exchange.specs.OneRealm.{RealmEvent, request_came, reply_came, tick_came, on_event}

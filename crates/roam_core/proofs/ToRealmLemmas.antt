@@ -17,17 +17,17 @@ use Rattle.roam_conf.specs.declared.accounting.Accounting.TheVariants.{Forwarded
 use Rattle.roam_address.specs.declared.endpoint.Endpoint.{Endpoint}
 use Rattle.roam_conf.specs.declared.place.Place.{Place}
 use Rattle.roam_conf.specs.declared.place.Place.TheVariants as place
-use Rattle.roam_route.specs.UserName.{realm_of, realm_part}
-use Rattle.roam_route.specs.LocalAnswer.{accounting_answer, answer_length, local_reject, status_answer, status_code}
-use Rattle.roam_route.specs.Freshness.{is_fresh}
-use Rattle.roam_route.specs.LocalReject.{takes_of, taking}
-use Rattle.roam_route.specs.Shapings.{sent_length}
-use Rattle.roam_route.specs.declared.local_answer.LocalAnswer.TheVariants as local
-use Rattle.roam_route.specs.declared.local_answer.RejectCause.{RejectCause}
-use Rattle.roam_route.proofs.AlikeLemmas.{came}
-use Rattle.roam_route.specs.Admission.{Arrival, Admission, checked, job_of, forwarded_for, answered_by, rejected_for, reversed, for_named_realm, accounted, accounting_in, by_accounting, is_answered_unnamed, is_unnamed, request_admission, packet_admission, sent_admission, status_from, is_status_request, is_taken, peer_secret, home_secret, has_few_attributes, is_rightly_signed, is_rightly_sealed, has_needed_seal, has_few_hops, has_seal, seal_required}
-use Rattle.roam_route.specs.declared.job.Side.{Side}
-use Rattle.roam_route.specs.declared.job.Side.TheVariants as side
+use Rattle.roam_admission.specs.UserName.{realm_of, realm_part}
+use Rattle.roam_admission.specs.LocalAnswer.{accounting_answer, answer_length, local_reject, status_answer, status_code}
+use Rattle.roam_admission.specs.Freshness.{is_fresh}
+use Rattle.roam_admission.specs.LocalReject.{takes_of, taking}
+use Rattle.roam_admission.specs.Shapings.{sent_length}
+use Rattle.roam_admission.specs.declared.local_answer.LocalAnswer.TheVariants as local
+use Rattle.roam_admission.specs.declared.local_answer.RejectCause.{RejectCause}
+use Rattle.roam_admission.proofs.AlikeLemmas.{came}
+use Rattle.roam_admission.specs.Admission.{Arrival, Admission, checked, job_of, forwarded_for, answered_by, rejected_for, reversed, for_named_realm, accounted, accounting_in, by_accounting, is_answered_unnamed, is_unnamed, request_admission, packet_admission, sent_admission, status_from, is_status_request, is_taken, peer_secret, home_secret, has_few_attributes, is_rightly_signed, is_rightly_sealed, has_needed_seal, has_few_hops, has_seal, seal_required}
+use Rattle.roam_admission.specs.declared.job.Side.{Side}
+use Rattle.roam_admission.specs.declared.job.Side.TheVariants as side
 use Rattle.roam_exchange.specs.OneRealm.{RealmEvent}
 use Rattle.roam_core.specs.Events.{given_by}
 use Rattle.roam_core.specs.Isolation.{is_realm}

@@ -1,11 +1,11 @@
--- What is said to have happened by an event, and what is sent for it, agree (ours): what the law `happenings` says.
+-- The agreement of an event's happening and of what is sent for it (ours): what the law `happenings` says.
 use Rattle.std.specs.Prelude.{◌≡◌, ℕ, true, false, List, [], ◌∷◌, ◌++◌}
 use Rattle.roam_conf.specs.Config.{ConfigView}
 use Rattle.roam_conf.specs.declared.exchange_lines.ExchangeLines.{ExchangeLines}
 use Rattle.roam_conf.specs.declared.place.Link.{Link}
-use Rattle.roam_route.specs.Admission as route
-use Rattle.roam_route.specs.Admission.{Admission, PlainOut, admission}
-use Rattle.roam_back.specs.Nak.{nak_code}
+use Rattle.roam_admission.specs.Admission as route
+use Rattle.roam_admission.specs.Admission.{Admission, PlainOut, admission}
+use Rattle.roam_reply.specs.Nak.{nak_code}
 use Rattle.roam_pending.specs.declared.key.Key.{Key}
 use Rattle.roam_pending.specs.PlainEntry.{PlainRequest}
 use Rattle.roam_realm.specs.RealmConfig.{RealmConfig, realm_config}

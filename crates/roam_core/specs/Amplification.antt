@@ -1,6 +1,6 @@
--- How much a realm sends (ours): of any list of its events, at most so many packets for each request that
--- came, whatever replies and ticks come besides. Counted are all packets, or those that leave from a place
--- and go to an endpoint: toward one home server, say, or back to one sender.
+-- The bound on what a realm sends (ours): of any list of its events, at most so many packets for each request that
+-- came, whatever replies and ticks come besides. Counted are all packets, or those that leave from a place and go to an
+-- endpoint: toward one home server, say, or back to one sender.
 use Rattle.std.specs.Prelude.{◌≡◌, ◌≤◌, ◌+◌, ◌*◌, ℕ, Bool, false, List, [], ◌∷◌, length, if◌then◌else◌}
 use Rattle.std.specs.List.{filter, list_any}
 use Rattle.roam_address.specs.declared.endpoint.Endpoint.{Endpoint}
@@ -8,7 +8,7 @@ use Rattle.roam_conf.specs.Lookup.{out_of}
 use Rattle.roam_conf.specs.declared.place.Link.{Link}
 use Rattle.roam_conf.specs.declared.place.Place.{Place}
 use Rattle.roam_conf.specs.declared.place.Place.TheVariants as place
-use Rattle.roam_route.specs.Admission.{PlainOut}
+use Rattle.roam_admission.specs.Admission.{PlainOut}
 use Rattle.roam_pending.specs.declared.key.Key.{Key}
 use Rattle.roam_pending.specs.DueOrder.{due_list}
 use Rattle.roam_pending.specs.PlainEntry.{PlainEntry, PlainRequest, PlainStanding, waiting, done}

@@ -1,7 +1,7 @@
--- What a contract sees of a broker over books, and what its books keep (ours).
+-- A broker over books as a contract sees it, and what its books keep (ours).
 use Rattle.std.specs.Prelude.{◌≡◌, ℕ, ◌+◌, ◌≤◌, List, [], ◌∷◌, length, map}
 use Rattle.roam_conf.specs.Config.{ConfigView}
-use Rattle.roam_book.specs.BookView.{BookView}
+use Rattle.roam_rules.specs.BookView.{BookView}
 use Rattle.roam_realm.specs.RealmState.{RealmState}
 
 -- a broker: its configuration, and the state of each realm, in the order of their indexes

@@ -1,10 +1,10 @@
--- What happens by an event of the broker, for the counts and the log: beside what it answers (ours).
+-- The happening of an event of the proxy, for the counts and the log: beside what it answers (ours).
 use Rattle.std.specs.Prelude.{ℕ, ◌+◌, nat_lt, List, [], ◌∷◌, ◌++◌, if◌then◌else◌}
 use Rattle.roam_wire.specs.declared.refusal.Refusal.TheVariants as refusal
 use Rattle.roam_conf.specs.Config.{ConfigView}
 use Rattle.roam_conf.specs.declared.exchange_lines.ExchangeLines.{ExchangeLines}
-use Rattle.roam_route.specs.Admission as route
-use Rattle.roam_route.specs.Admission.{Admission, PlainJob, admission}
+use Rattle.roam_admission.specs.Admission as route
+use Rattle.roam_admission.specs.Admission.{Admission, PlainJob, admission}
 use Rattle.roam_exchange.specs.Happenings.{PlainDue, PlainHappening, answered_here, code_in, event_happening, refused, tick_happening, ticked}
 use Rattle.roam_exchange.specs.OneRealm.{event_of}
 use Rattle.roam_realm.specs.RealmConfig.{realm_config}

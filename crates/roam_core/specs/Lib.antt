@@ -1,5 +1,5 @@
--- What a sceptic reads, in this order: what an event gives to a realm, how realms begin, isolation and
--- where packets come from. Then the written broker of many realms, and what calls say of it.
+-- The pages for a sceptic, in this order: what an event gives to a realm, how realms begin, isolation and where packets
+-- come from. Then the written broker of many realms, and what calls say of it.
 pub mod Events
 pub mod Openings
 pub mod Isolation

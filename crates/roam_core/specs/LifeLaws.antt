@@ -1,9 +1,9 @@
--- What is proved of where packets come from over a realm's life, while its configuration changes (ours): what
--- `src/laws.rt` says. A life may begin at any stage.
+-- Laws of where packets come from over a realm's life, while its configuration changes (ours): what `src/laws.rt` says.
+-- A life may begin at any stage.
 use Rattle.std.specs.Prelude.{◌≡◌, ◌≤◌, ◌+◌, ◌*◌, ◌%◌, ◌^◌, ℕ, true, List, ◌∷◌, ◌++◌, Some, length, slice_get}
-use Rattle.roam_route.specs.Admission.{PlainOut}
+use Rattle.roam_admission.specs.Admission.{PlainOut}
 use Rattle.roam_wire.specs.Reading.{packet_of}
-use Rattle.roam_reverse.specs.CauseLaws.{IsOfOneSession}
+use Rattle.roam_sessions.specs.CauseLaws.{IsOfOneSession}
 use Rattle.roam_pending.specs.ListLaws.{IsIn}
 use Rattle.roam_pending.specs.PlainEntry.{PlainEntry, PlainRequest}
 use Rattle.roam_realm.specs.RealmConfig.{RealmConfig}

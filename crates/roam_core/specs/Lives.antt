@@ -2,12 +2,12 @@
 -- event does is done under the configuration of its time.
 use Rattle.std.specs.Prelude.{ℕ, List, [], ◌∷◌, ◌++◌}
 use Rattle.roam_conf.specs.Config.{ConfigView}
-use Rattle.roam_route.specs.Admission.{PlainOut}
+use Rattle.roam_admission.specs.Admission.{PlainOut}
 use Rattle.roam_realm.specs.RealmConfig.{RealmConfig, realm_config}
 use Rattle.roam_realm.specs.RealmState.{RealmState, opening}
 use Rattle.roam_exchange.specs.Turn.{packets_of, state_after}
 use Rattle.roam_exchange.specs.OneRealm.{RealmEvent, on_event}
-use Rattle.roam_carry.specs.Reload.{carried}
+use Rattle.roam_migrate.specs.Reload.{carried}
 use Rattle.roam_core.specs.Draws.{drawn_by}
 use Rattle.roam_core.specs.Openings.{next_start}
 

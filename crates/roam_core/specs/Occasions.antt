@@ -1,7 +1,7 @@
 -- The occasions on which a realm may forward a request (ours): the request's own turn, and each due entry of a tick. On
 -- each it sends one packet at most, and draws words once at most.
 use Rattle.std.specs.Prelude.{◌≡◌, ℕ, nat_lt, true, List, [], ◌∷◌, if◌then◌else◌}
-use Rattle.roam_route.specs.Admission.{PlainOut}
+use Rattle.roam_admission.specs.Admission.{PlainOut}
 use Rattle.roam_pending.specs.declared.due.Due.{Due}
 use Rattle.roam_pending.specs.DueOrder.{due_list}
 use Rattle.roam_pending.specs.PlainEntry.{PlainRequest}

@@ -4,7 +4,7 @@
 use Rattle.std.specs.Prelude.{◌≡◌, ℕ, ◌+◌, ◌<◌, ◌≤◌, Bool, true, false, not, List, [], ◌∷◌, ◌++◌, length}
 use Rattle.std.specs.List.{filter}
 use Rattle.roam_conf.specs.Config.{ConfigView}
-use Rattle.roam_route.specs.Admission.{PlainOut}
+use Rattle.roam_admission.specs.Admission.{PlainOut}
 use Rattle.roam_pending.specs.declared.due.Due.{Due}
 use Rattle.roam_pending.specs.DueOrder.{due_list}
 use Rattle.roam_pending.specs.EntryList.{IsEntryList}

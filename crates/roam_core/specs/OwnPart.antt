@@ -1,10 +1,10 @@
--- Which part of a configuration decides what a realm sends (ours): its own entry, the peers, at how many `auth` and
+-- The part of a configuration that decides what a realm sends (ours): its own entry, the peers, at how many `auth` and
 -- `acct` these ask, which names mean it, the limits of attributes, hops and a reverse request's age, the seed and the
 -- number of shards. What it says of other realms isn't looked at, nor which they are.
 use Rattle.std.specs.Prelude.{◌≡◌, ◌<◌, ◌≤◌, ℕ, List, length, slice_get}
 use Rattle.roam_conf.specs.Config.{ConfigView}
 use Rattle.roam_conf.specs.Lookup.{realm_named}
-use Rattle.roam_route.specs.OwnPart.{HaveSamePart}
+use Rattle.roam_admission.specs.OwnPart.{HaveSamePart}
 use Rattle.roam_realm.specs.declared.start.Start.{Start}
 use Rattle.roam_core.specs.Events.{PlainEvent, events_of_realm}
 use Rattle.roam_core.specs.Isolation.{is_realm, packets_for}
@@ -25,7 +25,7 @@ use Rattle.roam_core.specs.Openings.{openings, start_of}
 -- Rules out: another realm's server, secret, socket, name or being there that takes a realm's arrivals away or
 -- changes its packets, or decides whether the broker answers itself
 -- Stands in: `roam_core` `OwnPart.antt`: `MeanAlike`, `AgreeFor`, `SamePacketsOfOwnPart`, `SameOwnEvents`;
--- `roam_route` `OwnPart.antt`: `HaveSamePart`, `AnswerAlike`; the laws `own_part`, `own_answers`
+-- `roam_admission` `OwnPart.antt`: `HaveSamePart`, `AnswerAlike`; the laws `own_part`, `own_answers`
 --
 -- of each name two configurations alike say whether it means a realm. Which other realm it means, or whether any,
 -- they may say differently: other realms may be added, removed and renamed

@@ -1,10 +1,10 @@
--- What a realm with `own_sessions` sends of reverse requests (RFC 5176, sections 3 and 3.5; ours).
+-- The Disconnect- and CoA-Requests that a realm with `own_sessions` sends (RFC 5176, sections 3 and 3.5; ours).
 use Rattle.std.specs.Prelude.{◌≡◌, ◌<◌, ◌≤◌, ℕ, true, List, length}
 use Rattle.roam_conf.specs.Config.{ConfigView}
 use Rattle.roam_wire.specs.Codes.{is_reverse_request}
 use Rattle.roam_wire.specs.Reading.{packet_of}
-use Rattle.roam_route.specs.Admission.{PlainOut}
-use Rattle.roam_reverse.specs.CauseLaws.{IsOfOneSession}
+use Rattle.roam_admission.specs.Admission.{PlainOut}
+use Rattle.roam_sessions.specs.CauseLaws.{IsOfOneSession}
 use Rattle.roam_pending.specs.ListLaws.{IsIn}
 use Rattle.roam_pending.specs.PlainEntry.{PlainRequest}
 use Rattle.roam_exchange.specs.OnRequest.{is_reverse}

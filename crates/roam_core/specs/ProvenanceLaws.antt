@@ -1,6 +1,6 @@
--- What is proved of where packets and entries come from (ours): what `src/laws.rt` and `run` say.
+-- Laws of where packets and entries come from (ours): what `src/laws.rt` and `run` say.
 use Rattle.std.specs.Prelude.{◌≡◌, ◌≤◌, ◌+◌, ◌*◌, ◌%◌, ◌^◌, ℕ, List, ◌∷◌, ◌++◌, Some, length, slice_get}
-use Rattle.roam_route.specs.Admission.{PlainOut}
+use Rattle.roam_admission.specs.Admission.{PlainOut}
 use Rattle.roam_pending.specs.ListLaws.{IsIn}
 use Rattle.roam_pending.specs.PlainEntry.{PlainEntry, PlainRequest}
 use Rattle.roam_realm.specs.RealmConfig.{RealmConfig}

@@ -1,4 +1,5 @@
--- How often a request is sent in one round of ticks (ours): once, however long the server stood still before.
+-- The number of times that a request is sent in one round of ticks (ours): once, however long the server stood still
+-- before.
 use Rattle.std.specs.Prelude.{◌≡◌, ◌≤◌, ◌<◌, ◌+◌, ℕ, false, List, [], ◌∷◌, ◌++◌}
 use Rattle.std.specs.List.{AllByRecursion}
 use Rattle.roam_conf.specs.declared.exchange_lines.ExchangeLines.{ExchangeLines}
@@ -34,7 +35,8 @@ IsOfRound now span e = (moment_of e ≤ now) × (now ≤ moment_of e + span)
 
 -- ## Once in a round
 -- A round of ticks is of one moment: each of its ticks is at that moment, or at most a span before it (100
--- milliseconds, by `IsTickMoment` of `roam_calls`). Where `wait` is longer than the span, a request that was sent in a
+-- milliseconds, by `IsTickMoment` of `roam_history`). Where `wait` is longer than the span, a request that was sent
+-- in a
 -- round isn't due again in that round: no tick of it sends the request again, fails it over or gives it up. So after
 -- the server stood still for long, a request that is overdue by many times its `wait` is sent once, and then waits.
 -- Source: ours

@@ -1,4 +1,4 @@
--- What a run says of the events that it lost, and of the realms where its outcome couldn't grow (ours).
+-- The report of a run on the events that it lost, and of the realms where its outcome couldn't grow (ours).
 use Rattle.std.specs.Prelude.{◌≡◌, ℕ, ◌+◌, ◌<◌, ◌≤◌, Bool, not, List, [], ◌∷◌, length, take, slice_get, IsSomeAnd}
 use Rattle.std.specs.List.{AllByRecursion}
 use Rattle.roam_conf.specs.Config.{ConfigView}

@@ -1,9 +1,9 @@
--- What a realm sends for one request (ours): the packets of a ticket, in the request's own turn, at later
--- ticks, and when a reply is taken for it. (A reply that is held, and sent again to a duplicate, isn't among
--- them: that one the duplicate causes.)
+-- The packets that a realm sends for one request (ours): the packets of a ticket, in the request's own turn, at later
+-- ticks, and when a reply is taken for it. (A reply that is held, and sent again to a duplicate, isn't among them: that
+-- one the duplicate causes.)
 use Rattle.std.specs.Prelude.{◌≤◌, ◌+◌, ◌==◌, ◌&&◌, ℕ, Bool, false, nat_lt, List, [], ◌∷◌, ◌++◌, Option, Some, None, if◌then◌else◌}
 use Rattle.roam_wire.specs.Reading.{packet_of}
-use Rattle.roam_route.specs.Admission.{PlainOut}
+use Rattle.roam_admission.specs.Admission.{PlainOut}
 use Rattle.roam_pending.specs.declared.due.Due.{Due}
 use Rattle.roam_pending.specs.DueOrder.{due_list}
 use Rattle.roam_pending.specs.PlainEntry.{PlainEntry, PlainRequest}

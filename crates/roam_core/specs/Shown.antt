@@ -1,6 +1,6 @@
--- What the code's events are seen as.
+-- The code's events, as they are seen.
 use Rattle.std.specs.Prelude.{List, map}
-use Rattle.roam_route.specs.Shown.{shown_arrival}
+use Rattle.roam_admission.specs.Shown.{shown_arrival}
 use Rattle.roam_core.specs.declared.event.Event.{Event}
 use Rattle.roam_core.specs.declared.event.Event.TheVariants as event
 use Rattle.roam_core.specs.Events.{PlainEvent, arrives, ticks}

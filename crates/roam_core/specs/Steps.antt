@@ -1,9 +1,9 @@
--- What a call that answers one event gives (ours).
+-- The result of a call that answers one event (ours).
 use Rattle.std.specs.Prelude.{◌≡◌, ◌<◌, ◌≤◌, Bool, true, false, List, Result, Ok, Err}
 use Rattle.roam_wire.specs.declared.refusal.NoMemory.{NoMemory}
 use Rattle.roam_conf.specs.Config.{ConfigView}
-use Rattle.roam_route.specs.Admission.{admission}
-use Rattle.roam_route.specs.Shown.{WantsMemory}
+use Rattle.roam_admission.specs.Admission.{admission}
+use Rattle.roam_admission.specs.Shown.{WantsMemory}
 use Rattle.roam_realm.specs.RealmState.{RealmState}
 use Rattle.roam_exchange.specs.Turn.{latest_moment, shown_outs}
 use Rattle.roam_exchange.specs.declared.answer.Answer.{Answer}

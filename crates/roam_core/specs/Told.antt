@@ -1,9 +1,9 @@
--- What a request, and a link, of a realm are called while its configuration changes (ours): a home server has the
--- number of its place then, and a link too.
+-- The names of a realm's requests and links while its configuration changes (ours): a home server has the number of its
+-- place then, and a link too.
 use Rattle.std.specs.Prelude.{List, [], ◌∷◌, Option, Some, None, option_and_then}
 use Rattle.roam_conf.specs.declared.place.Link.{Link}
 use Rattle.roam_pending.specs.PlainEntry.{PlainRequest}
-use Rattle.roam_carry.specs.Reload.{request_then, way_then}
+use Rattle.roam_migrate.specs.Reload.{request_then, way_then}
 use Rattle.roam_core.specs.Lives.{Happening, Stage, begins_anew, event, goes_on, part_in, stage_after}
 
 -- ## Told as

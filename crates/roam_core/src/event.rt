@@ -1,9 +1,9 @@
-//! What happens to the broker.
+//! The events of the proxy.
 
-use roam_route::Datagram;
+use roam_admission::Datagram;
 use std::alloc::Allocator;
 
-/// What happens to the broker, and when.
+/// An event of the proxy, and its moment.
 #[derive(Drop)]
 pub enum Event<A: Allocator> {
     /// A datagram arrives.

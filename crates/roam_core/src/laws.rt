@@ -25,8 +25,8 @@ pub fn isolated_realms()
     ensures states { EachRealmStandsAlone }
 {}
 
-/// Which sessions a realm's ledger holds, the realm's own events alone decide: no other realm's
-/// accounting lets one of its reverse requests pass, however sessions are named.
+/// States that the realm's own events alone decide which sessions its table holds: no other realm's accounting lets one
+/// of its Disconnect- or CoA-Requests pass, however sessions are named.
 pub fn isolated_ledgers()
     ensures { EachLedgerIsIsolated }
 {}
@@ -44,24 +44,25 @@ pub fn own_losses()
     ensures made_good { NextTickMakesGood }
 {}
 
-/// What a realm sends depends on its own part of the configuration, where it begins and its events alone.
+/// States that a realm's packets depend only on its own part of the configuration, on where it begins and on its
+/// events.
 pub fn two_worlds()
     ensures from_start { SameInTwoWorldsFromStart }
     ensures from_states { SameInTwoWorlds }
 {}
 
-/// What a realm sends is decided by its own part of the configuration: its own entry, the peers, at how many `auth` and
-/// `acct` these ask, which names mean it, the limits of attributes, hops and a reverse request's age, the seed and the
-/// number of shards. Given the same events, it sends the same packets whatever else the configuration says of other
-/// realms, and whichever there are: they may be added, removed and renamed. So one broker of some realms is, realm by
-/// realm, as many brokers of one.
+/// States that a realm's packets are decided by its own part of the configuration: its own entry, the peers, at how
+/// many `auth` and `acct` these ask, which names mean it, the limits of attributes, hops and the age of a Disconnect-
+/// or CoA-Request, the seed and the number of shards. Given the same events, it sends the same packets whatever else
+/// the configuration says of other realms, and whichever there are: they may be added, removed and renamed. So one
+/// proxy of some realms is, realm by realm, as many proxies of one.
 pub fn own_part()
     ensures packets { SamePacketsOfOwnPart }
     ensures events { SameOwnEvents }
 {}
 
-/// Where one realm is configured, all that the broker sends is what the written broker of that realm
-/// sends, and the local rejects, in the order of their events.
+/// States that where one realm is configured the proxy sends just what the written proxy of that realm sends, and the
+/// local rejects, in the order of their events.
 pub fn one_realm()
     ensures { OneRealmIsAlone }
 {}
@@ -114,8 +115,8 @@ pub fn life_draws()
     ensures once { OneDrawOneForwarding }
 {}
 
-/// What is said to have happened by an event, for the counts and the log, and the packets that are sent for it agree:
-/// of each event of a realm, and of each of a list of events of the broker, in order.
+/// States that the happening of an event, for the counts and the log, and the packets that are sent for it agree: of
+/// each event of a realm, and of each of a list of events of the proxy, in order.
 pub fn happenings()
     ensures realm { EachRealmEventAgrees }
     ensures all { AllEventsAgree }

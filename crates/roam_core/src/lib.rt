@@ -28,7 +28,7 @@
 //! - one arrival gives a realm the same under configurations that agree on the peers, the meaning of names,
 //!   `max_attributes`, `max_hops`, `fresh` and its own table; where the number of shards is equal too, any events
 //!   give it the same ones, whatever the seeds; and where the seed is, it sends the same from the same start |
-//!   `roam_route`, law `own_part`; law `own_part`: `events`, `packets`
+//!   `roam_admission`, law `own_part`; law `own_part`: `events`, `packets`
 //! - with one realm, the broker is the written one-realm broker and its own answers | law `one_realm`
 //! - what is said to have happened by an event agrees with the packets that it sends: as many, in order, each to where
 //!   it says; of each event of a realm, and of a list of events of the broker | law `happenings`: `realm`, `all`

@@ -15,13 +15,13 @@ ghost use Rattle.roam_core.specs.Shown.{shown_events};
 
 use crate::event::Event;
 use crate::stepper::Stepper;
+use roam_admission::Out;
 use roam_exchange::Outs;
-use roam_route::Out;
 use roam_wire::NoMemory;
 use std::alloc::Allocator;
 
-/// What a run gave: the packets in the order in which they were sent, and the places, from 0, of the
-/// events that met want of memory and were lost.
+/// The result of a run: the packets in the order in which they were sent, and the places, from 0, of the events that
+/// met want of memory and were lost.
 #[derive(Drop)]
 pub struct Outcome<A: Allocator> {
     pub outs: Vec<Out<A>, A>,

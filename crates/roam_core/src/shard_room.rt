@@ -8,10 +8,10 @@ ghost use Rattle.roam_core.specs.BrokerView.{states_of};
 ghost use Rattle.roam_core.specs.Events.{is_in_shard};
 ghost use Rattle.roam_core.specs.ShardRooms.{AreRooms, IsRealmRoom, most_of, most_of_all, only_done_from};
 
-use roam_book::Book;
+use roam_admission::Out;
 use roam_conf::Config;
 use roam_exchange::Room;
-use roam_route::Out;
+use roam_rules::Book;
 use roam_wire::NoMemory;
 use std::alloc::Allocator;
 

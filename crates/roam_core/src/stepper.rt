@@ -1,4 +1,4 @@
-//! What answers events one after the other.
+//! The interface of a proxy that answers events one after the other.
 
 ghost use Rattle.std.specs.Prelude.{◌≡◌, ◌≤◌, ⊤, Bool, IsErr, List, is_ok, length};
 ghost use Rattle.roam_conf.specs.Config.{ConfigView};
@@ -13,7 +13,7 @@ use roam_exchange::Answer;
 use roam_wire::NoMemory;
 use std::alloc::Allocator;
 
-/// What answers events one after the other: a broker, whatever keeps its realms.
+/// A proxy that answers events one after the other, whatever keeps its realms.
 pub trait Stepper<A: Allocator> {
     /// The configuration.
     ghost config: { Self → ConfigView };
@@ -21,9 +21,9 @@ pub trait Stepper<A: Allocator> {
     /// The state of each realm, in the order of their indexes.
     ghost states: { Self → List RealmState };
 
-    /// What a step says of itself: from one broker, with an event, whether it is answered or meets want
-    /// of memory, to the next broker. Of a stepper that isn't known it comes from its steps alone: so a
-    /// run can't pass an event by, nor note one as lost that wasn't.
+    /// The claim of a step: from one broker, with an event, whether it is answered or meets want of memory, to the next
+    /// broker. Of a stepper that isn't known it comes from its steps alone: so a run can't pass an event by, nor note
+    /// one as lost that wasn't.
     ghost steps: { Self → PlainEvent → Bool → Self → Type 0 } = { λ _ _ _ _. ⊤ };
 
     /// Answers an event, and the states are then those that follow. `NoMemory` comes where a growth was

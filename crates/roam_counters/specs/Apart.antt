@@ -1,4 +1,4 @@
--- That counts are told apart. Ours.
+-- Laws: counts are told apart. Ours.
 use Rattle.std.specs.Prelude.{◌≡◌, ◌≢◌, ◌<◌}
 use Rattle.roam_counters.specs.Cells.{HasPlace, cell_of, cells, holder_of, process_cell}
 use Rattle.roam_counters.specs.declared.cell.Holder.TheVariants as holder

@@ -1,4 +1,4 @@
--- Which counts rise where something comes, and where it is refused. Ours.
+-- The counts that rise where something comes, and where it is dropped. Ours.
 use Rattle.std.specs.Prelude.{List, [], ◌∷◌, ◌++◌, Option, Some, None}
 use Rattle.std.specs.List.{flat_map}
 use Rattle.roam_wire.specs.declared.refusal.Refusal.{Refusal}

@@ -1,4 +1,4 @@
--- Where each count stands: the server, each realm and each peer has a list of its own. Ours.
+-- The place of each count: the server, each realm and each peer has a list of its own. Ours.
 use Rattle.std.specs.Prelude.{ℕ, ◌+◌, ◌*◌, ◌<◌}
 use Rattle.roam_counters.specs.Events.{event_place}
 use Rattle.roam_counters.specs.Process.{process_place}

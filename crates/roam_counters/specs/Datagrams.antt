@@ -1,4 +1,4 @@
--- What became of the datagrams that were received, counted. Ours.
+-- The fates of the datagrams that were received, counted. Ours.
 use Rattle.std.specs.Prelude.{◌≡◌, ℕ, ◌+◌, ◌-◌, ◌<◌, ◌^◌, min, List, [], ◌∷◌}
 use Rattle.roam_counters.specs.declared.datagrams.DatagramCounts.{DatagramCounts}
 use Rattle.roam_counters.specs.declared.datagrams.Handling.{Handling}

@@ -1,4 +1,4 @@
--- How long home servers take to answer. Ours.
+-- The time that home servers take to answer. Ours.
 use Rattle.std.specs.Prelude.{ℕ, nat_le, if◌then◌else◌}
 use Rattle.roam_counters.specs.declared.delay.Delay.{Delay}
 use Rattle.roam_counters.specs.declared.delay.Delay.TheVariants as delay

@@ -1,4 +1,4 @@
--- Who is at the other end of a packet. Ours.
+-- The other end of a packet. Ours.
 use Rattle.std.specs.Prelude.{ℕ, min, Option, option_map}
 use Rattle.roam_conf.specs.Config.{ConfigView}
 use Rattle.roam_conf.specs.Lookup.{asker_at, home_in, link_in}

@@ -1,4 +1,4 @@
--- What is counted of a realm, a home server or a peer. Ours.
+-- The events that are counted of a realm, a home server or a peer. Ours.
 use Rattle.std.specs.Prelude.{ℕ, ◌+◌}
 use Rattle.roam_wire.specs.Refusal.{number_of}
 use Rattle.roam_counters.specs.Kinds.{cause_place, request_place, reply_place}

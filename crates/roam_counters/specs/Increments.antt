@@ -1,4 +1,4 @@
--- Which counts rise by what happened. Ours.
+-- The counts that rise by what happened. Ours.
 use Rattle.std.specs.Prelude.{ℕ, ◌-◌, ◌==◌, Bool, true, false, List, [], ◌∷◌, ◌++◌, Option, Some, None, option_map, if◌then◌else◌}
 use Rattle.roam_wire.specs.declared.refusal.Refusal.{Refusal}
 use Rattle.roam_conf.specs.declared.place.Link.{Link}

@@ -1,4 +1,4 @@
--- What one thread counted by itself. Ours.
+-- The counts of one thread. Ours.
 use Rattle.std.specs.Prelude.{◌≡◌, ℕ, ◌+◌, ◌%◌, ◌^◌, ◌<◌, List, [], length, Option, Some, None, fold, slice_index_or, slice_set}
 use Rattle.roam_counters.specs.Cells.{cell_of, holder_of}
 use Rattle.roam_counters.specs.Sums.{of_event}

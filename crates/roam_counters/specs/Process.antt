@@ -1,4 +1,4 @@
--- What is counted of the whole server. Ours.
+-- The counts of the whole server. Ours.
 use Rattle.std.specs.Prelude.{ℕ}
 use Rattle.roam_conf.specs.declared.place.Place.{Place}
 use Rattle.roam_conf.specs.declared.place.Place.TheVariants as place

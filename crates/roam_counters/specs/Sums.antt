@@ -1,4 +1,4 @@
--- What increments come to, at each place of a list of counts, and of each event of a subject. Ours.
+-- The sum of increments, at each place of a list of counts, and of each event of a subject. Ours.
 use Rattle.std.specs.Prelude.{◌≡◌, ℕ, ◌==◌, ◌&&◌, Bool, true, false, List, Option, Some, None, if◌then◌else◌, sum_by}
 use Rattle.roam_counters.specs.Cells.{cell_of, holder_of}
 use Rattle.roam_counters.specs.Events.{event_place}

@@ -1,7 +1,7 @@
--- That a packet is given to a realm, as it is counted. Ours.
+-- The turn of a packet that is given to a realm, as it is counted. Ours.
 use Rattle.std.specs.Prelude.{ℕ, Option, option_map}
-use Rattle.roam_route.specs.declared.job.Side.{Side}
-use Rattle.roam_route.specs.declared.job.Side.TheVariants as side
+use Rattle.roam_admission.specs.declared.job.Side.{Side}
+use Rattle.roam_admission.specs.declared.job.Side.TheVariants as side
 use Rattle.roam_counters.specs.Ends.{source_of, subject_of}
 use Rattle.roam_counters.specs.Kinds.{reply_of, request_of}
 use Rattle.roam_counters.specs.declared.cell.Subject.{Subject}

@@ -1,4 +1,4 @@
-//! Which counts rise where something comes, and where it is refused.
+//! The counts that rise where something comes, and where it is dropped.
 
 ghost use Rattle.std.specs.Prelude.{◌≡◌};
 ghost use Rattle.roam_counters.specs.Arrivals as spec;

@@ -1,4 +1,4 @@
-//! Where each count stands.
+//! The place of each count.
 
 ghost use Rattle.std.specs.Prelude.{◌≡◌, ◌≤◌};
 ghost use Rattle.roam_counters.specs.Cells as spec;
@@ -6,8 +6,8 @@ ghost use Rattle.roam_counters.specs.Cells as spec;
 use crate::event::{CountedEvent, EVENTS};
 use crate::process::{PROCESSES, Process};
 
-/// How many rows of counts a realm has: its own, one for each of eight home servers, and one for all that send reverse
-/// requests with a higher number.
+/// The number of rows of counts that a realm has: its own, one for each of eight home servers, and one for all that
+/// send Disconnect- and CoA-Requests with a higher number.
 const ROWS: usize = 10;
 
 /// Of whom something is counted.
@@ -24,7 +24,7 @@ pub enum Subject {
     Peer(u16),
 }
 
-/// Whose list of counts it is: a realm's and a peer's go on by themselves where another configuration is followed.
+/// The holder of a list of counts: a realm's and a peer's go on by themselves where another configuration is followed.
 #[derive(Clone, Copy, PartialEq, Eq)]
 pub enum Holder {
     /// The server's own counts, and behind them those of all together.

@@ -1,10 +1,10 @@
-//! What became of the datagrams that were received, counted.
+//! The fates of the datagrams that were received, counted.
 
 ghost use Rattle.std.specs.Prelude.{◌≡◌};
 ghost use Rattle.roam_counters.specs.Datagrams as spec;
 ghost use Rattle.roam_counters.specs.Datagrams.{IsBalanced};
 
-/// What becomes of a datagram.
+/// The fate of a datagram.
 #[derive(Clone, Copy, PartialEq, Eq)]
 pub enum Handling {
     /// A realm's rules took it: it is a step of a history.
@@ -19,7 +19,7 @@ pub enum Handling {
     Dropped,
 }
 
-/// How many datagrams were received, and what became of them. A count stays at 2^64 - 1.
+/// The number of datagrams that were received, and of each fate. A count stays at 2^64 - 1.
 #[derive(Clone, Copy, PartialEq, Eq)]
 pub struct DatagramCounts {
     pub received: u64,

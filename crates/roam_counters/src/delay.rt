@@ -1,4 +1,4 @@
-//! How long home servers take to answer.
+//! The time that home servers take to answer.
 
 ghost use Rattle.std.specs.Prelude.{◌≡◌};
 ghost use Rattle.roam_counters.specs.Delays as spec;
@@ -17,7 +17,7 @@ pub enum Delay {
 }
 
 impl Delay {
-    /// That of so many milliseconds.
+    /// Returns the delay of so many milliseconds.
     pub fn of(milliseconds: u64) -> Delay
         ensures { result ≡ spec.delay_of milliseconds }
     {
@@ -34,7 +34,7 @@ impl Delay {
         }
     }
 
-    /// That of so many milliseconds, which are more than 300.
+    /// Returns the delay of so many milliseconds, which are more than 300.
     fn beyond_300(milliseconds: u64) -> Delay
         ensures { result ≡ spec.beyond_300 milliseconds }
     {

@@ -1,4 +1,4 @@
-//! Which counts rise by what a change of the configuration drops.
+//! The counts that rise by what a change of the configuration drops.
 
 ghost use Rattle.std.specs.Prelude.{◌≡◌};
 ghost use Rattle.roam_counters.specs.Increments as spec;

@@ -1,4 +1,4 @@
-//! Which counts rise by what became of a request in a tick.
+//! The counts that rise by what became of a request in a tick.
 
 ghost use Rattle.std.specs.Prelude.{◌≡◌};
 ghost use Rattle.roam_exchange.specs.HappeningsShown.{shown_due, shown_waited};

@@ -1,4 +1,4 @@
-//! Who is at the other end of a packet.
+//! The other end of a packet.
 
 ghost use Rattle.std.specs.Prelude.{◌≡◌, option_map};
 ghost use Rattle.roam_conf.specs.Shown.{shown};

@@ -1,4 +1,4 @@
-//! What is counted of a realm, a home server or a peer.
+//! The events that are counted of a realm, a home server or a peer.
 
 ghost use Rattle.std.specs.Prelude.{◌≡◌, ◌<◌};
 ghost use Rattle.roam_counters.specs.Events as spec;
@@ -7,10 +7,10 @@ use crate::delay::Delay;
 use crate::kinds::{NakCause, ReplyKind, RequestKind};
 use roam_wire::Refusal;
 
-/// How many events are told apart.
+/// The number of events that are told apart.
 pub const EVENTS: usize = 103;
 
-/// What is counted of a realm, a home server or a peer.
+/// An event that is counted of a realm, a home server or a peer.
 #[derive(Clone, Copy, PartialEq, Eq)]
 pub enum CountedEvent {
     /// A request came that is for a realm.
@@ -48,7 +48,7 @@ pub enum CountedEvent {
     Nak(NakCause),
     /// A reply was taken that came within so long of its request's last sending.
     AnswerWithin(Delay),
-    /// How long all these took together, in milliseconds.
+    /// The time that all these took together, in milliseconds.
     AnswerTime,
     /// A request that waited was dropped where another configuration followed.
     DroppedRequest,

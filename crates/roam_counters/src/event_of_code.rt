@@ -1,4 +1,4 @@
-//! What a packet of a code is counted as, by what happened.
+//! The event that a packet of a code is counted as, by what happened.
 
 ghost use Rattle.std.specs.Prelude.{◌≡◌};
 ghost use Rattle.roam_counters.specs.Increments as spec;
@@ -7,7 +7,7 @@ use crate::event::CountedEvent;
 use crate::kinds::{NakCause, ReplyKind, RequestKind};
 use roam_wire::code::{COA_REQUEST, DISCONNECT_REQUEST};
 
-/// That a request of this code was forwarded, sent again, or sent to another server.
+/// Returns the event that a request of this code was forwarded, sent again, or sent to another server.
 pub(crate) fn forwarded(code: u8) -> Option<CountedEvent>
     ensures { result ≡ spec.forwarded_event code }
 {
@@ -35,7 +35,7 @@ pub(crate) fn taken_over(code: u8) -> Option<CountedEvent>
     }
 }
 
-/// That a reply of this code was returned, or that it answered a request at once.
+/// Returns the event that a reply of this code was returned, or that it answered a request at once.
 pub(crate) fn returned(code: u8) -> Option<CountedEvent>
     ensures { result ≡ spec.returned_event code }
 {
@@ -65,7 +65,7 @@ fn nak_for(code: u8) -> Option<ReplyKind>
     }
 }
 
-/// That such a NAK answered it at once, or in a tick.
+/// Returns the event that such a NAK answered it at once, or in a tick.
 pub(crate) fn nak_at_once(code: u8) -> Option<CountedEvent>
     ensures { result ≡ spec.nak_at_once code }
 {

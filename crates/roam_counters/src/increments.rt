@@ -1,4 +1,4 @@
-//! Which counts rise by what happened, of whom, and by how much.
+//! The counts that rise by what happened, of whom, and by how much.
 
 ghost use Rattle.std.specs.Prelude.{◌≡◌};
 ghost use Rattle.roam_exchange.specs.HappeningsShown.{shown_happening, shown_waited};
@@ -165,7 +165,7 @@ fn of_delay<A: Allocator>(
     [one(server, Some(within)), Some(took)]
 }
 
-/// That a session is lost, where it isn't kept.
+/// Returns the event that a session is lost, where it isn't kept.
 fn lost_event(turn: CountedTurn) -> Option<CountedEvent>
     ensures { result ≡ spec.lost_event turn }
 {

@@ -27,7 +27,7 @@ pub enum ReplyKind {
     CoaNak,
 }
 
-/// Why the broker answers a reverse request by a NAK of its own, by its Error-Cause (RFC 5176, section 3.5).
+/// The cause of a NAK that the proxy itself answers, by its Error-Cause (RFC 5176, section 3.5).
 #[derive(Clone, Copy, PartialEq, Eq)]
 pub enum NakCause {
     /// 401: the request holds what the broker can't carry.
@@ -45,7 +45,7 @@ pub enum NakCause {
 }
 
 impl NakCause {
-    /// That of an Error-Cause; none where the broker gives no such cause.
+    /// Returns the cause of an Error-Cause; none where the proxy gives no such cause.
     pub fn of(cause: u32) -> Option<NakCause>
         ensures { result ≡ spec.cause_of cause }
     {

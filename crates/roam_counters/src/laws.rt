@@ -1,4 +1,4 @@
-//! That counts are told apart, and what they are sums of.
+//! Laws: counts are told apart, and what they are sums of.
 
 ghost use Rattle.roam_counters.specs.Apart.{CellsAreApart};
 ghost use Rattle.roam_counters.specs.OwnCounts.{CountsAreSums};
@@ -9,7 +9,7 @@ pub fn cells_are_apart()
     ensures { CellsAreApart }
 {}
 
-/// What increments come to where an event of a subject is counted, is what of them is of that event and that subject.
+/// States that the increments of an event of a subject come to what of them is of that event and that subject.
 pub fn sums_are_of_events()
     ensures { SumsAreOfEvents }
 {}

@@ -1,4 +1,4 @@
-//! Which counts rise by a conversation that was left.
+//! The counts that rise by a conversation that was left.
 
 ghost use Rattle.std.specs.Prelude.{◌≡◌};
 ghost use Rattle.roam_counters.specs.Increments as spec;

@@ -1,4 +1,4 @@
-//! What is counted of a server: which count each event adds to, and where that stands.
+//! The counts of a server: which count each event adds to, and where that stands.
 //!
 //! Nothing here is shared: what the threads counted together is read where they leave it, and belongs to the server.
 //!

@@ -1,4 +1,4 @@
-//! What one thread counts by itself.
+//! The counts of one thread.
 
 ghost use Rattle.std.specs.Prelude.{◌≡◌, [], slice_get};
 ghost use Rattle.roam_counters.specs.OwnCounts as spec;
@@ -70,7 +70,7 @@ pub struct Counted {
     pub count: u64,
 }
 
-/// What one thread counts by itself: the server's list, and that of each realm and of each peer, by index.
+/// The counts of one thread: the server's list, and that of each realm and of each peer, by index.
 pub struct OwnCounts<A: Allocator> {
     server: CountList<A>,
     realms: Vec<CountList<A>, A>,

@@ -1,4 +1,4 @@
-//! What is counted of the whole server.
+//! The counts of the whole server.
 
 ghost use Rattle.std.specs.Prelude.{◌≡◌, ◌<◌};
 ghost use Rattle.roam_counters.specs.Process as spec;
@@ -6,10 +6,10 @@ ghost use Rattle.roam_counters.specs.Process as spec;
 use crate::datagrams::Handling;
 use roam_conf::Place;
 
-/// How many counts of the whole server there are.
+/// The number of counts of the whole server.
 pub const PROCESSES: usize = 19;
 
-/// What is counted of the whole server.
+/// A count of the whole server.
 #[derive(Clone, Copy, PartialEq, Eq)]
 pub enum Process {
     /// A datagram came to a place of this kind.
@@ -48,7 +48,7 @@ pub enum Process {
 }
 
 impl Process {
-    /// That a datagram came to this place.
+    /// Returns the count of datagrams that came to this place.
     pub fn received(place: Place) -> Process
         ensures { result ≡ spec.received place }
     {
@@ -60,7 +60,7 @@ impl Process {
         }
     }
 
-    /// That this became of a datagram.
+    /// Returns the count of datagrams that had this fate.
     pub fn handled(handling: Handling) -> Process
         ensures { result ≡ spec.handled_as handling }
     {

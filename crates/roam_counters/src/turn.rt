@@ -7,18 +7,18 @@ use crate::cell::Subject;
 use crate::end::{source_of, subject_of};
 use crate::event::CountedEvent;
 use crate::kinds::{ReplyKind, RequestKind};
-use roam_route::Side;
+use roam_admission::Side;
 
 /// A packet that is given to a realm.
 #[derive(Clone, Copy, PartialEq, Eq)]
 pub struct CountedTurn {
     /// The index of the realm.
     pub realm: u16,
-    /// Who sent it.
+    /// The sender of it.
     pub side: Side,
     /// Its code.
     pub code: u8,
-    /// Whether the session is kept that a reply opens, changes or ends.
+    /// True where the session is kept that a reply opens, changes or ends.
     pub keeps_session: bool,
 }
 
@@ -34,7 +34,7 @@ impl CountedTurn {
         }
     }
 
-    /// That it came.
+    /// Returns the event that it came.
     pub fn arrival(self) -> Option<CountedEvent>
         ensures { result ≡ spec.arrival_event self.side self.code }
     {

@@ -1,4 +1,4 @@
--- What a thread counts of what it does. Ours.
+-- The counts of what a thread does. Ours.
 use Rattle.std.specs.Prelude.{◌≡◌, ℕ, List, Option, Some, None, slice_get}
 use Rattle.std.specs.List.{flat_map}
 use Rattle.roam_exchange.specs.Happenings.{PlainDue}

@@ -1,6 +1,6 @@
--- What is seen of a packet where it is counted.
+-- The parts of a packet that are seen where it is counted.
 use Rattle.std.specs.Prelude.{ℕ, List, [], ◌∷◌}
-use Rattle.roam_route.specs.Arrivals.{PlainJob}
+use Rattle.roam_admission.specs.Arrivals.{PlainJob}
 use Rattle.roam_counters.specs.declared.turn.CountedTurn.{CountedTurn}
 
 -- its code, the first octet (RFC 2865, section 3)

@@ -1,11 +1,11 @@
-//! What is seen of packets where they are counted.
+//! The parts of packets that are seen where they are counted.
 
 ghost use Rattle.std.specs.Prelude.{◌≡◌};
-ghost use Rattle.roam_route.specs.Shown.{shown_job};
+ghost use Rattle.roam_admission.specs.Shown.{shown_job};
 ghost use Rattle.roam_counting.specs.Packets as spec;
 
+use roam_admission::Job;
 use roam_counters::CountedTurn;
-use roam_route::Job;
 use std::alloc::Global;
 
 /// The code of a packet (RFC 2865, section 3).

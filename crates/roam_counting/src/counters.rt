@@ -1,4 +1,4 @@
-//! What a server counts: each of its threads apart.
+//! The counts of a server: each of its threads counts apart.
 
 use crate::event_counts::EventCounts;
 use crate::sheet::{Sheet, zeros};
@@ -12,10 +12,10 @@ use roam_reload::{realm_difference, server_then};
 use std::alloc::{AllocError, Global};
 use std::sync::atomic::{AtomicU64, Ordering};
 
-/// What a server counts: each of its threads apart, so that none waits for another. What is read is the sum.
+/// The counts of a server: each of its threads counts apart, so that none waits for another. A reader gets the sum.
 pub struct Counters {
     threads: Vec<Sheet>,
-    /// How many octets the stored steps of each shard have.
+    /// The octets of the stored steps of each shard.
     history: Vec<AtomicU64>,
 }
 
@@ -181,7 +181,7 @@ impl Counts for Counters {
     }
 }
 
-/// What one thread counts of the whole server. Others may count beside it there.
+/// The counts of one thread, of the whole server. Others may count beside it there.
 #[derive(Clone, Copy)]
 pub struct ThreadCounts<'t> {
     sheet: &'t Sheet,
@@ -205,7 +205,7 @@ impl ThreadCounts<'_> {
         }
     }
 
-    /// What became of packets since this was counted last.
+    /// Counts the fates of packets since this was counted last.
     pub fn sent(&self, account: Account) {
         let losses = account.losses;
         self.process(Process::Sent, account.sent);

@@ -1,4 +1,4 @@
-//! What a thread counts of what it does.
+//! The counts of what a thread does.
 
 ghost use Rattle.std.specs.Prelude.{◌≡◌};
 ghost use Rattle.roam_exchange.specs.Happenings.{ticked};
@@ -22,7 +22,7 @@ use roam_exchange::{DueHappening, Happening, LeftConversation};
 use roam_wire::Refusal;
 use std::alloc::Global;
 
-/// What a thread counts of what it does; nothing where nobody reads it.
+/// The counts of what a thread does; nothing where nobody reads them.
 pub struct Counting<'s> {
     /// Of the whole server.
     pub counts: Option<ThreadCounts<'s>>,
@@ -77,7 +77,7 @@ impl Counting<'_> {
         self.add(&arrival_increments(turn));
     }
 
-    /// What happened by a packet that was given to a realm at this moment.
+    /// Counts what happened by a packet that was given to a realm at this moment.
     pub fn gave(
         &mut self,
         config: &Config,
@@ -124,7 +124,7 @@ impl Counting<'_> {
         self.add(&local_increments(sender, code));
     }
 
-    /// What became of the requests that were due.
+    /// Counts the fates of the requests that were due.
     fn dues(&mut self, dues: &[DueHappening<Global>])
         ensures { IsCounted self.old self.new
             (arrivals.tick_increments (ticked (shown_dues dues.now))) }
@@ -134,7 +134,7 @@ impl Counting<'_> {
         }
     }
 
-    /// Which conversations were left.
+    /// Counts the conversations that were left.
     fn left(&mut self, left: &[LeftConversation<Global>])
         ensures { IsCounted self.old self.new (spec.left_counted left.now) }
     {
@@ -143,7 +143,7 @@ impl Counting<'_> {
         }
     }
 
-    /// What happened by a tick: it was refused, or something became of each request that was due and waited, and
+    /// Counts what happened by a tick: it was refused, or something became of each request that was due and waited, and
     /// conversations were left.
     pub fn ticked(&mut self, happening: &Happening<Global>)
         ensures { IsCounted self.old self.new (arrivals.tick_counts happening.now) }

@@ -1,4 +1,4 @@
-//! What one thread counts of events: its own counts, and where the others read them.
+//! The counts of one thread, of events: its own, and where the others read them.
 
 ghost use Rattle.std.specs.Prelude.{◌≡◌};
 ghost use Rattle.roam_counters.specs.OwnCounts.{raised_all};
@@ -7,7 +7,7 @@ use crate::sheet::Sheet;
 use roam_counters::{Counted, Increment, OwnCounts};
 use std::alloc::{AllocError, Global};
 
-/// What one thread counts of events. No other thread does so in its sheet, where it leaves what it has counted.
+/// The counts of one thread, of events. No other thread counts in its sheet, where it leaves what it has counted.
 pub struct EventCounts<'t> {
     /// None where nobody reads it: there are no counts then.
     sheet: Option<&'t Sheet>,

@@ -1,4 +1,4 @@
-//! What a server's threads count of what happens, each by its own counts.
+//! The counts of a server's threads, each by its own.
 //!
 //! What is counted of the whole server a thread adds to shared cells; what is counted of realms, home servers, peers and
 //! refusals it has by itself, and leaves each count that rose where the others read it.

@@ -6,7 +6,7 @@ use roam_reload::realm_difference;
 use std::alloc::{AllocError, Global};
 use std::sync::atomic::{AtomicU64, Ordering};
 
-/// What one thread counts: the server's list, and that of each realm and of each peer, by index. A list that goes on
+/// The counts of one thread: the server's list, and that of each realm and of each peer, by index. A list that goes on
 /// from another sheet is empty until it is taken from there.
 pub struct Sheet {
     server: Vec<AtomicU64>,

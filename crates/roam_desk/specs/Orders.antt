@@ -1,4 +1,4 @@
--- Which orders change something; and where a realm stands in the file. Ours.
+-- The orders that change something; and the place of a realm in the file. Ours.
 use Rattle.std.specs.Prelude.{ℕ, Bool, true, false, Option, Some, None}
 use Rattle.roam_desk.specs.declared.order.Order.{Order}
 use Rattle.roam_desk.specs.declared.order.Order.TheVariants as order

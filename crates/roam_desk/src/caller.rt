@@ -1,4 +1,4 @@
-//! Who asks over a connection, and whether that one still waits for the answer.
+//! The caller over a connection, and whether it still waits for the answer.
 
 ghost use Rattle.std.specs.Prelude.{◌≡◌, negsuc};
 

@@ -11,16 +11,16 @@ use std::sync::{Mutex, Wait};
 use std::thread::Parker;
 use std::time::{Clock, Instant};
 
-/// Why there is no answer.
+/// The cause why there is no answer.
 #[derive(Clone, Copy, PartialEq, Eq)]
 pub enum NoReply {
     /// The server ends.
     Over,
-    /// Whoever asked had closed the connection before the order was taken. It isn't carried out.
+    /// The connection of whoever asked was closed before the order was taken. It isn't carried out.
     Withdrawn,
 }
 
-/// How it went.
+/// The end of an order.
 #[derive(Clone, Copy, PartialEq, Eq)]
 pub enum Course {
     /// It was done.
@@ -35,7 +35,7 @@ pub enum Course {
     Unavailable,
 }
 
-/// What is answered.
+/// The answer to an order.
 #[derive(Drop)]
 pub struct Reply {
     pub course: Course,
@@ -58,7 +58,7 @@ pub fn done(body: Vec<u8>) -> Reply {
     plain_reply(Course::Done, body)
 }
 
-/// What lies on a desk.
+/// The state of a desk.
 #[derive(Drop)]
 enum Slip {
     Nothing,
@@ -71,7 +71,7 @@ enum Slip {
 #[derive(Drop)]
 pub struct Desk {
     slip: Mutex<Slip>,
-    /// What the one who asks sleeps on.
+    /// The parker on which whoever asks sleeps.
     waiting: Parker,
 }
 
@@ -181,19 +181,19 @@ pub struct Office {
     pub metrics: Desk,
     pub control: Desk,
     pub attendant: Parker,
-    /// What was handed over by answers that weren't taken whole.
+    /// The steps that were handed over by answers that weren't taken whole.
     pub missing: Missing,
-    /// Which program serves.
+    /// The program that serves.
     pub build: Build,
     /// The reloads after which another configuration was served.
     pub served: Tally,
     /// Those that changed nothing.
     pub declined: Tally,
-    /// When the server started.
+    /// The time when the server started.
     pub start: Instant,
     /// The same in seconds since 1970, where the system's clock told it.
     pub began: Option<u64>,
-    /// Whether the server ends: nothing is answered any more.
+    /// True where the server ends: nothing is answered any more.
     pub is_over: AtomicBool,
 }
 

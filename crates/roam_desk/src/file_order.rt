@@ -1,4 +1,4 @@
-//! Which place in the file of the configuration each realm has.
+//! The place of each realm in the file of the configuration.
 
 ghost use Rattle.std.specs.Prelude.{◌≡◌, slice_get};
 ghost use Rattle.roam_desk.specs.Orders.{place_in};

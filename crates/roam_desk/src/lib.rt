@@ -1,4 +1,4 @@
-//! What the server's own thread is asked for and answers, and where that waits for it: a desk.
+//! The orders to the server's own thread, its answers, and where they wait for it: a desk.
 //!
 //! How reloads went is counted here, and what answers had that weren't taken whole; and whether the server is asked to
 //! stop.

@@ -1,4 +1,4 @@
-//! What was handed over by answers that weren't taken whole.
+//! The steps that were handed over by answers that weren't taken whole.
 
 use std::alloc::{AllocError, Global};
 use std::sync::atomic::{AtomicU64, Ordering};
@@ -11,7 +11,7 @@ pub struct Handed {
     pub steps: u64,
 }
 
-/// How many stored steps of each shard were let go of by answers that weren't taken whole, of which that isn't said
+/// The number of stored steps of each shard that answers cleared which weren't taken whole, and that aren't reported
 /// yet.
 #[derive(Drop)]
 pub struct Missing {

@@ -1,17 +1,17 @@
-//! What the server's own thread is asked for, and by whom.
+//! The orders to the server's own thread, and who gives them.
 
 ghost use Rattle.std.specs.Prelude.{◌≡◌};
 ghost use Rattle.roam_desk.specs.Orders.{changes};
 
 use crate::caller::Caller;
-use roam_status::StatusForm;
+use roam_metrics::StatusForm;
 
-/// What the server's own thread is asked for.
+/// An order to the server's own thread.
 #[derive(Clone, Copy)]
 pub enum Order {
     /// The counts, as the page of metrics.
     Metrics,
-    /// How the server stands.
+    /// The state of the server.
     Status(StatusForm),
     /// To stop.
     Stop,

@@ -1,11 +1,11 @@
-//! Which program serves, and what came of its reloads.
+//! The program that serves, and the results of its reloads.
 
 ghost use Rattle.std.specs.Prelude.{◌≡◌, ◌==◌, ◌^◌, ◌-◌, Some, None, if◌then◌else◌};
 
 use roam_metrics::Reloads;
 use std::sync::atomic::{AtomicU64, Ordering};
 
-/// Which program serves. It is a word, and no text: what outlasts a server's threads names no lifetime.
+/// The program that serves. It is a word, and no text: what outlasts a server's threads names no lifetime.
 #[derive(Clone, Copy, PartialEq, Eq)]
 pub enum Build {
     /// The program `roam`.

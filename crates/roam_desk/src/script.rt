@@ -3,7 +3,7 @@
 
 use crate::file_order::FileOrder;
 use roam_conf::{Endpoint, NthText, Place};
-use roam_trace::{EventRef, Step};
+use roam_shard::{EventRef, Step};
 use std::alloc::{AllocError, Global};
 use std::fmt::Write;
 
@@ -63,10 +63,10 @@ fn push_missing(alloc: Global, script: &mut Vec<u8>, missing: u64) -> Result<(),
     script.extend_from_slice(line.as_str().as_bytes())
 }
 
-/// How a script numbers realms and shards.
+/// The numbers of realms and shards in a script.
 #[derive(Drop)]
 pub struct Numbering<'o> {
-    /// Where the file has each realm; none where that is by the server's own numbers.
+    /// The place that each realm has in the file; none where that is by the server's own numbers.
     order: Option<&'o FileOrder>,
     /// The shards in which the file has the realms of the one that is traced.
     shards: Vec<u16>,

@@ -1,4 +1,4 @@
-//! That the server is asked to stop: it takes no request any more, and ends when what waits had time to be answered.
+//! The stop of a server: it takes no request any more, and ends when what waits had time to be answered.
 
 ghost use Rattle.std.specs.Prelude.{◌≡◌, ◌≤◌, ◌==◌, ◌^◌, ◌-◌, None, Some, MatchOption, if◌then◌else◌, min};
 
@@ -8,7 +8,7 @@ use std::sync::atomic::{AtomicBool, AtomicU64, Ordering};
 /// The longest time from the moment at which it is asked to stop to its end, in milliseconds.
 const LONGEST: u64 = 30_000;
 
-/// Whether the server is asked to stop, and when it ends then.
+/// The time at which a server ends that is asked to stop.
 #[derive(Drop)]
 pub struct Stopping {
     is_asked: AtomicBool,

@@ -1,4 +1,4 @@
--- What a line of a diagnosis is made of. Ours.
+-- The parts of a line of a diagnosis. Ours.
 use Rattle.std.specs.Prelude.{ℕ, Bool, List}
 use Rattle.std.specs.Int.{is_in_range}
 use Rattle.std.specs.List.{list_all}

@@ -1,4 +1,4 @@
-//! What is legal in a configuration, and unwise.
+//! The choices that are legal in a configuration, and unwise.
 
 use crate::advices::{ADVICES, Advice};
 use crate::document::{Document, Located};
@@ -6,7 +6,7 @@ use crate::lines::Lines;
 use crate::survey::Survey;
 use crate::{deliveries, known_secret, names, servers, sessions, sharing, slips};
 
-/// What is unwise in a table, in what stands under a key.
+/// A choice that is unwise in a table, in what stands under a key.
 #[derive(Clone, Copy)]
 pub(crate) enum Unwise {
     /// `require_seal` isn't true.
@@ -178,7 +178,7 @@ fn say<'a>(document: &Document<'a>, survey: &Survey<'a>, advice: Advice, lines: 
         lines.put(": ", advice.3, "");
         advice.2.say_meant(at, advice.1, lines);
         if more > 0 {
-            lines.put(" (and so in ", more, " more)");
+            lines.put(" (and in ", more, " more)");
         }
         lines.end_line();
     }

@@ -12,7 +12,7 @@ pub(crate) struct Advice(
     pub &'static str,
 );
 
-const SHORT_SECRET: &str = "has less than 8 octets, and can be found by trying";
+const SHORT_SECRET: &str = "has less than 8 octets, and can be guessed";
 
 const KNOWN_SECRET: &str =
     "is radsec, which everybody knows (RFC 6614): only an address of 127.0.0.0/8, behind TLS, may have it";
@@ -22,7 +22,7 @@ const SAMPLE_SECRET: &str = "is a sample's, which everybody knows: make one of y
 const ANY_ADDRESS: &str =
     "is every address: replies may leave from another address than the one that was asked";
 
-const OWN_SERVER: &str = "is the broker's own: what is sent there comes back to it";
+const OWN_SERVER: &str = "is the proxy's own: packets sent there come back to it";
 
 const PEERS_UNSHARED: &str =
     "is absent where several peers may ask: one may take all Identifiers, 256 for each out, from the others";
@@ -37,7 +37,7 @@ const MILLISECONDS: &str = "is in milliseconds, not in seconds";
 
 const DOTTED: &str = "has a text that begins with a dot, as no name does";
 
-const DEFAULT: &str = "is a name as any other: what FreeRADIUS calls DEFAULT is also = [\"*\"]";
+const DEFAULT: &str = "is a name like any other: what FreeRADIUS calls DEFAULT is also = [\"*\"]";
 
 /// The advice for each kind of tables, in the order in which it is said; that for sockets first.
 pub(crate) const ADVICES: [Advice; 46] = [
@@ -51,7 +51,7 @@ pub(crate) const ADVICES: [Advice; 46] = [
         TableKind::Top,
         "status_server",
         Unwise::Absent,
-        "is absent: a peer that asks by Status-Server whether the broker is there gets no answer",
+        "is absent: a peer that asks by Status-Server whether the proxy is up gets no answer",
     ),
     Advice(
         TableKind::Top,
@@ -78,13 +78,13 @@ pub(crate) const ADVICES: [Advice; 46] = [
         TableKind::Peer,
         "coa",
         Unwise::NeverNamed,
-        "is chosen by no Disconnect or CoA without a nas_ip, nas_ipv6, nas_id, nas_ids or operator_name",
+        "gets no Disconnect or CoA without a nas_ip, nas_ipv6, nas_id, nas_ids or operator_name",
     ),
     Advice(
         TableKind::Peer,
         "coa",
         Unwise::NeverReached,
-        "is chosen by no Disconnect or CoA: no realm that this peer may ask has reverse",
+        "gets no Disconnect or CoA: no realm that this peer may use has reverse",
     ),
     Advice(TableKind::Realm, "name", Unwise::Default, DEFAULT),
     Advice(TableKind::Realm, "also", Unwise::Default, DEFAULT),
@@ -93,13 +93,13 @@ pub(crate) const ADVICES: [Advice; 46] = [
         TableKind::Realm,
         "name",
         Unwise::OpenBelow,
-        "is without *. and this name in also: names below it go to the realm of *",
+        "has no *. with this name in also: names below it go to the realm with *",
     ),
     Advice(
         TableKind::Realm,
         "also",
         Unwise::IllFormed,
-        "has * without well_formed: names that can be no realm's, as a..b, are forwarded too",
+        "has * without well_formed: names that no realm can have, as a..b, are forwarded too",
     ),
     Advice(
         TableKind::Realm,
@@ -111,7 +111,7 @@ pub(crate) const ADVICES: [Advice; 46] = [
         TableKind::Realm,
         "share",
         Unwise::Unshared,
-        "is absent beside *: one realm of a dead server may take all Identifiers from the others",
+        "is absent beside *: one realm with a dead server may take all Identifiers from the others",
     ),
     Advice(
         TableKind::Realm,
@@ -123,7 +123,7 @@ pub(crate) const ADVICES: [Advice; 46] = [
         TableKind::Realm,
         "peer_share",
         Unwise::NameUnshared,
-        "isn't less than share: one peer may take all that a name may have from the others",
+        "isn't less than share: one peer may take the whole share of a name",
     ),
     Advice(TableKind::Realm, "wait", Unwise::Seconds, MILLISECONDS),
     Advice(TableKind::Realm, "rest", Unwise::Seconds, MILLISECONDS),
@@ -132,25 +132,25 @@ pub(crate) const ADVICES: [Advice; 46] = [
         TableKind::Realm,
         "rest",
         Unwise::ShortRest,
-        "is less than tries times wait, which it takes to find that a server is silent",
+        "is less than tries times wait, the time until a server counts as not answering",
     ),
     Advice(
         TableKind::Realm,
         "hold",
         Unwise::LongHold,
-        "is beyond 30000, and RFC 5080 says 5 to 30 seconds",
+        "is over 30000: RFC 5080 says 5 to 30 seconds",
     ),
     Advice(
         TableKind::Realm,
         "max_pending",
         Unwise::FewEntries,
-        "is less than what one exchange a second takes, with replies held for hold",
+        "is too small for one exchange a second, with replies held for hold",
     ),
     Advice(
         TableKind::Realm,
         "own_sessions",
         Unwise::NoSessions,
-        "is true where no session is remembered, by max_sessions or accounting: no Disconnect or CoA is forwarded",
+        "is true, but max_sessions or accounting keeps no sessions: no Disconnect or CoA is forwarded",
     ),
     Advice(
         TableKind::Realm,
@@ -162,13 +162,13 @@ pub(crate) const ADVICES: [Advice; 46] = [
         TableKind::Realm,
         "reverse",
         Unwise::NoDelivery,
-        "is there, and no peer that may ask has coa: no Disconnect or CoA is delivered",
+        "is there, but no peer that may ask has coa: no Disconnect or CoA is delivered",
     ),
     Advice(
         TableKind::Realm,
         "own_sessions",
         Unwise::NoUseOfSessions,
-        "is true without reverse, and no peer that may ask has coa: no Disconnect or CoA is delivered",
+        "is true without reverse, but no peer that may ask has coa: no Disconnect or CoA is delivered",
     ),
     Advice(TableKind::Server, "auth", Unwise::OwnServer, OWN_SERVER),
     Advice(TableKind::Server, "acct", Unwise::OwnServer, OWN_SERVER),
@@ -196,7 +196,7 @@ pub(crate) const ADVICES: [Advice; 46] = [
         TableKind::Server,
         "secret",
         Unwise::OtherSecret,
-        "isn't what this server has in another realm: it knows the broker by one address, so one is wrong",
+        "isn't what this server has in another realm: it knows the proxy by one address, so one is wrong",
     ),
     Advice(
         TableKind::Server,

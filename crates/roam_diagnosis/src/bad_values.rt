@@ -1,4 +1,4 @@
-//! Which values aren't of their form, and which keys a table doesn't have.
+//! The values that aren't of their form, and the keys that a table doesn't have.
 
 use crate::document::{Document, Located};
 use crate::form_words::say_misfit;
@@ -137,6 +137,18 @@ fn say_unknown(document: &Document<'_>, at: Located<'_>, key: &str, lines: &mut 
     lines.end_line();
 }
 
+/// Says that a peer has a namespace without the name that belongs behind it.
+fn say_nameless(document: &Document<'_>, at: Located<'_>, lines: &mut Lines) {
+    let is_nameless = at.place.kind == TableKind::Peer
+        && at.keys.has("operator_namespace")
+        && !at.keys.has("operator_name");
+    if is_nameless && !lines.is_full() {
+        document.begin_line(at, "operator_namespace", lines);
+        lines.say(": stands without operator_name");
+        lines.end_line();
+    }
+}
+
 /// Says which values of a table aren't of their form, and which keys it doesn't have.
 pub(crate) fn say_bad_values(document: &Document<'_>, at: Located<'_>, lines: &mut Lines) {
     for rule in rules_of(at.place.kind) {
@@ -144,6 +156,7 @@ pub(crate) fn say_bad_values(document: &Document<'_>, at: Located<'_>, lines: &m
             say_bad(document, at, rule.0, rule.2, lines);
         }
     }
+    say_nameless(document, at, lines);
     for name in at.keys.names() {
         if !has_rule(at.place.kind, name.as_str()) && !lines.is_full() {
             say_unknown(document, at, name.as_str(), lines);

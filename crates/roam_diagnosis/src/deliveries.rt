@@ -1,4 +1,4 @@
-//! Where Disconnect- and CoA-Requests can be delivered: which peers take them, and of which realms.
+//! The peers to which Disconnect- and CoA-Requests can be delivered, and of which realms.
 
 use crate::document::{Document, Located};
 use crate::peer_names::PeerNames;
@@ -9,12 +9,12 @@ use std::alloc::{AllocError, Global};
 use std::hash::{BuildHasherDefault, FoldHasher};
 use toml::Value;
 
-/// Which peers Disconnect- and CoA-Requests may be for.
+/// The peers that Disconnect- and CoA-Requests may be for.
 #[derive(Drop)]
 pub(crate) struct Deliveries {
-    /// Whether some peer takes them.
+    /// True where some peer takes them.
     some_take: bool,
-    /// Whether some realm sends them to any peer.
+    /// True where some realm sends them to any peer.
     reach_all: bool,
     /// The counts of the peers that realms with `peers` send them to.
     reached: IndexSet<u32, BuildHasherDefault<FoldHasher>, Global>,

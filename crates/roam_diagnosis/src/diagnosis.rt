@@ -1,4 +1,4 @@
-//! What is said of a configuration.
+//! The lines about a configuration.
 
 use crate::advice::say_advice;
 use crate::bad_values::say_bad_values;

@@ -13,7 +13,7 @@ use toml::{Table, Value};
 pub(crate) struct Located<'a> {
     pub place: TablePlace,
     pub keys: Keys<'a>,
-    /// What has its name: the realm's table for a server's and a `coa_client`'s, else itself.
+    /// The table that has its name: the realm's table for a server's and a `coa_client`'s, else itself.
     pub named: Keys<'a>,
 }
 
@@ -24,9 +24,9 @@ pub(crate) struct Document<'a> {
     pub path: &'a str,
     pub text: &'a str,
     pub tables: Vec<Located<'a>>,
-    /// How many peers there are. They stand behind the top table, before all others.
+    /// The number of peers. They stand behind the top table, before all others.
     peers: usize,
-    /// Whether a growth of memory was refused.
+    /// True where a growth of memory was refused.
     pub has_failed: bool,
 }
 

@@ -1,6 +1,7 @@
-//! What stands twice.
+//! The values that stand twice.
 
 use crate::document::{Document, Located};
+use crate::keys::Keys;
 use crate::lines::Lines;
 use crate::place::TableKind;
 use crate::quoted::quote;
@@ -15,13 +16,15 @@ use toml::Value;
 #[derive(Clone, Copy)]
 struct ComparedKey(TableKind, &'static str);
 
-/// How values are compared.
+/// The way in which values are compared.
 #[derive(Clone, Copy, PartialEq, Eq)]
 enum Compared {
     /// As they stand.
     AsText,
     /// Without ASCII case.
     WithoutCase,
+    /// As Operator-Names, each behind the `operator_namespace` of its table.
+    AsOperator,
     /// As addresses, prefixes or endpoints, by the one text of each.
     AsAddress,
 }
@@ -33,7 +36,7 @@ struct Group {
     keys: &'static [ComparedKey],
     /// Keys whose values may be equal to each other, but to none of those.
     others: &'static [ComparedKey],
-    /// Whether the values of each realm are compared apart.
+    /// True where the values of each realm are compared apart.
     is_apart: bool,
     compared: Compared,
 }
@@ -93,7 +96,7 @@ const GROUPS: [Group; 12] = [
         keys: &[ComparedKey(TableKind::Peer, "operator_name")],
         others: &[],
         is_apart: false,
-        compared: Compared::WithoutCase,
+        compared: Compared::AsOperator,
     },
     Group {
         fault: ConfFault::DuplicateEndpoint,
@@ -148,7 +151,7 @@ const GROUPS: [Group; 12] = [
     },
 ];
 
-/// Where a value stands.
+/// The place of a value.
 #[derive(Clone, Copy)]
 struct Spot<'a> {
     at: Located<'a>,
@@ -159,7 +162,7 @@ struct Spot<'a> {
 #[derive(Drop)]
 struct Seen<'a> {
     group: Group,
-    /// Whether what comes is only compared with what came before.
+    /// True where a value is only compared with those before it.
     is_looking: bool,
     spots: BTreeMap<String, Spot<'a>>,
 }
@@ -175,11 +178,29 @@ fn write_one_text(compared: &mut String, text: &str) -> Result<(), AllocError> {
     }
 }
 
-/// Appends what is compared of a text.
-fn write_compared(compared: &mut String, how: Compared, text: &str) -> Result<(), AllocError> {
+/// Appends an Operator-Name: its namespace, which is that of realms where none is stated, and its name, without ASCII
+/// case where it is a realm's.
+fn write_operator(compared: &mut String, keys: Keys<'_>, name: &str) -> Result<(), AllocError> {
+    let namespace = keys.text("operator_namespace").unwrap_or("1");
+    compared.push_str(namespace)?;
+    compared.push_str(name)?;
+    if namespace == "1" {
+        compared.make_ascii_lowercase();
+    }
+    Ok(())
+}
+
+/// Appends what is compared of a text in a table.
+fn write_compared(
+    compared: &mut String,
+    how: Compared,
+    keys: Keys<'_>,
+    text: &str,
+) -> Result<(), AllocError> {
     match how {
         Compared::AsAddress => write_one_text(compared, text),
         Compared::AsText => compared.push_str(text),
+        Compared::AsOperator => write_operator(compared, keys, text),
         Compared::WithoutCase => {
             compared.push_str(text)?;
             compared.make_ascii_lowercase();
@@ -191,7 +212,7 @@ fn write_compared(compared: &mut String, how: Compared, text: &str) -> Result<()
 impl<'a> Seen<'a> {
     /// Appends what is compared of a text: of a realm's names it is without case, and of some the realm counts.
     fn write(&self, compared: &mut String, spot: Spot<'_>, text: &str) -> Result<(), AllocError> {
-        write_compared(compared, self.group.compared, text)?;
+        write_compared(compared, self.group.compared, spot.at.keys, text)?;
         if self.group.is_apart {
             return write!(compared, " {}", spot.at.place.index);
         }
@@ -246,7 +267,7 @@ fn say(document: &Document<'_>, first: Spot<'_>, second: Spot<'_>, text: &str, l
         return;
     }
     document.begin_line(second.at, second.key, lines);
-    quote(": ", text, " stands also in ", lines);
+    quote(": ", text, " is also in ", lines);
     document.say_place("line ", first.at, first.key, "", lines);
     lines.end_line();
 }

@@ -1,4 +1,4 @@
-//! Whether a text that is no TOML document is the configuration of another program.
+//! The sign that a text that is no TOML document is the configuration of another program.
 
 /// A program whose configurations can be converted.
 #[derive(Clone, Copy, PartialEq, Eq)]

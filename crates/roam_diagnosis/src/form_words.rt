@@ -24,6 +24,7 @@ fn words_before(form: ValueForm) -> &'static str {
         ValueForm::Network(form) => form.misfit(),
         ValueForm::Endpoints(_) => ", nor an array of ",
         ValueForm::Text(_) | ValueForm::Secret => "is not a text of ",
+        ValueForm::Digit => "is not a text of one digit",
         ValueForm::Path(_) => "is not a path of ",
         ValueForm::PeerName | ValueForm::RealmName => "is not ",
         ValueForm::Accounting => "is none of \"forward\", \"answer\" and \"drop\"",

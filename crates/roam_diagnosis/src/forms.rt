@@ -1,11 +1,11 @@
-//! What may stand under a key.
+//! The forms of what may stand under a key.
 
 use crate::network_forms::NetworkForm;
 use roam_conf::removed_attribute;
 use roam_wire::RemovedAttribute;
 use toml::Value;
 
-/// What stands under a key.
+/// The form of the value under a key.
 #[derive(Clone, Copy)]
 pub(crate) enum ValueForm {
     /// An integer from the first to the second.
@@ -25,6 +25,8 @@ pub(crate) enum ValueForm {
     LocalEndpoints(u32, u32),
     /// A text of 1 to so many octets.
     Text(u32),
+    /// A text of one digit.
+    Digit,
     /// A text of 1 to so many octets, none of them 0.
     Path(u32),
     /// A text of 1 to 64 octets, which is never shown.
@@ -99,6 +101,13 @@ fn is_seed(text: &str) -> bool {
     text.len() == 64
 }
 
+fn is_digit(text: &str) -> bool {
+    match text.as_bytes() {
+        [octet] => octet.is_ascii_digit(),
+        _ => false,
+    }
+}
+
 fn is_path(text: &str, most: u32) -> bool {
     for octet in text.bytes() {
         if octet == 0 {
@@ -152,6 +161,7 @@ fn text_fits(form: ValueForm, text: &str) -> bool {
         ValueForm::Endpoints(_) => NetworkForm::Endpoint.fits(text),
         ValueForm::LocalEndpoints(..) => NetworkForm::LocalEndpoint.fits(text),
         ValueForm::Text(most) => has_length(text, most),
+        ValueForm::Digit => is_digit(text),
         ValueForm::Path(most) => is_path(text, most),
         ValueForm::Secret | ValueForm::PeerNames => has_length(text, 64),
         ValueForm::PeerName => is_name(text, 64, true),

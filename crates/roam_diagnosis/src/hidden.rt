@@ -1,8 +1,8 @@
-//! Which values aren't shown, since a secret may stand there by mistake.
+//! The values that aren't shown, since a secret may stand there by mistake.
 
 use toml::Value;
 
-/// How many octets the name of a zone may have, as the system bounds it.
+/// The number of octets that the name of a zone may have, as the system bounds it.
 const MOST_OF_ZONE: usize = 15;
 
 /// Returns the text without the zone behind a `%`, where one may stand there.

@@ -1,4 +1,4 @@
-//! Where the faults of a configuration stand, and what is unwise in one that is accepted: lines for the operator.
+//! The places of a configuration's faults, and what is unwise in one that is accepted: lines for the operator.
 //!
 //! Nothing here judges a configuration: `roam_conf_reader` does, and its fault says which lines are looked for. No
 //! line holds a secret.

@@ -11,7 +11,7 @@ use std::io::Write;
 use std::marker::Model;
 use std::{fmt, io, mem};
 
-/// How many lines are said at most.
+/// The most lines that are printed.
 const MOST_LINES: usize = 10;
 
 /// The lines of a diagnosis, ten at most. Contracts see the text of each.
@@ -21,7 +21,7 @@ pub struct Lines {
     lines: Vec<Line>,
     /// The line that is being said.
     line: Line,
-    /// Whether a growth of memory was refused.
+    /// True where a growth of memory was refused.
     has_failed: bool,
 }
 

@@ -1,4 +1,4 @@
-//! Which required keys are absent.
+//! The required keys that are absent.
 
 use crate::document::{Document, Located};
 use crate::lines::Lines;

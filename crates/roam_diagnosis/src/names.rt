@@ -1,4 +1,4 @@
-//! What a realm is called, and what of that is unwise.
+//! The names of a realm, and what of them is unwise.
 
 use crate::document::{Document, Located};
 use crate::peer_names::lower;
@@ -33,12 +33,12 @@ pub(crate) fn are_well_formed(document: &Document<'_>) -> bool {
     }
 }
 
-/// What the patterns of all realms take together.
+/// The patterns of all realms together.
 #[derive(Drop)]
 pub(crate) struct Patterns {
-    /// Whether some realm takes any name.
+    /// True where some realm takes any name.
     take_any: bool,
-    /// What stands behind each `*.`, in lower case.
+    /// The text behind each `*.`, in lower case.
     endings: IndexSet<String, BuildHasherDefault<FoldHasher>, Global>,
     /// The counts of the realms whose names would go to the realm of `*` with a label in front.
     open_below: IndexSet<u32, BuildHasherDefault<FoldHasher>, Global>,

@@ -3,7 +3,7 @@
 use crate::place::TableKind;
 use crate::rules::rules_of;
 
-/// How many octets a key has at least for which another one is looked for.
+/// The number of octets that a key has at least for which another one is looked for.
 const LEAST: usize = 3;
 
 /// Returns an octet of a key as it is compared: in lower case, and `-` as `_`.

@@ -1,9 +1,9 @@
-//! What texts may say of where something is, and the words for what doesn't fit.
+//! The forms of addresses in texts, and the words for what doesn't fit.
 
 use roam_conf::{Address, Endpoint, Prefix, decimal};
 use std::net::{IpAddr, Ipv6Addr};
 
-/// What a text says of where something is.
+/// The form of an address or network in a text.
 #[derive(Clone, Copy)]
 pub(crate) enum NetworkForm {
     Address,
@@ -21,7 +21,7 @@ pub(crate) enum NetworkForm {
     LocalEndpoint,
 }
 
-/// What isn't an address, nor a prefix.
+/// The words for a text that is no address and no prefix.
 const NO_PREFIX: &str =
     "is no address or prefix, as \"192.0.2.1\", \"2001:db8::1\" or \"192.0.2.0/24\", whose other bits are 0";
 

@@ -1,6 +1,6 @@
-//! Where a table stands in a configuration.
+//! The place of a table in a configuration.
 
-/// Which kind of table it is.
+/// The kind of a table.
 #[derive(Clone, Copy, PartialEq, Eq)]
 pub(crate) enum TableKind {
     /// The document itself.
@@ -21,13 +21,13 @@ pub(crate) enum TableKind {
     Other,
 }
 
-/// Which table it is. Tables are counted from 1; a count that tells nothing of its kind is 0.
+/// The table that is meant. Tables are counted from 1; a count that tells nothing of its kind is 0.
 #[derive(Clone, Copy, PartialEq, Eq)]
 pub(crate) struct TablePlace {
     pub kind: TableKind,
-    /// Which of the peers, realms or streams' servers.
+    /// The index among the peers, realms or streams' servers.
     pub index: u32,
-    /// Which of the realm's servers, or of its `coa_client`s.
+    /// The index among the realm's servers, or its `coa_client`s.
     pub server: u32,
 }
 

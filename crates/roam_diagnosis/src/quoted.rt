@@ -2,7 +2,7 @@
 
 use crate::lines::Lines;
 
-/// How many characters of a text are shown.
+/// The number of characters of a text that are shown.
 const MOST_CHARACTERS: usize = 80;
 
 fn say_character(character: char, lines: &mut Lines) {

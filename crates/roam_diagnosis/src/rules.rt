@@ -1,4 +1,4 @@
-//! Which keys the tables of a configuration have, and what stands under each.
+//! The keys of the tables of a configuration, and the form of each.
 
 use crate::forms::ValueForm;
 use crate::network_forms::NetworkForm;
@@ -33,7 +33,7 @@ const TOP: [Rule; 22] = [
     Rule("realm", true, ValueForm::Tables(1, 1024)),
 ];
 
-const PEER: [Rule; 14] = [
+const PEER: [Rule; 15] = [
     Rule("name", true, ValueForm::PeerName),
     Rule("ip", true, ValueForm::Network(NetworkForm::Prefix)),
     Rule("secret", true, ValueForm::Secret),
@@ -45,6 +45,7 @@ const PEER: [Rule; 14] = [
     Rule("require_seal", false, ValueForm::Flag),
     Rule("limit_proxy_state", false, ValueForm::Flag),
     Rule("operator_name", false, ValueForm::Text(252)),
+    Rule("operator_namespace", false, ValueForm::Digit),
     Rule("ask_cui", false, ValueForm::Flag),
     Rule("request_without", false, ValueForm::RequestRemovals),
     Rule("reply_without", false, ValueForm::ReplyRemovals),

@@ -1,6 +1,6 @@
-//! Which octets of a TOML document stand between two statements: a scan of strings, comments and brackets.
+//! The octets of a TOML document between two statements: a scan of strings, comments and brackets.
 
-/// What an octet stands in. The quotation mark is kept: `"`, whose texts have escapes, or `'`.
+/// The surroundings of an octet. The quotation mark is kept: `"`, whose texts have escapes, or `'`.
 #[derive(Clone, Copy)]
 enum Mode {
     Plain,
@@ -18,11 +18,11 @@ enum Mode {
     Closed(u8),
 }
 
-/// What stands before an octet.
+/// The state of a scan before an octet.
 #[derive(Clone, Copy)]
 pub(crate) struct Scan {
     mode: Mode,
-    /// How many brackets and braces are open.
+    /// The number of brackets and braces that are open.
     depth: u32,
 }
 

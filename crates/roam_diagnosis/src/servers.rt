@@ -67,10 +67,10 @@ pub(crate) fn is_own(own: &Endpoints, server: Located<'_>, key: &str) -> bool {
     }
 }
 
-/// What a server and the broker know each other by.
+/// The addresses and secret by which a server and the proxy know each other.
 #[derive(Clone, Copy, PartialEq, Eq, Hash)]
 pub(crate) struct Way {
-    /// Where the server takes Access-Requests.
+    /// The endpoint where the server takes Access-Requests.
     auth: Endpoint,
     /// The address that the broker asks it from.
     out: Address,

@@ -1,4 +1,4 @@
-//! Which sessions a realm's reverse requests may name, and what of that is unwise.
+//! The sessions that a realm's Disconnect- and CoA-Requests may name, and what of that is unwise.
 
 use crate::document::Located;
 

@@ -1,4 +1,4 @@
-//! Which peers may ask a realm, and which shares keep one of them from taking what all of them need.
+//! The peers that may ask a realm, and the shares that keep one of them from taking what all of them need.
 
 use crate::document::Located;
 use crate::keys::Keys;

@@ -7,7 +7,7 @@ use crate::peer_names::PeerNames;
 use crate::servers::{Endpoints, KnownServers, known_servers, own_endpoints};
 use std::alloc::AllocError;
 
-/// What all tables of a document say together. Each question to it costs a few steps, however many tables there are.
+/// A survey of all tables of a document. Each question to it costs a few steps, however many tables there are.
 #[derive(Drop)]
 pub(crate) struct Survey<'a> {
     pub names: PeerNames<'a>,

@@ -1,4 +1,4 @@
-//! Why a text is no TOML document.
+//! The causes why a text is no TOML document.
 
 use crate::foreign::remedy_of_foreign;
 use crate::form_words::say_wanted;

@@ -1,4 +1,4 @@
-//! Which peers a realm names that aren't there.
+//! The peers that a realm names and that aren't there.
 
 use crate::document::{Document, Located};
 use crate::lines::Lines;

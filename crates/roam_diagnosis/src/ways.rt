@@ -1,4 +1,4 @@
-//! Which servers are of a kind that none of their realm's `out` has.
+//! The servers of a kind that none of their realm's `out` has.
 
 use crate::document::{Document, Located};
 use crate::lines::Lines;

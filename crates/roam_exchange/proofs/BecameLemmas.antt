@@ -10,7 +10,7 @@ use Rattle.roam_pending.specs.Shown.{shown_standing}
 use Rattle.roam_exchange.specs.declared.due_action.DueAction.{DueAction}
 use Rattle.roam_exchange.specs.declared.due_action.DueAction.TheVariants as action
 use Rattle.roam_realm.specs.declared.realm_numbers.RealmNumbers.{RealmNumbers}
-use Rattle.roam_route.specs.declared.datagram.Out.{Out}
+use Rattle.roam_admission.specs.declared.datagram.Out.{Out}
 use Rattle.roam_exchange.specs.Happenings.{at_last}
 use Rattle.roam_exchange.specs.OnRequest.{is_reverse}
 use Rattle.roam_exchange.specs.Dues.{became_by}

@@ -14,14 +14,14 @@ use Rattle.roam_pending.specs.Realms.{sent_again, waits_on, with_standing}
 use Rattle.roam_pending.specs.Shown.{shown_standing}
 use Rattle.roam_pending.proofs.OrderLemmas.{list-without}
 use Rattle.roam_pending.proofs.ChangeLemmas.{put-without}
-use Rattle.roam_route.specs.Admission.{PlainOut}
-use Rattle.roam_route.specs.Shown.{shown_out}
+use Rattle.roam_admission.specs.Admission.{PlainOut}
+use Rattle.roam_admission.specs.Shown.{shown_out}
 use Rattle.roam_ids.specs.LaneState.{LaneState}
 use Rattle.roam_exchange.specs.declared.due_action.DueAction.{DueAction}
 use Rattle.roam_exchange.specs.declared.due_action.DueAction.TheVariants as action
-use Rattle.roam_reverse.specs.Shown.{Ledger}
+use Rattle.roam_sessions.specs.ShownSessions.{Ledger}
 use Rattle.roam_realm.specs.declared.realm_numbers.RealmNumbers.{RealmNumbers}
-use Rattle.roam_route.specs.declared.datagram.Out.{Out}
+use Rattle.roam_admission.specs.declared.datagram.Out.{Out}
 use Rattle.roam_realm.specs.declared.service.Service.TheVariants as service
 use Rattle.roam_realm.specs.RealmConfig.{RealmConfig, IsLink, link_place, later_targets}
 use Rattle.roam_realm.specs.RealmState.{Target, with_entries, next_toward, chosen_target}

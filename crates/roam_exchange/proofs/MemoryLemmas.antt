@@ -2,7 +2,7 @@
 use Rattle.std.proofs.Common.{◌≡◌, ℕ, ◌+◌, List, [], Some, None, refl, ap, ◌∙◌, arith}
 use Rattle.std.specs.declared.vec.Vec.{Vec}
 use Rattle.roam_wire.specs.declared.refusal.Refusal.{Refusal}
-use Rattle.roam_route.specs.Admission.{PlainOut}
+use Rattle.roam_admission.specs.Admission.{PlainOut}
 use Rattle.roam_exchange.specs.declared.happening.DueHappening.{DueHappening}
 use Rattle.roam_exchange.specs.declared.answer.Turned.{Turned}
 use Rattle.roam_exchange.specs.declared.answer_builder.AnswerBuilder.{AnswerBuilder}

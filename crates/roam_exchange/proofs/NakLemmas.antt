@@ -6,10 +6,10 @@ use Rattle.roam_wire.specs.Packet.{Packet, packet_length, packet_text}
 use Rattle.roam_wire.specs.Reading.{packet_of}
 use Rattle.roam_wire.specs.Codes.{is_reverse_request}
 use Rattle.roam_wire.proofs.PacketLemmas.{length-packet_text}
-use Rattle.roam_fwd.proofs.ForwardedLemmas.{forwarded_length-is}
-use Rattle.roam_back.specs.Nak.{nak, nak_length}
-use Rattle.roam_back.specs.NakLaws.{CanBeRefused}
-use Rattle.roam_back.proofs.NakLemmas.{IsPacket-nak, nak_length-at_most, nak_length-is}
+use Rattle.roam_forward.proofs.ForwardedLemmas.{forwarded_length-is}
+use Rattle.roam_reply.specs.Nak.{nak, nak_length}
+use Rattle.roam_reply.specs.NakLaws.{CanBeRefused}
+use Rattle.roam_reply.proofs.NakLemmas.{IsPacket-nak, nak_length-at_most, nak_length-is}
 use Rattle.roam_pending.specs.declared.entry.Done.{Done}
 use Rattle.roam_pending.specs.declared.key.Requester.{Requester}
 use Rattle.roam_pending.specs.declared.key.Requester.TheVariants as requester
@@ -17,11 +17,11 @@ use Rattle.roam_pending.specs.PlainEntry.{PlainEntry, PlainRequest, done}
 use Rattle.roam_pending.specs.EntryList.{without}
 use Rattle.roam_pending.specs.Realms.{with_standing}
 use Rattle.roam_pending.proofs.ChangeLemmas.{put-without}
-use Rattle.roam_reverse.specs.declared.error_cause.TheConstants.{OTHER_PROXY_PROCESSING_ERROR}
-use Rattle.roam_route.specs.Admission.{PlainOut}
-use Rattle.roam_route.specs.Shown.{shown_out}
+use Rattle.roam_sessions.specs.declared.error_cause.TheConstants.{OTHER_PROXY_PROCESSING_ERROR}
+use Rattle.roam_admission.specs.Admission.{PlainOut}
+use Rattle.roam_admission.specs.Shown.{shown_out}
 use Rattle.roam_exchange.specs.declared.due_action.DueAction.TheVariants as action
-use Rattle.roam_route.specs.declared.datagram.Out.{Out}
+use Rattle.roam_admission.specs.declared.datagram.Out.{Out}
 use Rattle.roam_realm.specs.RealmConfig.{RealmConfig, requester_secret}
 use Rattle.roam_realm.specs.RealmState.{RealmState, with_entries}
 use Rattle.roam_exchange.specs.OnRequest.{is_reverse, nak_octets, packet_to_requester}

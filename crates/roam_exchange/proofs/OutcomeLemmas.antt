@@ -7,7 +7,7 @@ use Rattle.roam_wire.specs.Packet.{Packet}
 use Rattle.roam_wire.specs.Reading.{packet_of}
 use Rattle.roam_wire.specs.declared.refusal.Refusal.{Refusal}
 use Rattle.roam_wire.specs.declared.refusal.Refusal.TheVariants as refusal
-use Rattle.roam_back.specs.Returned.{returned_length}
+use Rattle.roam_reply.specs.Returned.{returned_length}
 use Rattle.roam_conf.specs.declared.place.Link.{Link}
 use Rattle.roam_pending.specs.PlainEntry.{PlainStanding, PlainEntry, waiting, same_link, stands_at}
 use Rattle.roam_realm.specs.RealmConfig.{RealmConfig}

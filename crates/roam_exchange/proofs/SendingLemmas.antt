@@ -6,14 +6,14 @@ use Rattle.roam_wire.specs.Packet.{AreOctets, Packet, IsPacket, packet_text}
 use Rattle.roam_wire.specs.Reading.{packet_of}
 use Rattle.roam_wire.specs.declared.code.TheConstants.{ACCESS_REQUEST}
 use Rattle.roam_wire.proofs.PacketLemmas.{length-packet_text, IsPacketText-packet_text}
-use Rattle.roam_auth.specs.Authenticators.{AreSixteenOctets}
+use Rattle.roam_crypto.specs.Authenticators.{AreSixteenOctets}
 use Rattle.roam_random.specs.RandomWords.{request_authenticator_at, word_octets}
 use Rattle.roam_random.proofs.OctetLemmas.{authenticator-octets}
-use Rattle.roam_fwd.specs.Forwarded.{CanBeForwarded, Forwarding, forwarded}
-use Rattle.roam_fwd.specs.Shaped.{HasShortName, Shaping, shaped}
-use Rattle.roam_fwd.proofs.ShapedLemmas.{CanBeForwarded-shaped, code-shaped}
-use Rattle.roam_fwd.proofs.LawLemmas.{IsPacket-forwarded_any, length-forwarded_any}
-use Rattle.roam_fwd.proofs.ShortLemmas.{forwarded-short}
+use Rattle.roam_forward.specs.Forwarded.{CanBeForwarded, Forwarding, forwarded}
+use Rattle.roam_forward.specs.Shaped.{HasShortName, Shaping, shaped}
+use Rattle.roam_forward.proofs.ShapedLemmas.{CanBeForwarded-shaped, code-shaped}
+use Rattle.roam_forward.proofs.LawLemmas.{IsPacket-forwarded_any, length-forwarded_any}
+use Rattle.roam_forward.proofs.ShortLemmas.{forwarded-short}
 use Rattle.roam_conf.specs.declared.place.Link.{Link}
 use Rattle.roam_pending.specs.PlainEntry.{PlainRequest}
 use Rattle.roam_realm.specs.RealmConfig.{RealmConfig, IsLink, requester_secret, link_secret}

@@ -1,4 +1,4 @@
--- What becomes of a due entry, as the code has it (ours).
+-- The fate of a due entry, as the code has it (ours).
 use Rattle.std.specs.Prelude.{◌≡◌, ℕ, ◌+◌, List, [], ◌∷◌, Option, Some, None, nat_lt, if◌then◌else◌}
 use Rattle.roam_pending.specs.declared.entry.Standing.TheVariants as standing
 use Rattle.roam_pending.specs.declared.entry.Done.{Done}
@@ -6,8 +6,8 @@ use Rattle.roam_pending.specs.PlainEntry.{PlainEntry, done}
 use Rattle.roam_pending.specs.EntryList.{IsEntryList, find_ticket, without, put}
 use Rattle.roam_pending.specs.Realms.{sent_again, with_standing}
 use Rattle.roam_pending.specs.Shown.{shown_standing}
-use Rattle.roam_route.specs.Admission.{PlainOut}
-use Rattle.roam_route.specs.Shown.{shown_out}
+use Rattle.roam_admission.specs.Admission.{PlainOut}
+use Rattle.roam_admission.specs.Shown.{shown_out}
 use Rattle.roam_exchange.specs.declared.due_action.DueAction.{DueAction}
 use Rattle.roam_exchange.specs.declared.due_action.DueAction.TheVariants as action
 use Rattle.roam_realm.specs.declared.realm_numbers.RealmNumbers.{RealmNumbers}

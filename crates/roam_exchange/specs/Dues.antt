@@ -1,4 +1,4 @@
--- What became of a due entry, by what is done with it (ours).
+-- The fate of a due entry, by what is done with it (ours).
 use Rattle.std.specs.Prelude.{◌≡◌, ℕ, Bool, true, false, List, [], ◌∷◌, Option, Some, None, IfSome, is_some}
 use Rattle.std.specs.declared.vec.Vec.{Vec}
 use Rattle.roam_pending.specs.PlainEntry.{PlainStanding, waiting, done}

@@ -1,4 +1,4 @@
--- What became of an event, for the counts and the log: beside the packets and the state that its turn gives (ours).
+-- The happening of an event, for the counts and the log: beside the packets and the state that its turn gives (ours).
 use Rattle.std.specs.Prelude.{ℕ, ◌==◌, ◌||◌, not, nat_lt, nat_eq, Bool, true, false, List, [], ◌∷◌, ◌++◌, Option, Some, None, if◌then◌else◌}
 use Rattle.std.specs.Cmp.Lexicographic.{pointwise}
 use Rattle.roam_wire.specs.Packet.{Packet}

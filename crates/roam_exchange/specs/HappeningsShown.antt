@@ -1,4 +1,4 @@
--- What the code's happenings are seen as (ours).
+-- The code's happenings, as they are seen (ours).
 use Rattle.std.specs.Prelude.{ℕ, List, [], length, map, Option, option_map}
 use Rattle.roam_exchange.specs.Happenings.{PlainDue, PlainHappening, PlainWaited}
 use Rattle.roam_exchange.specs.Happenings as happenings

@@ -1,4 +1,4 @@
--- What the broker of one realm does, in the order in which it is read.
+-- The rules of the proxy of one realm, in the order in which it is read.
 pub mod Turn
 pub mod Shares
 pub mod OnRequest
@@ -7,7 +7,7 @@ pub mod OnTick
 pub mod OneRealm
 pub mod Happenings
 pub mod RestLaws
--- What the contracts of public calls say beside that.
+-- The words of the contracts of public calls beside that.
 pub mod Shown
 pub mod HappeningsShown
 pub mod Turned

@@ -1,8 +1,8 @@
 -- The memory that a rule takes before anything changes, and what is made of it (ours).
 use Rattle.std.specs.Prelude.{◌≡◌, ℕ, ◌+◌, ◌<◌, ◌≤◌, List, [], vec_len, vec_capacity}
 use Rattle.std.specs.declared.vec.Vec.{Vec}
-use Rattle.roam_route.specs.Admission.{PlainOut}
-use Rattle.roam_route.specs.declared.datagram.Out.{Out}
+use Rattle.roam_admission.specs.Admission.{PlainOut}
+use Rattle.roam_admission.specs.declared.datagram.Out.{Out}
 use Rattle.roam_exchange.specs.declared.happening.DueHappening.{DueHappening}
 use Rattle.roam_exchange.specs.declared.buffers.Buffers.{Buffers}
 use Rattle.roam_exchange.specs.declared.answer_builder.AnswerBuilder.{AnswerBuilder}

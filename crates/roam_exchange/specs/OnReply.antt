@@ -1,5 +1,5 @@
--- What a reply does to its realm: it is returned to the sender of the request, and held (RFC 2865,
--- section 2.3; how long it is held is ours).
+-- The effect of a reply on its realm: it is returned to the sender of the request, and held (RFC 2865, section 2.3; how
+-- long it is held is ours).
 use Rattle.std.specs.Prelude.{ℕ, ◌+◌, ◌==◌, ◌&&◌, nat_lt, Bool, List, [], ◌∷◌, Option, Some, None, if◌then◌else◌}
 use Rattle.roam_wire.specs.Packet.{Packet, packet_text}
 use Rattle.roam_wire.specs.Reading.{packet_of}
@@ -9,9 +9,9 @@ use Rattle.roam_wire.specs.declared.refusal.Refusal.{Refusal}
 use Rattle.roam_wire.specs.declared.refusal.Refusal.TheVariants as refusal
 use Rattle.roam_wire.specs.declared.packet_size.TheConstants.{MAX_PACKET_LENGTH}
 use Rattle.roam_conf.specs.declared.place.Link.{Link}
-pub use Rattle.roam_back.specs.ReplyCheck.{reply_fault}
-use Rattle.roam_back.specs.Returned.{Returning, passing_reply, returned, returned_length}
-use Rattle.roam_reverse.specs.Sessions.{Session, applied}
+pub use Rattle.roam_reply.specs.ReplyCheck.{reply_fault}
+use Rattle.roam_reply.specs.Returned.{Returning, passing_reply, returned, returned_length}
+use Rattle.roam_sessions.specs.Sessions.{Session, applied}
 use Rattle.roam_pending.specs.declared.key.Requester.{Requester}
 use Rattle.roam_pending.specs.declared.key.Requester.TheVariants as requester
 use Rattle.roam_pending.specs.PlainEntry.{PlainRequest, PlainStanding, PlainEntry, waiting, done}

@@ -1,6 +1,5 @@
--- What a request does to its realm: a duplicate, a reverse request that is answered by a NAK, or a new
--- request that is forwarded (RFC 2865, section 2.3; RFC 5176, section 2; duplicates, tickets and limits
--- are ours).
+-- The effect of a request on its realm: a duplicate, a reverse request that is answered by a NAK, or a new request that
+-- is forwarded (RFC 2865, section 2.3; RFC 5176, section 2; duplicates, tickets and limits are ours).
 use Rattle.std.specs.Prelude.{ℕ, Bool, ◌+◌, ◌-◌, ◌%◌, ◌^◌, ◌==◌, nat_lt, nat_eq, List, [], ◌∷◌, length, slice_set, Option, Some, None, if◌then◌else◌}
 use Rattle.std.specs.Cmp.Lexicographic.{pointwise}
 use Rattle.roam_wire.specs.Codes.{is_reverse_request}
@@ -8,16 +7,16 @@ use Rattle.roam_wire.specs.Packet.{packet_text}
 use Rattle.roam_wire.specs.Reading.{packet_of}
 use Rattle.roam_wire.specs.declared.code.TheConstants.{ACCESS_REQUEST}
 use Rattle.roam_wire.specs.declared.refusal.Refusal.TheVariants as refusal
-use Rattle.roam_auth.specs.Authenticators.{zero_octets}
+use Rattle.roam_crypto.specs.Authenticators.{zero_octets}
 use Rattle.roam_conf.specs.Lookup.{out_of}
 use Rattle.roam_conf.specs.declared.place.Link.{Link}
 use Rattle.roam_conf.specs.declared.place.Place.TheVariants as place
-use Rattle.roam_fwd.specs.Forwarded.{Forwarding, forwarded}
-use Rattle.roam_fwd.specs.Shaped.{shaped}
-use Rattle.roam_back.specs.Nak.{nak}
-use Rattle.roam_route.specs.Admission.{PlainOut}
-use Rattle.roam_reverse.specs.Causes.{cause}
-use Rattle.roam_reverse.specs.Target as reverse
+use Rattle.roam_forward.specs.Forwarded.{Forwarding, forwarded}
+use Rattle.roam_forward.specs.Shaped.{shaped}
+use Rattle.roam_reply.specs.Nak.{nak}
+use Rattle.roam_admission.specs.Admission.{PlainOut}
+use Rattle.roam_sessions.specs.Causes.{cause}
+use Rattle.roam_sessions.specs.Target as reverse
 use Rattle.roam_random.specs.RandomWords.{next_position, request_authenticator_at}
 use Rattle.roam_pending.specs.declared.key.Key.{Key}
 use Rattle.roam_pending.specs.PlainEntry.{PlainRequest, PlainStanding, PlainEntry, waiting, done}

@@ -1,13 +1,12 @@
--- What a tick does to a realm: the entries that are due, in order of deadline and ticket, each once
--- (ours).
+-- The effect of a tick on a realm: the entries that are due, in order of deadline and ticket, each once (ours).
 use Rattle.std.specs.Prelude.{ℕ, ◌+◌, nat_lt, List, [], ◌∷◌, ◌++◌, Option, Some, None, if◌then◌else◌}
-use Rattle.roam_route.specs.Admission.{PlainOut}
+use Rattle.roam_admission.specs.Admission.{PlainOut}
 use Rattle.roam_pending.specs.declared.due.Due.{Due}
 use Rattle.roam_pending.specs.DueOrder.{due_list}
 use Rattle.roam_pending.specs.PlainEntry.{PlainStanding, PlainEntry, waiting, done}
 use Rattle.roam_pending.specs.EntryList.{find_ticket, without, put}
 use Rattle.roam_pending.specs.Realms.{sent_again, with_standing}
-use Rattle.roam_reverse.specs.declared.error_cause.TheConstants.{OTHER_PROXY_PROCESSING_ERROR}
+use Rattle.roam_sessions.specs.declared.error_cause.TheConstants.{OTHER_PROXY_PROCESSING_ERROR}
 use Rattle.roam_conf.specs.declared.place.Link.{Link}
 use Rattle.roam_realm.specs.RealmConfig.{RealmConfig, later_targets}
 use Rattle.roam_realm.specs.RealmState.{RealmState, Target, with_entries, with_rests, chosen_target}

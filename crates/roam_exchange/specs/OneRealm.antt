@@ -2,9 +2,9 @@
 use Rattle.std.specs.Prelude.{ℕ, Bool, List, [], ◌∷◌, ◌++◌, Option}
 use Rattle.roam_wire.specs.Reading.{packet_of}
 use Rattle.roam_conf.specs.declared.place.Link.{Link}
-use Rattle.roam_route.specs.Admission.{PlainJob}
-use Rattle.roam_route.specs.declared.job.Side.{Side}
-use Rattle.roam_route.specs.declared.job.Side.TheVariants as side
+use Rattle.roam_admission.specs.Admission.{PlainJob}
+use Rattle.roam_admission.specs.declared.job.Side.{Side}
+use Rattle.roam_admission.specs.declared.job.Side.TheVariants as side
 use Rattle.roam_pending.specs.declared.key.Key.{Key}
 use Rattle.roam_pending.specs.declared.key.Requester.{Requester}
 use Rattle.roam_pending.specs.declared.key.Requester.TheVariants as requester

@@ -1,4 +1,4 @@
--- What comes of a reply for the entry that it is for, as the code has it (ours).
+-- The effect of a reply on the entry that it is for, as the code has it (ours).
 use Rattle.std.specs.Prelude.{◌≡◌, ℕ, ◌+◌, Bool, List, [], ◌∷◌, Option, Some, None, if◌then◌else◌}
 use Rattle.roam_pending.specs.declared.key.Key.{Key}
 use Rattle.roam_pending.specs.declared.entry.Done.{Done}

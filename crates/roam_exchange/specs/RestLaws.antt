@@ -1,4 +1,4 @@
--- What is proved of rests (ours): what the law `silent_servers` of `roam_book` says.
+-- Laws of dead links (ours): what the law `silent_servers` of `roam_rules` says.
 use Rattle.std.specs.Prelude.{◌≡◌, ℕ, false, List, None}
 use Rattle.std.specs.List.{AllByRecursion}
 use Rattle.roam_conf.specs.declared.place.Link.{Link}

@@ -1,4 +1,4 @@
--- What a request is seen as that is looked at where its octets lie.
+-- A request that is looked at where its octets lie, as it is seen.
 use Rattle.roam_pending.specs.PlainEntry.{PlainRequest}
 use Rattle.roam_exchange.specs.declared.forwarding.RequestRef.{RequestRef}
 

@@ -1,11 +1,11 @@
--- What an event does to a realm: it is refused, or packets are sent and the state changes (ours).
+-- The effect of an event on a realm: it is refused, or packets are sent and the state changes (ours).
 use Rattle.std.specs.Prelude.{◌≡◌, ℕ, ◌^◌, nat_lt, List, [], map, Option, Some, None, Result, Ok, Err, if◌then◌else◌}
 use Rattle.roam_wire.specs.declared.refusal.NoMemory.{NoMemory}
 use Rattle.roam_wire.specs.declared.refusal.Refusal.{Refusal}
 use Rattle.roam_wire.specs.declared.refusal.Refusal.TheVariants as refusal
-use Rattle.roam_route.specs.Admission.{PlainOut}
-use Rattle.roam_route.specs.Shown.{shown_out}
-use Rattle.roam_route.specs.declared.datagram.Out.{Out}
+use Rattle.roam_admission.specs.Admission.{PlainOut}
+use Rattle.roam_admission.specs.Shown.{shown_out}
+use Rattle.roam_admission.specs.declared.datagram.Out.{Out}
 use Rattle.roam_realm.specs.RealmState.{RealmState}
 use Rattle.roam_exchange.specs.declared.answer.Answer.{Answer}
 

@@ -1,4 +1,4 @@
--- What a rule gives: the answer of the written turn, and what happened by it (ours).
+-- The result of a rule: the answer of the written turn, and what happened by it (ours).
 use Rattle.std.specs.Prelude.{◌≡◌, Result, Ok, Err}
 use Rattle.roam_wire.specs.declared.refusal.NoMemory.{NoMemory}
 use Rattle.roam_exchange.specs.Happenings.{PlainHappening}

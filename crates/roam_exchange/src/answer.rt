@@ -1,4 +1,4 @@
-//! What an event of a realm is answered with.
+//! The answer to an event of a realm.
 
 ghost use Rattle.std.specs.Prelude.{◌≡◌, [], ◌∷◌, Some, None, IsOk};
 ghost use Rattle.roam_exchange.specs.Happenings as happenings;
@@ -6,22 +6,22 @@ ghost use Rattle.roam_exchange.specs.HappeningsShown.{shown_happening};
 ghost use Rattle.roam_realm.specs.RealmState.{RealmState};
 ghost use Rattle.roam_exchange.specs.Turn.{Gives, Turn, shown_outs};
 ghost use Rattle.roam_exchange.specs.Turned.{GivesTurned};
-ghost use Rattle.roam_route.specs.Shown.{shown_out};
+ghost use Rattle.roam_admission.specs.Shown.{shown_out};
 
 use crate::happening::Happening;
 use crate::outs::Outs;
-use roam_route::Out;
+use roam_admission::Out;
 use roam_wire::{NoMemory, Refusal};
 use std::alloc::Allocator;
 
-/// What is sent for an event, or why it is refused. A refusal sends nothing.
+/// The packets that are sent for an event, or the cause why it is dropped. A refusal sends nothing.
 #[derive(Drop)]
 pub struct Answer<A: Allocator> {
     pub outs: Outs<A>,
     pub refusal: Option<Refusal>,
 }
 
-/// What came of an event: its answer, and what happened.
+/// The result of an event: its answer, and what happened.
 #[derive(Drop)]
 pub struct Turned<A: Allocator> {
     pub answer: Answer<A>,

@@ -2,8 +2,8 @@
 
 ghost use Rattle.std.specs.Prelude.{◌≡◌, ℕ, ◌+◌, ◌++◌, ◌<◌, ◌≤◌, ◌∷◌, List, [], None, Some, IfOk, IsOk, length};
 ghost use Rattle.std.specs.Prelude.{vec_capacity, vec_len};
-ghost use Rattle.roam_route.specs.Admission.{PlainOut};
-ghost use Rattle.roam_route.specs.Shown.{shown_out};
+ghost use Rattle.roam_admission.specs.Admission.{PlainOut};
+ghost use Rattle.roam_admission.specs.Shown.{shown_out};
 ghost use Rattle.roam_exchange.specs.Happenings as happenings;
 ghost use Rattle.roam_exchange.specs.Happenings.{PlainDue};
 ghost use Rattle.roam_exchange.specs.HappeningsShown.{left_in, shown_dues, shown_happening};
@@ -14,7 +14,7 @@ ghost use Rattle.roam_exchange.specs.Memory.{AreDues, IsOuts};
 use crate::answer::{Answer, Turned, refused_turn};
 use crate::happening::{DueHappening, Happening, LeftConversation, Noted, note_left};
 use crate::outs::Outs;
-use roam_route::Out;
+use roam_admission::Out;
 use roam_wire::{NoMemory, Refusal};
 use std::alloc::Allocator;
 
@@ -54,8 +54,8 @@ impl<A: Allocator + Copy> AnswerBuilder<A> {
         self.sent.push_reserved(out);
     }
 
-    /// What became of one entry more, if anything is noted of it, where there is a place for that. Takes memory only to
-    /// tell of a conversation that was left.
+    /// Notes what became of one entry more, if anything is noted of it, where there is a place for that. Takes memory
+    /// only to tell of a conversation that was left.
     pub fn note(&mut self, noted: Noted<A>)
         requires place { vec_len self.old.dues < vec_capacity self.old.dues }
         ensures dues { (places : ℕ) (dues : List PlainDue) → AreDues (places + 1) dues self.old.dues

@@ -1,10 +1,10 @@
-//! What becomes of an entry that is due.
+//! The fate of an entry that is due.
 
 ghost use Rattle.std.specs.Prelude.{◌≡◌, ◌≤◌, ◌+◌, ◌^◌, List, true, IfSome, length};
 ghost use Rattle.roam_pending.specs.PlainEntry.{PlainEntry, waits_at};
 ghost use Rattle.roam_pending.specs.EntryList.{without};
 ghost use Rattle.roam_pending.specs.Shown.{shown};
-ghost use Rattle.roam_route.specs.Shown.{shown_out};
+ghost use Rattle.roam_admission.specs.Shown.{shown_out};
 ghost use Rattle.roam_realm.specs.RealmConfig.{IsLink, link_count, later_targets};
 ghost use Rattle.roam_realm.specs.RealmState.{chosen_target};
 ghost use Rattle.roam_realm.specs.Rests.{after_silence};
@@ -22,16 +22,16 @@ use crate::buffers::{Buffers, copied_into};
 use crate::forwarding::{
     Hop, RequestRef, gains_few, packet_to_link, packet_to_requester, send_new,
 };
-use roam_back::nak_reserved;
+use roam_admission::{Out, is_reverse_request};
 use roam_conf::Link;
 use roam_pending::{Done, Entry, Standing, Waiting};
 use roam_realm::{RealmNumbers, RealmSettings, ServersFrom, Service};
-use roam_reverse::error_cause::OTHER_PROXY_PROCESSING_ERROR;
-use roam_route::{Out, is_reverse_request};
+use roam_reply::nak_reserved;
+use roam_sessions::error_cause::OTHER_PROXY_PROCESSING_ERROR;
 use roam_wire::{Octets, View};
 use std::alloc::Allocator;
 
-/// What becomes of an entry that is due.
+/// The fate of an entry that is due.
 #[derive(Drop)]
 pub enum DueAction<A: Allocator> {
     /// It goes.

@@ -1,4 +1,4 @@
-//! What became of a request that was due and waited.
+//! The happening of a request that was due and waited.
 
 ghost use Rattle.std.specs.Prelude.{◌≡◌, ◌+◌, [], IfSome, Some, is_some, length, true};
 ghost use Rattle.roam_pending.specs.Shown.{shown, shown_request, shown_standing};

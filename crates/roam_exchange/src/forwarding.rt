@@ -8,7 +8,7 @@ ghost use Rattle.roam_pending.specs.PlainEntry.{PlainEntry};
 ghost use Rattle.roam_pending.specs.EntryList.{IsEntryList, find_ticket, put};
 ghost use Rattle.roam_pending.specs.Shown.{shown_standing};
 ghost use Rattle.roam_pending.specs.declared.entry.Standing.TheVariants as standing;
-ghost use Rattle.roam_route.specs.Shown.{shown_out};
+ghost use Rattle.roam_admission.specs.Shown.{shown_out};
 ghost use Rattle.roam_realm.specs.RealmConfig.{IsLink, link_place, link_count};
 ghost use Rattle.roam_realm.specs.RealmState.{next_toward};
 ghost use Rattle.roam_realm.specs.Rests.{signs_of};
@@ -22,12 +22,12 @@ ghost use Rattle.roam_realm.specs.Sound.{IsRequest, LanesTell, IsWaiting, lane_o
 ghost use Rattle.roam_realm.specs.Sound.{marks_of};
 
 use crate::buffers::{Buffers, copied_into};
+use roam_admission::Out;
 use roam_conf::{Link, Place};
-use roam_fwd::{Forwarding, forward};
+use roam_forward::{Forwarding, forward};
 use roam_pending::{Key, Requester, Waiting};
 use roam_random::{KeptWords, next_position};
 use roam_realm::{RealmNumbers, RealmSettings};
-use roam_route::Out;
 use roam_wire::code::ACCESS_REQUEST;
 use roam_wire::{Octets, View};
 use std::alloc::Allocator;

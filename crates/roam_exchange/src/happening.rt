@@ -1,4 +1,4 @@
-//! What became of an event: for the counts and the log.
+//! The happening of an event: for the counts and the log.
 
 use roam_conf::Link;
 use roam_pending::{Course, Key, Requester};
@@ -10,15 +10,15 @@ pub struct Waited<A: Allocator> {
     pub ticket: u64,
     pub key: Key,
     pub requester: Requester,
-    /// When it came in, in milliseconds.
+    /// The time when it came in, in milliseconds.
     pub came: u64,
-    /// Which round of its conversation it is.
+    /// The round of its conversation that it is.
     pub course: Course,
     /// Its code.
     pub code: u8,
-    /// Where it waited.
+    /// The link at which it waited.
     pub link: Link,
-    /// How often it might have been sent there again.
+    /// The number of times that it might have been sent there again.
     pub sends_left: u8,
     /// Until when it would have waited, in milliseconds.
     pub deadline: u64,
@@ -45,7 +45,7 @@ impl<A: Allocator> Drop for Waited<A> {
     }
 }
 
-/// What becomes of a due request that waits.
+/// The fate of a due request that waits.
 #[derive(Clone, Copy, PartialEq, Eq)]
 pub enum Became {
     /// Its packet was sent to its link again.
@@ -54,12 +54,12 @@ pub enum Became {
     FailedOver(Link),
     /// No server was left for it.
     GivenUp {
-        /// Whether it is a reverse request, which was then answered by a NAK.
+        /// True where it is a Disconnect- or CoA-Request, which was then answered by a NAK.
         by_nak: bool,
     },
 }
 
-/// What became of one of a realm's requests in a tick.
+/// The fate of one of a realm's requests in a tick.
 pub struct DueHappening<A: Allocator> {
     /// The index of its realm.
     pub realm: u16,
@@ -107,18 +107,18 @@ pub fn note_left<A: Allocator>(
     }
 }
 
-/// What is noted of an entry that was due.
+/// The note of an entry that was due.
 #[derive(Drop)]
 pub enum Noted<A: Allocator> {
     /// Nothing: its reply was held so long.
     Nothing,
-    /// What became of its request, which waited.
+    /// The fate of its request, which waited.
     Due(DueHappening<A>),
-    /// That its conversation was left.
+    /// The end of its conversation, which was left.
     Left(LeftConversation<A>),
 }
 
-/// What happened by an event.
+/// The happening of an event.
 #[derive(Drop)]
 pub enum Happening<A: Allocator> {
     /// It was refused.
@@ -138,7 +138,7 @@ pub enum Happening<A: Allocator> {
     /// A new request was forwarded.
     Forwarded {
         ticket: u64,
-        /// Where it went.
+        /// The link to which it went.
         link: Link,
         /// The request that waited, and that made way for it.
         replaced: Option<Waited<A>>,

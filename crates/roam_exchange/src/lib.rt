@@ -38,5 +38,5 @@ pub use forwarding::{Hop, RequestRef, packet_to_requester, send_new};
 pub use happening::{Became, DueHappening, Happening, LeftConversation, Noted, Waited, note_left};
 pub use kept_request::waited_in;
 pub use outs::Outs;
-pub use reply_outcome::{ReplyOutcome, to_standing};
+pub use reply_outcome::{ReplyContext, ReplyOutcome, to_standing};
 pub use tick_memory::{Room, TickSlot, room_for};

@@ -3,7 +3,7 @@
 ghost use Rattle.std.specs.Prelude.{◌≡◌, ◌↔◌, ◌+◌, ◌≤◌, ◌++◌, [], ◌∷◌, length, option_copied, option_to_list};
 ghost use Rattle.std.specs.Prelude.{IsOk, IsTrue, OnOk, vec_capacity, vec_len};
 
-use roam_route::Out;
+use roam_admission::Out;
 use roam_wire::NoMemory;
 use std::alloc::Allocator;
 use std::marker::Model;
@@ -26,7 +26,7 @@ impl<A: Allocator> Drop for Outs<A> {
 
 impl<A: Allocator> Model for Outs<A> {
     ghost use Rattle.std.specs.Prelude.{◌++◌, List, option_to_list};
-    ghost use Rattle.roam_route.specs.declared.datagram.Out.{Out};
+    ghost use Rattle.roam_admission.specs.declared.datagram.Out.{Out};
 
     ghost Value = { List (Out A) };
 

@@ -1,4 +1,4 @@
-//! What comes of a reply that is refused.
+//! The effect of a reply that is refused.
 
 ghost use Rattle.std.specs.Prelude.{◌≡◌};
 ghost use Rattle.roam_pending.specs.PlainEntry.{PlainEntry};

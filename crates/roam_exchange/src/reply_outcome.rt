@@ -1,11 +1,11 @@
-//! What comes of a reply for the entry that it is for (RFC 2865, section 2.3).
+//! The effect of a reply on the entry that it is for (RFC 2865, section 2.3).
 
 ghost use Rattle.std.specs.Prelude.{◌≡◌, ◌⊎◌, ◌↔◌, ℕ, ◌<◌, ◌≤◌, ◌^◌, [], Some, true, IfErr};
 ghost use Rattle.std.specs.Prelude.{IfNone, IfOk, IsErrOf, IsOk};
 ghost use Rattle.roam_wire.specs.Reading.{packet_of};
 ghost use Rattle.roam_wire.specs.Secret.{IsSecret};
-ghost use Rattle.roam_back.specs.ReplyCheck.{IsTaken};
-ghost use Rattle.roam_back.specs.Returned.{returned_length};
+ghost use Rattle.roam_reply.specs.ReplyCheck.{IsTaken};
+ghost use Rattle.roam_reply.specs.Returned.{returned_length};
 ghost use Rattle.roam_pending.specs.PlainEntry.{PlainEntry, waits_at};
 ghost use Rattle.roam_pending.specs.Shown.{shown, shown_request, shown_standing};
 ghost use Rattle.roam_pending.specs.declared.entry.Standing.TheVariants as standing;
@@ -28,23 +28,23 @@ use crate::forwarding::packet_to_requester;
 use crate::happening::{Happening, Waited};
 use crate::kept_request::answered_request;
 use crate::refused_reply::{faulted, not_taken, only_heard};
-use roam_auth::Secret;
-use roam_back::{back, check_reply};
 use roam_conf::{ExchangeLines, Link};
+use roam_crypto::Secret;
 use roam_pending::{Done, Entry, Request, Requester, Standing, Waiting};
 use roam_realm::RealmSettings;
+use roam_reply::{Returning, back, check_reply};
 use roam_wire::code::ACCOUNTING_RESPONSE;
 use roam_wire::{NoMemory, Octets, Refusal, View};
 use std::alloc::Allocator;
 
-/// What comes of a reply for an entry.
+/// The effect of a reply on an entry.
 #[derive(Drop)]
 pub struct ReplyOutcome<A: Allocator> {
     pub answer: Answer<A>,
     pub happening: Happening<A>,
-    /// Whether the reply is a sign of life of its link.
+    /// True where the reply is a sign of life of its link.
     pub heard: bool,
-    /// How the entry is done from now on. `None` where the reply isn't taken.
+    /// The answered entry from now on. `None` where the reply isn't taken.
     pub done: Option<Done<A>>,
     /// The peer whose sessions change, if any do.
     pub counted: Option<u16>,
@@ -66,15 +66,16 @@ fn fault_of(
 
 /// A reply, and with what it is judged.
 #[derive(Drop)]
-struct ReplyContext<'s, 'c, 'r, 'd, A: Allocator> {
-    alloc: A,
-    settings: &'s RealmSettings<'c>,
-    moment: u64,
-    reply: &'r View<'d>,
+pub struct ReplyContext<'s, 'c, 'r, 'd, A: Allocator> {
+    pub alloc: A,
+    pub settings: &'s RealmSettings<'c>,
+    /// When it came, in milliseconds.
+    pub moment: u64,
+    pub reply: &'r View<'d>,
     /// Of which exchanges lines tell.
-    lines: ExchangeLines,
-    /// Whether the session is kept that it opens, changes or ends.
-    keeps_session: bool,
+    pub lines: ExchangeLines,
+    /// True where the session is kept that it opens, changes or ends.
+    pub keeps_session: bool,
 }
 
 /// The packet that is returned for a reply that was taken, of what passes of it.
@@ -99,18 +100,16 @@ fn returned_packet<A: Allocator + Copy>(
         (packet_of request.now.octets)) }
     ensures causes { IfErr result (λ e. (e ≡ Refusal.ReplyTooLong) ⊎ (e ≡ Refusal.NoMemory)) }
 {
-    let removal = context.settings.removal_for(request.requester);
+    let returning = Returning {
+        forwarded_authenticator: forwarded.authenticator(),
+        home_secret: context.settings.secret_of_link(link).octets(),
+        client_secret: context.settings.secret_of_requester(request.requester),
+        removal: context.settings.removal_for(request.requester),
+        own: context.settings.own_names(),
+    };
+    let view = View::of_packet(request.octets.as_slice());
     let mut packet = Vec::new(context.alloc);
-    match back(
-        context.reply,
-        &View::of_packet(request.octets.as_slice()),
-        &removal,
-        context.settings.own_names(),
-        forwarded.authenticator(),
-        context.settings.secret_of_link(link).octets(),
-        context.settings.secret_of_requester(request.requester),
-        &mut packet,
-    ) {
+    match back(context.reply, &view, &returning, &mut packet) {
         Ok(()) => Ok(packet),
         Err(why) => Err(why),
     }
@@ -258,37 +257,26 @@ fn outcome_of<A: Allocator + Copy>(
 
 /// A reply to an entry, as it stands, which may be taken without its session. A reply that isn't taken wants no memory.
 pub fn to_standing<A: Allocator + Copy>(
-    alloc: A,
-    settings: &RealmSettings<'_>,
-    now: u64,
+    context: &ReplyContext<'_, '_, '_, '_, A>,
     entry: &Entry<A>,
-    reply: &View<'_>,
-    lines: ExchangeLines,
-    keeps_session: bool,
 ) -> Result<ReplyOutcome<A>, NoMemory>
-    requires moment { now ≤ 2 ^ 62 }
-    requires request { IsRequest settings.now (shown entry.now).request }
-    requires standing { StandsWell settings.now (shown entry.now).request (shown entry.now).standing }
+    requires moment { context.now.moment ≤ 2 ^ 62 }
+    requires request { IsRequest context.now.settings.now (shown entry.now).request }
+    requires standing { StandsWell context.now.settings.now (shown entry.now).request (shown entry.now).standing }
     ensures turn { IfOk result (λ v. (l : Link) (i : ℕ) → waits_at l i (shown entry.now) ≡ true
-        → IsOutcome settings.now v (shown entry.now) l
-        (λ s. to_standing settings.now now s keeps_session (shown entry.now) reply.now
-        (shown entry.now).standing)) }
+        → IsOutcome context.now.settings.now v (shown entry.now) l
+        (λ s. to_standing context.now.settings.now context.now.moment s context.now.keeps_session (shown entry.now)
+        context.now.reply.now (shown entry.now).standing)) }
     ensures happening { (s : RealmState) → IfOk result (λ v. shown_happening v.happening
-        ≡ by_turn (to_standing settings.now now s keeps_session (shown entry.now) reply.now (shown entry.now).standing)
-        (returned_to lines reply.now (Some (shown entry.now)))) }
-    ensures succeeds { (s : RealmState) → packets_of (to_standing settings.now now s keeps_session
-        (shown entry.now) reply.now (shown entry.now).standing) ≡ [] → IsOk result }
+        ≡ by_turn (to_standing context.now.settings.now context.now.moment s context.now.keeps_session
+        (shown entry.now) context.now.reply.now (shown entry.now).standing)
+        (returned_to context.now.lines context.now.reply.now (Some (shown entry.now)))) }
+    ensures succeeds { (s : RealmState) → packets_of (to_standing context.now.settings.now context.now.moment s
+        context.now.keeps_session (shown entry.now) context.now.reply.now (shown entry.now).standing) ≡ []
+        → IsOk result }
 {
-    let context = ReplyContext {
-        alloc,
-        settings,
-        moment: now,
-        reply,
-        lines,
-        keeps_session,
-    };
     match &entry.standing {
-        Standing::Waiting(waiting) => outcome_of(&context, entry, waiting),
-        Standing::Done(_) => Ok(not_taken(alloc, Refusal::NoEntry)),
+        Standing::Waiting(waiting) => outcome_of(context, entry, waiting),
+        Standing::Done(_) => Ok(not_taken(context.alloc, Refusal::NoEntry)),
     }
 }

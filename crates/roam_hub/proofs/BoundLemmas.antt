@@ -13,7 +13,7 @@ use Rattle.roam_core.specs.Openings.{openings_from, start_of}
 use Rattle.roam_core.proofs.BoundLemmas.{no_amplification, no_amplification-from_start}
 use Rattle.roam_core.proofs.InTimeLemmas.{none_waits_longer}
 use Rattle.roam_core.proofs.IsolationLemmas.{each_opens}
-use Rattle.roam_trace.specs.History.{at_opening}
+use Rattle.roam_shard.specs.History.{at_opening}
 use Rattle.roam_hub.specs.Bounds.{NoAmplificationFromOpening, NoAmplificationInHistories, NoneWaitsLongerInHistories}
 use Rattle.roam_hub.specs.InHistories.{events_in}
 use Rattle.roam_hub.proofs.ChangeLemmas.{each_goes_alone}

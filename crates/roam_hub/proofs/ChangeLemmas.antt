@@ -2,22 +2,22 @@
 use Rattle.std.proofs.Common.{◌≡◌, ℕ, true, List, [], ◌∷◌, ◌++◌, refl, sym, ap, subst, ◌∙◌}
 use Rattle.std.proofs.lemmas.List.{append-nil}
 use Rattle.roam_conf.specs.Config.{ConfigView}
-use Rattle.roam_route.specs.Admission.{PlainOut}
+use Rattle.roam_admission.specs.Admission.{PlainOut}
 use Rattle.roam_realm.specs.RealmConfig.{realm_config}
 use Rattle.roam_realm.specs.RealmState.{RealmState}
 use Rattle.roam_exchange.specs.OneRealm.{RealmEvent, one_realm_run}
-use Rattle.roam_carry.specs.Reload.{HasPlaces, carried}
-use Rattle.roam_carry.proofs.CarriedPlacesLemmas.{carried_has_places}
-use Rattle.roam_carry.proofs.PlacesLemmas.{places_stay}
-use Rattle.roam_carry.proofs.ReloadLemmas.{go_on}
-use Rattle.roam_carry.proofs.TakesNothingLemmas.{as_if_nothing_changed}
+use Rattle.roam_migrate.specs.Reload.{HasPlaces, carried}
+use Rattle.roam_migrate.proofs.CarriedPlacesLemmas.{carried_has_places}
+use Rattle.roam_migrate.proofs.PlacesLemmas.{places_stay}
+use Rattle.roam_migrate.proofs.ReloadLemmas.{go_on}
+use Rattle.roam_migrate.proofs.TakesNothingLemmas.{as_if_nothing_changed}
 use Rattle.roam_core.specs.Events.{is_in_shard}
 use Rattle.roam_core.specs.Isolation.{packets_for}
 use Rattle.roam_core.specs.ManyRealms.{answers_to, state_at}
 use Rattle.roam_core.proofs.IsolationLemmas.{isolated, stands_alone}
 use Rattle.roam_core.proofs.PacketLemmas.{packets_for-append}
-use Rattle.roam_trace.specs.History.{states_next, states_then}
-use Rattle.roam_trace.specs.Steps.{PlainStep}
+use Rattle.roam_shard.specs.History.{states_next, states_then}
+use Rattle.roam_shard.specs.Steps.{PlainStep}
 use Rattle.roam_hub.specs.InHistories.{events_in, packets_in}
 use Rattle.roam_hub.specs.Changes.{AreSpans, CarriedOverChanges, EachGoesAlone, FollowsOn, IsThere, OthersBeginAnew, Span, StaysThere, StaysUntouched, UntouchedOverChanges, events_over, own_events, run_over, sent_over}
 use Rattle.roam_hub.proofs.HubLemmas.{sent_in}

@@ -6,16 +6,16 @@ use Rattle.roam_realm.specs.RealmConfig.{realm_config}
 use Rattle.roam_realm.specs.RealmState.{RealmState}
 use Rattle.roam_realm.specs.Written.{GainsOpen}
 use Rattle.roam_realm.specs.declared.gauges.Gauges.{Gauges}
-use Rattle.roam_carry.specs.declared.losses.Loss.{Loss}
+use Rattle.roam_migrate.specs.declared.losses.Loss.{Loss}
 use Rattle.roam_core.specs.ManyRealms.{state_at}
 use Rattle.roam_shard.specs.Looks.{IsLoss, StandsAs}
-use Rattle.roam_trace.specs.History.{IsHistory, end_of}
-use Rattle.roam_calls.specs.Entries.{steps_in}
-use Rattle.roam_calls.specs.HubOpening.{HubOpening, opening_at}
-use Rattle.roam_calls.specs.Seats.{SeatView, front_of}
+use Rattle.roam_shard.specs.History.{IsHistory, end_of}
+use Rattle.roam_history.specs.Entries.{steps_in}
+use Rattle.roam_history.specs.HubOpening.{HubOpening, opening_at}
+use Rattle.roam_history.specs.Seats.{SeatView, front_of}
 use Rattle.roam_hub.specs.Keeping.{IsKept, KeptView}
-use Rattle.roam_calls.specs.Looks.{LosesIn, StandsIn}
-use Rattle.roam_calls.specs.Written.{SavesIn}
+use Rattle.roam_history.specs.Looks.{LosesIn, StandsIn}
+use Rattle.roam_history.specs.Written.{SavesIn}
 use Rattle.roam_hub.proofs.KeptLemmas.{whole_end, whole_history}
 
 -- how a realm stands where the history ends

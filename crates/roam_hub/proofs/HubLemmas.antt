@@ -5,7 +5,7 @@ use Rattle.std.specs.List.{AllByRecursion}
 use Rattle.std.proofs.lemmas.List.{length-append}
 use Rattle.std.proofs.lemmas.Option.{slice_get-get_or}
 use Rattle.roam_conf.specs.Config.{ConfigView}
-use Rattle.roam_route.specs.Admission.{PlainOut}
+use Rattle.roam_admission.specs.Admission.{PlainOut}
 use Rattle.roam_realm.specs.RealmState.{RealmState}
 use Rattle.roam_realm.specs.declared.start.Start.{Start}
 use Rattle.roam_core.specs.Isolation.{packets_for}
@@ -14,13 +14,13 @@ use Rattle.roam_core.specs.Openings.{openings}
 use Rattle.roam_core.proofs.IsolationLemmas.{isolated_from_start}
 use Rattle.roam_core.proofs.ProvenanceLemmas.{has_provenance}
 use Rattle.roam_shard.specs.ShardView.{AreStarts, IsStart, ShardView}
-use Rattle.roam_trace.specs.History.{AreSteps, end_of, states_next}
-use Rattle.roam_trace.specs.Steps.{PlainAnswer, PlainStep}
-use Rattle.roam_calls.specs.Audit.{steps_of}
+use Rattle.roam_shard.specs.History.{AreSteps, end_of, states_next}
+use Rattle.roam_shard.specs.Steps.{PlainAnswer, PlainStep}
+use Rattle.roam_history.specs.Audit.{steps_of}
 use Rattle.roam_hub.specs.Closing.{AreClosed, IsClosed}
-use Rattle.roam_calls.specs.Entries.{IsWhole}
-use Rattle.roam_calls.specs.Fronts.{AreOfShards, AreWhole, FrontView}
-use Rattle.roam_calls.specs.HubOpening.{HubOpening, opening_at}
+use Rattle.roam_history.specs.Entries.{IsWhole}
+use Rattle.roam_history.specs.Fronts.{AreOfShards, AreWhole, FrontView}
+use Rattle.roam_history.specs.HubOpening.{HubOpening, opening_at}
 use Rattle.roam_hub.specs.Histories.{AreHistories, start_at_end, starts_at_end, starts_from, state_at_end}
 use Rattle.roam_hub.specs.InHistories.{ProvenanceInHistories, RealmsInHistories, events_in, packets_in}
 

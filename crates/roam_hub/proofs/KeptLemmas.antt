@@ -6,19 +6,19 @@ use Rattle.roam_conf.specs.declared.exchange_lines.ExchangeLines.{ExchangeLines}
 use Rattle.roam_exchange.specs.Happenings.{PlainHappening}
 use Rattle.roam_core.specs.Events.{PlainEvent}
 use Rattle.roam_core.specs.HappeningsTo.{happening_to}
-use Rattle.roam_trace.specs.History.{Beginning, Ends, GoesOn, IsHistory, begun, TraceView, end_of, step_at, stored_steps, with_event, without_steps}
+use Rattle.roam_shard.specs.History.{Beginning, Ends, GoesOn, IsHistory, begun, TraceView, end_of, step_at, stored_steps, with_event, without_steps}
 use Rattle.roam_shard.specs.Turns.{NothingDue}
-use Rattle.roam_calls.specs.Moments.{IsTickMoment}
-use Rattle.roam_trace.specs.Steps.{PlainStep, events_of}
-use Rattle.roam_trace.proofs.HistoryLemmas.{stored_events, stored_length, stored_more}
-use Rattle.roam_calls.specs.Entries.{HistoryEntry, gone_of, last_of, let_go_entry, step_entry, steps_in, stored_of, closed_entry}
-use Rattle.roam_calls.specs.Fronts.{FrontView}
-use Rattle.roam_calls.specs.HubOpening.{HubOpening, opening_at}
-use Rattle.roam_calls.proofs.EntryLemmas.{all-gone, all-steps, closed-steps, last-push, none-stored, one-step, one-stored, open-gone, open-step, same-gone, same-steps}
-use Rattle.roam_calls.proofs.Prefixes.{prefix_length, prefix_trans}
-use Rattle.roam_calls.specs.Seats.{SeatView, after_call, after_letting_go, front_of, having_seen}
-use Rattle.roam_calls.proofs.PrefixLemmas.{steps_begin}
-use Rattle.roam_calls.specs.Calls.{AreGone, HasHappened, IsCall, IsDueCall, IsFull, IsLook, Sees}
+use Rattle.roam_history.specs.Moments.{IsTickMoment}
+use Rattle.roam_shard.specs.Steps.{PlainStep, events_of}
+use Rattle.roam_shard.proofs.HistoryLemmas.{stored_events, stored_length, stored_more}
+use Rattle.roam_history.specs.Entries.{HistoryEntry, gone_of, last_of, let_go_entry, step_entry, steps_in, stored_of, closed_entry}
+use Rattle.roam_history.specs.Fronts.{FrontView}
+use Rattle.roam_history.specs.HubOpening.{HubOpening, opening_at}
+use Rattle.roam_history.proofs.EntryLemmas.{all-gone, all-steps, closed-steps, last-push, none-stored, one-step, one-stored, open-gone, open-step, same-gone, same-steps}
+use Rattle.roam_history.proofs.Prefixes.{prefix_length, prefix_trans}
+use Rattle.roam_history.specs.Seats.{SeatView, after_call, after_letting_go, front_of, having_seen}
+use Rattle.roam_history.proofs.PrefixLemmas.{steps_begin}
+use Rattle.roam_history.specs.Calls.{AreGone, HasHappened, IsCall, IsDueCall, IsFull, IsLook, Sees}
 use Rattle.roam_hub.specs.Keeping.{IsKept, KeptView}
 
 -- a seat that has seen all entries of a shard

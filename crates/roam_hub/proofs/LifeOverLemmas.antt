@@ -3,13 +3,13 @@ use Rattle.std.proofs.Common.{◌≡◌, ◌≤◌, ◌^◌, ℕ, true, List, []
 use Rattle.std.specs.Prelude.{slice_get}
 use Rattle.std.proofs.lemmas.List.{append-nil}
 use Rattle.roam_conf.specs.Config.{ConfigView}
-use Rattle.roam_route.specs.Admission.{PlainOut}
+use Rattle.roam_admission.specs.Admission.{PlainOut}
 use Rattle.roam_pending.specs.ListLaws.{IsIn}
 use Rattle.roam_pending.specs.PlainEntry.{PlainEntry}
 use Rattle.roam_realm.specs.RealmConfig.{RealmConfig, realm_config}
 use Rattle.roam_realm.specs.RealmState.{RealmState}
 use Rattle.roam_exchange.specs.OneRealm.{one_realm_run}
-use Rattle.roam_carry.specs.Reload.{carried}
+use Rattle.roam_migrate.specs.Reload.{carried}
 use Rattle.roam_core.specs.Draws.{drawn}
 use Rattle.roam_core.specs.Events.{is_in_shard}
 use Rattle.roam_core.specs.Isolation.{packets_for}
@@ -20,7 +20,7 @@ use Rattle.roam_core.proofs.LifeOriginLemmas.{each_packet_has_origin_from}
 use Rattle.roam_core.proofs.LifeDrawLemmas.{draws_are_apart_in}
 use Rattle.roam_core.proofs.PacketLemmas.{packets_for-append}
 use Rattle.roam_shard.specs.Follow.{Follows}
-use Rattle.roam_trace.specs.History.{end_of}
+use Rattle.roam_shard.specs.History.{end_of}
 use Rattle.roam_hub.specs.Changes.{FollowsOn, IsThere, Span, own_events, sent_over}
 use Rattle.roam_hub.specs.InHistories.{packets_in}
 use Rattle.roam_hub.specs.LivesOver.{DrawsApartOverChanges, IsChange, IsLifeOver, LivesGoAlong, ProvenanceOverChanges, begins_at}

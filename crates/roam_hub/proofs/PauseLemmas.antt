@@ -8,9 +8,9 @@ use Rattle.roam_conf.specs.Config.{ConfigView}
 use Rattle.roam_shard.specs.Pausing.{StandsUnder, states_under}
 use Rattle.roam_shard.specs.ShardView.{ShardView}
 use Rattle.roam_shard.specs.declared.paused.Paused.{Paused}
-use Rattle.roam_trace.specs.Steps.{PlainStep}
-use Rattle.roam_calls.specs.HubOpening.{HubOpening}
-use Rattle.roam_calls.specs.Audit.{steps_of}
+use Rattle.roam_shard.specs.Steps.{PlainStep}
+use Rattle.roam_history.specs.HubOpening.{HubOpening}
+use Rattle.roam_history.specs.Audit.{steps_of}
 use Rattle.roam_hub.specs.Closing.{AreClosed, HasRoom}
 use Rattle.roam_hub.specs.Pausing.{ArePaused, ArePausedShards, IsPausedShard, StandAtEnd}
 use Rattle.roam_hub.proofs.HubLemmas.{get-push, steps-there}

@@ -1,9 +1,9 @@
 -- A call that a trace refuses.
 use Rattle.std.proofs.Common.{◌≡◌, ◌≢◌, refl}
-use Rattle.roam_trace.specs.declared.fault.TraceFault.{TraceFault}
-use Rattle.roam_trace.specs.declared.fault.TraceFault.TheVariants as trace
-use Rattle.roam_calls.specs.declared.fault.HubFault.TheVariants as hub
-use Rattle.roam_calls.specs.Faults.{of_trace}
+use Rattle.roam_shard.specs.declared.fault.TraceFault.{TraceFault}
+use Rattle.roam_shard.specs.declared.fault.TraceFault.TheVariants as trace
+use Rattle.roam_history.specs.declared.fault.HubFault.TheVariants as hub
+use Rattle.roam_history.specs.Faults.{of_trace}
 
 -- it is told as full only where it is
 pub only_full : (f : TraceFault) → of_trace f ≡ hub.TraceFull → f ≡ trace.TraceFull

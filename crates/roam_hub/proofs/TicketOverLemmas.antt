@@ -13,7 +13,7 @@ use Rattle.roam_core.specs.ManyRealms.{state_at}
 use Rattle.roam_core.proofs.LifeLemmas.{stage-events}
 use Rattle.roam_core.proofs.LifeTicketLemmas.{all-rise, same-event, then-rises, ticket_is_given_once_in}
 use Rattle.roam_shard.specs.Follow.{Follows}
-use Rattle.roam_trace.specs.History.{end_of}
+use Rattle.roam_shard.specs.History.{end_of}
 use Rattle.roam_hub.specs.Changes.{AreSpans, FollowsOn, Span, own_events}
 use Rattle.roam_hub.specs.LivesOver.{IsChange, IsLifeOver, TakesTicketAt, TicketGivenOnceOverChanges, begins_at}
 use Rattle.roam_hub.proofs.ChangeLemmas.{each_goes_alone}

@@ -1,4 +1,4 @@
--- How much a realm sends in its shard's history, and until when a request is answered there (ours).
+-- The bound on what a realm sends in its shard's history, and until when a request is answered there (ours).
 use Rattle.std.specs.Prelude.{◌≡◌, ◌≤◌, ◌<◌, ◌+◌, ℕ, true, List, ◌∷◌, ◌++◌, length, Option}
 use Rattle.roam_pending.specs.ListLaws.{IsIn}
 use Rattle.roam_pending.specs.PlainEntry.{PlainEntry, PlainRequest, is_done}
@@ -13,8 +13,8 @@ use Rattle.roam_core.specs.ManyRealms.{state_at}
 use Rattle.roam_core.specs.Openings.{start_of}
 use Rattle.roam_core.specs.Provenance.{TakesTicket}
 use Rattle.roam_shard.specs.ShardView.{OpeningView}
-use Rattle.roam_trace.specs.History.{Beginning, IsHistory, at_opening, end_of}
-use Rattle.roam_trace.specs.Steps.{PlainStep}
+use Rattle.roam_shard.specs.History.{Beginning, IsHistory, at_opening, end_of}
+use Rattle.roam_shard.specs.Steps.{PlainStep}
 use Rattle.roam_hub.specs.InHistories.{events_in, packets_in}
 
 -- begun in any states, at an opening or after a change of the configuration: what was sent for a realm, and

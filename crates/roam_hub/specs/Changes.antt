@@ -2,19 +2,19 @@
 -- begins in the states that follow where the one before it ended.
 use Rattle.std.specs.Prelude.{◌≡◌, ℕ, ◌<◌, ◌≤◌, true, List, [], ◌∷◌, ◌++◌, length}
 use Rattle.roam_reload.specs.Reload.{IsCarried, IsUntouched}
-use Rattle.roam_route.specs.Admission.{PlainOut}
+use Rattle.roam_admission.specs.Admission.{PlainOut}
 use Rattle.roam_realm.specs.RealmConfig.{realm_config}
 use Rattle.roam_realm.specs.RealmState.{RealmState, opening}
 use Rattle.roam_exchange.specs.OnTick.{Progress, silent}
 use Rattle.roam_exchange.specs.OneRealm.{RealmEvent, one_realm_run}
-use Rattle.roam_carry.specs.Reload.{HasPlaces, carried}
+use Rattle.roam_migrate.specs.Reload.{HasPlaces, carried}
 use Rattle.roam_core.specs.Events.{events_of_realm, is_in_shard}
 use Rattle.roam_core.specs.Isolation.{packets_for}
 use Rattle.roam_core.specs.ManyRealms.{state_at}
 use Rattle.roam_core.specs.Openings.{next_start}
 use Rattle.roam_shard.specs.Follow.{AllFollow}
-use Rattle.roam_trace.specs.History.{Beginning, IsHistory, end_of}
-use Rattle.roam_trace.specs.Steps.{PlainStep}
+use Rattle.roam_shard.specs.History.{Beginning, IsHistory, end_of}
+use Rattle.roam_shard.specs.Steps.{PlainStep}
 use Rattle.roam_hub.specs.InHistories.{events_in, packets_in}
 
 -- ## Realms over changes

@@ -2,13 +2,13 @@
 use Rattle.std.specs.Prelude.{◌≡◌, ℕ, ◌≤◌, List, [], Some, length, map, slice_get, vec_capacity}
 use Rattle.std.specs.declared.vec.Vec.{Vec}
 use Rattle.roam_shard.specs.ShardView.{ShardView}
-use Rattle.roam_trace.specs.History.{IsHistory, end_of}
+use Rattle.roam_shard.specs.History.{IsHistory, end_of}
 use Rattle.roam_core.specs.Events.{PlainEvent}
-use Rattle.roam_trace.specs.Steps.{PlainStep, events_of}
-use Rattle.roam_calls.specs.Entries.{HistoryEntry, stored_of}
-use Rattle.roam_calls.specs.Fronts.{FrontView}
-use Rattle.roam_calls.specs.HubOpening.{HubOpening, opening_at}
-use Rattle.roam_calls.specs.Shown.{all_in, items_of}
+use Rattle.roam_shard.specs.Steps.{PlainStep, events_of}
+use Rattle.roam_history.specs.Entries.{HistoryEntry, stored_of}
+use Rattle.roam_history.specs.Fronts.{FrontView}
+use Rattle.roam_history.specs.HubOpening.{HubOpening, opening_at}
+use Rattle.roam_history.specs.Shown.{all_in, items_of}
 
 -- an empty list, with room for so many
 pub record HasRoom {X A : Type 0} (count : ℕ) (v : Vec X A) : Type 0 where

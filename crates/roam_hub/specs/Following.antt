@@ -1,2 +1,2 @@
--- The shards of a paused hub follow another configuration (ours): the words of `roam_follow`.
-pub use Rattle.roam_follow.specs.Following.{HaveFollowed, StandAsBefore}
+-- The shards of a paused hub follow another configuration (ours): the words of `roam_shard`.
+pub use Rattle.roam_shard.specs.Following.{HaveFollowed, StandAsBefore}

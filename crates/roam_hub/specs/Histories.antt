@@ -1,12 +1,12 @@
--- What the histories of a hub's shards are, and where its realms stand at their end (ours).
+-- The histories of a hub's shards, and where its realms stand at their end (ours).
 use Rattle.std.specs.Prelude.{◌≡◌, ℕ, ◌+◌, ◌<◌, ◌%◌, zero, suc, List, [], ◌∷◌, length}
 use Rattle.roam_realm.specs.RealmState.{RealmState}
 use Rattle.roam_realm.specs.declared.start.Start.{Start}
 use Rattle.roam_core.specs.ManyRealms.{state_at}
-use Rattle.roam_trace.specs.History.{IsHistory, end_of}
-use Rattle.roam_trace.specs.Steps.{PlainStep}
-use Rattle.roam_calls.specs.HubOpening.{HubOpening, opening_at}
-use Rattle.roam_calls.specs.Audit.{steps_of}
+use Rattle.roam_shard.specs.History.{IsHistory, end_of}
+use Rattle.roam_shard.specs.Steps.{PlainStep}
+use Rattle.roam_history.specs.HubOpening.{HubOpening, opening_at}
+use Rattle.roam_history.specs.Audit.{steps_of}
 
 -- ## Histories at the end
 -- When a hub closes there are as many lists of steps as shards, and each, with those that were let go of, is a

@@ -2,15 +2,15 @@
 -- own written broker sends for its own events, and each of them has its origin there. A history is a whole
 -- one: of the steps that were let go of, too.
 use Rattle.std.specs.Prelude.{◌≡◌, ℕ, ◌<◌, ◌≤◌, List, [], ◌∷◌, ◌++◌, length, map}
-use Rattle.roam_route.specs.Admission.{PlainOut}
+use Rattle.roam_admission.specs.Admission.{PlainOut}
 use Rattle.roam_realm.specs.RealmConfig.{realm_config}
 use Rattle.roam_core.specs.Events.{PlainEvent, events_of_realm}
 use Rattle.roam_core.specs.Isolation.{packets_for}
 use Rattle.roam_core.specs.Openings.{one_realm_packets, start_of}
 use Rattle.roam_core.specs.Provenance.{HasProvenance}
 use Rattle.roam_shard.specs.ShardView.{OpeningView}
-use Rattle.roam_trace.specs.History.{IsHistory, at_opening}
-use Rattle.roam_trace.specs.Steps.{PlainStep}
+use Rattle.roam_shard.specs.History.{IsHistory, at_opening}
+use Rattle.roam_shard.specs.Steps.{PlainStep}
 
 -- the events of some steps, and all that was sent in them
 abbrev pub events_in : List PlainStep → List PlainEvent

@@ -1,9 +1,9 @@
--- What lies under a shard's lock: words of private functions alone (ours).
+-- The contents of a shard's lock: words of private functions alone (ours).
 use Rattle.std.specs.Prelude.{◌≡◌, ◌<◌, ◌-◌, ◌^◌, length}
-use Rattle.roam_trace.specs.History.{Ends, TraceView, stored_steps}
-use Rattle.roam_calls.specs.Entries.{IsOpen, gone_of, stored_of}
-use Rattle.roam_calls.specs.Fronts.{FrontView}
-use Rattle.roam_calls.specs.HubOpening.{HubOpening}
+use Rattle.roam_shard.specs.History.{Ends, TraceView, stored_steps}
+use Rattle.roam_history.specs.Entries.{IsOpen, gone_of, stored_of}
+use Rattle.roam_history.specs.Fronts.{FrontView}
+use Rattle.roam_history.specs.HubOpening.{HubOpening}
 
 -- a trace, and the whole history of its shard
 pub record KeptView : Type 0 where

@@ -2,7 +2,7 @@
 -- change between two. So what is said of lives holds of all that a hub sent, before and after each change.
 use Rattle.std.specs.Prelude.{◌≡◌, ℕ, ◌+◌, ◌%◌, ◌^◌, ◌≤◌, List, [], ◌∷◌, ◌++◌, length, map, Some, slice_get}
 use Rattle.roam_reload.specs.Reload.{IsCarried}
-use Rattle.roam_route.specs.Admission.{PlainOut}
+use Rattle.roam_admission.specs.Admission.{PlainOut}
 use Rattle.roam_pending.specs.ListLaws.{IsIn}
 use Rattle.roam_realm.specs.RealmConfig.{realm_config}
 use Rattle.roam_realm.specs.RealmState.{RealmState}
@@ -12,7 +12,7 @@ use Rattle.roam_core.specs.Isolation.{packets_for}
 use Rattle.roam_core.specs.Lives.{Happening, Stage, draws_in, event, goes_on, begins_anew, sent_in, stage_then}
 use Rattle.roam_core.specs.LifeOrigins.{HasOriginIn}
 use Rattle.roam_core.specs.ManyRealms.{state_at}
-use Rattle.roam_trace.specs.History.{end_of}
+use Rattle.roam_shard.specs.History.{end_of}
 use Rattle.roam_hub.specs.Changes.{AreSpans, IsThere, Span, own_events, sent_over}
 
 -- a realm as a span begins

@@ -4,12 +4,12 @@ use Rattle.roam_conf.specs.Config.{ConfigView}
 use Rattle.roam_realm.specs.RealmState.{RealmState}
 use Rattle.roam_shard.specs.ShardView.{ShardView}
 use Rattle.roam_shard.specs.Pausing.{StandsUnder, states_under}
-pub use Rattle.roam_follow.specs.Paused.{ArePaused, IsPaused}
+pub use Rattle.roam_shard.specs.Paused.{ArePaused, IsPaused}
 use Rattle.roam_shard.specs.declared.paused.Paused.{Paused}
-use Rattle.roam_trace.specs.History.{end_of}
-use Rattle.roam_trace.specs.Steps.{PlainStep}
-use Rattle.roam_calls.specs.HubOpening.{HubOpening, opening_at}
-use Rattle.roam_calls.specs.Audit.{steps_of}
+use Rattle.roam_shard.specs.History.{end_of}
+use Rattle.roam_shard.specs.Steps.{PlainStep}
+use Rattle.roam_history.specs.HubOpening.{HubOpening, opening_at}
+use Rattle.roam_history.specs.Audit.{steps_of}
 
 module _ {A : Type 0} where
   -- a shard was taken from its configuration

@@ -13,8 +13,8 @@ use Rattle.roam_core.specs.InTime.{longest_wait, moment_of}
 use Rattle.roam_core.specs.ManyRealms.{state_at}
 use Rattle.roam_core.specs.OnTime.{AreOnTime, IsInRound, LastsUntil}
 use Rattle.roam_shard.specs.Turns.{NothingDue}
-use Rattle.roam_trace.specs.History.{Beginning, IsHistory, end_of}
-use Rattle.roam_trace.specs.Steps.{PlainStep}
+use Rattle.roam_shard.specs.History.{Beginning, IsHistory, end_of}
+use Rattle.roam_shard.specs.Steps.{PlainStep}
 use Rattle.roam_hub.specs.InHistories.{events_in}
 
 -- a realm's part of the configuration of a history, how it stands where that begins, and its own events there

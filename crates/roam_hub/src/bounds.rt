@@ -1,4 +1,4 @@
-//! What histories say of how much a realm sends, and until when its requests are answered.
+//! Laws of histories: how much a realm sends, and until when its requests are answered.
 
 ghost use Rattle.roam_hub.specs.Bounds.{NoAmplificationFromOpening, NoAmplificationInHistories};
 ghost use Rattle.roam_hub.specs.Bounds.{NoneWaitsLongerInHistories};

@@ -1,4 +1,4 @@
-//! How a caller calls a hub.
+//! The call of a hub.
 
 use roam_conf::ExchangeLines;
 
@@ -6,7 +6,7 @@ use roam_conf::ExchangeLines;
 /// lines tell.
 #[derive(Drop)]
 pub struct Call<'t, R, G> {
-    /// What waits.
+    /// The runtime that waits.
     pub rt: &'t R,
     /// Called once while the shard's lock is held, before the step.
     pub gate: &'t G,

@@ -3,19 +3,18 @@
 ghost use Rattle.std.specs.Prelude.{◌≡◌, ◌⊎◌, ◌+◌, ◌<◌, ◌^◌, [], map, vec_len, IfErr, IfOk};
 ghost use Rattle.roam_conf.specs.Shown.{shown};
 ghost use Rattle.roam_shard.specs.ShardView.{AreStarts};
-ghost use Rattle.roam_calls.specs.Fronts.{AreOfShards, AreWhole, entries_of};
-ghost use Rattle.roam_calls.specs.Shown.{recorded, stored};
+ghost use Rattle.roam_history.specs.Fronts.{AreOfShards, AreWhole, entries_of};
+ghost use Rattle.roam_history.specs.Shown.{recorded, stored};
 ghost use Rattle.roam_hub.specs.Closing.{AreClosed, HasRoom, all_steps, stored_events, stored_in};
 ghost use Rattle.roam_hub.specs.Histories.{AreHistories, starts_at_end};
 
 use crate::hub::Hub;
 use crate::locked_trace::LockedTrace;
 use crate::pausing::PausedHub;
-use roam_calls::{Front, HubFault, Opened, Report};
 use roam_conf::Config;
+use roam_history::{Front, HubFault, Opened, Report};
 use roam_realm::Start;
-use roam_shard::Shard;
-use roam_trace::Step;
+use roam_shard::{Shard, Step};
 use std::alloc::Allocator;
 use std::sync::{Mutex, Wait};
 

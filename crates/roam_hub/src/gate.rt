@@ -1,4 +1,4 @@
-//! What is called while a shard's lock is held.
+//! The gate that is called while a shard's lock is held.
 
 /// Gate: called once while a shard's lock is held, before the step. A test holds a call there.
 pub trait Gate {

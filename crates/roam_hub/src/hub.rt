@@ -1,28 +1,28 @@
 //! A lock for each shard.
 
 ghost use Rattle.std.specs.Prelude.{◌≡◌, ◌≢◌, ◌<◌, ◌≤◌, ◌%◌, ◌↔◌, Some, slice_get, vec_len, IfErr, IfOk};
-ghost use Rattle.std.specs.Prelude.{IsErrOf, OnErr};
+ghost use Rattle.std.specs.Prelude.{IsErrOf, OnErr, OnOk};
 ghost use Rattle.roam_conf.specs.Shown.{shown};
-ghost use Rattle.roam_route.specs.Events.{IsEvent, arrival_of};
-ghost use Rattle.roam_route.specs.Shown.{shown_job};
+ghost use Rattle.roam_admission.specs.Events.{IsEvent, arrival_of};
+ghost use Rattle.roam_admission.specs.Shown.{shown_job};
 ghost use Rattle.roam_core.specs.Events.{arrives, ticks};
 ghost use Rattle.roam_core.specs.Shown.{shown_event};
-ghost use Rattle.roam_calls.specs.Entries.{steps_in};
-ghost use Rattle.roam_calls.specs.Seats.{front_of};
-ghost use Rattle.roam_calls.specs.Shown.{shown_step};
-ghost use Rattle.roam_calls.specs.Calls.{AreGone, Calls, IsCall, IsFull, IsLook, Sees, TicksIfDue, answered_step};
+ghost use Rattle.roam_history.specs.Entries.{steps_in};
+ghost use Rattle.roam_history.specs.Seats.{front_of};
+ghost use Rattle.roam_history.specs.Shown.{shown_step};
+ghost use Rattle.roam_history.specs.Calls.{AreGone, Calls, IsCall, IsFull, IsLook, Sees, TicksIfDue, answered_step};
 
 use crate::call::Call;
 use crate::gate::Gate;
 use crate::locked_trace::LockedTrace;
 use crate::locking::wait_for;
-use roam_calls::{Answered, HubFault, Opened, Receipt, Refused, Seat, Ticked};
+use roam_admission::Job;
 use roam_conf::{Config, ExchangeLines};
 use roam_core::Event;
-use roam_route::Job;
-use roam_trace::{Step, copy_of, job_event};
+use roam_history::{Answered, HubFault, Opened, Receipt, Refused, Seat, Ticked};
+use roam_shard::{Step, copy_of, job_event};
 use std::alloc::Allocator;
-use std::sync::{Mutex, Wait};
+use std::sync::{Mutex, MutexGuard, Wait};
 
 /// Hub: the broker for many threads, with a lock of its own for each shard. `N` says in proofs how it
 /// opened.
@@ -36,6 +36,21 @@ pub struct Hub<'c, A: Allocator, N: Opened> {
 }
 
 impl<'c, A: Allocator + Copy, N: Opened> Hub<'c, A, N> {
+    /// Waits for a shard's lock. `NoShard` just where there is no such shard.
+    fn lock<R: Wait>(
+        &self,
+        rt: &R,
+        shard: u16,
+    ) -> Result<MutexGuard<'_, LockedTrace<'c, A, N>>, HubFault>
+        ensures there { OnOk result (shard < N.opening.config.shards) }
+        ensures no_shard { IfErr result (λ f. (f ≡ HubFault.NoShard) × (N.opening.config.shards ≤ shard)) }
+    {
+        let Some(lock) = self.locks.get(usize::from(shard)) else {
+            return Err(HubFault::NoShard);
+        };
+        Ok(wait_for(rt, lock))
+    }
+
     /// Gives a job to the shard of its realm, at the call's moment, and waits for that shard's lock. The job's
     /// octets go into the stored step, so nothing is copied but what is answered. With the answer comes what happened
     /// by the job. The seat counts the call.
@@ -130,10 +145,7 @@ impl<'c, A: Allocator + Copy, N: Opened> Hub<'c, A, N> {
         ensures full { IsErrOf result HubFault.TraceFull → IsFull N.opening shard seat.new }
         ensures no_shard { IsErrOf result HubFault.NoShard ↔ N.opening.config.shards ≤ shard }
     {
-        if usize::from(shard) >= self.locks.len() {
-            return Err(HubFault::NoShard);
-        }
-        let mut kept = wait_for(rt, &self.locks[usize::from(shard)]);
+        let mut kept = self.lock(rt, shard)?;
         gate.inside(shard);
         let call = Call {
             rt,
@@ -165,10 +177,7 @@ impl<'c, A: Allocator + Copy, N: Opened> Hub<'c, A, N> {
         ensures tick { TicksIfDue N.opening call.entry.lines shard call.entry.moment seat.old seat.new result }
         ensures no_shard { IsErrOf result HubFault.NoShard ↔ N.opening.config.shards ≤ shard }
     {
-        if usize::from(shard) >= self.locks.len() {
-            return Err(HubFault::NoShard);
-        }
-        let mut kept = wait_for(call.rt, &self.locks[usize::from(shard)]);
+        let mut kept = self.lock(call.rt, shard)?;
         call.gate.inside(shard);
         kept.tick_if_due(call, seat, shard)
     }
@@ -194,10 +203,7 @@ impl<'c, A: Allocator + Copy, N: Opened> Hub<'c, A, N> {
         ensures causes { IfErr result (λ f. f ≢ HubFault.TraceFull) }
         ensures no_shard { IsErrOf result HubFault.NoShard ↔ N.opening.config.shards ≤ shard }
     {
-        if usize::from(shard) >= self.locks.len() {
-            return Err(HubFault::NoShard);
-        }
-        wait_for(rt, &self.locks[usize::from(shard)]).is_due(seat, shard, now)
+        self.lock(rt, shard)?.is_due(seat, shard, now)
     }
 
     /// Lets go of the stored steps of a shard, for whose lock it waits: takes them out, and gives them
@@ -219,10 +225,7 @@ impl<'c, A: Allocator + Copy, N: Opened> Hub<'c, A, N> {
         ensures err { OnErr result (seat.new ≡ seat.old) }
         ensures no_shard { IsErrOf result HubFault.NoShard ↔ N.opening.config.shards ≤ shard }
     {
-        if usize::from(shard) >= self.locks.len() {
-            return Err(HubFault::NoShard);
-        }
-        wait_for(rt, &self.locks[usize::from(shard)]).let_go(rt, seat, shard)
+        self.lock(rt, shard)?.let_go(rt, seat, shard)
     }
 }
 

@@ -1,4 +1,4 @@
-//! What histories say of each realm.
+//! Laws of histories: what they say of each realm.
 
 ghost use Rattle.roam_hub.specs.Changes.{CarriedOverChanges, EachGoesAlone, OthersBeginAnew, UntouchedOverChanges};
 ghost use Rattle.roam_hub.specs.InHistories.{ProvenanceInHistories, RealmsInHistories};

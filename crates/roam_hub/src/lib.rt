@@ -9,22 +9,22 @@
 //! - the step of each recorded call, with its event and the answer that the caller gets, stands at its number in
 //!   the one history of its shard, as the last that the caller's seat has then seen; all that the seat had seen
 //!   before begins it | `Hub::submit`, `tick`: `call`, `seen`; `answer`: `Calls`, its `call` and `seen`;
-//!   `tick_if_due`: `TicksIfDue`, its `tick` and `seen` (`roam_calls`)
+//!   `tick_if_due`: `TicksIfDue`, its `tick` and `seen` (`roam_history`)
 //! - a receipt's own type says that its step stands there; seats, receipts and reports are of this hub and of
 //!   no other, or don't compile | `Receipt`; the parameter `Opened`
 //! - no shard (20) is answered exactly when there is none, and of a job never; with an error the seat counts
 //!   nothing, and a job comes back unchanged; full (22) is answered only where as many steps are stored as may be |
 //!   `Hub::tick`, `tick_if_due`, `let_go`: `no_shard`, and `err` (of `tick_if_due` in `TicksIfDue`); `answer`:
-//!   `Calls`, its `no_shard`, `err`, `back`, `full` (`roam_calls`)
+//!   `Calls`, its `no_shard`, `err`, `back`, `full` (`roam_history`)
 //! - where `tick_if_due` answers none, nothing was due, and the seat counts nothing; where it ticks, something was
 //!   due, at most 64 entries are due at the tick's moment (or they can't be parted, or were due 100 ms ago), and it
-//!   says whether more is due after it | `Hub::tick_if_due`: `TicksIfDue`, its `tick` (`roam_calls`)
+//!   says whether more is due after it | `Hub::tick_if_due`: `TicksIfDue`, its `tick` (`roam_history`)
 //! - what is let go of is what was stored, and the history goes on with a mark for it, which the caller's seat
 //!   counts. No other call of that seat counts one: so a call that lets go of steps by itself is refused, or, by a
 //!   seat that it hides, found by the audit | `Hub::let_go`: `gone`, `seen`; `answer`: `Calls`, its `times`;
-//!   `submit`, `tick`, `is_due`: `times`; `tick_if_due`: `TicksIfDue`, its `times` (`roam_calls`)
+//!   `submit`, `tick`, `is_due`: `times`; `tick_if_due`: `TicksIfDue`, its `times` (`roam_history`)
 //! - the octets that are reported are those of the stored steps, up to 2^64 - 1 | `Hub::answer`: `Calls`, its
-//!   `octets` (`roam_calls`)
+//!   `octets` (`roam_history`)
 //! - the first seat of a hub counted no call and has seen nothing; when the hub closes or is paused, each
 //!   shard's history ends with an entry that says so, behind which nothing can stand: so it has all that any
 //!   call was told of (law `Front::begins_whole`, `Report::has_all`). Its steps, with those that were let go
@@ -55,7 +55,7 @@
 //!   earlier than the seat has seen; of Identifiers in use and rests in a look no contract says more, nor that a look
 //!   tells of each realm: that is its code, and tested (`packaging/tests/try-control.py`) | `Hub::look`
 //! - with each answer comes what happened by its event, which is what the rules say of the states where the steps
-//!   before it end | `Hub::answer`: `Calls`, its `happened`; `tick_if_due`: `IsTicked`, its `happened` (`roam_calls`)
+//!   before it end | `Hub::answer`: `Calls`, its `happened`; `tick_if_due`: `IsTicked`, its `happened` (`roam_history`)
 #![tactic(auto)]
 
 mod bounds;
@@ -83,12 +83,11 @@ pub use laws::{
 };
 pub use pause_room::PauseRoom;
 pub use pausing::PausedHub;
-pub use roam_calls::{
+pub use roam_exchange::{Became, DueHappening, Happening, LeftConversation, Waited};
+pub use roam_history::{
     Answered, AuditFault, Audited, Blanks, Front, HubFault, LATE, MOST, Opened, Receipt, Refused,
     Report, Seat, Ticked, split,
 };
-pub use roam_exchange::{Became, DueHappening, Happening, LeftConversation, Waited};
-pub use roam_follow::{Declined, follow};
 pub use roam_pending::{Key, Requester};
 pub use roam_realm::{Gauges, Rest, SERVER_LINKS};
-pub use roam_shard::Paused;
+pub use roam_shard::{Declined, Paused, follow};

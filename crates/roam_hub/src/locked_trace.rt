@@ -1,18 +1,18 @@
-//! What lies under a shard's lock.
+//! The contents of a shard's lock.
 
 ghost use Rattle.std.specs.Prelude.{◌≡◌, ◌≢◌, ◌+◌, ◌<◌, ◌-◌, ◌^◌, ◌++◌, ◌∷◌, [], false, length, min, true};
 ghost use Rattle.std.specs.Prelude.{IfErr, IfOk, IsErrOf, OnErr, OnOk};
 ghost use mathlib.Core.List.{IsPrefix};
-ghost use Rattle.roam_route.specs.Events.{IsEvent, arrival_of};
-ghost use Rattle.roam_route.specs.Shown.{shown_job};
+ghost use Rattle.roam_admission.specs.Events.{IsEvent, arrival_of};
+ghost use Rattle.roam_admission.specs.Shown.{shown_job};
 ghost use Rattle.roam_core.specs.Events.{arrives, is_in_shard, ticks};
-ghost use Rattle.roam_trace.specs.History.{IsHistory, end_of};
-ghost use Rattle.roam_trace.specs.Steps.{events_of, octets_in};
+ghost use Rattle.roam_shard.specs.History.{IsHistory, end_of};
+ghost use Rattle.roam_shard.specs.Steps.{events_of, octets_in};
 ghost use Rattle.roam_exchange.specs.HappeningsShown.{shown_happening};
-ghost use Rattle.roam_calls.specs.Entries.{IsWhole, step_entry, steps_in, stored_of};
-ghost use Rattle.roam_calls.specs.HubOpening.{opening_at};
-ghost use Rattle.roam_calls.specs.Seats.{front_of};
-ghost use Rattle.roam_calls.specs.Calls.{AreGone, Calls, HasHappened, IsCall, IsFull, Sees, answered_step};
+ghost use Rattle.roam_history.specs.Entries.{IsWhole, step_entry, steps_in, stored_of};
+ghost use Rattle.roam_history.specs.HubOpening.{opening_at};
+ghost use Rattle.roam_history.specs.Seats.{front_of};
+ghost use Rattle.roam_history.specs.Calls.{AreGone, Calls, HasHappened, IsCall, IsFull, Sees, answered_step};
 
 mod due;
 mod saving;
@@ -20,17 +20,16 @@ mod standing;
 
 use crate::call::Call;
 use crate::writing::{closed, recorded, without_steps};
-use roam_calls::{Answered, Front, Head, HubFault, Opened, Refused, Seat};
+use roam_admission::Job;
 use roam_exchange::Turned;
-use roam_route::Job;
-use roam_shard::Shard;
-use roam_trace::{Step, Traced};
+use roam_history::{Answered, Front, Head, HubFault, Opened, Refused, Seat};
+use roam_shard::{Shard, Step, Traced};
 use std::alloc::Allocator;
 use std::marker::Model;
 use std::sync::Wait;
 
-/// What lies under a shard's lock: the shard with its stored steps, and the whole history of the shard,
-/// from the hub's own opening, which they end.
+/// The contents of a shard's lock: the shard with its stored steps, and the whole history of the shard, from the hub's
+/// own opening, which they end.
 pub(crate) struct LockedTrace<'c, A: Allocator, N: Opened> {
     pub(crate) traced: Traced<'c, A>,
     /// All of the history: nobody writes into it but who holds the lock.

@@ -1,9 +1,9 @@
-//! How a thread comes by a shard's lock.
+//! The way in which a thread comes by a shard's lock.
 
 use std::sync::{Mutex, MutexGuard, Wait};
 use std::thread;
 
-/// How often a thread tries to take a lock that another one holds, before it sleeps until it is woken.
+/// The number of times that a thread tries to take a lock that another one holds, before it sleeps until it is woken.
 const TRIES: u32 = 50;
 
 /// Waits for a lock. A call holds one for a few microseconds, and to sleep and be woken takes longer: so a thread first

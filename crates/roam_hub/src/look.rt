@@ -1,15 +1,15 @@
-//! How the realms of a hub stand.
+//! The state of a hub's realms.
 
 ghost use Rattle.std.specs.Prelude.{IfSome};
 ghost use Rattle.roam_conf.specs.Shown.{shown};
-ghost use Rattle.roam_carry.specs.Carrying.{AreChanged};
-ghost use Rattle.roam_calls.specs.Looks.{StandsThen, WouldLose};
+ghost use Rattle.roam_migrate.specs.Carrying.{AreChanged};
+ghost use Rattle.roam_history.specs.Looks.{StandsThen, WouldLose};
 
 use crate::hub::Hub;
 use crate::locking::wait_for;
-use roam_calls::{Opened, Seat};
-use roam_carry::Loss;
 use roam_conf::Config;
+use roam_history::{Opened, Seat};
+use roam_migrate::Loss;
 use roam_realm::Gauges;
 use std::alloc::Allocator;
 use std::sync::Wait;

@@ -1,19 +1,18 @@
-//! How a hub is opened.
+//! The opening of a hub.
 
 ghost use Rattle.std.specs.Prelude.{◌≡◌, ◌<◌, [], IfOk};
 ghost use Rattle.roam_conf.specs.Shown.{shown};
 ghost use Rattle.roam_shard.specs.ShardView.{AreStarts};
-ghost use Rattle.roam_calls.specs.Books.{books_of, count_of};
-ghost use Rattle.roam_calls.specs.HubOpening.{fresh_opening};
-ghost use Rattle.roam_calls.specs.Seats.{new_seat};
+ghost use Rattle.roam_history.specs.Books.{books_of, count_of};
+ghost use Rattle.roam_history.specs.HubOpening.{fresh_opening};
+ghost use Rattle.roam_history.specs.Seats.{new_seat};
 
 use crate::hub::Hub;
 use crate::locked_trace::LockedTrace;
-use roam_calls::{Blank, Blanks, Front, Opened, Seat};
 use roam_conf::Config;
+use roam_history::{Blank, Blanks, Front, Opened, Seat};
 use roam_realm::Start;
-use roam_shard::Shard;
-use roam_trace::Traced;
+use roam_shard::{Shard, Traced};
 use roam_wire::NoMemory;
 use std::alloc::Allocator;
 use std::sync::Mutex;

@@ -5,11 +5,10 @@ ghost use Rattle.roam_conf.specs.Shown.{shown};
 ghost use Rattle.roam_hub.specs.Closing.{HasRoom};
 
 use crate::hub::Hub;
-use roam_calls::{Front, Opened};
 use roam_conf::Config;
+use roam_history::{Front, Opened};
 use roam_realm::Start;
-use roam_shard::{Paused, Shard};
-use roam_trace::Step;
+use roam_shard::{Paused, Shard, Step};
 use roam_wire::NoMemory;
 use std::alloc::Allocator;
 

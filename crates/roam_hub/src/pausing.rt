@@ -3,10 +3,10 @@
 ghost use Rattle.std.specs.Prelude.{◌≡◌, [], map, vec_len, IfErr, IfOk};
 ghost use Rattle.roam_conf.specs.Shown.{shown};
 ghost use Rattle.roam_shard.specs.ShardView.{AreStarts};
-ghost use Rattle.roam_calls.specs.Books.{books_of, count_of};
-ghost use Rattle.roam_calls.specs.Fronts.{AreWhole, entries_of};
-ghost use Rattle.roam_calls.specs.Seats.{new_seat};
-ghost use Rattle.roam_calls.specs.Shown.{recorded, stored};
+ghost use Rattle.roam_history.specs.Books.{books_of, count_of};
+ghost use Rattle.roam_history.specs.Fronts.{AreWhole, entries_of};
+ghost use Rattle.roam_history.specs.Seats.{new_seat};
+ghost use Rattle.roam_history.specs.Shown.{recorded, stored};
 ghost use Rattle.roam_hub.specs.Closing.{HasRoom, stored_in};
 ghost use Rattle.roam_hub.specs.Histories.{AreHistories, starts_at_end};
 ghost use Rattle.roam_hub.specs.Pausing.{ArePaused, ArePausedShards, IsPaused, StandAtEnd, opening_over};
@@ -16,14 +16,13 @@ use crate::closing::{Closed, starts_of, taken_apart};
 use crate::hub::Hub;
 use crate::locked_trace::LockedTrace;
 use crate::pause_room::PauseRoom;
-use roam_calls::{Blank, Blanks, Front, HubFault, Opened, Report, Seat, no_tallies, no_times};
 use roam_conf::Config;
-use roam_shard::{Paused, Shard};
-use roam_trace::Traced;
+use roam_history::{Blank, Blanks, Front, HubFault, Opened, Report, Seat, no_tallies, no_times};
+use roam_shard::{Paused, Shard, Traced};
 use std::alloc::Allocator;
 use std::sync::{Mutex, Wait};
 
-/// What is left of a hub whose shards go on in another one: its report, and its shards, by number.
+/// The rest of a hub whose shards go on in another one: its report, and its shards, by number.
 #[derive(Drop)]
 pub struct PausedHub<A: Allocator, N: Opened> {
     pub report: Report<A, N>,

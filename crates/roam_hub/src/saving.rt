@@ -1,12 +1,12 @@
 //! The ledgers of a hub's realms as octets, written while it answers.
 
 ghost use Rattle.std.specs.Prelude.{OnOk};
-ghost use Rattle.roam_calls.specs.Written.{BeginsRealm, SavesThen};
+ghost use Rattle.roam_history.specs.Written.{BeginsRealm, SavesThen};
 
 use crate::hub::Hub;
 use crate::locking::wait_for;
-use roam_calls::{Opened, Seat};
-use roam_ledgers::Writing;
+use roam_history::{Opened, Seat};
+use roam_sessions::Writing;
 use roam_wire::NoMemory;
 use std::alloc::{AllocError, Allocator};
 use std::sync::Wait;

@@ -1,16 +1,16 @@
-//! What is written into a shard's history.
+//! The entries that are written into a shard's history.
 //!
 //! It lies under the shard's lock, so nobody else writes into it, and the first try of each write does it: if somebody
 //! did, none would return. Who writes waits for that, and so nothing is written where nothing can wait.
 
 ghost use Rattle.std.specs.Prelude.{◌≡◌, ◌<◌, ◌-◌, ◌^◌, ◌++◌, ◌∷◌, [], length};
-ghost use Rattle.roam_trace.specs.Steps.{PlainStep, shown_answer};
-ghost use Rattle.roam_calls.specs.Entries.{IsOpen, closed_entry, last_of, let_go_entry, step_entry, steps_in};
-ghost use Rattle.roam_calls.specs.Seats.{after_call};
+ghost use Rattle.roam_shard.specs.Steps.{PlainStep, shown_answer};
+ghost use Rattle.roam_history.specs.Entries.{IsOpen, closed_entry, last_of, let_go_entry, step_entry, steps_in};
+ghost use Rattle.roam_history.specs.Seats.{after_call};
 
-use roam_calls::{Front, Head, Opened, Seat};
 use roam_exchange::Answer;
-use roam_trace::Traced;
+use roam_history::{Front, Head, Opened, Seat};
+use roam_shard::Traced;
 use std::alloc::Allocator;
 use std::sync::Wait;
 

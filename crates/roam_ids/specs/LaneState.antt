@@ -1,4 +1,4 @@
--- What a contract sees of a lane: the Identifiers in use toward one endpoint for one realm (ours).
+-- A lane as a contract sees it: the Identifiers in use toward one endpoint for one realm (ours).
 use Rattle.std.specs.Prelude.{◌≡◌, ℕ, ◌+◌, ◌%◌, ◌<◌, Bool, Option, List, length, slice_index_or, slice_set}
 use Rattle.roam_ids.specs.declared.id_state.IdState.{IdState}
 use Rattle.roam_ids.specs.declared.id_state.IdState.TheVariants.{Free}

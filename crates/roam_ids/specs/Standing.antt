@@ -1,4 +1,4 @@
--- What stands at one Identifier of a lane (ours).
+-- The state of one Identifier of a lane (ours).
 use Rattle.std.specs.Prelude.{ℕ, Bool, true, false, Option, Some, None}
 use Rattle.roam_ids.specs.declared.id_state.IdState.{IdState}
 use Rattle.roam_ids.specs.declared.id_state.IdState.TheVariants.{Free, Out, Parked}

@@ -1,8 +1,8 @@
-//! What stands at an Identifier of a lane.
+//! The state of an Identifier of a lane.
 ghost use Rattle.std.specs.Prelude.{◌≡◌};
 ghost use Rattle.roam_ids.specs.Standing.{is_in_use};
 
-/// What stands at an Identifier.
+/// The state of an Identifier.
 #[derive(Clone, Copy)]
 pub(crate) enum IdState {
     /// Nobody has it.

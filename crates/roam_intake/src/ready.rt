@@ -1,10 +1,10 @@
-//! Which receivers are ready: those from which something may be received.
+//! The receivers that are ready: those from which something may be received.
 
 use mio::{Events, Token};
 use roam_sockets::{Receiver, WAIT_AFTER_FAULT};
 use std::alloc::Global;
 
-/// How long a worker waits for a datagram, in milliseconds, where none comes and nobody wakes it.
+/// The time that a worker waits for a datagram, in milliseconds, where none comes and nobody wakes it.
 pub const WAIT: u64 = 1000;
 
 /// Marks a receiver as ready.

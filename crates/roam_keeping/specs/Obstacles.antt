@@ -1,4 +1,4 @@
--- What is said of what stands at a path where no file of sessions can stand, behind the path. Ours.
+-- The text about the thing at a path where no sessions' file can stand, behind the path. Ours.
 use Rattle.std.specs.Prelude.{ℕ, List, codes}
 use Rattle.roam_keeping.specs.declared.obstacle.Obstacle.{Obstacle}
 use Rattle.roam_keeping.specs.declared.obstacle.Obstacle.TheVariants as obstacle

@@ -1,4 +1,4 @@
--- Who writes a file (ours).
+-- The turn to write a file (ours).
 use Rattle.roam_keeping.specs.declared.turn.Turn.{Turn}
 use Rattle.roam_keeping.specs.declared.turn.Turn.TheVariants as turn
 

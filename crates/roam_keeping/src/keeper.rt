@@ -10,7 +10,7 @@ use std::thread::Parker;
 #[derive(Drop)]
 pub struct Keeper {
     turn: Mutex<Turn>,
-    /// What the thread that writes sleeps on.
+    /// The parker on which the thread that writes sleeps.
     wake: Parker,
 }
 

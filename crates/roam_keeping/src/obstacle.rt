@@ -1,4 +1,4 @@
-//! What stands at a path where no file of ledgers can stand.
+//! The things at a path where no sessions' file can stand.
 
 ghost use Rattle.std.specs.Prelude.{◌≡◌, ◌↔◌, ◌<◌, IsTrue};
 ghost use Rattle.roam_keeping.specs.Obstacles.{obstacle_text};
@@ -7,10 +7,10 @@ use std::fs;
 use std::fs::{Files, Metadata};
 use std::os::unix::fs::FileTypeExt;
 
-/// How many octets a file of ledgers has at most: one GiB.
+/// The number of octets that a sessions' file has at most: one GiB.
 pub const LARGEST: u64 = 1 << 30;
 
-/// Why the file of a path isn't read, and nothing is written there.
+/// The cause why the file of a path isn't read, and nothing is written there.
 #[derive(Clone, Copy, Debug, PartialEq, Eq)]
 pub enum Obstacle {
     /// A symbolic link stands there.

@@ -1,4 +1,4 @@
-//! Whose turn it is: that of who hands over octets, or of the thread that writes them.
+//! The turn: that of whoever hands over octets, or of the thread that writes them.
 
 ghost use Rattle.std.specs.Prelude.{◌≡◌, ◌↔◌, Some, None, IsTrue, IsFalse, IfNone, IfSome};
 ghost use Rattle.roam_keeping.specs.Turns.{IsBusy};
@@ -10,7 +10,7 @@ pub struct Job {
     pub octets: Vec<u8>,
 }
 
-/// How the writing of the file of a path ended.
+/// The end of the writing of the file of a path.
 #[derive(Drop)]
 pub struct Written {
     pub path: String,
@@ -18,7 +18,7 @@ pub struct Written {
     pub fault: Option<u32>,
 }
 
-/// Whose turn it is.
+/// The holder of the turn.
 #[derive(Drop)]
 pub enum Turn {
     /// Something may be handed over.

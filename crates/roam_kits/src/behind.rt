@@ -12,12 +12,12 @@ use std::sync::Wait;
 use std::thread::{Scope, Threads};
 use std::time::Clock;
 
-/// What the threads that outlast each configuration share.
+/// The parts that are shared by the threads that outlast each configuration.
 #[derive(Clone, Copy)]
 pub struct Behind<'s> {
     pub office: &'s Office,
     pub old_history: &'s OldHistory,
-    /// Where the counts are asked for, if anywhere.
+    /// The socket at which the counts are asked for, if any.
     pub listener: Option<&'s TcpListener>,
     /// Through which the server is asked for more, if through any.
     pub control: Option<&'s ControlSocket>,

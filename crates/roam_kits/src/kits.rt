@@ -1,5 +1,4 @@
-//! What the threads are made of that names no hub: all of it is there before a configuration is served, or follows
-//! another.
+//! The parts of the threads that name no hub: all of it is there before a configuration is served, or follows another.
 
 ghost use Rattle.std.specs.Prelude.{◌≡◌, IfErr};
 ghost use Rattle.roam_sockets.specs.Faults.{IsAfterBinding};
@@ -7,7 +6,7 @@ ghost use Rattle.roam_sockets.specs.Faults.{IsAfterBinding};
 use crate::dealing::register;
 use mio::{Events, Waker};
 use roam_conf::{Config, ExchangeLines};
-use roam_notices::Exchange;
+use roam_log::Exchange;
 use roam_outgoing::ROOM_EVENTS;
 use roam_port::Outbox;
 use roam_sockets::{BoundSocket, Polls, RECEIVED, ServeFault, make_polls, make_waker};
@@ -16,7 +15,7 @@ use rtrb::Consumer;
 use std::alloc::Global;
 use std::net::Net;
 
-/// What a worker or the timer is made of.
+/// The parts of a worker or the timer.
 #[derive(Drop)]
 pub struct Kit {
     pub polls: Polls,
@@ -32,7 +31,7 @@ pub struct Kit {
     pub buffer: Vec<u8>,
 }
 
-/// What the timer and the workers are made of.
+/// The parts of the timer and the workers.
 pub struct ThreadKits {
     pub timer: Kit,
     pub workers: Vec<Kit>,
@@ -45,9 +44,9 @@ impl Drop for ThreadKits {
     }
 }
 
-/// What all threads are made of.
+/// The parts of all threads.
 pub struct Kits {
-    /// What ends the wait of the timer, the first, and of each worker.
+    /// The wakers that end the wait of the timer, the first, and of each worker.
     pub wakers: Vec<Waker>,
     pub threads: ThreadKits,
 }
@@ -59,7 +58,7 @@ impl Drop for Kits {
 }
 
 impl ThreadKits {
-    /// That of the timer, and those of the workers.
+    /// Takes them apart: the timer's, and those of the workers.
     pub fn into_parts(self) -> (Kit, Vec<Kit>)
         ensures timer { result.0 ≡ self.timer }
         ensures workers { result.1 ≡ self.workers }

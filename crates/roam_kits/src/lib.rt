@@ -1,5 +1,5 @@
-//! What the threads of a configuration are made of that names no hub, the threads that outlast each configuration, and
-//! the one that tells notices and lines of exchanges that ended.
+//! The parts of a configuration's threads that name no hub, the threads that outlast each configuration, and the one
+//! that writes notices and lines of exchanges that ended.
 //!
 //! All of it is there before a configuration is served, or follows another; `roam_threads` makes the threads of it once
 //! the hub is open. The logger takes what is told from the queues of the others, and hands it to a log that holds

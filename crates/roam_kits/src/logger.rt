@@ -5,19 +5,18 @@ use log::{Level, Log, info, log_enabled};
 use roam_conf::Config;
 use roam_counters::Process;
 use roam_counting::ThreadCounts;
-use roam_notices::{Exchange, push_exchange};
-use roam_stations::StationForm;
+use roam_log::{Exchange, StationForm, push_exchange};
 use roam_telling::{Notice, notices_in, tell};
 use rtrb::Consumer;
 use std::str;
 use std::sync::Wait;
 use std::thread::Parker;
 
-/// How many octets of lines are told at once: a log has room for 32,768 where it has any, and before each line stands
-/// its time.
+/// The number of octets of lines that are written at once: a log has room for 32,768 where it has any, and before each
+/// line stands its time.
 const OCTETS_AT_ONCE: usize = 24_000;
 
-/// How many lines are told at once.
+/// The number of lines that are written at once.
 const LINES_AT_ONCE: u32 = 64;
 
 /// Tells a notice where the log has room for it. Answers whether it has.
@@ -60,7 +59,7 @@ fn push_line(
 #[derive(Clone, Copy)]
 struct Batch {
     lines: u64,
-    /// For how many more there was no memory.
+    /// The number for which there was no memory.
     lost: u64,
 }
 
@@ -154,11 +153,11 @@ fn empty_all_lines<R: Wait + Log>(
 /// The queues of lines of exchanges.
 pub struct ExchangeQueues<'s> {
     pub queues: Vec<Consumer<Exchange>>,
-    /// How lines have a station.
+    /// The form of a Calling-Station-Id in lines.
     pub stations: StationForm,
-    /// Where it is counted what is dropped.
+    /// The counts of what is dropped.
     pub counts: Option<ThreadCounts<'s>>,
-    /// How many were dropped of which that isn't said yet.
+    /// The number that were dropped and aren't reported yet.
     pub dropped: u64,
 }
 
@@ -184,7 +183,7 @@ fn are_abandoned(queues: &mut [Consumer<Notice>]) -> bool {
     all
 }
 
-/// What the logger takes with it.
+/// The parts that the logger takes with it.
 pub struct Logger<'s> {
     pub queues: Vec<Consumer<Notice>>,
     pub lines: ExchangeQueues<'s>,

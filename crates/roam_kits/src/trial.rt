@@ -1,4 +1,4 @@
-//! Whether the system gives as many threads as are to start.
+//! The check that the system gives as many threads as are to start.
 
 use std::sync::{Mutex, Wait};
 use std::thread;

@@ -1,5 +1,5 @@
--- How a label's value is read (Prometheus' text format, version 0.0.4): up to the first quotation mark before which no
--- reverse solidus stands.
+-- The reading of a label's value (Prometheus' text format, version 0.0.4): up to the first quotation mark before which
+-- no reverse solidus stands.
 use Rattle.std.specs.Prelude.{◌≢◌, ℕ, List, [], ◌∷◌, ◌++◌}
 use Rattle.roam_metrics.specs.Lines.{escaped}
 

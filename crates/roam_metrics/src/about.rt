@@ -1,4 +1,4 @@
-//! Which server is told of, since when it serves, and what came of its reloads.
+//! The server that is described, since when it serves, and the results of its reloads.
 
 ghost use Rattle.std.specs.Prelude.{◌≡◌};
 ghost use Rattle.roam_metrics.specs.About as spec;
@@ -6,22 +6,22 @@ ghost use Rattle.roam_metrics.specs.About as spec;
 /// The reloads of which one thing came.
 #[derive(Clone, Copy, PartialEq, Eq)]
 pub struct Reloads {
-    /// How many there were.
+    /// The number of them.
     pub times: u64,
-    /// When the last one was, in milliseconds since the server's start; none where there was none.
+    /// The time of the last one, in milliseconds since the server's start; none where there was none.
     pub last: Option<u64>,
 }
 
-/// Which server is told of.
+/// The server that is described.
 #[derive(Clone, Copy, PartialEq, Eq)]
 pub struct About {
     /// The version of the program.
     pub version: &'static str,
     /// The line of the toolchain that proved it.
     pub toolchain: &'static str,
-    /// When the server started, in seconds since 1970; none where the system's clock didn't tell.
+    /// The time when the server started, in seconds since 1970; none where the system's clock didn't tell.
     pub began: Option<u64>,
-    /// For how long it serves, in milliseconds.
+    /// The time for which it serves, in milliseconds.
     pub uptime: u64,
     /// The reloads after which another configuration was served.
     pub served: Reloads,

@@ -29,7 +29,7 @@ fn push_build(page: &mut Vec<u8>, about: &About) -> Result<(), AllocError>
         value: about.toolchain,
     };
     let name = "roam_build_info";
-    let help = "Which program serves: always 1.";
+    let help = "The version that runs: always 1.";
     push_header(page, name, help, MetricKind::Gauge)?;
     push_sample(page, name, &[version, toolchain], 1)
 }
@@ -42,7 +42,7 @@ fn push_start(page: &mut Vec<u8>, about: &About) -> Result<(), AllocError>
         return Ok(());
     };
     let name = "process_start_time_seconds";
-    let help = "When the server started, in seconds since 1970.";
+    let help = "Start of the server, in seconds since 1970.";
     push_header(page, name, help, MetricKind::Gauge)?;
     push_sample(page, name, &[], began)
 }
@@ -52,7 +52,7 @@ fn push_reloads(page: &mut Vec<u8>, about: &About) -> Result<(), AllocError>
     ensures { OnOk result (MoreLines page.old.items page.new.items) }
 {
     let name = "roam_reloads_total";
-    let help = "Reloads, by whether another configuration was served or nothing changed.";
+    let help = "Reloads, by outcome: a new configuration is served, or nothing changed.";
     push_header(page, name, help, MetricKind::Counter)?;
     push_sample(page, name, &[outcome("served")], about.served.times)?;
     push_sample(page, name, &[outcome("declined")], about.declined.times)
@@ -82,13 +82,13 @@ fn push_lasts(page: &mut Vec<u8>, about: &About) -> Result<(), AllocError>
     ensures { OnOk result (MoreLines page.old.items page.new.items) }
 {
     let name = "roam_last_reload_timestamp_seconds";
-    let help = "When the last such reload was, in seconds since 1970.";
+    let help = "Last reload with that outcome, in seconds since 1970.";
     push_header(page, name, help, MetricKind::Gauge)?;
     push_last(page, name, about, about.served, "served")?;
     push_last(page, name, about, about.declined, "declined")
 }
 
-/// What bounds a realm.
+/// A bound of a realm.
 #[derive(Clone, Copy)]
 enum Limit {
     Pending,
@@ -105,8 +105,8 @@ impl Limit {
 
     fn help(self) -> &'static str {
         match self {
-            Limit::Pending => "How many requests may wait at once.",
-            Limit::Sessions => "How many sessions the ledger has room for.",
+            Limit::Pending => "Limit of requests that wait at once.",
+            Limit::Sessions => "Limit of sessions in the session table.",
         }
     }
 

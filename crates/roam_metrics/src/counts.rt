@@ -1,9 +1,9 @@
-//! What a page is made of.
+//! The parts of a page.
 
 use crate::gauges::Gauge;
 use roam_counters::{CountedEvent, Process, Subject};
 
-/// What was counted.
+/// The counts.
 pub trait Counts {
     /// Returns how often an event was counted of a subject.
     fn event(&self, subject: Subject, event: CountedEvent) -> u64;

@@ -19,11 +19,11 @@ pub struct Family {
     pub realm: &'static str,
     pub server: &'static str,
     pub peer: &'static str,
-    /// What it means.
+    /// The meaning of it.
     pub help: &'static str,
     /// The name of the label that tells its samples apart; none where it has one.
     pub label: Option<&'static str>,
-    /// What is counted, each with the label's value.
+    /// The events that are counted, each with the label's value.
     pub samples: &'static [(&'static str, CountedEvent)],
 }
 

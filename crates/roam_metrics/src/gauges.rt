@@ -2,28 +2,28 @@
 
 use roam_counters::Subject;
 
-/// What stands at a moment.
+/// A number that stands at a moment.
 #[derive(Clone, Copy, PartialEq, Eq)]
 pub enum Gauge {
-    /// How many requests of this realm wait for a reply: as many Identifiers are in use.
+    /// The requests of this realm that wait for a reply: as many Identifiers are in use.
     Waiting(u16),
-    /// How many replies of this realm are held for duplicates.
+    /// The replies of this realm that are held for duplicates.
     Held(u16),
-    /// How many sessions are open in this realm's ledger.
+    /// The sessions that are open in this realm's table.
     Sessions(u16),
-    /// How many Identifiers are in use toward the `auth` endpoint of a home server, by the realm's index and its own.
+    /// The Identifiers in use toward the `auth` endpoint of a home server, by the realm's index and its own.
     AuthInUse(u16, u8),
     /// The same of its `acct` endpoint.
     AcctInUse(u16, u8),
-    /// For how many milliseconds more its `auth` endpoint rests since it kept silent; 0 where it doesn't.
+    /// The milliseconds for which its `auth` endpoint is dead still; 0 where it isn't.
     AuthRest(u16, u8),
     /// The same of its `acct` endpoint.
     AcctRest(u16, u8),
-    /// How many requests were given up at its `auth` endpoint since a reply of it was last taken: at most 256.
+    /// The requests that were given up at its `auth` endpoint since a reply of it was last taken: at most 256.
     AuthUnanswered(u16, u8),
     /// The same of its `acct` endpoint.
     AcctUnanswered(u16, u8),
-    /// How many octets the datagrams of all stored steps have.
+    /// The octets of the datagrams of all stored steps.
     HistoryOctets,
 }
 
@@ -66,12 +66,12 @@ impl OfGauges {
         match self {
             OfGauges::Waiting => "Requests that wait for a reply: as many Identifiers are in use.",
             OfGauges::Held => "Replies that are held for duplicates of their requests.",
-            OfGauges::Sessions => "Sessions that are open in the ledger.",
+            OfGauges::Sessions => "Sessions in the session table.",
             OfGauges::InUse =>
                 "Identifiers in use toward a home server's endpoint, of 256 for each out of its kind.",
-            OfGauges::Rests => "Whether a home server's endpoint rests since it kept silent.",
+            OfGauges::Rests => "1 while a home server's endpoint is marked dead, else 0.",
             OfGauges::Unanswered => {
-                "Requests that were given up there since a reply was last taken, 256 at most."
+                "Requests without an answer there since the last accepted reply, 256 at most."
             }
         }
     }

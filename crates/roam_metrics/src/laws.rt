@@ -1,4 +1,4 @@
-//! That no octet of a name forges a line.
+//! Laws: no octet of a name forges a line.
 
 ghost use Rattle.roam_metrics.specs.Labels.{ReadsBack};
 

@@ -14,7 +14,7 @@ pub(crate) struct OfServer {
 pub(crate) static OF_SERVER: [OfServer; 7] = [
     OfServer {
         name: "roam_received_datagrams_total",
-        help: "Datagrams that were received.",
+        help: "Datagrams received.",
         label: "place",
         samples: &[
             ("auth", Process::ReceivedAuth),
@@ -25,7 +25,7 @@ pub(crate) static OF_SERVER: [OfServer; 7] = [
     },
     OfServer {
         name: "roam_handled_datagrams_total",
-        help: "What became of the datagrams that were received.",
+        help: "Datagrams received, by what was done with them.",
         label: "outcome",
         samples: &[
             ("taken", Process::DatagramTaken),
@@ -37,13 +37,13 @@ pub(crate) static OF_SERVER: [OfServer; 7] = [
     },
     OfServer {
         name: "roam_sent_packets_total",
-        help: "Packets that were handed to a socket.",
+        help: "Packets handed to a socket.",
         label: "outcome",
         samples: &[("sent", Process::Sent)],
     },
     OfServer {
         name: "roam_lost_packets_total",
-        help: "Packets that were to leave and are lost.",
+        help: "Packets lost before they left.",
         label: "cause",
         samples: &[
             ("full_ring", Process::LostFullRing),
@@ -54,7 +54,7 @@ pub(crate) static OF_SERVER: [OfServer; 7] = [
     },
     OfServer {
         name: "roam_history_steps_total",
-        help: "Steps of histories.",
+        help: "Steps recorded in the shards' histories.",
         label: "outcome",
         samples: &[("stored", Process::Step), ("let_go", Process::StepLetGo)],
     },
@@ -69,7 +69,7 @@ pub(crate) static OF_SERVER: [OfServer; 7] = [
     },
     OfServer {
         name: "roam_history_let_go_total",
-        help: "How often a shard's stored steps were let go of.",
+        help: "Times that a shard's stored steps were cleared.",
         label: "outcome",
         samples: &[("let_go", Process::TimeLetGo)],
     },

@@ -21,7 +21,7 @@ use roam_conf::Config;
 use roam_counters::Subject;
 use std::alloc::{AllocError, Global};
 
-/// What is told of realms, home servers and peers, in this order.
+/// The families of realms, home servers and peers, in this order.
 static FAMILIES: [Family; 21] = [
     CAME,
     FORWARDED,
@@ -150,7 +150,7 @@ fn push_all_refusals<C: Counts>(page: &mut Vec<u8>, counts: &C) -> Result<(), Al
     push_header(
         page,
         name,
-        "Arrivals and ticks that were refused, by the number of the refusal.",
+        "Datagrams and timer runs that were dropped, by the number of the refusal.",
         MetricKind::Counter,
     )?;
     for (value, event) in REFUSED.samples {

@@ -1,4 +1,4 @@
-//! What is counted of replies, answers and refusals. The numbers of the refusals are compared with `roam_wire`'s by
+//! The counts of replies, answers and refusals. The numbers of the refusals are compared with `roam_wire`'s by
 //! `tools/lists.py`.
 
 use crate::family::Family;
@@ -9,7 +9,7 @@ pub const REPLIES: Family = Family {
     realm: "roam_realm_replies_total",
     server: "roam_server_replies_total",
     peer: "roam_peer_replies_total",
-    help: "Replies that came, taken or refused.",
+    help: "Replies that came, accepted or dropped.",
     label: Some("code"),
     samples: &[
         (
@@ -45,7 +45,7 @@ pub const RETURNED: Family = Family {
     realm: "roam_realm_returned_total",
     server: "roam_server_returned_total",
     peer: "roam_peer_returned_total",
-    help: "Replies that were taken and returned.",
+    help: "Replies accepted and returned.",
     label: Some("code"),
     samples: &[
         (
@@ -81,7 +81,7 @@ pub(crate) const ANSWERED: Family = Family {
     realm: "roam_realm_answered_total",
     server: "roam_server_answered_total",
     peer: "roam_peer_answered_total",
-    help: "Requests answered at once: duplicates by a held reply, NAKs, and the broker's own answers.",
+    help: "Requests answered at once: duplicates by a held reply, NAKs, and the proxy's own answers.",
     label: Some("code"),
     samples: &[
         (
@@ -153,7 +153,7 @@ pub(crate) const NAKS: Family = Family {
     realm: "roam_realm_naks_total",
     server: "roam_server_naks_total",
     peer: "roam_peer_naks_total",
-    help: "Disconnect- and CoA-Requests that the broker answered by a NAK of its own.",
+    help: "Disconnect- and CoA-Requests that the proxy answered with a NAK of its own.",
     label: Some("error_cause"),
     samples: &[
         ("401", CountedEvent::Nak(NakCause::UnsupportedAttribute)),
@@ -172,7 +172,7 @@ pub const REFUSED: Family = Family {
     realm: "roam_realm_refusals_total",
     server: "roam_server_refusals_total",
     peer: "roam_peer_refusals_total",
-    help: "Arrivals that were refused, by the number of the refusal.",
+    help: "Datagrams that were dropped, by the number of the refusal.",
     label: Some("number"),
     samples: &[
         ("1", CountedEvent::Refused(Refusal::Short)),

@@ -1,4 +1,4 @@
-//! What is counted of requests.
+//! The counts of requests.
 
 use crate::family::Family;
 use roam_counters::{CountedEvent, RequestKind};
@@ -7,7 +7,7 @@ pub const CAME: Family = Family {
     realm: "roam_realm_requests_total",
     server: "roam_server_requests_total",
     peer: "roam_peer_requests_total",
-    help: "Requests that passed the checks of their arrival.",
+    help: "Requests that passed all checks.",
     label: Some("code"),
     samples: &[
         ("access_request", CountedEvent::Request(RequestKind::Access)),
@@ -50,7 +50,7 @@ pub const SENT_AGAIN: Family = Family {
     realm: "roam_realm_sent_again_total",
     server: "roam_server_sent_again_total",
     peer: "roam_peer_sent_again_total",
-    help: "Requests that were sent to the same server again, since no reply came.",
+    help: "Requests sent again to the same server, since no reply came.",
     label: Some("code"),
     samples: &[
         (
@@ -73,7 +73,7 @@ pub const TAKEN_OVER: Family = Family {
     realm: "roam_realm_taken_over_total",
     server: "roam_server_taken_over_total",
     peer: "roam_peer_taken_over_total",
-    help: "Requests that were sent to a server since another one kept silent.",
+    help: "Requests sent to this server since another one did not answer.",
     label: Some("code"),
     samples: &[
         (
@@ -105,7 +105,7 @@ pub(crate) const ANSWERED_AGAIN: Family = Family {
     realm: "roam_realm_answered_duplicates_total",
     server: "roam_server_answered_duplicates_total",
     peer: "roam_peer_answered_duplicates_total",
-    help: "Requests that came again: the reply that is held was sent once more.",
+    help: "Requests that came again: the held reply was sent once more.",
     label: None,
     samples: &[("", CountedEvent::AnsweredAgain)],
 };
@@ -141,7 +141,7 @@ pub(crate) const REPLACED: Family = Family {
     realm: "roam_realm_replaced_total",
     server: "roam_server_replaced_total",
     peer: "roam_peer_replaced_total",
-    help: "Requests that waited, and made way for another of the same source, port and Identifier.",
+    help: "Waiting requests that were replaced by another of the same source, port and Identifier.",
     label: None,
     samples: &[("", CountedEvent::Replaced)],
 };
@@ -150,7 +150,7 @@ pub(crate) const DROPPED: Family = Family {
     realm: "roam_realm_dropped_total",
     server: "roam_server_dropped_total",
     peer: "roam_peer_dropped_total",
-    help: "Requests that waited, and that a reload with --lose dropped.",
+    help: "Waiting requests that a reload with --lose dropped.",
     label: None,
     samples: &[("", CountedEvent::DroppedRequest)],
 };
@@ -159,7 +159,7 @@ pub(crate) const DROPPED_REPLIES: Family = Family {
     realm: "roam_realm_dropped_replies_total",
     server: "roam_server_dropped_replies_total",
     peer: "roam_peer_dropped_replies_total",
-    help: "Replies that were held for duplicates, and that a reload with --lose dropped.",
+    help: "Held replies that a reload with --lose dropped.",
     label: None,
     samples: &[("", CountedEvent::DroppedReply)],
 };
@@ -186,7 +186,7 @@ pub(crate) const LOCAL_REJECTS: Family = Family {
     realm: "roam_realm_local_rejects_total",
     server: "roam_server_local_rejects_total",
     peer: "roam_peer_local_rejects_total",
-    help: "Access-Requests that the broker rejected before a realm was asked.",
+    help: "Access-Requests that the proxy rejected before a home server was asked.",
     label: None,
     samples: &[("", CountedEvent::LocalReject)],
 };

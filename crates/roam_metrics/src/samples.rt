@@ -115,7 +115,7 @@ fn write_seconds(
     push(page, b"\n")
 }
 
-/// What a metric is.
+/// The kind of a metric.
 #[derive(Clone, Copy, PartialEq, Eq)]
 pub enum MetricKind {
     /// It grows, or begins again at 0.

@@ -1,4 +1,4 @@
-//! How long home servers took to answer, as a histogram.
+//! The time that home servers took to answer, as a histogram.
 
 ghost use Rattle.std.specs.Prelude.{OnOk};
 ghost use Rattle.roam_metrics.specs.Pages.{MoreLines};

@@ -8,9 +8,9 @@ use Rattle.roam_port.specs.Queues.{AreMore}
 use Rattle.roam_port.specs.Sharing.{share_of}
 use Rattle.roam_port.specs.declared.outbox.Outbox.{Outbox}
 use Rattle.roam_port.specs.declared.sent.Sent.{Sent}
-use Rattle.roam_route.specs.Admission.{PlainOut}
-use Rattle.roam_route.specs.Shown.{shown_out}
-use Rattle.roam_route.specs.declared.datagram.Out.{Out}
+use Rattle.roam_admission.specs.Admission.{PlainOut}
+use Rattle.roam_admission.specs.Shown.{shown_out}
+use Rattle.roam_admission.specs.declared.datagram.Out.{Out}
 use Rattle.roam_sockets.specs.declared.place_sockets.PlaceSockets.{PlaceSockets}
 use Rattle.roam_sockets.specs.declared.socket.Socket.{Socket}
 use Rattle.roam_port.specs.Fates.{Becomes}

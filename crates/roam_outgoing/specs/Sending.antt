@@ -1,4 +1,4 @@
--- What becomes of the packets that a thread is given to send. Ours.
+-- The fates of the packets that a thread is given to send. Ours.
 use Rattle.std.specs.Prelude.{◌≡◌, ℕ, List, [], ◌∷◌, ◌++◌}
 use Rattle.std.specs.declared.alloc.Global.{Global}
 use Rattle.roam_exchange.specs.Turn.{shown_outs}
@@ -9,8 +9,8 @@ use Rattle.roam_port.specs.Queues.{AreMore}
 use Rattle.roam_port.specs.Sharing.{share_of}
 use Rattle.roam_port.specs.declared.outbox.Outbox.{Outbox}
 use Rattle.roam_port.specs.declared.sent.Sent.{Sent}
-use Rattle.roam_route.specs.Admission.{PlainOut}
-use Rattle.roam_route.specs.declared.datagram.Out.{Out}
+use Rattle.roam_admission.specs.Admission.{PlainOut}
+use Rattle.roam_admission.specs.declared.datagram.Out.{Out}
 use Rattle.roam_sockets.specs.PlaceSockets.{IsAsked, Makes}
 use Rattle.roam_sockets.specs.declared.place_sockets.PlaceSockets.{PlaceSockets}
 use Rattle.roam_sockets.specs.declared.socket.Socket.{Socket}

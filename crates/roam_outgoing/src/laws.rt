@@ -1,4 +1,4 @@
-//! What becomes of the packets that a thread is given to send.
+//! Laws of the packets that a thread is given to send.
 
 ghost use Rattle.roam_outgoing.specs.Sending.{GivenGoesOrWaits};
 

@@ -1,5 +1,5 @@
-//! What leaves a server's threads: packets on their way to the sockets, how many of them were lost, and stored steps that
-//! were let go of and are to be freed.
+//! The things that leave a server's threads: packets on their way to the sockets, how many of them were lost, and
+//! stored steps that were cleared and are to be freed.
 //!
 //! # Proved
 //!

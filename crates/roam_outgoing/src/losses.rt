@@ -1,4 +1,4 @@
-//! How many packets all threads lost, until that is told.
+//! The packets that all threads lost, until that is told.
 
 use crate::destination::Destination;
 use roam_conf::Endpoint;
@@ -13,7 +13,7 @@ pub const CAUSES: [LossCause; 4] = [
     LossCause::Other,
 ];
 
-/// How many packets all threads lost, by their cause, that weren't told yet, and where one of them went.
+/// The number of packets that all threads lost, by their cause, that weren't told yet, and where one of them went.
 #[derive(Drop)]
 pub struct SharedLosses {
     full_ring: AtomicU64,

@@ -2,7 +2,7 @@
 
 ghost use Rattle.std.specs.Prelude.{◌<◌, []};
 
-use roam_trace::Step;
+use roam_shard::Step;
 use std::alloc::{AllocError, Global};
 use std::sync::atomic::{AtomicBool, AtomicU64, Ordering};
 use std::sync::{Mutex, Wait};
@@ -13,17 +13,17 @@ use std::time::{Clock, Duration};
 /// Stored steps of a shard.
 pub type Steps = Vec<Step<Global>>;
 
-/// How many steps are freed while the others are kept from everybody else.
+/// The number of steps that are freed while the others are kept from everybody else.
 const AT_ONCE: usize = 20;
 
-/// How often the thread beside does that in a row, and how long it leaves the others to the workers then, in
-/// milliseconds.
+/// The number of times that the thread beside does that in a row, and the time that it leaves the others to the workers
+/// then, in milliseconds.
 const IN_A_ROW: u32 = 10;
 
 const PAUSE: u64 = 10;
 
-/// How many steps a worker frees when it has stored so many: more, so that all are freed before as many are stored
-/// again.
+/// The number of steps that a worker frees when it has stored so many: more, so that all are freed before as many are
+/// stored again.
 const FREED: usize = 5;
 
 const STORED: u64 = 4;
@@ -35,9 +35,9 @@ const STORED: u64 = 4;
 #[derive(Drop)]
 pub struct OldHistory {
     waiting: Mutex<Vec<Steps>>,
-    /// What the thread that frees them sleeps on.
+    /// The parker on which the thread that frees them sleeps.
     wake: Parker,
-    /// How often steps were let go of.
+    /// The number of times that steps were cleared.
     times: AtomicU64,
 }
 

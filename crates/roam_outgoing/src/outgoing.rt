@@ -7,22 +7,22 @@ ghost use Rattle.roam_port.specs.Outbox.{port_count};
 use crate::carried::outbox_for;
 use crate::losses::SharedLosses;
 use mio::{Events, Poll};
+use roam_admission::Out;
 use roam_counting::ThreadCounts;
 use roam_exchange::Outs;
 use roam_port::{Account, Outbox, Sent};
-use roam_route::Out;
 use roam_sockets::{PlaceSockets, Polls, Socket};
 use roam_wire::NoMemory;
 use std::alloc::Global;
 
-/// How many sockets that have room again are looked at in one go.
+/// The number of sockets with room again that are looked at in one go.
 pub const ROOM_EVENTS: usize = 64;
 
 /// The longest time, in milliseconds, that a thread waits before it tries a socket again that has no room and can't be
 /// watched.
 pub const RETRY_WITHIN: u64 = 10;
 
-/// What tells which sockets have room again.
+/// The events that tell which sockets have room again.
 pub struct RoomEvents {
     pub poll: Poll,
     pub events: Events<Global>,
@@ -45,12 +45,12 @@ pub struct Outgoing<'s> {
     /// In the order of their numbers.
     pub(crate) ports: Vec<PlaceSockets<Socket<'s>>>,
     losses: &'s SharedLosses,
-    /// Where it is counted what was sent, where somebody reads it.
+    /// The counts of what was sent, where somebody reads them.
     counts: Option<ThreadCounts<'s>>,
     pub(crate) room: RoomEvents,
-    /// How many sockets had no room and are watched.
+    /// The number of sockets that had no room and are watched.
     pub(crate) watched: usize,
-    /// Whether a socket had no room, and the system can't be asked to tell when it has some.
+    /// True where a socket had no room, and the system can't be asked to tell when it has some.
     pub(crate) is_unwatched: bool,
     ghost as_many: { port_count outbox ≤ vec_len ports },
 }
@@ -78,7 +78,7 @@ impl<'s> Outgoing<'s> {
     ghost use Rattle.roam_exchange.specs.Turn.{shown_outs};
     ghost use Rattle.roam_outgoing.specs.Sending.{PutsEach, outbox_in};
     ghost use Rattle.roam_port.specs.Outbox.{account_of, told_of};
-    ghost use Rattle.roam_route.specs.Shown.{shown_out};
+    ghost use Rattle.roam_admission.specs.Shown.{shown_out};
 
     /// The packets that still wait for room at a socket.
     pub fn into_outbox(self) -> Outbox<Global>

@@ -10,7 +10,7 @@ impl Outgoing<'_> {
     ghost use Rattle.std.specs.Prelude.{◌≡◌, []};
     ghost use Rattle.roam_outgoing.specs.Sending.{PutsEach, outbox_in};
 
-    /// Where sending blocked, asks to be told when the sockets for which packets stand aside have room.
+    /// Asks to be told when the sockets for which packets stand aside have room, where sending blocked.
     pub(crate) fn watch(&mut self, is_blocked: bool)
         ensures { outbox_in self.new ≡ outbox_in self.old }
     {

@@ -1,4 +1,4 @@
--- What stands before each line that a server tells. Ours.
+-- The octets before each line that a server writes. Ours.
 use Rattle.std.specs.Prelude.{ℕ, ◌==◌, List, [], ◌∷◌, ◌++◌, codes, if◌then◌else◌}
 use Rattle.std.specs.Fmt.{decimal}
 use Rattle.std.specs.List.{flat_map}

@@ -1,4 +1,4 @@
-//! What a server tells goes to standard error through an outlet, for which nobody waits: a thread beside writes what lies there.
+//! The outlet to standard error, for which nobody waits: a thread beside writes what lies there.
 //!
 //! A line begins as whoever reads the log wants it: a priority for the journal, else the moment and the level.
 #![tactic(auto)]

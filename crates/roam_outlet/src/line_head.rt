@@ -1,5 +1,5 @@
-//! What stands before each line that a server tells: a time and a level, or in the journal, which has times by itself, a
-//! priority and a level (sd-daemon(3)).
+//! The octets before each line that a server writes: a time and a level, or in the journal, which has times by itself,
+//! a priority and a level (sd-daemon(3)).
 
 ghost use Rattle.std.specs.Prelude.{◌≡◌, ◌++◌, [], OnOk, Some};
 ghost use Rattle.roam_outlet.specs.Heads as heads;
@@ -13,7 +13,7 @@ use std::os::unix::fs::MetadataExt;
 use std::rt::{Clock, Env, Files};
 use std::{env, fmt, fs};
 
-/// Who reads what is told.
+/// The reader of the log.
 #[derive(Clone, Copy, Debug, PartialEq, Eq)]
 pub enum LogReader {
     Journal,
@@ -45,7 +45,7 @@ fn level_word(level: Level) -> &'static str
     }
 }
 
-/// What stands before a line in the journal.
+/// The octets before a line in the journal.
 #[derive(Clone, Copy)]
 struct JournalHead(Level);
 

@@ -19,14 +19,14 @@ use std::thread::Parker;
 use std::time::{Clock, Duration};
 use std::{io, thread};
 
-/// How many octets are written at once: as many as a pipe takes whole (pipe(7), `PIPE_BUF`).
+/// The number of octets that are written at once: as many as a pipe takes whole (pipe(7), `PIPE_BUF`).
 const AT_ONCE: usize = 4096;
 
-/// How long after a write that failed the next one is made, in milliseconds.
+/// The time between a write that failed and the next one, in milliseconds.
 const PAUSE: u64 = 100;
 
-/// How often it is looked at the end whether all is written, and how long before the next look, in milliseconds: a
-/// second in all.
+/// The number of looks at the end whether all is written, and the time before the next look, in milliseconds: a second
+/// in all.
 const LOOKS: u32 = 100;
 
 const BETWEEN_LOOKS: u64 = 10;
@@ -46,9 +46,9 @@ pub struct Outlet {
     alloc: Global,
     reader: LogReader,
     waiting: Mutex<Waiting>,
-    /// What the thread that writes them sleeps on.
+    /// The parker on which the thread that writes them sleeps.
     wake: Parker,
-    /// Whether it is to end once all is written.
+    /// True where it is to end once all is written.
     is_over: AtomicBool,
 }
 

@@ -6,19 +6,19 @@ ghost use Rattle.memchr.specs.Find.{is_byte, places};
 use memchr::memchr_iter;
 use std::alloc::Global;
 
-/// How many octets of lines may wait.
+/// The number of octets of lines that may wait.
 pub const ROOM: usize = 1 << 20;
 
-/// For how many octets there is room where there is room for one more: more than is told at once.
+/// The number of octets for which there is room where there is room for one more: more than is told at once.
 pub const ONE_MORE: usize = 32768;
 
 /// Lines that wait.
 #[derive(Drop)]
 pub struct Waiting {
     pub text: Vec<u8>,
-    /// How many lines the thread has that writes them, and hasn't written yet.
+    /// The number of lines that the thread has that writes them, and hasn't written yet.
     pub in_hand: u64,
-    /// For how many lines there was no room, of which that isn't told yet.
+    /// The number of lines for which there was no room, and that aren't reported yet.
     pub dropped: u64,
     ghost in_room: { vec_len text ≤ 1048576 },
 }

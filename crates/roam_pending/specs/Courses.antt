@@ -1,5 +1,5 @@
--- Which round of a conversation a request is (RFC 2865, section 5.24; that it is noted is ours). No rule reads it, so
--- no packet and no answer rests on it: lines and counts tell it.
+-- The round of a conversation that a request is (RFC 2865, section 5.24; that it is noted is ours). No rule reads it,
+-- so no packet and no answer rests on it: lines and counts tell it.
 use Rattle.std.specs.Prelude.{ℕ, ◌+◌, ◌-◌, ◌^◌, ◌==◌, ◌&&◌, not, min, is_some, Bool, false, List, [], ◌∷◌, Some, None}
 use Rattle.roam_wire.specs.declared.code.TheConstants.{ACCESS_CHALLENGE}
 use Rattle.roam_pending.specs.PlainEntry.{PlainStanding, PlainEntry, waiting, done}

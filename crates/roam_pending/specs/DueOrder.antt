@@ -1,4 +1,4 @@
--- Which entries are due, in order of deadline and ticket (ours).
+-- The entries that are due, in order of deadline and ticket (ours).
 use Rattle.std.specs.Prelude.{ℕ, ◌==◌, ◌&&◌, ◌||◌, Bool, true, List, [], ◌∷◌, Option, Some, None, if◌then◌else◌, map, nat_lt, nat_le}
 use Rattle.std.specs.List.{filter, find}
 use Rattle.roam_pending.specs.declared.due.Due.{Due}

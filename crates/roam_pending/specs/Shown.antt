@@ -1,4 +1,4 @@
--- What the code's entries are seen as.
+-- The code's entries, as they are seen.
 use Rattle.std.specs.Prelude.{List, map, Option, option_map}
 use Rattle.std.specs.Borrow.{Bor}
 use Rattle.roam_pending.specs.declared.entry.Entry.{Entry}

@@ -1,4 +1,4 @@
-//! Which entry keeps a round of a conversation: a Challenge that is held, with its State.
+//! The entry that keeps a round of a conversation: a Challenge that is held, with its State.
 
 ghost use Rattle.std.specs.Prelude.{◌≡◌, option_map};
 ghost use Rattle.std.specs.Option.{option_or};

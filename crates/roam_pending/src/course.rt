@@ -1,4 +1,4 @@
-//! Which round of a conversation a request is (RFC 2865, section 5.24).
+//! The round of a conversation that a request is (RFC 2865, section 5.24).
 //!
 //! No rule reads it, so that no packet and no answer rests on it: lines and counts tell it.
 
@@ -11,12 +11,12 @@ use crate::key::Requester;
 use roam_wire::code::ACCESS_CHALLENGE;
 use std::alloc::Allocator;
 
-/// Where a request stands in its conversation.
+/// The place of a request in its conversation.
 #[derive(Clone, Copy)]
 pub struct Course {
-    /// When the first request of the conversation came in, in milliseconds.
+    /// The time when the first request of the conversation came in, in milliseconds.
     pub began: u64,
-    /// Which of its rounds this is, from 1 on.
+    /// The number of this round among them, from 1 on.
     pub round: u32,
     /// The ticket of the last request that went on from this round, if one did.
     pub next: Option<u64>,

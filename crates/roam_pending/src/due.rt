@@ -1,6 +1,6 @@
-//! When an entry is due.
+//! The deadline of an entry.
 
-/// When an entry is due, and which one: dues are ordered by deadline, and at one deadline by ticket.
+/// The deadline of an entry, and its ticket: dues are ordered by deadline, and at one deadline by ticket.
 #[derive(Clone, Copy, PartialEq, Eq, PartialOrd, Ord)]
 pub struct Due {
     /// In milliseconds.

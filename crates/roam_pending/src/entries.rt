@@ -1,4 +1,4 @@
-//! What a realm's rules need of its entries, whatever keeps them.
+//! The interface of a realm's entries, as its rules need it, whatever keeps them.
 
 ghost use Rattle.std.specs.Prelude.{◌≡◌, ◌<◌, ◌≤◌, ◌+◌, ℕ, Bool, List, None, length, OnErr};
 ghost use Rattle.std.specs.Prelude.{OnOk, IsOk, IfSome, IsSomeAnd, IsTrue};
@@ -28,13 +28,13 @@ use std::alloc::Allocator;
 /// What goes in stands behind a `&mut`, since the check can't yet state a trait's method that takes a
 /// value with an allocator of the trait's by value. `insert_entry` and `set_standing` take it by value.
 pub trait Entries<A: Allocator> {
-    /// Whether the entries of the realm of this index are kept here.
+    /// The word whether the entries of the realm of this index are kept here.
     ghost keeps: { Self → ℕ → Bool };
 
     /// The entries of each realm.
     ghost entries_of: { Self → ℕ → List PlainEntry };
 
-    /// For how many more entries of a realm there is room without memory.
+    /// The number of further entries of a realm for which there is room without memory.
     ghost room_for: { Self → ℕ → ℕ };
 
     /// Returns how many entries the realm has.

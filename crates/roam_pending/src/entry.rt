@@ -32,26 +32,26 @@ pub struct Request<A: Allocator> {
     pub requester: Requester,
     /// The octets up to Length.
     pub octets: Octets<A>,
-    /// When it came in, in milliseconds. No rule reads it: lines tell it.
+    /// The time when it came in, in milliseconds. No rule reads it: lines tell it.
     pub came: u64,
-    /// Which round of its conversation it is. No rule reads it: lines and counts tell it.
+    /// The round of its conversation. No rule reads it: lines and counts tell it.
     pub course: Course,
 }
 
 /// A request that was forwarded and has no reply yet.
 #[derive(Drop)]
 pub struct Waiting<A: Allocator> {
-    /// Where it was forwarded to.
+    /// The link to which it was forwarded.
     pub link: Link,
     /// The Identifier that the forwarded packet has there.
     pub id: u8,
     /// The forwarded packet.
     pub forwarded: Octets<A>,
-    /// How often that packet may be sent again.
+    /// The number of times that this packet may be sent again.
     pub sends_left: u8,
     /// In milliseconds.
     pub deadline: u64,
-    /// How many signs of life the link had given when that packet was built, modulo 2^64.
+    /// The number of signs of life that the link had given when that packet was built, modulo 2^64.
     pub signs: u64,
 }
 
@@ -66,7 +66,7 @@ pub struct Done<A: Allocator> {
     pub from: Option<Link>,
 }
 
-/// How an entry stands.
+/// The state of an entry.
 #[derive(Drop)]
 pub enum Standing<A: Allocator> {
     Waiting(Waiting<A>),
@@ -85,8 +85,8 @@ impl<A: Allocator> Standing<A> {
         }
     }
 
-    /// What waits does so at this link, if one is given; of what is done the reply came from this one, if it came
-    /// from one.
+    /// Sets the link: the one at which a waiting request waits, if one is given; of an answered one that from which the
+    /// reply came, if it came from one.
     pub fn set_link(&mut self, link: Option<Link>)
         ensures { shown_standing self.new ≡ with_link link (shown_standing self.old) }
     {

@@ -1,12 +1,12 @@
-//! What tells one request from another, and who sent it.
+//! The key that tells one request from another, and who sent it.
 
 ghost use Rattle.std.specs.Prelude.{◌≡◌};
 ghost use Rattle.roam_pending.specs.PlainEntry.{same_key};
 
 use roam_conf::{Endpoint, Place};
 
-/// What makes two requests of a realm the same one to the broker, as long as their octets are equal
-/// too (RFC 2865, section 3: a duplicate has the same source and Identifier).
+/// The key by which two requests of a realm are the same one to the proxy, as long as their octets are equal too (RFC
+/// 2865, section 3: a duplicate has the same source and Identifier).
 #[derive(Clone, Copy, PartialEq, Eq, Hash)]
 pub struct Key {
     /// The broker's socket at which the request came in.
@@ -17,7 +17,7 @@ pub struct Key {
     pub id: u8,
 }
 
-/// Who sent a request: with whose shared secret its reply is signed.
+/// The sender of a request: with its shared secret the reply is signed.
 #[derive(Clone, Copy, PartialEq, Eq)]
 pub enum Requester {
     /// The peer of this index.

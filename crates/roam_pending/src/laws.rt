@@ -16,7 +16,7 @@ pub fn changes_keep_the_list()
     ensures removal { RemovalKeepsList }
 {}
 
-/// What is found by its ticket after a change, and how many entries there are.
+/// States what is found by its ticket after a change, and how many entries there are.
 pub fn changes_by_ticket()
     ensures put { PutIsFound }
     ensures put_others { PutKeepsOthers }
@@ -39,7 +39,7 @@ pub fn changes_of_one_realm()
     ensures { OneChangeOfTwo }
 {}
 
-/// What is found has what it was looked for by, and is the entry of its ticket.
+/// States that an entry which is found has what it was looked for by, and is the entry of its ticket.
 pub fn found_entries()
     ensures same_key { SameKeyIsEqual }
     ensures by_ticket { FoundByTicket }
@@ -60,7 +60,7 @@ pub fn used_identifiers()
     ensures { UsedIsFound }
 {}
 
-/// What is due is just the entries whose deadline is reached, in order of deadline and ticket.
+/// States that just the entries are due whose deadline is reached, in order of deadline and ticket.
 pub fn due_entries()
     ensures rising { DueRises }
     ensures reached { DueIsReached }

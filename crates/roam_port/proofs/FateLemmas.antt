@@ -5,7 +5,7 @@ use Rattle.std.specs.Prelude.{slice_get}
 use Rattle.std.specs.List.{AllByRecursion}
 use Rattle.std.proofs.Math.ListN.{set}
 use Rattle.std.proofs.lemmas.Bool.{cases_eq, eq-eqb, ne_eqb}
-use Rattle.roam_route.specs.declared.datagram.Out.{Out}
+use Rattle.roam_admission.specs.declared.datagram.Out.{Out}
 use Rattle.roam_port.specs.Fates.{Becomes, BecomesOf, Fate, IsFate, account_by, account_one, finds_no_place, given_of}
 use Rattle.roam_port.specs.Fates.{given_one, goes, gone_by, gone_one, waiting_by, waiting_one, waits, waits_on}
 use Rattle.roam_port.specs.Outbox.{IsLostBehind, IsPut, IsTriedAgain, waiting_of}

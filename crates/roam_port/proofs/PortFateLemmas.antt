@@ -4,7 +4,7 @@ use Rattle.std.proofs.Common.{◌∙◌, append_assoc}
 use Rattle.std.specs.Prelude.{slice_get}
 use Rattle.std.proofs.Math.ListN.{set}
 use Rattle.std.proofs.lemmas.Bool.{cases_eq, eq-eqb, ne_eqb}
-use Rattle.roam_route.specs.declared.datagram.Out.{Out}
+use Rattle.roam_admission.specs.declared.datagram.Out.{Out}
 use Rattle.roam_port.specs.Fates.{BecomesAt, Fate, GoesOrWaits, PortMakes, calls_by, calls_one, waits_on}
 use Rattle.roam_port.specs.Outbox.{Puts, PutsSending, SendsAll}
 use Rattle.roam_port.specs.Port.{MakesAll, PortCall, send_call}

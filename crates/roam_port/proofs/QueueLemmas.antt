@@ -3,7 +3,7 @@ use Rattle.std.proofs.Common.{◌≡◌, ◌≢◌, ℕ, suc, ◌+◌, List, [],
 use Rattle.std.proofs.Common.{Result, Ok, Err, refl, ap, sym, ◌∙◌, subst, arith}
 use Rattle.std.specs.List.{AllByRecursion}
 use Rattle.std.proofs.lemmas.List.{length-append}
-use Rattle.roam_route.specs.declared.datagram.Out.{Out}
+use Rattle.roam_admission.specs.declared.datagram.Out.{Out}
 use Rattle.roam_port.specs.Accounts.{accounted}
 use Rattle.roam_port.specs.Port.{MakesAll, PortCall, send_call}
 use Rattle.roam_port.specs.PortQueue.{Handed, HandsOldest, HandsOver, IsLeft, packets_of, calls_of, account_after}

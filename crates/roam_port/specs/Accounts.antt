@@ -1,4 +1,4 @@
--- What became of the packets that were put into an outbox, counted (ours).
+-- The fates of the packets that were put into an outbox, counted (ours).
 use Rattle.std.specs.Prelude.{◌≡◌, ℕ, ◌+◌, ◌-◌, ◌<◌, ◌^◌, Result, Ok, Err}
 use Rattle.roam_port.specs.Losses.{cause_of, counted, counted_if, losses_since, no_losses, one_more}
 use Rattle.roam_port.specs.declared.account.Account.{Account}

@@ -1,8 +1,8 @@
--- What becomes of the packets that are given to an outbox, one by one (ours).
+-- The fates of the packets that are given to an outbox, one by one (ours).
 use Rattle.std.specs.Prelude.{◌≡◌, ◌≢◌, ⊤, ℕ, ◌==◌, List, [], ◌∷◌, ◌++◌, Option, Some, None, Err, if◌then◌else◌}
 use Rattle.std.specs.Prelude.{slice_get}
 use Rattle.std.specs.List.{AllByRecursion}
-use Rattle.roam_route.specs.declared.datagram.Out.{Out}
+use Rattle.roam_admission.specs.declared.datagram.Out.{Out}
 use Rattle.roam_port.specs.Accounts.{accounted, after_loss, after_put}
 use Rattle.roam_port.specs.Outbox.{waiting_of}
 use Rattle.roam_port.specs.Port.{MakesAll, PortCall, send_call}

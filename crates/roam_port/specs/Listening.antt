@@ -1,8 +1,8 @@
--- What is heard at a socket, and how many of its receives failed in a row (ours).
+-- The datagrams that are heard at a socket, and how many of its receives failed in a row (ours).
 use Rattle.std.specs.Prelude.{◌≡◌, ◌==◌, ℕ, ◌+◌, min, true, List, Option, None, if◌then◌else◌}
 use Rattle.roam_conf.specs.declared.place.Place.{Place}
-use Rattle.roam_route.specs.Admission.{Arrival}
-use Rattle.roam_route.specs.Shown.{shown_arrival}
+use Rattle.roam_admission.specs.Admission.{Arrival}
+use Rattle.roam_admission.specs.Shown.{shown_arrival}
 use Rattle.roam_port.specs.Port.{PortCall, came, nothing_came, receive_failed, went, send_failed, IsOneCall}
 use Rattle.roam_port.specs.declared.heard.Heard.{Heard}
 use Rattle.roam_port.specs.declared.heard.Heard.TheVariants as heard

@@ -1,6 +1,6 @@
 -- The packets of a thread that are to leave: those that wait for each port, and those that are lost (ours).
 use Rattle.std.specs.Prelude.{◌≡◌, ◌≢◌, ◌⊎◌, ℕ, List, [], length, Bool, true, Option, Some, None, option_map, slice_get}
-use Rattle.roam_route.specs.declared.datagram.Out.{Out}
+use Rattle.roam_admission.specs.declared.datagram.Out.{Out}
 use Rattle.roam_port.specs.Accounts.{after_loss, after_put}
 use Rattle.roam_port.specs.Port.{PortCall}
 use Rattle.roam_port.specs.PortQueue.{is_idle}

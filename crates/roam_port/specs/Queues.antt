@@ -2,7 +2,7 @@
 use Rattle.std.specs.Prelude.{◌≡◌, ◌≢◌, ◌⊎◌, ⊤, ℕ, ◌+◌, ◌-◌, ◌^◌, min, List, [], ◌∷◌, ◌++◌, false, ◌||◌}
 use Rattle.std.specs.Prelude.{length, Some, slice_get, slice_set}
 use Rattle.std.specs.List.{AllByRecursion}
-use Rattle.roam_route.specs.declared.datagram.Out.{Out}
+use Rattle.roam_admission.specs.declared.datagram.Out.{Out}
 use Rattle.roam_port.specs.Port.{PortCall}
 use Rattle.roam_port.specs.PortQueue.{Drains, is_aside}
 use Rattle.roam_port.specs.declared.account.Account.{Account}

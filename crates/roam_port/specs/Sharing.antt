@@ -1,4 +1,4 @@
--- How many packets may wait for one port (ours).
+-- The number of packets that may wait for one port (ours).
 use Rattle.std.specs.Prelude.{ℕ, ◌/◌, max, min}
 
 -- ## Share of a port

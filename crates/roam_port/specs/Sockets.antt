@@ -1,5 +1,5 @@
--- Which sockets are which place's, by their number: `auth`, `acct`, then `out` and `reverse` of each
--- realm, where several of one kind have one number; that of a `reverse` that isn't there is nobody's (ours).
+-- The sockets of each place, by their number: `auth`, `acct`, then `out` and `reverse` of each realm, where several of
+-- one kind have one number; that of a `reverse` that isn't there is nobody's (ours).
 use Rattle.std.specs.Prelude.{ℕ, ◌+◌, ◌*◌, ◌%◌, List, Bool, Option, None, option_and_then, slice_get, if◌then◌else◌}
 use Rattle.roam_address.specs.declared.endpoint.Endpoint.{Endpoint}
 use Rattle.roam_conf.specs.declared.place.Place.{Place}

@@ -1,18 +1,18 @@
-//! What became of the packets of an outbox, counted.
+//! The account of an outbox's packets.
 
 ghost use Rattle.std.specs.Prelude.{◌≡◌};
 ghost use Rattle.roam_port.specs.Accounts.{accounted, after_loss, after_put, none_put, since};
 
 use crate::{LossCause, Losses, SendFault};
 
-/// What became of packets that were put, counted. A count stays at 2^64 - 1.
+/// The account of packets that were put. A count stays at 2^64 - 1.
 #[derive(Clone, Copy, PartialEq, Eq)]
 pub struct Account {
-    /// How many were put.
+    /// The number that were put.
     pub put: u64,
-    /// How many their sockets took.
+    /// The number that their sockets took.
     pub sent: u64,
-    /// How many were lost.
+    /// The number that were lost.
     pub losses: Losses,
 }
 

@@ -1,12 +1,12 @@
-//! What is heard at a socket.
+//! The results of receiving at a socket.
 
-use roam_route::Datagram;
+use roam_admission::Datagram;
 use std::alloc::Allocator;
 
-/// How many receives of one socket fail in a row before it is given up.
+/// The number of receives of one socket that fail in a row before it is given up.
 pub const FAULTS_TO_GIVE_UP: u32 = 100;
 
-/// What one receive gave.
+/// The result of one receive.
 #[derive(Drop)]
 pub enum Heard<A: Allocator> {
     /// A datagram arrived.

@@ -6,8 +6,8 @@ ghost use Rattle.roam_port.specs.Port.{receive_failed};
 ghost use Rattle.roam_conf.specs.declared.place.Place.{Place};
 
 use crate::{FAULTS_TO_GIVE_UP, Heard, Port};
+use roam_admission::Datagram;
 use roam_conf::Place;
-use roam_route::Datagram;
 use roam_wire::Octets;
 use std::alloc::Allocator;
 use std::mem;

@@ -1,9 +1,9 @@
-//! How many packets were lost, by their cause.
+//! The number of packets that were lost, by their cause.
 
 ghost use Rattle.std.specs.Prelude.{◌≡◌};
 ghost use Rattle.roam_port.specs.Losses.{counted, losses_since, no_losses};
 
-/// Why a packet that was to leave is lost.
+/// The cause why a packet that was to leave is lost.
 #[derive(Clone, Copy, PartialEq, Eq)]
 pub enum LossCause {
     /// It found no room among those that wait for their sockets.
@@ -16,7 +16,7 @@ pub enum LossCause {
     Other,
 }
 
-/// How many packets were lost, by their cause. A count stays at 2^64 - 1.
+/// The number of packets that were lost, by their cause. A count stays at 2^64 - 1.
 #[derive(Clone, Copy, PartialEq, Eq)]
 pub struct Losses {
     pub full_ring: u64,

@@ -9,8 +9,8 @@ ghost use Rattle.roam_port.specs.Sharing.{share_of};
 use crate::port_queue::{PortQueue, Standing};
 use crate::queues::{add_queues, send_at};
 use crate::{Account, Port, Sent, socket_of};
+use roam_admission::Out;
 use roam_conf::Place;
-use roam_route::Out;
 use roam_wire::NoMemory;
 use std::alloc::Allocator;
 

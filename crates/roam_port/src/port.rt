@@ -1,4 +1,4 @@
-//! What is asked of a socket.
+//! The interface of a socket.
 
 use roam_conf::{Endpoint, Place};
 
@@ -6,7 +6,7 @@ use roam_conf::{Endpoint, Place};
 #[derive(Clone, Copy, PartialEq, Eq)]
 pub struct PortFault;
 
-/// Why a packet isn't sent.
+/// The cause why a packet isn't sent.
 #[derive(Clone, Copy, PartialEq, Eq)]
 pub enum SendFault {
     /// The socket has no room for it now.

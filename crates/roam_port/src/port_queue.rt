@@ -5,12 +5,12 @@ ghost use Rattle.std.specs.VecDeque.{deque_len, deque_capacity};
 ghost use Rattle.roam_port.specs.declared.port_queue.Standing.{Standing};
 
 use crate::{Account, Port, SendFault};
-use roam_route::Out;
+use roam_admission::Out;
 use roam_wire::NoMemory;
 use std::alloc::Allocator;
 use std::collections::VecDeque;
 
-/// How the packets that wait for a port stand.
+/// The state of the packets that wait for a port.
 #[derive(Clone, Copy, PartialEq, Eq)]
 pub enum Standing {
     /// None waits.
@@ -24,7 +24,7 @@ pub enum Standing {
 /// The packets that wait for one port, the oldest first. It has memory for as many as may wait.
 pub(crate) struct PortQueue<A: Allocator> {
     pub waiting: VecDeque<Out<A>, A>,
-    /// How many packets may wait.
+    /// The number of packets that may wait.
     pub share: usize,
     pub standing: Standing,
     ghost room: { share ≤ deque_capacity waiting },

@@ -1,14 +1,15 @@
-//! What was sent.
+//! The packets that were sent.
 
 ghost use Rattle.std.specs.Prelude.{◌≡◌};
 ghost use Rattle.roam_port.specs.Queues.{none_sent, sent_after};
 
-/// What was sent.
+/// The packets that were sent.
 #[derive(Clone, Copy, PartialEq, Eq)]
 pub struct Sent {
-    /// How many packets don't wait any more: they are sent, or lost by a fault of their port. It stays at 2^64 - 1.
+    /// The number of packets that don't wait any more: they are sent, or lost by a fault of their port. It stays at
+    /// 2^64 - 1.
     pub gone: u64,
-    /// Whether some port had no room, so that what waits for it was put aside.
+    /// True where some port had no room, so that what waits for it was put aside.
     pub is_blocked: bool,
 }
 

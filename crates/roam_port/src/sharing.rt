@@ -1,15 +1,15 @@
-//! How many packets may wait for one port.
+//! The number of packets that may wait for one port.
 
 ghost use Rattle.std.specs.Prelude.{◌≡◌, ◌≤◌};
 ghost use Rattle.roam_port.specs.Sharing as spec;
 
-/// How many packets may wait for one port at most.
+/// The number of packets that may wait for one port at most.
 pub const GREATEST_SHARE: usize = 256;
 
-/// How many may wait for each, however many ports there are.
+/// The number that may wait for each, however many ports there are.
 pub const LEAST_SHARE: usize = 32;
 
-/// How many places the ports share, where they are not so many that each has the least share.
+/// The number of places that the ports share, where they are not so many that each has the least share.
 pub const PLACES: usize = 65536;
 
 /// Returns how many packets may wait for each port, of so many ports.

@@ -11,7 +11,7 @@ ghost use Rattle.roam_port.specs.Sockets.{place_nth, worker_number};
 
 use roam_conf::{Config, Endpoint, Place, Realm};
 
-/// How many places have one number at most.
+/// The number of places that have one number at most.
 pub const MOST_OF_A_NUMBER: u16 = 16;
 
 /// The number of a place's sockets.

@@ -4,13 +4,13 @@ use Rattle.std.proofs.KnownBytes.{Keeps-refl}
 use Rattle.std.specs.Borrow.{Bor}
 use Rattle.std.specs.Io.KnownBytes.{Keeps}
 use Rattle.roam_sim.specs.Simulation.{IsAccepted}
-use Rattle.roam_words.specs.CommandLine.{to_check_all, to_compare, to_control, to_simulate, to_serve, to_serve_with_its_seed, AsksToServeIt, AsksToServe, AsksNothing}
-use Rattle.roam_words.specs.declared.text_file.TextFile.{TextFile}
-use Rattle.roam_words.specs.declared.report.Fault.{Fault}
-use Rattle.roam_words.specs.declared.report.Fault.TheVariants as fault
-use Rattle.roam_commands.specs.CommandFaults.{ServeFails}
-use Rattle.roam_commands.specs.Outcomes.{IsAnswered, NamesConfiguration, Prevents}
-use Rattle.roam_words.specs.Report.{status_of}
+use Rattle.roam_cli.specs.CommandLine.{to_check_all, to_compare, to_control, to_simulate, to_serve, to_serve_with_its_seed, AsksToServeIt, AsksToServe, AsksNothing}
+use Rattle.roam_cli.specs.declared.text_file.TextFile.{TextFile}
+use Rattle.roam_cli.specs.declared.report.Fault.{Fault}
+use Rattle.roam_cli.specs.declared.report.Fault.TheVariants as fault
+use Rattle.roam_cli.specs.CommandFaults.{ServeFails}
+use Rattle.roam_cli.specs.Outcomes.{IsAnswered, NamesConfiguration, Prevents}
+use Rattle.roam_cli.specs.Report.{status_of}
 
 -- words that ask for a server name its configuration
 names-it : (words : List (List ℕ)) (path given : List ℕ) (milliseconds : Option ℕ) → path ≡ given →

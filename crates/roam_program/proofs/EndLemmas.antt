@@ -7,9 +7,9 @@ use Rattle.roam_sim.specs.Simulation.{IsConfiguration}
 use Rattle.roam_sockets.specs.declared.fault.ServeFault.{ServeFault}
 use Rattle.roam_sockets.specs.declared.fault.ServeFault.TheVariants as serve
 use Rattle.roam_sockets.specs.Faults.{IsFaultOf}
-use Rattle.roam_words.specs.Report.{fault_of}
-use Rattle.roam_words.specs.declared.text_file.TextFile.{TextFile}
-use Rattle.roam_commands.specs.CommandFaults.{text_in, ServeFails}
+use Rattle.roam_cli.specs.Report.{fault_of}
+use Rattle.roam_cli.specs.declared.text_file.TextFile.{TextFile}
+use Rattle.roam_cli.specs.CommandFaults.{text_in, ServeFails}
 
 -- what ends a server is a fault of each configuration with the same endpoints
 same-fault : (one other : ConfigView) (why : ServeFault) → socket_endpoints one ≡ socket_endpoints other →

@@ -1,4 +1,4 @@
-//! Where a file that is served next has each realm.
+//! The place of each realm in a file that is served next.
 
 use roam_conf::{Config, Realm};
 use roam_serve::{FileOrder, Manner};

@@ -1,4 +1,4 @@
-//! What the program does, over texts and writers: it serves, and does what needs no server by `roam_commands`.
+//! The work of the program, over texts and writers: it serves, and does what needs no server by `roam_cli`.
 //!
 //! # Proved
 //!

@@ -1,19 +1,19 @@
-//! What the program does, over any two writers.
+//! The work of the program, over any two writers.
 
 ghost use Rattle.std.specs.Prelude.{◌≡◌, ◌≢◌, ◌≤◌, ◌↔◌, map, OnOk, IfErr};
 ghost use Rattle.std.specs.Io.KnownBytes.{Keeps};
-ghost use Rattle.roam_words.specs.CommandLine.{AsksNothing, AsksToCheck};
-ghost use Rattle.roam_commands.specs.Outcomes.{IsAnswered, IsPrevented, IsToldFault, Prevents};
-ghost use Rattle.roam_words.specs.Report.{Says};
+ghost use Rattle.roam_cli.specs.CommandLine.{AsksNothing, AsksToCheck};
+ghost use Rattle.roam_cli.specs.Outcomes.{IsAnswered, IsPrevented, IsToldFault, Prevents};
+ghost use Rattle.roam_cli.specs.Report.{Says};
 
 use crate::serving::serve_file;
 use log::Log;
-use roam_commands::{ask, check_file, compare_files, simulate_files, state_file};
+use roam_cli::{
+    Command, Fault, ProgramEnd, ask, check_file, compare_files, simulate_files, state_file,
+    tell_advice, tell_usage, tell_version, unknown_word, untimed_word,
+};
 use roam_diagnosis::Lines;
 use roam_keeping::KeepsFiles;
-use roam_words::{
-    Command, Fault, ProgramEnd, tell_advice, tell_usage, tell_version, unknown_word, untimed_word,
-};
 use std::convert::AsStr;
 use std::io::Write;
 use std::net::Net;

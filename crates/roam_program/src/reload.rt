@@ -3,19 +3,18 @@
 ghost use Rattle.std.specs.Prelude.{IfOk, OnOk};
 ghost use Rattle.roam_conf.specs.Shown.{shown};
 ghost use Rattle.roam_reload.specs.Reload.{MayFollow};
-ghost use Rattle.roam_printing.specs.Printed.{IsPrinted};
+ghost use Rattle.roam_cli.specs.Printed.{IsPrinted};
 
 use crate::file_order::{names_of, order_of, with_order};
 use crate::state_file::{StateFiles, manner_of, why_of};
 use crate::station_key::stations_of;
+use roam_cli::{Fault, TextFile, print_changes, print_hindrance, print_no_number};
 use roam_conf::Config;
 use roam_conf_reader::{Settings, following_config, read_config_and_settings};
 use roam_diagnosis::{Lines, diagnose};
 use roam_keeping::{Job, Keeper, Written, keep_old, kept, number_of, put_aside};
-use roam_printing::{print_changes, print_hindrance, print_no_number};
 use roam_reload::{LayFault, hindrance_of};
 use roam_serve::{FileOrder, Following, KeepEnd, Keeping, ServeFault, Source, StationForm};
-use roam_words::{Fault, TextFile};
 use std::alloc::Global;
 use std::io;
 use std::io::Write;
@@ -30,7 +29,7 @@ pub struct Reread<'a, R> {
     /// Those that are served until a restart.
     pub settings: &'a Settings,
     pub files: StateFiles,
-    /// What writes them.
+    /// The keeper that writes them.
     pub keeper: &'a Keeper,
 }
 
@@ -85,7 +84,7 @@ fn print_hidden<W: Write>(writer: &mut W, stations: StationForm) -> io::Result<(
     print_if(
         writer,
         is_hidden,
-        b"log_station: no key of 16 to 64 octets in station.key: no station is told\n",
+        b"log_station: no key of 16 to 64 octets in station.key: Calling-Station-Ids are not logged\n",
     )
 }
 
@@ -109,11 +108,11 @@ fn laid_out(alloc: Global, old: &Config, new: Config) -> Result<Config, Vec<u8>>
     }
 }
 
-/// What a text states that is to be served next.
+/// The configuration that a text states to be served next.
 struct Stated {
     /// Its configuration, laid out by the one that is served.
     config: Config,
-    /// Where it has each realm.
+    /// The place that it has for each realm.
     order: FileOrder,
     settings: Settings,
 }

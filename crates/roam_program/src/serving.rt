@@ -5,14 +5,15 @@ ghost use Rattle.roam_conf.specs.Shown.{shown};
 ghost use Rattle.roam_port.specs.Sockets.{socket_endpoints};
 ghost use Rattle.roam_sockets.specs.Faults.{IsFaultOf};
 ghost use Rattle.roam_sim.specs.Simulation.{IsAccepted};
-ghost use Rattle.roam_words.specs.CommandLine.{AsksToServeIt};
-ghost use Rattle.roam_commands.specs.CommandFaults.{text_in, ServeFails};
-ghost use Rattle.roam_commands.specs.Outcomes.{Prevents};
+ghost use Rattle.roam_cli.specs.CommandLine.{AsksToServeIt};
+ghost use Rattle.roam_cli.specs.CommandFaults.{text_in, ServeFails};
+ghost use Rattle.roam_cli.specs.Outcomes.{Prevents};
 
 use crate::reload::Reread;
 use crate::state_file::{StateFiles, manner_of};
 use crate::station_key::told_stations;
 use log::Log;
+use roam_cli::{Fault, TextFile};
 use roam_conf::Config;
 use roam_conf_reader::{Settings, read_config_and_settings};
 use roam_diagnosis::{Lines, diagnose};
@@ -21,7 +22,6 @@ use roam_serve::{
     Build, ControlSocket, Manner, ServeFault, ServeOptions, SocketPath, Watch, descriptors_wanted,
     reason_of, serve, with_drawn_seed,
 };
-use roam_words::{Fault, TextFile};
 use std::net::Net;
 use std::random::RandomSource;
 use std::rt::Files;

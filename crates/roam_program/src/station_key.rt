@@ -1,9 +1,9 @@
 //! The key by which lines have stations, in a file beside the configuration.
 
 use log::{Log, warn};
+use roam_cli::TextFile;
 use roam_conf_reader::{Settings, StationWord};
 use roam_serve::{StationForm, StationKey};
-use roam_words::TextFile;
 use std::alloc::{AllocError, Global};
 use std::rt::Files;
 
@@ -51,7 +51,7 @@ pub(crate) fn told_stations<R: Files + AllocGlobal + Log>(
 ) -> StationForm {
     let stations = stations_of(rt, path, settings);
     if matches!(stations, StationForm::Hidden) {
-        warn!(rt; "no key of 16 to 64 octets in station.key beside {}: no station is told", path);
+        warn!(rt; "no key of 16 to 64 octets in station.key beside {}: Calling-Station-Ids are not logged", path);
     }
     stations
 }

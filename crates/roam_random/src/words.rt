@@ -9,7 +9,7 @@ use rand_chacha::ChaCha20Rng;
 use rand_core::SeedableRng;
 use rand_core::utils::NextWord;
 
-/// How many words a stream has before it begins anew.
+/// The number of words that a stream has before it begins anew.
 pub(crate) const STREAM_WORDS: u128 = 1 << 68;
 
 /// Puts a generator at a position of a stream of its seed.

@@ -11,11 +11,11 @@ use Rattle.std.specs.Str.{bytes_eq}
 use Rattle.roam_conf.specs.Config.{PeerView}
 use Rattle.roam_conf.specs.Duplicates.{has_duplicate_peer, has_pair, nas_texts, same_peer}
 use Rattle.roam_conf.specs.Lookup.{first_place}
-use Rattle.roam_ledgers.specs.Ledgers.{SavedSession}
+use Rattle.roam_sessions.specs.Ledgers.{SavedSession}
 use Rattle.roam_reload.proofs.KeptLemmas.{values_itself}
-use Rattle.roam_reverse.specs.Parts.{AreShort}
-use Rattle.roam_reverse.specs.Sessions.{AreDistinct, Session, has_session, same_session, with_session}
-use Rattle.roam_reverse.proofs.SameLemmas.{apart-differ, differ-apart}
+use Rattle.roam_sessions.specs.Parts.{AreShort}
+use Rattle.roam_sessions.specs.Sessions.{AreDistinct, Session, has_session, same_session, with_session}
+use Rattle.roam_sessions.proofs.SameLemmas.{apart-differ, differ-apart}
 use Rattle.roam_realm.specs.RealmConfig.{RealmConfig}
 use Rattle.roam_realm.specs.Saving.{AreOfPeers, RestoredIsSaved, are_short, saved, session_named, taken_up}
 

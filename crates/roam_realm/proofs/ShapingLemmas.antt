@@ -12,14 +12,14 @@ use Rattle.roam_wire.specs.declared.code.TheConstants.{ACCESS_REQUEST, COA_REQUE
 use Rattle.roam_wire.specs.declared.removed_attribute.RemovedAttribute.{RemovedAttribute}
 use Rattle.roam_conf.specs.declared.place.Link.{Link}
 use Rattle.roam_conf.specs.declared.place.Link.TheVariants as link
-use Rattle.roam_filter.specs.Removal.{removed_by, without_sessions}
-use Rattle.roam_filter.specs.Without.{without}
-use Rattle.roam_filter.specs.declared.removal.Removal.{Removal}
-use Rattle.roam_fwd.specs.Forwarded.{forwarded_length}
-use Rattle.roam_fwd.specs.Shaped.{CanBeShaped, HasShortName, Shaping, no_shaping, shaped}
-use Rattle.roam_fwd.proofs.AddedLemmas.{growth-other, growth-sealed}
-use Rattle.roam_fwd.proofs.ShapedLemmas.{IsPacket-shaped}
-use Rattle.roam_fwd.proofs.ShorterLemmas.{CanBeShaped-shorter}
+use Rattle.roam_forward.specs.Removal.{removed_by, without_sessions}
+use Rattle.roam_forward.specs.Without.{without}
+use Rattle.roam_forward.specs.declared.removal.Removal.{Removal}
+use Rattle.roam_forward.specs.Forwarded.{forwarded_length}
+use Rattle.roam_forward.specs.Shaped.{CanBeShaped, HasShortName, Shaping, no_shaping, shaped}
+use Rattle.roam_forward.proofs.AddedLemmas.{growth-other, growth-sealed}
+use Rattle.roam_forward.proofs.ShapedLemmas.{IsPacket-shaped}
+use Rattle.roam_forward.proofs.ShorterLemmas.{CanBeShaped-shorter}
 use Rattle.roam_pending.specs.declared.key.Requester.{Requester}
 use Rattle.roam_pending.specs.declared.key.Requester.TheVariants as requester
 use Rattle.roam_realm.specs.RealmConfig.{RealmConfig}

@@ -9,8 +9,8 @@ use Rattle.roam_conf.specs.declared.place.Link.{Link}
 use Rattle.roam_conf.specs.declared.place.Link.TheVariants as link
 use Rattle.roam_conf.specs.Config.{RealmView}
 use Rattle.roam_conf.specs.Parts.{shown_peer}
-use Rattle.roam_fwd.specs.Shaped.{HasShortName, no_shaping}
-use Rattle.roam_route.specs.Shapings.{shaping_between}
+use Rattle.roam_forward.specs.Shaped.{HasShortName, no_shaping}
+use Rattle.roam_admission.specs.Shapings.{shaping_between}
 use Rattle.roam_pending.specs.declared.key.Requester.{Requester}
 use Rattle.roam_pending.specs.declared.key.Requester.TheVariants as requester
 use Rattle.roam_realm.specs.RealmConfig.{RealmConfig}
@@ -20,13 +20,13 @@ no-name : HasShortName no_shaping
 no-name name is = absurd (let none : None ≡ Some name = is in cc)
 
 short-text : (o : Option (String Global))
-    → ForSome o (λ s. (1 ≤ length (string_bytes s)) × (length (string_bytes s) ≤ 252))
-    → ForSome (option_map string_bytes o) (λ name. length name ≤ 252)
+    → ForSome o (λ s. (2 ≤ length (string_bytes s)) × (length (string_bytes s) ≤ 253))
+    → ForSome (option_map string_bytes o) (λ name. length name ≤ 253)
 short-text None short name is = absurd (let none : None ≡ Some name = is in cc)
 short-text (Some s) short name is =
     let both : Some (string_bytes s) ≡ Some name = is in
     let same : string_bytes s ≡ name = cc in
-    subst (λ (n : List ℕ). length n ≤ 252) same (short s refl).1
+    subst (λ (n : List ℕ). length n ≤ 253) same (short s refl).1
 
 pub peers-short : (peers : List Peer) (peer : ℕ) (realm : RealmView)
     → HasShortName (shaping_between (slice_get (map shown_peer peers) peer) (Some realm))

@@ -10,7 +10,7 @@ use Rattle.roam_pending.proofs.TestLemmas.{differs, pair_decides, all-filter, al
 use Rattle.roam_pending.proofs.OrderLemmas.{all-put}
 use Rattle.roam_realm.specs.RealmConfig.{RealmConfig}
 use Rattle.roam_ids.specs.LaneState.{LaneState}
-use Rattle.roam_reverse.specs.Shown.{Ledger}
+use Rattle.roam_sessions.specs.ShownSessions.{Ledger}
 use Rattle.roam_realm.specs.Sound.{AreOwnLanes, IsEntry, IsSound, LanesTell, marks_of}
 use Rattle.roam_realm.specs.Stays.{RestsBecome}
 use Rattle.roam_realm.specs.declared.realm_numbers.RealmNumbers.{RealmNumbers}

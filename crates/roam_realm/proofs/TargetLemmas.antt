@@ -1,6 +1,6 @@
 -- The peer that a reverse request is for is a configured one; and what names a realm, and whether a peer's
 -- Access-Requests need a Message-Authenticator, aren't looked at for it, nor for the cause of a NAK.
-use Rattle.std.proofs.Common.{◌≡◌, ℕ, zero, suc, ◌+◌, ◌<◌, ◌==◌, Bool, true, List, [], ◌∷◌, length, map, Option, Some, None, if◌then◌else◌, refl, ap, ◌∙◌, inl, inr, arith}
+use Rattle.std.proofs.Common.{◌≡◌, ℕ, zero, suc, ◌+◌, ◌<◌, Bool, true, List, [], ◌∷◌, length, map, Option, Some, None, if◌then◌else◌, refl, ap, ◌∙◌, inl, inr, arith}
 use Rattle.std.specs.Prelude.{◌||◌, IfSome, is_some}
 use Rattle.std.specs.List.{position_from}
 use Rattle.std.specs.Option.{option_or}
@@ -11,12 +11,12 @@ use Rattle.roam_wire.specs.declared.attribute_type.TheConstants.{OPERATOR_NAME}
 use Rattle.roam_conf.specs.Config.{PeerView, RealmView}
 use Rattle.roam_conf.specs.Lookup.{first_answer}
 use Rattle.roam_conf.specs.Targets.{NasPattern, begins, exactly, fronts, peer_meant, peer_with_nas, peer_with_nas_ip, peer_with_nas_ipv6, peer_with_operator, some_nas_ipv6, some_operator}
-use Rattle.roam_route.specs.UserName.{nas_of}
+use Rattle.roam_admission.specs.UserName.{nas_of}
 use Rattle.roam_reload.specs.Reload.{peer_part, realm_part}
-use Rattle.roam_reverse.specs.Causes.{cause, cause_at_target}
-use Rattle.roam_reverse.specs.Sessions.{Session}
-use Rattle.roam_reverse.specs.Target as reverse
-use Rattle.roam_reverse.specs.declared.nas_target.TheConstants.{NAS_IPV6_ADDRESS}
+use Rattle.roam_sessions.specs.Causes.{cause, cause_at_target}
+use Rattle.roam_sessions.specs.Sessions.{Session}
+use Rattle.roam_sessions.specs.Target as reverse
+use Rattle.roam_sessions.specs.declared.nas_target.TheConstants.{NAS_IPV6_ADDRESS}
 
 -- ---- a configured one
 
@@ -107,17 +107,12 @@ ipv6_of_same : (peers : List PeerView) (attributes : List Attribute) →
     reverse.ipv6_of (map peer_part peers) attributes ≡ reverse.ipv6_of peers attributes
 ipv6_of_same peers attributes = λ i. if some_ipv6_same peers i then first_value NAS_IPV6_ADDRESS attributes else None
 
-of_operator_same : (peers : List PeerView) (operator : List ℕ) →
-    reverse.peer_of_operator (map peer_part peers) operator ≡ reverse.peer_of_operator peers operator
-of_operator_same peers [] = refl
-of_operator_same peers (space ∷ name) = λ i. if space == 49 then operator_same peers name i else None
-
 named_same : (peers : List PeerView) (operator : Option (List ℕ)) (names : Option (List ℕ) × Option (List ℕ))
     (ipv6 : Option (List ℕ)) →
     reverse.peer_named (map peer_part peers) operator names ipv6 ≡ reverse.peer_named peers operator names ipv6
 named_same peers None names ipv6 = of_names_same peers names ipv6
 named_same peers (Some operator) names ipv6 = λ i.
-    if some_same peers i then of_operator_same peers operator i else of_names_same peers names ipv6 i
+    if some_same peers i then operator_same peers operator i else of_names_same peers names ipv6 i
 
 has_coa_same : (peers : List PeerView) (p : ℕ) → reverse.has_coa (map peer_part peers) p ≡ reverse.has_coa peers p
 has_coa_same [] p = refl

@@ -5,9 +5,9 @@ use Rattle.std.proofs.lemmas.List.{map-append}
 use Rattle.std.proofs.lemmas.List.Concat.{flat_map-append}
 use Rattle.std.specs.List.{AllByRecursion, flat_map}
 use Rattle.std.specs.Prelude.{OnOk}
-use Rattle.roam_ledgers.specs.Ledgers.{SavedItem, SavedSession, item_text, session}
-use Rattle.roam_reverse.specs.Sessions.{Session, has_session, same_session}
-use Rattle.roam_reverse.proofs.SameLemmas.{same-is}
+use Rattle.roam_sessions.specs.Ledgers.{SavedItem, SavedSession, item_text, session}
+use Rattle.roam_sessions.specs.Sessions.{Session, has_session, same_session}
+use Rattle.roam_sessions.proofs.SameLemmas.{same-is}
 use Rattle.roam_realm.specs.RealmConfig.{RealmConfig}
 use Rattle.roam_realm.specs.Saving.{saved_session}
 use Rattle.roam_realm.specs.Written.{GainsOpen, IsOpenIn}

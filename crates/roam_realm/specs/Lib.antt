@@ -1,10 +1,10 @@
--- What of one realm is read and kept, in the order in which it is read.
+-- The parts of one realm that are read and kept, in the order in which it is read.
 pub mod RealmConfig
 pub mod Shapings
 pub mod Rests
 pub mod RealmState
 pub mod Conversing
--- What the contracts of public calls say beside that.
+-- The words of the contracts of public calls beside that.
 pub mod Saving
 pub mod Written
 pub mod Sound

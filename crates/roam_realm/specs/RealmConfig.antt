@@ -1,4 +1,4 @@
--- What the broker of one realm reads of the configuration, and the links of that realm (ours).
+-- The parts of the configuration that the proxy of one realm reads, and the links of that realm (ours).
 use Rattle.std.specs.Prelude.{ℕ, ◌+◌, ◌*◌, ◌<◌, ◌==◌, Bool, false, List, [], ◌∷◌, ◌++◌, drop, length, Option, Some, None, slice_get, slice_index_or, unwrap_or, if◌then◌else◌}
 use Rattle.std.specs.Option.{option_and_then, option_map_or}
 use Rattle.roam_wire.specs.declared.code.TheConstants.{ACCESS_REQUEST}

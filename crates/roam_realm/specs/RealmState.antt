@@ -6,7 +6,7 @@ use Rattle.roam_conf.specs.declared.place.Link.{Link}
 use Rattle.roam_ids.specs.NextIdentifier.{next_identifier}
 use Rattle.roam_pending.specs.PlainEntry.{PlainEntry}
 use Rattle.roam_pending.specs.EntryList.{identifiers_on}
-use Rattle.roam_reverse.specs.Sessions.{Session}
+use Rattle.roam_sessions.specs.Sessions.{Session}
 use Rattle.roam_realm.specs.RealmConfig.{RealmConfig, link_place, link_count}
 use Rattle.roam_realm.specs.Rests.{all_awake, stands_back}
 use Rattle.roam_realm.specs.declared.rest.Rest.{Rest}

@@ -1,4 +1,4 @@
--- How the links to home servers rest that keep silent (ours). Each end, `auth` and `acct` of each server, has for all
+-- The marks of links to home servers that do not answer (ours). Each end, `auth` and `acct` of each server, has for all
 -- links to it, by whichever `out`, a moment until which it rests, or none, and two counts: of its silences, the
 -- requests that were given up there since it last gave a sign of life; and of these signs. A peer's `coa` has none of
 -- them: it never rests.
@@ -45,7 +45,7 @@ one_more count = if nat_lt count 256 then count + 1 else count
 -- since it kept silent about one user or a burst of requests while it answered others; a rest that goes on after a
 -- reply; a server whose replies lack seals taken for a silent one
 -- Stands in: `roam_realm` `Rests.antt`: `once_silent`, `after_silence`, `once_heard`, `after_sign`; `roam_exchange`
--- `OnReply.antt`: `shows_life`; `roam_book` `Silence.antt`: `KeptSilent`, `ChoiceIsNeverWorse`; `Book::tick`,
+-- `OnReply.antt`: `shows_life`; `roam_rules` `Silence.antt`: `KeptSilent`, `ChoiceIsNeverWorse`; `Book::tick`,
 -- `Book::reply`, the law `rests`
 --
 -- once a request was given up at its link: the count rises by one, and where it is then at least

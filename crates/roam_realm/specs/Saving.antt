@@ -1,4 +1,5 @@
--- What of a realm's ledger is kept from one run of a server to the next, and what is taken up again (ours).
+-- The part of a realm's session table that is kept from one run of a server to the next, and what is taken up again
+-- (ours).
 use Rattle.std.specs.Prelude.{◌≡◌, ◌&&◌, not, nat_le, Bool, true, false, List, [], ◌∷◌, length, map, Option, Some, None, option_map, slice_get, if◌then◌else◌}
 use Rattle.std.specs.List.{AllByRecursion, filter_map}
 use Rattle.std.specs.Option.{option_map_or}
@@ -6,10 +7,10 @@ use Rattle.std.specs.Str.{bytes_eq}
 use Rattle.roam_conf.specs.Config.{PeerView}
 use Rattle.roam_conf.specs.Duplicates.{has_duplicate_peer}
 use Rattle.roam_conf.specs.Lookup.{first_place}
-use Rattle.roam_ledgers.specs.Ledgers.{SavedItem, SavedSession, realm, session}
+use Rattle.roam_sessions.specs.Ledgers.{SavedItem, SavedSession, realm, session}
 use Rattle.roam_reload.specs.Kept.{same_values}
-use Rattle.roam_reverse.specs.Parts.{AreShort}
-use Rattle.roam_reverse.specs.Sessions.{IsLedger, Session, with_session}
+use Rattle.roam_sessions.specs.Parts.{AreShort}
+use Rattle.roam_sessions.specs.Sessions.{IsLedger, Session, with_session}
 use Rattle.roam_realm.specs.RealmConfig.{RealmConfig}
 
 -- a session by the name of its peer

@@ -1,4 +1,4 @@
--- How a realm has a peer's requests forwarded, and replies returned to it (ours).
+-- The changes that a realm makes to a peer's requests, and to replies to it (ours).
 use Rattle.std.specs.Prelude.{ℕ, ◌==◌, List, [], ◌++◌, Some, slice_get, if◌then◌else◌}
 use Rattle.std.specs.Option.{option_map_or}
 use Rattle.roam_wire.specs.Reading.{packet_of}
@@ -6,10 +6,10 @@ use Rattle.roam_wire.specs.declared.code.TheConstants.{COA_REQUEST}
 use Rattle.roam_wire.specs.declared.removed_attribute.RemovedAttribute.{RemovedAttribute}
 use Rattle.roam_conf.specs.declared.place.Link.{Link}
 use Rattle.roam_conf.specs.declared.place.Link.TheVariants as link
-use Rattle.roam_filter.specs.Removal.{without_sessions}
-use Rattle.roam_fwd.specs.Forwarded.{forwarded_length}
-use Rattle.roam_fwd.specs.Shaped.{Shaping, no_shaping, shaped}
-use Rattle.roam_route.specs.Shapings.{shaping_between}
+use Rattle.roam_forward.specs.Removal.{without_sessions}
+use Rattle.roam_forward.specs.Forwarded.{forwarded_length}
+use Rattle.roam_forward.specs.Shaped.{Shaping, no_shaping, shaped}
+use Rattle.roam_admission.specs.Shapings.{shaping_between}
 use Rattle.roam_pending.specs.declared.key.Requester.{Requester}
 use Rattle.roam_pending.specs.declared.key.Requester.TheVariants as requester
 use Rattle.roam_pending.specs.PlainEntry.{PlainRequest}

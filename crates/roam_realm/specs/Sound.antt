@@ -1,6 +1,6 @@
--- What the code's entries and numbers stand for (`state_of`, which a book's view shows), and what a
--- realm keeps (ours): of each entry, and between its entries and its lanes. No definition of what the
--- broker does rests on this file; each rule's contract says that it is kept.
+-- The meaning of the code's entries and numbers (`state_of`, which a book's view shows), and what a realm keeps (ours):
+-- of each entry, and between its entries and its lanes. No definition of what the broker does rests on this file; each
+-- rule's contract says that it is kept.
 use Rattle.std.specs.Prelude.{◌≡◌, ◌≢◌, ℕ, zero, suc, ◌+◌, ◌*◌, ◌++◌, ◌∷◌, ◌<◌, ◌≤◌, ◌^◌, ◌==◌, ◌&&◌, ◌||◌, Bool, true, false, not, List, [], length, map, Option, Some, None, is_some, slice_index_or}
 use Rattle.std.specs.List.{AllByRecursion, find}
 use Rattle.std.specs.Option.{option_map_or, option_or}
@@ -8,8 +8,8 @@ use Rattle.roam_wire.specs.Codes.{is_reverse_request}
 use Rattle.roam_wire.specs.Packet.{Packet}
 use Rattle.roam_wire.specs.Reading.{IsPacketText, packet_of}
 use Rattle.roam_conf.specs.declared.place.Link.{Link}
-use Rattle.roam_fwd.specs.Forwarded.{CanBeForwarded}
-use Rattle.roam_fwd.specs.Shaped.{CanBeShaped}
+use Rattle.roam_forward.specs.Forwarded.{CanBeForwarded}
+use Rattle.roam_forward.specs.Shaped.{CanBeShaped}
 use Rattle.roam_ids.specs.LaneState.{LaneState, is_used, ticket_at}
 use Rattle.roam_ids.specs.NextIdentifier.{next_identifier}
 use Rattle.roam_pending.specs.declared.key.Requester.{Requester}

@@ -1,4 +1,4 @@
--- What stays of what a realm keeps besides its entries, where one thing of it changes (ours).
+-- The part that stays of what a realm keeps besides its entries, where one thing of it changes (ours).
 use Rattle.std.specs.Prelude.{◌≡◌, List, [], length, replicate, vec_capacity, Option, Some, None}
 use Rattle.roam_realm.specs.RealmConfig.{RealmConfig, link_count}
 use Rattle.roam_realm.specs.Rests.{all_awake}
@@ -6,8 +6,8 @@ use Rattle.roam_realm.specs.Sound.{AreOwnLanes, LanesTell, cursors_of, marks_of}
 use Rattle.roam_realm.specs.declared.realm_numbers.RealmNumbers.{RealmNumbers}
 use Rattle.roam_realm.specs.declared.rest.Rest.{Rest}
 use Rattle.roam_realm.specs.declared.start.Start.{Start}
-use Rattle.roam_reverse.specs.Sessions.{LedgerChange, Session, changed}
-use Rattle.roam_reverse.specs.Shown.{HasRoomFor, Ledger}
+use Rattle.roam_sessions.specs.Sessions.{LedgerChange, Session, changed}
+use Rattle.roam_sessions.specs.ShownSessions.{HasRoomFor, Ledger}
 
 -- nothing is in use yet, no session is open, all servers are awake, and the place and the next ticket
 -- are the start's

@@ -1,8 +1,8 @@
--- What of a realm's ledger is written into a file of ledgers (ours).
+-- The part of a realm's session table that is written into a file (ours).
 use Rattle.std.specs.Prelude.{◌≡◌, ℕ, List, ◌++◌, Some, Contains, map}
 use Rattle.std.specs.List.{AllByRecursion, flat_map}
-use Rattle.roam_ledgers.specs.Ledgers.{SavedItem, SavedSession, item_text, realm, session}
-use Rattle.roam_reverse.specs.Sessions.{Session}
+use Rattle.roam_sessions.specs.Ledgers.{SavedItem, SavedSession, item_text, realm, session}
+use Rattle.roam_sessions.specs.Sessions.{Session}
 use Rattle.roam_realm.specs.RealmConfig.{RealmConfig}
 use Rattle.roam_realm.specs.Saving.{saved_session}
 

@@ -1,4 +1,4 @@
-//! What a realm's entries and numbers tell who looks at them. Nothing changes by it.
+//! The numbers of a realm's entries for whoever looks at them. Nothing changes by it.
 
 ghost use Rattle.std.specs.Prelude.{◌≡◌, ◌≤◌, length, if◌then◌else◌};
 ghost use Rattle.roam_realm.specs.Private.Looking.{used_below};
@@ -8,22 +8,22 @@ use crate::rest::Rest;
 use roam_ids::LazyLane;
 use std::alloc::Allocator;
 
-/// How many ends at home servers a realm has at most: two at each of eight.
+/// The number of ends at home servers that a realm has at most: two at each of eight.
 pub const SERVER_LINKS: usize = 16;
 
-/// How a realm stands, in numbers.
+/// The numbers that describe a realm.
 #[derive(Clone, Copy)]
 pub struct Gauges {
-    /// How many entries it has: requests that wait for a reply, and answered ones whose reply is held.
+    /// The number of entries it has: requests that wait for a reply, and answered ones whose reply is held.
     pub entries: usize,
-    /// How many Identifiers are in use toward all its links: one for each request that waits.
+    /// The number of Identifiers in use toward all its links: one for each request that waits.
     pub in_use: usize,
-    /// How many sessions are open in its ledger.
+    /// The number of sessions that are open in its table.
     pub sessions: usize,
-    /// How many Identifiers are in use toward each of its servers' ends, by all `out`: in the order of the servers
-    /// their `auth`, and then their `acct`. What is behind these is 0.
+    /// The number of Identifiers in use toward each of its servers' ends, by all `out`: in the order of the servers
+    /// their `auth`, and then their `acct`. Behind these stand zeros.
     pub in_use_at: [u16; SERVER_LINKS],
-    /// How the links to each of these ends rest.
+    /// The mark of the links to each of these ends.
     pub rests: [Rest; SERVER_LINKS],
 }
 

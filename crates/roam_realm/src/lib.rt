@@ -1,4 +1,4 @@
-//! What one realm keeps besides its entries, what of its configuration it reads, and which link is chosen.
+//! The things that one realm keeps besides its entries, what of its configuration it reads, and which link is chosen.
 //!
 //! [`RealmSettings`] is what the rules read of a configuration: the realm's own table, the peers and the seed. [`RealmNumbers`]
 //! is what a realm hands out and keeps: Identifiers toward its links, tickets, random words, the ledger of sessions, and how

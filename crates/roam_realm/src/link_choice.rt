@@ -1,4 +1,4 @@
-//! Which of a request's links is chosen: one with a free Identifier, before one that rests.
+//! The choice among a request's links: one with a free Identifier, before one that is marked dead.
 
 ghost use Rattle.std.specs.Prelude.{◌≡◌, ◌<◌, ◌&&◌, Some, true, length, slice_get, IfSome};
 ghost use Rattle.std.specs.List.{find};

@@ -1,4 +1,4 @@
-//! How the servers' links rest that keep silent, and what signs of life they give.
+//! The servers' links that do not answer, and the signs of life that they give.
 
 ghost use Rattle.std.specs.Prelude.{◌≡◌, ◌≤◌, ◌^◌, length};
 ghost use Rattle.roam_realm.specs.Conversing.{rests_chosen, same_end};
@@ -14,7 +14,7 @@ use crate::rest::Rest;
 use roam_conf::Link;
 use std::alloc::Allocator;
 
-/// Which links are wanted for a request.
+/// The links that are wanted for a request.
 #[derive(Clone, Copy)]
 pub enum Wanted {
     /// All.

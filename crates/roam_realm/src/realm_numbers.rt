@@ -1,4 +1,4 @@
-//! What a realm keeps besides its entries: the numbers that it hands out, and the ledger of sessions.
+//! The things that a realm keeps besides its entries: the numbers that it hands out, and the session table.
 
 ghost use Rattle.std.specs.Prelude.{◌≡◌, ℕ, ◌<◌, ◌+◌, ◌*◌, ◌%◌, List, [], true, Some, None, length, replicate};
 ghost use Rattle.std.specs.Prelude.{slice_index_or, slice_set, IfSome, IfNone, IfOk, IsOk, OnOk, is_some};
@@ -6,8 +6,8 @@ ghost use Rattle.roam_ids.specs.LaneState.{place_at, ticket_at};
 ghost use Rattle.roam_ids.specs.declared.id_state.IdState.TheVariants.{Free};
 ghost use Rattle.roam_pending.specs.PlainEntry.{PlainEntry, waits_at};
 ghost use Rattle.roam_pending.specs.EntryList.{IsEntryList, find_ticket, put, without};
-ghost use Rattle.roam_reverse.specs.Sessions.{Session, applied};
-ghost use Rattle.roam_reverse.specs.Shown.{HasRoomFor};
+ghost use Rattle.roam_sessions.specs.Sessions.{Session, applied};
+ghost use Rattle.roam_sessions.specs.ShownSessions.{HasRoomFor};
 ghost use Rattle.roam_realm.specs.Stays.{IsPrepared, IsStarted, KeepsButLanes, KeepsButSessions};
 ghost use Rattle.roam_realm.specs.RealmConfig.{IsLink, link_place, link_count};
 ghost use Rattle.roam_realm.specs.RealmState.{next_toward};
@@ -20,13 +20,13 @@ use crate::start::Start;
 use roam_conf::Link;
 use roam_ids::LazyLane;
 use roam_random::KeptWords;
-use roam_reverse::{PreparedChange, Sessions};
+use roam_sessions::{PreparedChange, Sessions};
 use roam_wire::{NoMemory, View};
 use std::alloc::Allocator;
 
-/// What a realm keeps besides its entries: the numbers that it hands out (Identifiers toward its
-/// links, tickets, and random words), the ledger of the sessions that are open, and how its servers'
-/// links rest.
+/// The things that a realm keeps besides its entries: the numbers that it hands out (Identifiers toward its links,
+/// tickets, and random words), the table of the sessions that are open, and the links of its servers that are marked
+/// dead.
 pub struct RealmNumbers<A: Allocator> {
     /// Whence the memory of entries and packets comes.
     pub alloc: A,
@@ -39,7 +39,7 @@ pub struct RealmNumbers<A: Allocator> {
     pub stream_position: u128,
     /// The sessions that are open.
     pub sessions: Sessions<A>,
-    /// How the servers' links rest that keep silent, in the order of their places.
+    /// The marks of the servers' links that do not answer, in the order of their places.
     pub rests: Vec<Rest, A>,
     /// Random words of the realm's stream that are made and not drawn yet.
     pub words: KeptWords,

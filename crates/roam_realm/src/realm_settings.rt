@@ -1,26 +1,26 @@
-//! What the rules of a realm read of the configuration.
+//! The parts of the configuration that the rules of a realm read.
 
 ghost use Rattle.std.specs.Prelude.{◌≡◌, ◌<◌, ◌≤◌, ℕ, IfOk, Some, length, map, slice_get, vec_len};
 ghost use Rattle.std.specs.Result.{result_err};
 ghost use Rattle.roam_wire.specs.Secret.{IsSecret};
 ghost use Rattle.roam_conf.specs.Shown.{shown};
 ghost use Rattle.roam_conf.specs.Parts.{shown_realm, shown_peer, shown_server};
-ghost use Rattle.roam_reverse.specs.Causes.{cause};
-ghost use Rattle.roam_reverse.specs.Target.{target};
+ghost use Rattle.roam_sessions.specs.Causes.{cause};
+ghost use Rattle.roam_sessions.specs.Target.{target};
 ghost use Rattle.roam_realm.specs.RealmConfig.{realm_config, server_secret, peer_secret, link_secret, requester_secret};
 ghost use Rattle.roam_realm.specs.RealmConfig.{seal_required, IsLink, IsRequester};
 
 use crate::hashing::hash_key;
-use roam_auth::Secret;
 use roam_conf::{Config, Link, Peer, Realm, Server};
-use roam_hash::HashKey;
+use roam_crypto::Secret;
 use roam_pending::Requester;
-use roam_reverse::{Sessions, route_of};
+use roam_random::HashKey;
+use roam_sessions::{Sessions, route_of};
 use roam_wire::View;
 use std::alloc::Allocator;
 use std::marker::Model;
 
-/// What the rules of one realm read of a configuration: the seed, its index and entry, and all peers.
+/// The parts of a configuration that the rules of one realm read: the seed, its index and entry, and all peers.
 #[derive(Drop)]
 pub struct RealmSettings<'c> {
     pub(crate) config: &'c Config,

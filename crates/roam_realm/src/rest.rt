@@ -1,18 +1,19 @@
-//! How a link to a home server rests that keeps silent.
+//! The mark of a link to a home server that does not answer.
 
 ghost use Rattle.std.specs.Prelude.{◌≡◌, ◌≤◌, ◌^◌};
 ghost use Rattle.roam_realm.specs.Rests.{awake, is_resting, once_chosen, once_heard, once_silent, one_more};
 
 use crate::realm_settings::RealmSettings;
 
-/// How a link to a home server rests that keeps silent.
+/// The mark of a link whose home server does not answer: until when it is dead, and how often it left a request without
+/// an answer.
 #[derive(Clone, Copy)]
 pub struct Rest {
     /// Until when, in milliseconds. `None` where it doesn't rest.
     pub until: Option<u64>,
-    /// How many requests were given up there since it last gave a sign of life: at most 256.
+    /// The number of requests that were given up there since it last gave a sign of life: at most 256.
     pub given_up: u16,
-    /// How many signs of life it has given, modulo 2^64.
+    /// The number of signs of life that it has given, modulo 2^64.
     pub signs: u64,
 }
 

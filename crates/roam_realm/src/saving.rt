@@ -1,12 +1,12 @@
-//! What of a realm's ledger is kept from one run of a server to the next, and what is taken up again.
+//! The sessions of a realm that are kept from one run of a server to the next, and those that are taken up again.
 
 ghost use Rattle.std.specs.Prelude.{◌≡◌, ◌≤◌, ◌&&◌, ◌∷◌, [], Some, IfSome, OnErr, OnOk, length, map, not, option_map};
 ghost use Rattle.std.specs.Str.{bytes_eq};
 ghost use Rattle.roam_conf.specs.Lookup.{first_place};
 ghost use Rattle.roam_conf.specs.Parts.{shown_peer};
-ghost use Rattle.roam_ledgers.specs.Shown.{shown_session, shown_text};
-ghost use Rattle.roam_reverse.specs.Parts.{shown_parts};
-ghost use Rattle.roam_reverse.specs.Shown.{shown_octets};
+ghost use Rattle.roam_sessions.specs.ShownLedgers.{shown_session, shown_text};
+ghost use Rattle.roam_sessions.specs.Parts.{shown_parts};
+ghost use Rattle.roam_sessions.specs.ShownSessions.{shown_octets};
 ghost use Rattle.roam_realm.specs.Saving.{saved_session, taken_up};
 ghost use Rattle.roam_realm.specs.Stays.{KeepsButSessions};
 ghost use Rattle.roam_realm.specs.Written.{GainsOpen, GainsRealm};
@@ -14,8 +14,7 @@ ghost use Rattle.roam_realm.specs.Written.{GainsOpen, GainsRealm};
 use crate::realm_numbers::RealmNumbers;
 use crate::realm_settings::RealmSettings;
 use roam_conf::Peer;
-use roam_ledgers::{Item, SessionItem, Text, Writing};
-use roam_reverse::SessionParts;
+use roam_sessions::{Item, SessionItem, SessionParts, Text, Writing};
 use roam_wire::NoMemory;
 use std::alloc::{AllocError, Allocator};
 

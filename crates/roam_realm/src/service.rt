@@ -6,7 +6,7 @@ ghost use Rattle.roam_realm.specs.RealmConfig.{server_link, service_of};
 use roam_conf::Link;
 use roam_wire::code::ACCESS_REQUEST;
 
-/// What a home server does for a request.
+/// The service of a home server for a request.
 #[derive(Clone, Copy, Debug, PartialEq, Eq)]
 pub enum Service {
     /// It answers Access-Requests (RFC 2865).

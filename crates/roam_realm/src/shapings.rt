@@ -1,22 +1,21 @@
-//! How a realm has requests forwarded and replies returned, as its configuration says.
+//! The changes that a realm makes to requests that it forwards and replies that it returns, as its configuration says.
 
 ghost use Rattle.std.specs.Prelude.{◌≡◌, ◌<◌, ℕ, Some, length, option_map, slice_get, if◌then◌else◌};
 ghost use Rattle.std.specs.Option.{ForSome};
 ghost use Rattle.roam_wire.specs.Packet.{AreOctets};
 ghost use Rattle.roam_conf.specs.Config.{RealmView};
 ghost use Rattle.roam_conf.specs.Shown.{shown};
-ghost use Rattle.roam_filter.specs.Removal.{removed_by, without_sessions};
-ghost use Rattle.roam_fwd.specs.Shaped.{HasShortName, no_shaping, shown_shaping};
-ghost use Rattle.roam_route.specs.Shapings.{shaping_between};
+ghost use Rattle.roam_forward.specs.Removal.{removed_by, without_sessions};
+ghost use Rattle.roam_forward.specs.Shaped.{HasShortName, no_shaping, shown_shaping};
+ghost use Rattle.roam_admission.specs.Shapings.{shaping_between};
 ghost use Rattle.roam_realm.specs.RealmConfig.{IsLink, IsRequester};
 ghost use Rattle.roam_realm.specs.Shapings.{removed_for, reply_removed, shaping_from, shaping_of, shaping_to};
 
 use crate::realm_settings::RealmSettings;
+use roam_admission::request_shaping;
 use roam_conf::{Config, Link};
-use roam_filter::{Removal, nothing_removed};
-use roam_fwd::Shaping;
+use roam_forward::{Removal, Shaping, nothing_removed};
 use roam_pending::Requester;
-use roam_route::request_shaping;
 use roam_wire::code::COA_REQUEST;
 
 /// Shows that a name's octets are octets. It is a law: nothing runs.

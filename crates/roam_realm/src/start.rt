@@ -1,6 +1,6 @@
-//! Where a realm begins.
+//! The start of a realm.
 
-/// Where a realm begins: its place in the stream of random words, and its next ticket.
+/// The start of a realm: its place in the stream of random words, and its next ticket.
 #[derive(Clone, Copy, Debug, PartialEq, Eq)]
 pub struct Start {
     /// In 32-bit words, below 2^68.

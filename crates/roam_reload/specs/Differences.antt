@@ -1,4 +1,4 @@
--- Why a configuration may not follow another, and in which keys the tables at a number differ. Ours.
+-- The causes why a configuration may not follow another, and in which keys the tables at a number differ. Ours.
 use Rattle.std.specs.Prelude.{◌≡◌, ◌≢◌, ℕ, ◌<◌, false, true, List, length, map, slice_get}
 use Rattle.roam_conf.specs.Config.{ConfigView, PeerView, RealmView}
 use Rattle.roam_conf.specs.Duplicates.{is_among}

@@ -1,5 +1,6 @@
--- What stays the same between two configurations, as far as what waits in a realm, what is held there and what its
--- ledger has depend on it: tests of the tables that stand at one number in both. Each is true of equal tables. Ours.
+-- The parts that stay the same between two configurations, as far as what waits in a realm, what is held there and what
+-- its ledger has depend on it: tests of the tables that stand at one number in both. Each is true of equal tables.
+-- Ours.
 use Rattle.std.specs.Prelude.{ℕ, ◌-◌, ◌&&◌, ◌||◌, not, nat_lt, Bool, true, false, List, [], ◌∷◌, length, Option, Some, None, option_and_then, option_map, slice_get, if◌then◌else◌}
 use Rattle.std.specs.Cmp.Lexicographic.{pointwise}
 use Rattle.std.specs.Option.{option_map_or, option_to_list}

@@ -1,4 +1,4 @@
--- How tables are laid out, one old table after the other: words of private functions alone (ours).
+-- The layout of tables, one old table after the other: words of private functions alone (ours).
 use Rattle.std.specs.Prelude.{Bool, false, List, [], ◌∷◌, map, Option, None, Some, option_map, if◌then◌else◌}
 use Rattle.std.specs.List.{filter_map, list_any}
 use Rattle.std.specs.Option.{option_map_or}

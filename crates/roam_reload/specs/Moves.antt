@@ -1,4 +1,4 @@
--- Whether an endpoint is at a place of another kind: words of private functions alone (ours).
+-- The test that an endpoint is at a place of another kind: words of private functions alone (ours).
 use Rattle.std.specs.Prelude.{◌||◌, Bool}
 use Rattle.roam_conf.specs.Config.{ConfigView}
 use Rattle.roam_conf.specs.Duplicates.{is_among}

@@ -1,5 +1,5 @@
--- Which numbers realms and peers have while a server runs (ours). A file that follows another one is laid out by it, so
--- that an index is such a number, and the order in a file decides nothing.
+-- The numbers that realms and peers have while a server runs (ours). A file that follows another one is laid out by it,
+-- so that an index is such a number, and the order in a file decides nothing.
 use Rattle.std.specs.Prelude.{◌≡◌, ◌↔◌, ◌⊎◌, Contains, ℕ, ◌<◌, ◌&&◌, not, Bool, true, false, List, [], ◌∷◌, ◌++◌, filter, length, map, Some, None, slice_get, unwrap_or}
 use Rattle.std.specs.List.{find, list_any}
 use Rattle.std.specs.Option.{option_map_or}

@@ -1,5 +1,5 @@
--- When a configuration may follow another while the broker serves, and which realms go on then. Ours. Both are laid out
--- by numbers (`Numbers.antt`): an index is one realm's, or one peer's, in both.
+-- The conditions for a configuration to follow another while the proxy serves, and the realms that go on then. Ours.
+-- Both are laid out by numbers (`Numbers.antt`): an index is one realm's, or one peer's, in both.
 use Rattle.std.specs.Prelude.{◌≡◌, ℕ, true, false, List, [], ◌++◌, filter, map, not, option_map, slice_get}
 use Rattle.std.specs.List.{flat_map}
 use Rattle.roam_conf.specs.Config.{ConfigView, PeerView, RealmView}

@@ -1,4 +1,4 @@
--- What a source that is looked at where its table lies is seen as: words of private functions alone (ours).
+-- A source that is looked at where its table lies, as it is seen: words of private functions alone (ours).
 use Rattle.std.specs.Prelude.{◌∷◌}
 use Rattle.std.specs.Option.{option_to_list}
 use Rattle.roam_reload.specs.Kept.{Source}

@@ -1,4 +1,4 @@
-//! What becomes of each realm when a configuration follows another.
+//! The fate of each realm when a configuration follows another.
 
 ghost use Rattle.std.specs.Prelude.{◌≡◌, ◌↔◌, IsTrue};
 ghost use Rattle.roam_conf.specs.Shown.{shown};
@@ -10,7 +10,7 @@ use crate::peers::other_peer;
 use crate::realms::realm_difference;
 use roam_conf::Config;
 
-/// What becomes of the realm of an index when a configuration follows another.
+/// The fate of the realm of an index when a configuration follows another.
 #[derive(Clone, Copy, PartialEq, Eq)]
 pub enum AfterReload {
     /// It goes on, and nothing that it depends on has changed.

@@ -1,4 +1,4 @@
-//! What stands where a realm or a peer went.
+//! The table that stands where a realm or a peer went.
 
 ghost use Rattle.std.specs.Prelude.{◌≡◌, IfOk};
 ghost use Rattle.roam_conf.specs.Parts.{shown_peer, shown_realm};

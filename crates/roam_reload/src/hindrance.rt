@@ -1,4 +1,4 @@
-//! Why a configuration may not follow another.
+//! The causes why a configuration may not follow another.
 
 ghost use Rattle.std.specs.Prelude.{◌≡◌, IfNone, IfSome, IsTrue, None, map};
 ghost use Rattle.std.specs.List.{find, flat_map};
@@ -14,7 +14,7 @@ use crate::kind::{PlaceKind, is_moved};
 use crate::numbers::keeps_numbers;
 use roam_conf::{Config, Endpoint, Realm};
 
-/// Why a configuration may not follow another.
+/// The cause why a configuration may not follow another.
 #[derive(Clone, Copy, PartialEq, Eq)]
 pub enum Hindrance {
     /// Its seed is another.

@@ -1,4 +1,4 @@
-//! What stays the same between two tables, as far as what waits, what is held and what is open depends on it.
+//! The parts that stay the same between two tables, as far as what waits, what is held and what is open depends on it.
 
 ghost use Rattle.std.specs.Prelude.{◌≡◌, ◌≤◌, length, map, option_map, slice_get};
 ghost use Rattle.roam_conf.specs.Duplicates.{same_endpoint};

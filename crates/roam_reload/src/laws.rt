@@ -1,4 +1,4 @@
-//! What follows of configurations that are laid out.
+//! Laws of configurations that are laid out.
 
 ghost use Rattle.roam_reload.specs.Numbers.{LaidOutHoldsFile, LaidOutKeepsNumbers};
 
@@ -8,7 +8,7 @@ pub fn laid_out_keeps_numbers()
     ensures { LaidOutKeepsNumbers }
 {}
 
-/// What is here in it is what stands in the file.
+/// States that the part of it which is here is what stands in the file.
 pub fn laid_out_holds_file()
     ensures { LaidOutHoldsFile }
 {}

@@ -11,7 +11,7 @@ use crate::laying_realms::laid_realms;
 use roam_conf::{Config, ConfigParts};
 use std::alloc::{AllocError, Global};
 
-/// Why a configuration isn't laid out.
+/// The cause why a configuration isn't laid out.
 #[derive(Clone, Copy, PartialEq, Eq)]
 pub enum LayFault {
     Memory,

@@ -1,5 +1,5 @@
-//! When a configuration may follow another while the broker serves, by which numbers its realms and peers are told
-//! then, and what stays of each.
+//! The conditions for a configuration to follow another while the proxy serves, the numbers by which its realms and
+//! peers are told then, and what stays of each.
 //!
 //! Nothing here reads a document or changes a broker: two configurations are looked at. Only laying one out by another
 //! takes memory.

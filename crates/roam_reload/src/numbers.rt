@@ -1,4 +1,4 @@
-//! Whether an index is one realm's, or one peer's, in two configurations.
+//! The check that an index is one realm's, or one peer's, in two configurations.
 
 ghost use Rattle.std.specs.Prelude.{◌≡◌, ◌<◌, ◌↔◌, IsTrue, length, map};
 ghost use Rattle.roam_conf.specs.Parts.{shown_peer, shown_realm};

@@ -1,4 +1,4 @@
-//! Which peer isn't the same in two configurations, and in which key.
+//! The peers that aren't the same in two configurations, and in which key.
 
 ghost use Rattle.std.specs.Prelude.{◌≡◌, IfNone, IfSome, map};
 ghost use Rattle.roam_conf.specs.Parts.{shown_peer};

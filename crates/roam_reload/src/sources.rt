@@ -1,4 +1,4 @@
-//! Which source of a realm's reverse requests is the same in two tables.
+//! The sources of a realm's Disconnect- and CoA-Requests that are the same in two tables.
 
 ghost use Rattle.std.specs.Prelude.{◌≡◌, option_map};
 ghost use Rattle.roam_conf.specs.Parts.{shown_client, shown_realm, shown_server};

@@ -1,11 +1,11 @@
--- What a hub that was closed leaves, and what follows the time under a configuration (ours).
+-- The rest of a hub that was closed, and what follows the time under a configuration (ours).
 use Rattle.std.specs.Prelude.{◌≡◌, List}
 use Rattle.roam_conf.specs.Config.{ConfigView}
 use Rattle.roam_conf.specs.Shown.{shown}
 use Rattle.roam_reload.specs.Reload.{MayFollow}
 use Rattle.roam_shard.specs.declared.paused.Paused.{Paused}
-use Rattle.roam_trace.specs.Steps.{PlainStep}
-use Rattle.roam_calls.specs.HubOpening.{HubOpening}
+use Rattle.roam_shard.specs.Steps.{PlainStep}
+use Rattle.roam_history.specs.HubOpening.{HubOpening}
 use Rattle.roam_hub.specs.Histories.{AreHistories}
 use Rattle.roam_hub.specs.Pausing.{ArePaused, StandAtEnd}
 use Rattle.roam_sockets.specs.Faults.{IsAfterBinding}

@@ -1,15 +1,18 @@
 //! The hub is closed, and what it kept is audited.
 
-ghost use Rattle.std.specs.Prelude.{◌≡◌, IfErr, IfOk};
-ghost use Rattle.roam_calls.specs.Shown.{recorded};
+ghost use Rattle.std.specs.Prelude.{◌≡◌, IfErr, IfOk, length};
+ghost use Rattle.roam_history.specs.Shown.{recorded};
+ghost use Rattle.roam_intake.specs.JobCounts.{AreAllTaken};
 ghost use Rattle.roam_run.specs.Closed.{EndsOf, MayGoOn};
 ghost use Rattle.roam_sockets.specs.Faults.{IsAfterBinding};
+ghost use Rattle.roam_workers.specs.Endings.{job_counts_of};
 
 use crate::given_back::given_back;
 use crate::parts::Left;
 use crate::room::RunResult;
 use roam_attendant::HubEnd;
 use roam_hub::{Audited, Hub, Opened, PauseRoom, Paused, PausedHub, Seat};
+use roam_intake::LockedQueue;
 use roam_sockets::ServeFault;
 use roam_workers::Ended;
 use std::alloc::Global;
@@ -22,7 +25,7 @@ pub struct PausableHub<'c, N: Opened> {
     pub pause: PauseRoom<'c, Global, N>,
 }
 
-/// What is left of a hub that was closed: its report, which passed the audit, and its shards, by number.
+/// The rest of a hub that was closed: its report, which passed the audit, and its shards, by number.
 pub struct AuditedHub<N: Opened> {
     pub audited: Audited<Global, N>,
     pub shards: Vec<Paused<Global>>,
@@ -78,12 +81,14 @@ fn close_ended<R: Wait, N: Opened>(
     ensures err { IfErr result IsAfterBinding }
 {
     let Ended {
+        has_given_up: _,
         datagrams,
+        jobs,
         seats,
         outboxes,
         rests,
-        ..
     } = ended;
+    drop(jobs);
     match close_and_audit(rt, hub, seats) {
         Ok(closed) => Ok(Left {
             end,
@@ -101,7 +106,7 @@ fn close_ended<R: Wait, N: Opened>(
     }
 }
 
-/// A hub whose threads have ended, until it is closed and audited.
+/// A hub whose threads have ended, until it is closed and audited, and with it the queues of jobs between them.
 ///
 /// # Errors
 ///
@@ -109,16 +114,19 @@ fn close_ended<R: Wait, N: Opened>(
 pub fn close_after<R: Wait, N: Opened>(
     rt: &R,
     hub: PausableHub<'_, N>,
+    queues: Vec<LockedQueue<N>>,
     run: RunResult<N>,
 ) -> Result<Left<N>, ServeFault>
     requires { MayGoOn N.opening.config run.end }
+    ensures jobs { IfOk result (λ left.
+        AreAllTaken (λ v. v.items) (length queues.items) (job_counts_of run.results.ends.items)) }
     ensures ends { IfOk result (λ left.
         EndsOf N.opening (recorded left.closed.audited.report) left.closed.shards.items) }
     ensures may { IfOk result (λ left. MayGoOn N.opening.config left.end) }
     ensures err { IfErr result IsAfterBinding }
 {
     let RunResult { end, results } = run;
-    match given_back(results) {
+    match given_back(results, queues) {
         Ok(ended) => close_ended(rt, hub, end, ended),
         Err(fault) => {
             drop(end);

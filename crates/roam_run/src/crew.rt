@@ -1,4 +1,4 @@
-//! What the threads of one configuration are made of, and what they are told.
+//! The parts of one configuration's threads, and what they are told.
 
 ghost use Rattle.std.specs.Prelude.{IfErr};
 ghost use Rattle.roam_run.specs.Closed.{MayGoOn};
@@ -17,7 +17,7 @@ use std::alloc::Global;
 use std::sync::atomic::AtomicBool;
 use std::thread::Parker;
 
-/// What the threads of one configuration are told, beside what comes to their sockets.
+/// The signals to the threads of one configuration, beside what comes to their sockets.
 #[derive(Drop)]
 pub struct Signals<'w> {
     pub logger: Parker,
@@ -36,8 +36,8 @@ impl<'w> Signals<'w> {
     }
 }
 
-/// What of one configuration ends with its threads: what they are made of, room for what they give back, and what is
-/// handed on to them. No part of it is let go of before.
+/// The parts of one configuration that end with its threads: what they are made of, room for what they give back, and
+/// what is handed on to them. No part of it is let go of before.
 pub struct Crew<N: Opened> {
     seat: Seat<Global, N>,
     threads: ThreadKits,
@@ -48,7 +48,7 @@ pub struct Crew<N: Opened> {
 }
 
 impl<N: Opened> Crew<N> {
-    /// That of these means; and what ends the threads' waits.
+    /// Makes the crew of these means; it has what ends the threads' waits.
     pub fn new(seat: Seat<Global, N>, room: ThreadRoom<N>, means: Means) -> (Vec<Waker>, Crew<N>) {
         let (kits, outboxes, rests, handover) = means.into_parts();
         let (wakers, threads) = kits.into_parts();

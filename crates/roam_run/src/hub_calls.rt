@@ -1,12 +1,12 @@
 //! The hub as its threads see it: each of their calls is the hub's own, and nobody is held inside a shard's lock.
 
 use crate::audit::PausableHub;
-use roam_carry::Loss;
+use roam_admission::Job;
 use roam_conf::{Config, ExchangeLines};
 use roam_hub::{Answered, Call, Gauges, HubFault, Open, Opened, Refused, Seat, Ticked};
-use roam_ledgers::Writing;
-use roam_route::Job;
-use roam_trace::Step;
+use roam_migrate::Loss;
+use roam_sessions::Writing;
+use roam_shard::Step;
 use roam_wire::NoMemory;
 use roam_workers::HubCalls;
 use std::alloc::{AllocError, Global};

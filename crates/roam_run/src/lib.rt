@@ -7,6 +7,8 @@
 //! - of a hub that was closed: its histories were audited, the shards that are handed on stand where these end, and a
 //!   configuration that follows may | `serve_over`: `ends`, `may`; `close_and_audit`: `ends`;
 //!   `Source::following`
+//! - of threads that ended, for each shard as many jobs were handed on to its worker as that one took over, or the audit
+//!   fails | `close_after`: `jobs`; `given_back`
 //! - each call by which the threads ask a hub is the hub's own, with its contract: so what is proved of them over any
 //!   hub with these calls is proved over this one | `PausableHub`
 #![tactic(auto)]

@@ -2,8 +2,8 @@
 
 ghost use Rattle.std.specs.Prelude.{◌≡◌, IfOk, IfErr};
 ghost use Rattle.roam_conf.specs.Shown.{shown};
-ghost use Rattle.roam_calls.specs.Books.{books_of, count_of};
-ghost use Rattle.roam_calls.specs.Shown.{recorded};
+ghost use Rattle.roam_history.specs.Books.{books_of, count_of};
+ghost use Rattle.roam_history.specs.Shown.{recorded};
 ghost use Rattle.roam_hub.specs.Pausing.{ArePaused, opening_over};
 ghost use Rattle.roam_run.specs.Closed.{EndSomewhere, EndsOf, IsUnserved, MayGoOn};
 ghost use Rattle.roam_sockets.specs.Faults.{IsAfterBinding};
@@ -18,7 +18,7 @@ use log::Log;
 use mio::Waker;
 use roam_attendant::{Attendant, Configured, Source};
 use roam_hub::{Blanks, Opened};
-use roam_intake::Mailbox;
+use roam_intake::LockedQueue;
 use roam_shard::Paused;
 use roam_sockets::ServeFault;
 use roam_workers::Shared;
@@ -41,7 +41,7 @@ fn run<
     hub: &PausableHub<'c, N>,
     crew: Crew<N>,
     wakers: Vec<Waker>,
-    mailboxes: Vec<Mailbox<N>>,
+    queues: &[LockedQueue<N>],
 ) -> RunResult<N>
     requires { shown configured.now.config ≡ N.opening.config }
     ensures { MayGoOn N.opening.config result.end }
@@ -54,7 +54,7 @@ fn run<
         logger: &signals.logger,
         wakers: wakers.as_slice(),
         rest: &signals.rest,
-        mailboxes: mailboxes.as_slice(),
+        queues,
         losses: parts.losses,
         counters: configured.counters.as_ref(),
         told_exchanges: configured.manner.told_exchanges,
@@ -112,11 +112,11 @@ fn run_hub<
         hub,
         seat,
         room,
-        mailboxes,
+        queues,
     } = open;
     let (wakers, crew) = Crew::new(seat, room, means);
-    let run = run(parts, configured, &hub, crew, wakers, mailboxes);
-    close_after(parts.rt, hub, run)
+    let run = run(parts, configured, &hub, crew, wakers, queues.as_slice());
+    close_after(parts.rt, hub, queues, run)
 }
 
 /// Serves a configuration over shards that stand under it, until its hub is closed.

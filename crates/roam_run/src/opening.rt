@@ -2,14 +2,14 @@
 
 ghost use Rattle.std.specs.Prelude.{◌≡◌, IfErr};
 ghost use Rattle.roam_conf.specs.Shown.{shown};
-ghost use Rattle.roam_calls.specs.Books.{books_of, count_of};
+ghost use Rattle.roam_history.specs.Books.{books_of, count_of};
 ghost use Rattle.roam_hub.specs.Pausing.{ArePaused, opening_over};
 
 use crate::audit::PausableHub;
 use crate::room::ThreadRoom;
 use roam_conf::Config;
 use roam_hub::{Blanks, Hub, Opened, PauseRoom, Seat};
-use roam_intake::Mailbox;
+use roam_intake::{LockedQueue, make_queues};
 use roam_shard::Paused;
 use std::alloc::{AllocError, Global};
 
@@ -19,16 +19,7 @@ use std::alloc::{AllocError, Global};
 struct HubRoom<'c, N: Opened> {
     pause: PauseRoom<'c, Global, N>,
     threads: ThreadRoom<N>,
-    mailboxes: Vec<Mailbox<N>>,
-}
-
-/// An empty mailbox for the worker of each of so many shards.
-fn mailboxes_for<N: Opened>(alloc: Global, shards: u16) -> Result<Vec<Mailbox<N>>, AllocError> {
-    let mut mailboxes = Vec::with_capacity(alloc, usize::from(shards))?;
-    for _ in 0..shards {
-        mailboxes.push(Mailbox::new(alloc))?;
-    }
-    Ok(mailboxes)
+    queues: Vec<LockedQueue<N>>,
 }
 
 impl<'c, N: Opened> HubRoom<'c, N> {
@@ -37,16 +28,16 @@ impl<'c, N: Opened> HubRoom<'c, N> {
         requires { shown config.now ≡ N.opening.config }
     {
         let threads = ThreadRoom::new(alloc, config.top.shards)?;
-        let mailboxes = mailboxes_for(alloc, config.top.shards)?;
+        let queues = make_queues(alloc, config.top.shards)?;
         match PauseRoom::new(alloc, config) {
             Ok(pause) => Ok(HubRoom {
                 pause,
                 threads,
-                mailboxes,
+                queues,
             }),
             Err(_) => {
                 drop(threads);
-                drop(mailboxes);
+                drop(queues);
                 Err(AllocError)
             }
         }
@@ -59,8 +50,8 @@ pub struct OpenHub<'c, N: Opened> {
     pub hub: PausableHub<'c, N>,
     pub seat: Seat<Global, N>,
     pub room: ThreadRoom<N>,
-    /// Where each worker finds what others received for its shard.
-    pub mailboxes: Vec<Mailbox<N>>,
+    /// The queue in which each worker finds the jobs that others received for its shard.
+    pub queues: Vec<LockedQueue<N>>,
 }
 
 impl<'c, N: Opened> OpenHub<'c, N> {
@@ -105,13 +96,13 @@ impl<'c, N: Opened> OpenHub<'c, N> {
                 let HubRoom {
                     pause,
                     threads,
-                    mailboxes,
+                    queues,
                 } = room;
                 Ok(OpenHub {
                     hub: PausableHub { hub, pause },
                     seat,
                     room: threads,
-                    mailboxes,
+                    queues,
                 })
             }
             Err(shards) => {

@@ -1,7 +1,7 @@
-//! What a server has, from configuration to configuration.
+//! The parts of a server that go on from configuration to configuration.
 
 ghost use Rattle.std.specs.Prelude.{◌≡◌};
-ghost use Rattle.roam_calls.specs.Shown.{recorded};
+ghost use Rattle.roam_history.specs.Shown.{recorded};
 ghost use Rattle.roam_run.specs.Closed.{EndSomewhere, EndsOf};
 
 use crate::audit::AuditedHub;
@@ -18,7 +18,7 @@ use roam_workers::Rests;
 use std::alloc::Global;
 use std::time::Instant;
 
-/// What outlasts each configuration that a server serves.
+/// The parts that outlast each configuration that a server serves.
 #[derive(Drop)]
 pub struct ServerParts<'s, R, S> {
     pub rt: &'s R,
@@ -29,19 +29,19 @@ pub struct ServerParts<'s, R, S> {
     pub office: &'s Office,
     pub stopping: &'s Stopping,
     pub start: Instant,
-    /// For how many milliseconds it serves; none where that has no end.
+    /// The milliseconds for which it serves; none where that has no end.
     pub milliseconds: Option<u64>,
-    /// When that is over, in milliseconds since its start; none before it serves, or where that has no end.
+    /// The time when that is over, in milliseconds since its start; none before it serves, or where that has no end.
     pub end: Option<u64>,
-    /// Where the configuration comes from that follows.
+    /// The source of the configuration that follows.
     pub source: &'s mut S,
 }
 
-/// What the threads of a configuration are made of, and what is handed on to them.
+/// The means of a configuration's threads: what they are made of, and what is handed on to them.
 pub struct Means {
     pub kits: Kits,
     pub outboxes: Vec<Outbox<Global>>,
-    /// Which home servers keep silent, as it was told.
+    /// The home servers that do not answer, as it was told.
     pub rests: Rests,
     pub handover: Handover,
 }
@@ -71,19 +71,19 @@ impl Means {
     }
 }
 
-/// What is left of a hub that was closed and audited.
+/// The rest of a hub that was closed and audited.
 pub struct Left<N: Opened> {
     pub end: HubEnd,
-    /// What became of the datagrams that its threads received.
+    /// The fates of the datagrams that its threads received.
     pub datagrams: Datagrams,
     /// The packets that still wait for room at a socket.
     pub outboxes: Vec<Outbox<Global>>,
-    /// Which home servers keep silent, as it was told; none where the timer didn't run.
+    /// The home servers that do not answer, as it was told; none where the timer didn't run.
     pub rests: Option<Rests>,
     pub closed: AuditedHub<N>,
 }
 
-/// Why a configuration isn't served over shards that stand under it.
+/// The cause why a configuration isn't served over shards that stand under it.
 #[derive(Drop)]
 pub enum Unserved {
     /// The server ends for this fault.
@@ -92,16 +92,16 @@ pub enum Unserved {
     Closed(Vec<Paused<Global>>, Means),
 }
 
-/// What is left of it for the next one.
+/// The rest of it for the next one.
 #[derive(Drop)]
 pub struct Served {
     pub end: HubEnd,
     /// The packets that still wait for room at a socket.
     pub outboxes: Vec<Outbox<Global>>,
-    /// Which home servers keep silent, as it was told; none where that isn't known.
+    /// The home servers that do not answer, as it was told; none where that isn't known.
     pub rests: Option<Rests>,
     pub shards: Vec<Paused<Global>>,
-    /// How many steps were recorded.
+    /// The number of steps that were recorded.
     pub steps: u64,
 }
 

@@ -1,7 +1,10 @@
 //! The memory for what the threads of one configuration give back.
 
+ghost use Rattle.std.specs.Prelude.{◌≡◌, []};
+
 use roam_attendant::HubEnd;
 use roam_hub::{Opened, Seat};
+use roam_intake::JobCounts;
 use roam_port::Outbox;
 use roam_workers::WorkerEnd;
 use std::alloc::{AllocError, Global};
@@ -14,6 +17,9 @@ pub struct Results<N: Opened> {
     pub ends: Vec<WorkerEnd<N>>,
     pub seats: Vec<Seat<Global, N>>,
     pub outboxes: Vec<Outbox<Global>>,
+    /// For what each counted of jobs between workers: nothing is in it.
+    pub jobs: Vec<Vec<JobCounts>>,
+    ghost none_yet: { jobs.items ≡ [] },
 }
 
 impl<N: Opened> Results<N> {
@@ -24,6 +30,7 @@ impl<N: Opened> Results<N> {
             ends: Vec::with_capacity(alloc, threads)?,
             seats: Vec::with_capacity(alloc, threads + 1)?,
             outboxes: Vec::with_capacity(alloc, threads)?,
+            jobs: Vec::with_capacity(alloc, threads)?,
         })
     }
 
@@ -57,7 +64,7 @@ impl<N: Opened> ThreadRoom<N> {
     }
 }
 
-/// How the time of the threads of one configuration ended, and what they gave back, with the seat of this thread.
+/// The end of the time of the threads of one configuration, and what they gave back, with the seat of this thread.
 pub struct RunResult<N: Opened> {
     pub end: HubEnd,
     pub results: Results<N>,

@@ -16,7 +16,7 @@ use std::thread;
 use std::thread::{Scope, Threads};
 use std::time::Clock;
 
-/// What runs until the threads of one configuration have ended: the threads, before they start, what this one has
+/// The run of the threads of one configuration until they have ended: the threads, before they start, what this one has
 /// meanwhile, and room for what comes back.
 #[derive(Drop)]
 pub struct Run<'s, 'c, 'a, R, H, N: Opened, S> {

@@ -7,7 +7,7 @@ use roam_attendant::{Attendant, Handover, HubEnd, Source};
 use roam_desk::{Course, Reply};
 use roam_hub::Opened;
 use roam_kits::{log_notices, tell_or_drop};
-use roam_notices::ReloadEnd;
+use roam_log::ReloadEnd;
 use roam_sockets::{ServeFault, now};
 use roam_telling::{serving, tell_reload};
 use roam_threads::ReadyThreads;

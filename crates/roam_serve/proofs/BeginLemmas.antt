@@ -3,7 +3,7 @@ use Rattle.std.proofs.Common.{◌≡◌, ◌⊎◌, ℕ, zero, suc, ◌+◌, ◌
 use Rattle.std.specs.Prelude.{IfOk, Result, slice_get}
 use Rattle.std.proofs.lemmas.List.{length-append}
 use Rattle.roam_conf.specs.Config.{ConfigView}
-use Rattle.roam_ledgers.specs.Ledgers.{SavedItem}
+use Rattle.roam_sessions.specs.Ledgers.{SavedItem}
 use Rattle.roam_realm.specs.RealmState.{RealmState}
 use Rattle.roam_realm.specs.declared.start.Start.{Start}
 use Rattle.roam_core.specs.Openings.{fresh, fresh_starts, openings}
@@ -11,7 +11,7 @@ use Rattle.roam_shard.specs.ShardView.{OpeningView, ShardView}
 use Rattle.roam_shard.specs.Pausing.{StandsUnder, opening_under, states_under}
 use Rattle.roam_shard.specs.Restoring.{restored_states}
 use Rattle.roam_shard.specs.declared.paused.Paused.{Paused}
-use Rattle.roam_follow.specs.Paused.{IsPaused}
+use Rattle.roam_shard.specs.Paused.{IsPaused}
 use Rattle.roam_serve.specs.Begins.{HasBegun, HaveBegun}
 
 -- what stands in a list with one more

@@ -4,17 +4,17 @@ use Rattle.std.specs.Prelude.{get_or}
 use Rattle.std.proofs.lemmas.Option.{slice_get-get_or, slice_get_cases, slice_get_within}
 use Rattle.roam_conf.specs.Config.{ConfigView}
 use Rattle.roam_realm.specs.RealmState.{RealmState}
-use Rattle.roam_ledgers.specs.Ledgers.{SavedItem}
-use Rattle.roam_trace.specs.History.{AreSteps, Beginning, IsHistory, end_of, states_next, states_then}
-use Rattle.roam_trace.specs.Steps.{PlainStep}
-use Rattle.roam_calls.specs.HubOpening.{opening_at}
-use Rattle.roam_calls.specs.Audit.{steps_of}
+use Rattle.roam_sessions.specs.Ledgers.{SavedItem}
+use Rattle.roam_shard.specs.History.{AreSteps, Beginning, IsHistory, end_of, states_next, states_then}
+use Rattle.roam_shard.specs.Steps.{PlainStep}
+use Rattle.roam_history.specs.HubOpening.{opening_at}
+use Rattle.roam_history.specs.Audit.{steps_of}
 use Rattle.roam_hub.specs.Changes.{AreSpans, FollowsOn, IsSpan, Span}
 use Rattle.roam_hub.specs.Following.{HaveFollowed, StandAsBefore}
 use Rattle.roam_hub.specs.Pausing.{ArePaused, opening_over, states_of_one}
-use Rattle.roam_follow.specs.Losing.{IsDeclined}
-use Rattle.roam_follow.specs.declared.declined.Declined.{Declined}
-use Rattle.roam_follow.specs.declared.declined.Declined.TheVariants as declined
+use Rattle.roam_shard.specs.Losing.{IsDeclined}
+use Rattle.roam_shard.specs.declared.declined.Declined.{Declined}
+use Rattle.roam_shard.specs.declared.declined.Declined.TheVariants as declined
 use Rattle.roam_shard.specs.Follow.{AllFollow}
 use Rattle.roam_shard.specs.Pausing.{states_under}
 use Rattle.roam_shard.specs.declared.paused.Paused.{Paused}

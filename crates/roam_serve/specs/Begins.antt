@@ -1,13 +1,13 @@
--- How a server begins (ours).
+-- The beginning of a server (ours).
 use Rattle.std.specs.Prelude.{◌≡◌, ℕ, List, Some, slice_get}
 use Rattle.roam_conf.specs.Config.{ConfigView}
-use Rattle.roam_ledgers.specs.Ledgers.{SavedItem}
+use Rattle.roam_sessions.specs.Ledgers.{SavedItem}
 use Rattle.roam_core.specs.Openings.{fresh}
 use Rattle.roam_shard.specs.Pausing.{states_under}
 use Rattle.roam_shard.specs.Restoring.{restored_states}
 use Rattle.roam_shard.specs.declared.paused.Paused.{Paused}
-use Rattle.roam_calls.specs.HubOpening.{HubOpening}
-use Rattle.roam_follow.specs.Paused.{ArePaused, IsPaused}
+use Rattle.roam_history.specs.HubOpening.{HubOpening}
+use Rattle.roam_shard.specs.Paused.{ArePaused, IsPaused}
 
 -- ## Begin of a server
 -- Each realm of a server begins at place 0 of its random words and ticket 0, with no entry, and with those sessions

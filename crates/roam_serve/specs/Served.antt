@@ -1,12 +1,12 @@
--- What a server has served, over all changes of its configuration (ours).
+-- The work that a server has done, over all changes of its configuration (ours).
 use Rattle.std.specs.Prelude.{◌≡◌, ℕ, ◌<◌, List, [], ◌∷◌, ◌++◌, Some, slice_get}
 use Rattle.roam_conf.specs.Config.{ConfigView}
-use Rattle.roam_ledgers.specs.Ledgers.{SavedItem}
+use Rattle.roam_sessions.specs.Ledgers.{SavedItem}
 use Rattle.roam_realm.specs.RealmState.{RealmState}
 use Rattle.roam_shard.specs.Pausing.{states_under}
 use Rattle.roam_shard.specs.declared.paused.Paused.{Paused}
-use Rattle.roam_trace.specs.History.{Beginning, end_of}
-use Rattle.roam_calls.specs.HubOpening.{HubOpening, opening_at}
+use Rattle.roam_shard.specs.History.{Beginning, end_of}
+use Rattle.roam_history.specs.HubOpening.{HubOpening, opening_at}
 use Rattle.roam_run.specs.Closed.{MayGoOn}
 use Rattle.roam_run.specs.declared.parts.Served.{Served}
 use Rattle.std.specs.declared.alloc.Global.{Global}

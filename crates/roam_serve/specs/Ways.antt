@@ -1,10 +1,10 @@
--- Which way a change of a server's configuration goes (ours).
+-- The course of a change of a server's configuration (ours).
 use Rattle.std.specs.Prelude.{◌≡◌, Bool, false, List}
 use Rattle.std.specs.declared.alloc.Global.{Global}
 use Rattle.roam_conf.specs.Config.{ConfigView}
-use Rattle.roam_follow.specs.Losing.{NothingIsLost, SomethingIsLost}
-use Rattle.roam_follow.specs.declared.declined.Declined.{Declined}
-use Rattle.roam_follow.specs.declared.declined.Declined.TheVariants as declined
+use Rattle.roam_shard.specs.Losing.{NothingIsLost, SomethingIsLost}
+use Rattle.roam_shard.specs.declared.declined.Declined.{Declined}
+use Rattle.roam_shard.specs.declared.declined.Declined.TheVariants as declined
 use Rattle.roam_shard.specs.declared.paused.Paused.{Paused}
 use Rattle.roam_serve.specs.declared.changing.Way.{Way}
 use Rattle.roam_serve.specs.declared.changing.Way.TheVariants as way

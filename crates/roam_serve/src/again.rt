@@ -1,7 +1,7 @@
-//! What serves couldn't be started: what it needs is taken once more.
+//! The second try where the threads and sockets couldn't be started: what they need is taken once more.
 
 ghost use Rattle.std.specs.Prelude.{◌≡◌, ◌+◌, ◌-◌, ◌^◌, IfErr, IfOk, min, option_map};
-ghost use Rattle.roam_calls.specs.Books.{count_of};
+ghost use Rattle.roam_history.specs.Books.{count_of};
 ghost use Rattle.roam_sockets.specs.Faults.{IsAfterBinding};
 
 use roam_port::{Outbox, socket_numbers};

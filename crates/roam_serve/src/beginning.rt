@@ -2,8 +2,8 @@
 
 ghost use Rattle.std.specs.Prelude.{◌≡◌, ◌<◌, [], IfErr, IfOk, List};
 ghost use Rattle.roam_conf.specs.Shown.{shown};
-ghost use Rattle.roam_ledgers.specs.Ledgers.{SavedItem};
-ghost use Rattle.roam_ledgers.specs.Shown.{shown_items};
+ghost use Rattle.roam_sessions.specs.Ledgers.{SavedItem};
+ghost use Rattle.roam_sessions.specs.ShownLedgers.{shown_items};
 ghost use Rattle.roam_core.specs.Openings.{fresh_starts};
 ghost use Rattle.roam_shard.specs.ShardView.{AreStarts};
 ghost use Rattle.roam_serve.specs.Begins.{HasBegun, HaveBegun};
@@ -13,9 +13,9 @@ use crate::again::begin_time;
 use crate::taken_up::{count_in, count_sessions};
 use log::Log;
 use roam_conf::Config;
-use roam_ledgers::{Item, ReadError, read};
 use roam_realm::Start;
 use roam_run::{Configured, ServerParts, Source};
+use roam_sessions::{Item, ReadError, read};
 use roam_shard::{Paused, Shard, first_starts};
 use roam_sockets::ServeFault;
 use roam_telling::{tell_left_out, tell_taken_up, tell_unread};

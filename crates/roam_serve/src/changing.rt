@@ -3,17 +3,17 @@
 ghost use Rattle.std.specs.Prelude.{◌≡◌, ◌⊎◌};
 ghost use Rattle.roam_conf.specs.Shown.{shown};
 ghost use Rattle.roam_reload.specs.Reload.{MayFollow};
-ghost use Rattle.roam_calls.specs.Books.{count_of};
+ghost use Rattle.roam_history.specs.Books.{count_of};
 ghost use Rattle.roam_hub.specs.Following.{HaveFollowed, StandAsBefore};
 ghost use Rattle.roam_hub.specs.Pausing.{ArePaused};
 ghost use Rattle.roam_serve.specs.Served.{GoOn};
 ghost use Rattle.roam_serve.specs.Ways.{IsWay, way_of};
 
 use log::Log;
-use roam_carry::Loss;
 use roam_conf::Config;
 use roam_desk::{Reply, done};
 use roam_hub::{Blanks, Declined, follow};
+use roam_migrate::Loss;
 use roam_run::{
     Configured, Counters, Handover, Kits, Next, Rests, ServerParts, declined_for, out_of_memory,
     tell_what_went,
@@ -53,30 +53,30 @@ fn count_losses(counters: &Option<Counters>, before: &Config, losses: &[Loss]) {
     }
 }
 
-/// What the threads of a new configuration are made of.
+/// The parts of the threads of a new configuration.
 #[derive(Drop)]
 pub struct Ready {
     pub kits: Kits,
     pub rests: Rests,
 }
 
-/// Which way a change went.
+/// The direction of a change.
 #[derive(Drop)]
 pub enum Way {
     /// The configuration is served that was to follow.
     Follows(Ready),
-    /// That of before goes on: something would be lost, and nobody agreed.
+    /// The configuration of before goes on: something would be lost, and nobody agreed.
     Declined,
-    /// That of before goes on: memory is wanting.
+    /// The configuration of before goes on: memory is wanting.
     NoMemory,
 }
 
-/// What a change comes to.
+/// The result of a change.
 #[derive(Drop)]
 pub struct Changed {
     pub way: Way,
     pub blanks: Blanks<Global>,
-    /// What was told of servers, where the configuration of before goes on.
+    /// The state that was told of servers, where the configuration of before goes on.
     pub told: Option<Rests>,
     pub handover: Handover,
 }

@@ -29,9 +29,9 @@ mod taken_up;
 mod unserved;
 
 pub use roam_desk::{Build, FileOrder};
+pub use roam_log::{StationForm, StationKey};
 pub use roam_run::{Following, KeepEnd, Keeping, Manner, Source, StateFile, Watch};
 pub use roam_sockets::{
     ControlSocket, Reason, ServeFault, SocketPath, descriptors_wanted, reason_of, with_drawn_seed,
 };
-pub use roam_stations::{StationForm, StationKey};
 pub use server::{ServeOptions, serve};

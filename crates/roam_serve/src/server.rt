@@ -24,13 +24,13 @@ use std::thread;
 use std::thread::Threads;
 use std::time::{Clock, Instant};
 
-/// How a server serves.
+/// The options of a server.
 #[derive(Drop)]
 pub struct ServeOptions<'s> {
-    /// Where what its threads do is counted, and who may ask for that; none where nobody watches it.
+    /// The place where its threads' work is counted, and who may ask for that; none where nobody watches it.
     pub watch: Option<Watch<'s>>,
     pub manner: Manner,
-    /// For how many milliseconds it serves, once it has sockets and ledgers; none where that has no end.
+    /// The milliseconds for which it serves, once it has sockets and session tables; none where that has no end.
     pub milliseconds: Option<u64>,
 }
 
@@ -181,7 +181,7 @@ fn first_means<R: Net>(
     })
 }
 
-/// How a server serves whose sockets are bound, since when, and for how long.
+/// The manner in which a server serves whose sockets are bound, since when, and for how long.
 #[derive(Drop)]
 struct Serving<'s> {
     watch: Option<Watch<'s>>,

@@ -3,7 +3,7 @@
 ghost use Rattle.std.specs.Prelude.{◌≡◌, IfOk, IfErr};
 ghost use Rattle.roam_conf.specs.Config.{ConfigView};
 ghost use Rattle.roam_conf.specs.Shown.{shown};
-ghost use Rattle.roam_calls.specs.Books.{count_of};
+ghost use Rattle.roam_history.specs.Books.{count_of};
 ghost use Rattle.roam_hub.specs.Pausing.{ArePaused};
 ghost use Rattle.roam_run.specs.Closed.{MayGoOn};
 ghost use Rattle.roam_serve.specs.Served.{HasServedAll, IsServedOn};
@@ -31,7 +31,7 @@ use std::thread;
 use std::thread::Threads;
 use std::time::{Clock, Duration};
 
-/// How long it waits, in milliseconds, before what serves is started again that couldn't be.
+/// The time, in milliseconds, before the threads and sockets are started again that couldn't be.
 const BEFORE_NEXT_TRY: u64 = 100;
 
 /// Nothing was served, for this fault: what serves is to be started again.

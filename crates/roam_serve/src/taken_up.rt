@@ -1,7 +1,7 @@
-//! How many sessions a file of ledgers has, and how many of them were taken up.
+//! The number of sessions of a file, and how many of them were taken up.
 
 use roam_conf::Config;
-use roam_ledgers::Item;
+use roam_sessions::Item;
 use roam_shard::Shard;
 use std::alloc::Global;
 

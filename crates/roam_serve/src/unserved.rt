@@ -1,4 +1,4 @@
-//! Who asks while nothing serves is answered all the same.
+//! The answers while nothing serves.
 
 use roam_desk::{Course, Desk, Order, plain_reply};
 use roam_run::{ServerParts, Source, stopping};
@@ -9,7 +9,7 @@ use std::sync::Wait;
 fn words_of<R, S: Source>(parts: &mut ServerParts<'_, R, S>, fault: ServeFault) -> Vec<u8> {
     let mut words = parts.source.words_of(fault);
     let _is_said = words
-        .extend_from_slice(b"what serves can't be started: tried again\n")
+        .extend_from_slice(b"cannot start to serve: trying again\n")
         .is_ok();
     words
 }

@@ -9,7 +9,7 @@ use Rattle.std.proofs.lemmas.Option.{slice_get-get_or}
 use Rattle.roam_wire.specs.declared.refusal.NoMemory.{NoMemory}
 use Rattle.roam_wire.specs.declared.refusal.Refusal.TheVariants as refusal
 use Rattle.roam_conf.specs.Config.{ConfigView}
-use Rattle.roam_route.specs.Admission.{PlainJob, admitted}
+use Rattle.roam_admission.specs.Admission.{PlainJob, admitted}
 use Rattle.roam_exchange.specs.OneRealm.{event_of, on_event}
 use Rattle.roam_exchange.specs.OnTick.{on_tick}
 use Rattle.roam_realm.specs.RealmConfig.{realm_config}

@@ -5,8 +5,8 @@ use Rattle.roam_pending.specs.declared.key.Key.{Key}
 use Rattle.roam_pending.specs.EntryList.{HasDistinctKeys, IsEntryList, IsInOrder}
 use Rattle.roam_pending.specs.PlainEntry.{PlainEntry, is_done}
 use Rattle.roam_realm.specs.RealmConfig.{RealmConfig}
-use Rattle.roam_carry.specs.Reload.{entries_then, entry_then, without_done}
-use Rattle.roam_carry.proofs.CarriedEntriesLemmas.{comes_over}
+use Rattle.roam_migrate.specs.Reload.{entries_then, entry_then, without_done}
+use Rattle.roam_migrate.proofs.CarriedEntriesLemmas.{comes_over}
 
 module _ (f : PlainEntry → Option PlainEntry)
     (ticket : (e x : PlainEntry) → f e ≡ Some x → x.ticket ≡ e.ticket)

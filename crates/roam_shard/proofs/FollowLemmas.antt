@@ -16,8 +16,8 @@ use Rattle.roam_realm.specs.RealmState.{RealmState}
 use Rattle.roam_realm.specs.Sound.{IsSound, state_of}
 use Rattle.roam_realm.specs.declared.realm_numbers.RealmNumbers.{RealmNumbers}
 use Rattle.roam_realm.specs.declared.start.Start.{Start}
-use Rattle.roam_carry.specs.Carrying.{IsReadyToCarry}
-use Rattle.roam_carry.specs.declared.lanes.FreshLanes.{FreshLanes}
+use Rattle.roam_migrate.specs.Carrying.{IsReadyToCarry}
+use Rattle.roam_migrate.specs.declared.lanes.FreshLanes.{FreshLanes}
 use Rattle.roam_core.specs.Events.{is_in_shard}
 use Rattle.roam_core.specs.ManyRealms.{no_state, state_at}
 use Rattle.roam_core.specs.Openings.{first_start, next_start}

@@ -12,7 +12,7 @@ use Rattle.roam_realm.specs.RealmState.{RealmState, opening}
 use Rattle.roam_realm.specs.Sound.{IsSound, state_of}
 use Rattle.roam_realm.specs.declared.realm_numbers.RealmNumbers.{RealmNumbers}
 use Rattle.roam_realm.specs.declared.start.Start.{Start}
-use Rattle.roam_carry.specs.Reload.{carried}
+use Rattle.roam_migrate.specs.Reload.{carried}
 use Rattle.roam_core.specs.Events.{is_in_shard}
 use Rattle.roam_core.specs.ManyRealms.{state_at}
 use Rattle.roam_shard.specs.Follow.{AllFollow, Follows}

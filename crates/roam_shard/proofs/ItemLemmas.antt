@@ -3,7 +3,7 @@ use Rattle.std.proofs.Common.{subst, ◌≡◌, ℕ, ◌+◌, ◌==◌, Bool, tr
 use Rattle.std.specs.Prelude.{if◌then◌else◌}
 use Rattle.std.specs.Option.{option_map_or}
 use Rattle.roam_conf.specs.Config.{ConfigView}
-use Rattle.roam_ledgers.specs.Ledgers.{SavedItem, SavedSession, realm, session}
+use Rattle.roam_sessions.specs.Ledgers.{SavedItem, SavedSession, realm, session}
 use Rattle.roam_realm.specs.RealmState.{RealmState}
 use Rattle.roam_shard.specs.Restoring.{is_named, saved_of, sessions_behind, with_one, with_saved_from}
 use Rattle.roam_shard.specs.Private.Items.{TakesUp}

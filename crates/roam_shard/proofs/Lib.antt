@@ -17,3 +17,7 @@ pub mod FewLemmas
 pub mod TakenUpLemmas
 pub mod ItemLemmas
 pub mod QuietLemmas
+pub mod OctetLemmas
+pub mod HistoryLemmas
+pub mod FollowingHubLemmas
+pub mod LosingLemmas

@@ -10,9 +10,9 @@ use Rattle.roam_realm.specs.RealmConfig.{RealmConfig, realm_config}
 use Rattle.roam_realm.specs.RealmState.{RealmState}
 use Rattle.roam_realm.specs.Sound.{state_of}
 use Rattle.roam_realm.specs.declared.realm_numbers.RealmNumbers.{RealmNumbers}
-use Rattle.roam_carry.specs.Carrying.{shown_loss}
-use Rattle.roam_carry.specs.Losses.{all_lost, losses}
-use Rattle.roam_carry.specs.declared.losses.Loss.{Loss}
+use Rattle.roam_migrate.specs.Carrying.{shown_loss}
+use Rattle.roam_migrate.specs.Losses.{all_lost, losses}
+use Rattle.roam_migrate.specs.declared.losses.Loss.{Loss}
 use Rattle.roam_core.specs.Events.{is_in_shard}
 use Rattle.roam_core.specs.ManyRealms.{state_at}
 use Rattle.roam_shard.specs.Looks.{IsLoss, IsOwn, NoneThere}

@@ -5,8 +5,8 @@ use Rattle.roam_wire.specs.declared.refusal.NoMemory.{NoMemory}
 use Rattle.roam_wire.specs.declared.refusal.Refusal.{Refusal}
 use Rattle.roam_wire.specs.declared.refusal.Refusal.TheVariants as refusal
 use Rattle.roam_conf.specs.Config.{ConfigView}
-use Rattle.roam_route.specs.Admission.{Admission, refused}
-use Rattle.roam_route.specs.Shown.{IsAdmission}
+use Rattle.roam_admission.specs.Admission.{Admission, refused}
+use Rattle.roam_admission.specs.Shown.{IsAdmission}
 use Rattle.roam_realm.specs.RealmState.{RealmState}
 use Rattle.roam_exchange.specs.declared.answer.Answer.{Answer}
 use Rattle.roam_core.specs.ManyRealms.{to_arrival}

@@ -8,9 +8,9 @@ use Rattle.roam_pending.specs.PlainEntry.{PlainEntry}
 use Rattle.roam_realm.specs.RealmConfig.{RealmConfig, no_realm, realm_config}
 use Rattle.roam_realm.specs.Sound.{IsSound, state_of}
 use Rattle.roam_realm.specs.declared.realm_numbers.RealmNumbers.{RealmNumbers}
-use Rattle.roam_carry.specs.Carrying.{IsReadyToCarry}
-use Rattle.roam_carry.specs.Reload.{carried}
-use Rattle.roam_carry.specs.declared.lanes.FreshLanes.{FreshLanes}
+use Rattle.roam_migrate.specs.Carrying.{IsReadyToCarry}
+use Rattle.roam_migrate.specs.Reload.{carried}
+use Rattle.roam_migrate.specs.declared.lanes.FreshLanes.{FreshLanes}
 use Rattle.roam_shard.specs.Pausing.{AllCanGoOver, AreOver, CanGoOver, GoesOn, HasGoneOver, HasNumbersThen, IsOver}
 use Rattle.roam_shard.specs.declared.following.FreshRealm.{FreshRealm}
 use Rattle.roam_shard.proofs.FollowLemmas.{get-push}

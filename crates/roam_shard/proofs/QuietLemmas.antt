@@ -12,8 +12,8 @@ use Rattle.roam_realm.specs.RealmConfig.{RealmConfig, realm_config}
 use Rattle.roam_realm.specs.RealmState.{RealmState}
 use Rattle.roam_exchange.specs.Rooms.{is_done_at, only_done_due}
 use Rattle.roam_exchange.specs.Turn.{Turn, hears, refuses, sends}
-use Rattle.roam_book.proofs.DoneDueLemmas.{done-said}
-use Rattle.roam_book.proofs.LettingGoLemmas.{both}
+use Rattle.roam_rules.proofs.DoneDueLemmas.{done-said}
+use Rattle.roam_rules.proofs.LettingGoLemmas.{both}
 use Rattle.roam_core.specs.Events.{is_in_shard}
 use Rattle.roam_core.specs.HappeningsTo.{dues_at, dues_from, dues_told}
 use Rattle.roam_core.specs.ShardRooms.{only_done_from}

@@ -4,14 +4,14 @@ use Rattle.std.specs.Prelude.{if◌then◌else◌, slice_get}
 use Rattle.std.proofs.lemmas.List.{set-get_or}
 use Rattle.std.proofs.lemmas.Option.{slice_get-get_or, slice_get_within}
 use Rattle.roam_conf.specs.Config.{ConfigView}
-use Rattle.roam_ledgers.specs.Ledgers.{SavedSession}
+use Rattle.roam_sessions.specs.Ledgers.{SavedSession}
 use Rattle.roam_realm.specs.RealmConfig.{RealmConfig, realm_config}
 use Rattle.roam_realm.specs.RealmState.{RealmState}
 use Rattle.roam_realm.specs.Saving.{taken_up}
 use Rattle.roam_realm.specs.Sound.{cursors_of, state_of}
 use Rattle.roam_realm.specs.Stays.{KeepsButSessions}
 use Rattle.roam_realm.specs.declared.realm_numbers.RealmNumbers.{RealmNumbers}
-use Rattle.roam_reverse.specs.Sessions.{Session}
+use Rattle.roam_sessions.specs.Sessions.{Session}
 use Rattle.roam_pending.specs.PlainEntry.{PlainEntry}
 use Rattle.roam_tables.specs.Stands.{RealmView, entries_in}
 use Rattle.roam_tables.proofs.RealmLemmas.{get-read}

@@ -1,4 +1,4 @@
--- How many entries of a shard are due (ours).
+-- The number of a shard's entries that are due (ours).
 use Rattle.std.specs.Prelude.{ℕ, ◌+◌, List, [], ◌∷◌, length}
 use Rattle.roam_pending.specs.DueOrder.{due_list}
 use Rattle.roam_realm.specs.RealmState.{RealmState}

@@ -1,10 +1,10 @@
--- What becomes of the realms of a shard when a configuration follows another (ours).
+-- The fate of a shard's realms when a configuration follows another (ours).
 use Rattle.std.specs.Prelude.{◌≡◌, ℕ, ◌<◌, true, List, length}
 use Rattle.roam_conf.specs.Config.{ConfigView}
 use Rattle.roam_reload.specs.Reload.{IsCarried}
 use Rattle.roam_realm.specs.RealmConfig.{realm_config}
 use Rattle.roam_realm.specs.RealmState.{RealmState, opening}
-use Rattle.roam_carry.specs.Reload.{carried}
+use Rattle.roam_migrate.specs.Reload.{carried}
 use Rattle.roam_core.specs.Events.{is_in_shard}
 use Rattle.roam_core.specs.ManyRealms.{state_at}
 use Rattle.roam_core.specs.Openings.{next_start}
@@ -18,7 +18,7 @@ use Rattle.roam_core.specs.Openings.{next_start}
 -- Rules out: random words or a ticket that come twice; an entry that waits at a link whose secret changed; a realm that
 -- begins anew since its table changed
 -- Stands in: `roam_core` `Openings.antt`: `next_start`; `roam_shard` `Follow.antt`: `Follows`, `AllFollow`;
--- `Paused::follow`; of all shards `roam_follow` `Following.antt`: `HaveFollowed`, `StandAsBefore`; `follow`
+-- `Paused::follow`; of all shards `roam_shard` `Following.antt`: `HaveFollowed`, `StandAsBefore`; `follow`
 --
 -- a realm that goes on does so in what is carried over of its state. Any other stands with no entries, no sessions,
 -- cursors 0 and no rests

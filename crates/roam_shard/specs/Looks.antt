@@ -1,4 +1,4 @@
--- What of a shard is looked at (ours).
+-- The parts of a shard that are looked at (ours).
 use Rattle.std.specs.Prelude.{◌≡◌, ℕ, ◌<◌, true, List, Option, Some, length, slice_get}
 use Rattle.roam_conf.specs.Config.{ConfigView}
 use Rattle.roam_reload.specs.Reload.{IsCarried}
@@ -6,9 +6,9 @@ use Rattle.roam_realm.specs.RealmConfig.{realm_config}
 use Rattle.roam_realm.specs.RealmState.{RealmState}
 use Rattle.roam_realm.specs.declared.gauges.Gauges.{Gauges}
 use Rattle.roam_realm.specs.declared.realm_numbers.RealmNumbers.{RealmNumbers}
-use Rattle.roam_carry.specs.Carrying.{shown_loss}
-use Rattle.roam_carry.specs.Losses.{all_lost, losses}
-use Rattle.roam_carry.specs.declared.losses.Loss.{Loss}
+use Rattle.roam_migrate.specs.Carrying.{shown_loss}
+use Rattle.roam_migrate.specs.Losses.{all_lost, losses}
+use Rattle.roam_migrate.specs.declared.losses.Loss.{Loss}
 use Rattle.roam_core.specs.Events.{is_in_shard}
 use Rattle.roam_shard.specs.ShardView.{OpeningView}
 
@@ -26,7 +26,7 @@ NoneThere numbers realm = (n : _) → slice_get numbers realm ≡ Some (Some n) 
 -- Identifiers in use and of rests nothing is said.
 -- Source: ours
 -- Rules out: numbers of a state in which the realm never was
--- Stands in: `roam_shard` `Looks.antt`: `StandsAs`, `IsOwn`; `roam_calls` `Looks.antt`: `StandsThen`;
+-- Stands in: `roam_shard` `Looks.antt`: `StandsAs`, `IsOwn`; `roam_history` `Looks.antt`: `StandsThen`;
 -- `Hub::look`
 --
 -- the numbers of a state: how many entries it has, and how many sessions are open

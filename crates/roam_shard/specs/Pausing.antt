@@ -8,9 +8,9 @@ use Rattle.roam_realm.specs.RealmState.{RealmState}
 use Rattle.roam_realm.specs.Sound.{IsSound, state_of}
 use Rattle.roam_realm.specs.declared.realm_numbers.RealmNumbers.{RealmNumbers}
 use Rattle.roam_realm.specs.declared.start.Start.{Start}
-use Rattle.roam_carry.specs.Carrying.{AreChanged, IsReadyToCarry}
-use Rattle.roam_carry.specs.Reload.{carried}
-use Rattle.roam_carry.specs.declared.lanes.FreshLanes.{FreshLanes}
+use Rattle.roam_migrate.specs.Carrying.{AreChanged, IsReadyToCarry}
+use Rattle.roam_migrate.specs.Reload.{carried}
+use Rattle.roam_migrate.specs.declared.lanes.FreshLanes.{FreshLanes}
 use Rattle.roam_core.specs.Events.{is_in_shard}
 use Rattle.roam_core.specs.Openings.{first_start}
 use Rattle.roam_shard.specs.ShardView.{IsShard, OpeningView, states_in}

@@ -2,3 +2,4 @@
 pub mod Rooms
 pub mod Lost
 pub mod Items
+pub mod Nothing

@@ -1,10 +1,10 @@
--- What a shard takes up of a file of ledgers (ours).
+-- The part of a sessions' file that a shard takes up (ours).
 use Rattle.std.specs.Prelude.{ℕ, ◌+◌, ◌==◌, ◌&&◌, not, Bool, true, false, List, [], ◌∷◌, Option, if◌then◌else◌}
 use Rattle.std.specs.Option.{option_map_or}
 use Rattle.std.specs.Str.{str_eq_ignore_ascii_case}
 use Rattle.roam_conf.specs.Config.{ConfigView}
 use Rattle.roam_conf.specs.Lookup.{first_place}
-use Rattle.roam_ledgers.specs.Ledgers.{SavedItem, SavedSession, realm, session}
+use Rattle.roam_sessions.specs.Ledgers.{SavedItem, SavedSession, realm, session}
 use Rattle.roam_reload.specs.Kept.{same_values}
 use Rattle.roam_realm.specs.RealmConfig.{realm_config}
 use Rattle.roam_realm.specs.RealmState.{RealmState}

@@ -1,4 +1,4 @@
--- What a shard over shared tables stands for, and what it keeps (ours).
+-- The meaning of a shard over shared tables, and what it keeps (ours).
 use Rattle.std.specs.Prelude.{◌≡◌, ℕ, ◌+◌, ◌<◌, ◌≤◌, ◌^◌, List, [], ◌∷◌, Option, Some, None, is_some, length, slice_get}
 use Rattle.std.specs.List.{AllByRecursion}
 use Rattle.roam_conf.specs.Config.{ConfigView}

@@ -1,4 +1,4 @@
--- What a shard gives for a job and for a tick (ours).
+-- The result of a shard for a job and for a tick (ours).
 use Rattle.std.specs.Prelude.{◌≡◌, ℕ, List, [], Result, Ok, Err}
 use Rattle.std.specs.List.{AllByRecursion}
 use Rattle.roam_wire.specs.declared.refusal.NoMemory.{NoMemory}

@@ -3,8 +3,8 @@
 ghost use Rattle.std.specs.Prelude.{◌≡◌, ◌+◌, ◌≤◌, ◌++◌, length, vec_len, vec_capacity};
 ghost use Rattle.roam_shard.specs.Private.Lost.{IsAnswerOf, IsLostOrRefused};
 
+use roam_admission::Out;
 use roam_exchange::{Answer, Outs, Turned, refused};
-use roam_route::Out;
 use roam_wire::{NoMemory, Refusal};
 use std::alloc::Allocator;
 

@@ -1,4 +1,4 @@
-//! Whether a tick has anything to do.
+//! The check that a tick has anything to do.
 
 ghost use Rattle.std.specs.Prelude.{◌≡◌, ◌≢◌, ◌≤◌, [], false, true, is_some, length};
 ghost use Rattle.roam_pending.specs.DueOrder.{due_list};
@@ -8,9 +8,9 @@ ghost use Rattle.roam_core.specs.ShardRooms.{only_done_from};
 ghost use Rattle.roam_shard.specs.ShardView.{HaveNumbers, OpeningView, state_seen, states_in};
 ghost use Rattle.roam_shard.specs.Turns.{NothingDue};
 
-use roam_book::only_done_due;
 use roam_pending::Entries;
 use roam_realm::RealmNumbers;
+use roam_rules::only_done_due;
 use roam_tables::Tables;
 use std::alloc::Allocator;
 

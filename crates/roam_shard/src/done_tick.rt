@@ -8,9 +8,9 @@ ghost use Rattle.roam_core.specs.ManyRealms.{state_at, tick_from, tick_of};
 ghost use Rattle.roam_core.specs.ShardRooms.{only_done_from};
 
 use crate::shard::Shard;
-use roam_book::RealmBroker;
 use roam_exchange::LeftConversation;
 use roam_realm::RealmSettings;
+use roam_rules::RealmBroker;
 use std::alloc::Allocator;
 
 impl<'c, A: Allocator + Copy> Shard<'c, A> {

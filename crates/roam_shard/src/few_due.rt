@@ -1,4 +1,4 @@
-//! Whether a tick has few entries to work off.
+//! The check that a tick has few entries to work off.
 
 ghost use Rattle.std.specs.Prelude.{◌≡◌, ◌≢◌, ◌≤◌, [], false, is_some, length, IfNone, IfSome, true};
 ghost use Rattle.roam_pending.specs.DueOrder.{due_list};

@@ -7,7 +7,7 @@ ghost use Rattle.roam_pending.specs.EntryList.{IsEntryList};
 ghost use Rattle.roam_tables.specs.Stands.{entries_in};
 ghost use Rattle.roam_realm.specs.RealmConfig.{realm_config};
 ghost use Rattle.roam_realm.specs.Sound.{IsSound};
-ghost use Rattle.roam_carry.specs.Carrying.{AreChanged, IsReadyToCarry};
+ghost use Rattle.roam_migrate.specs.Carrying.{AreChanged, IsReadyToCarry};
 ghost use Rattle.roam_shard.specs.Follow.{AllFollow};
 ghost use Rattle.roam_shard.specs.Pausing.{AllCanGoOver, AreLanesReady, AreOver, CanGoOver, GoesOn, HasGoneOver};
 ghost use Rattle.roam_shard.specs.Pausing.{IsOver, IsReady, IsReadyAt, KeepsOthers, StandsStill, StandsUnder};
@@ -15,8 +15,8 @@ ghost use Rattle.roam_shard.specs.Pausing.{states_under};
 
 use crate::paused::Paused;
 use crate::realm_numbers::{begin_at, opened_at};
-use roam_carry::{FreshLanes, carry_over, changed_peers, reserve_carry};
 use roam_conf::Config;
+use roam_migrate::{FreshLanes, carry_over, changed_peers, reserve_carry};
 use roam_realm::{RealmNumbers, RealmSettings};
 use roam_reload::is_carried;
 use roam_tables::Tables;

@@ -8,8 +8,8 @@ ghost use Rattle.roam_core.specs.HappeningsTo.{dues_told};
 ghost use Rattle.roam_shard.specs.Private.Rooms.{HasPlaces};
 
 use crate::answers::append_reserved;
+use roam_admission::Out;
 use roam_exchange::{Answer, DueHappening, Happening, LeftConversation, Outs, Turned};
-use roam_route::Out;
 use roam_wire::NoMemory;
 use std::alloc::Allocator;
 

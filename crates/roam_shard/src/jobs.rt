@@ -1,18 +1,18 @@
 //! The turn of one realm.
 
 ghost use Rattle.std.specs.Prelude.{◌≡◌};
-ghost use Rattle.roam_route.specs.Shown.{shown_job};
-ghost use Rattle.roam_book.specs.BookView.{IsTakenFrom};
+ghost use Rattle.roam_admission.specs.Shown.{shown_job};
+ghost use Rattle.roam_rules.specs.BookView.{IsTakenFrom};
 ghost use Rattle.roam_exchange.specs.OneRealm.{event_of, on_event};
 ghost use Rattle.roam_exchange.specs.Happenings.{event_happening};
-ghost use Rattle.roam_book.specs.RealmTurn.{IsRealm};
-ghost use Rattle.roam_book.specs.RealmTurn.{TurnsTelling};
+ghost use Rattle.roam_rules.specs.RealmTurn.{IsRealm};
+ghost use Rattle.roam_rules.specs.RealmTurn.{TurnsTelling};
 
-use roam_book::{RealmBroker, request_of_job};
+use roam_admission::{Job, Side};
 use roam_conf::ExchangeLines;
 use roam_exchange::Turned;
 use roam_pending::Entries;
-use roam_route::{Job, Side};
+use roam_rules::{RealmBroker, request_of_job};
 use roam_wire::NoMemory;
 use std::alloc::Allocator;
 

@@ -1,14 +1,14 @@
-//! What of a shard is looked at, beside its events. Nothing changes by it, and nothing takes memory.
+//! The parts of a shard that are looked at, beside its events. Nothing changes by it, and nothing takes memory.
 
 ghost use Rattle.std.specs.Prelude.{◌≡◌, Some, slice_get, IfNone, IfSome, IsSome};
 ghost use Rattle.roam_core.specs.ManyRealms.{state_at};
 ghost use Rattle.roam_conf.specs.Shown.{shown};
-ghost use Rattle.roam_carry.specs.Carrying.{AreChanged};
+ghost use Rattle.roam_migrate.specs.Carrying.{AreChanged};
 ghost use Rattle.roam_shard.specs.Looks.{IsLoss, IsOwn, NoneThere, StandsAs};
 
 use crate::shard::Shard;
-use roam_carry::{Loss, all_of, losses_of};
 use roam_conf::Config;
+use roam_migrate::{Loss, all_of, losses_of};
 use roam_pending::Entries;
 use roam_realm::{Gauges, RealmNumbers, RealmSettings};
 use roam_reload::is_carried;

@@ -1,4 +1,4 @@
-//! How a shard began.
+//! The beginning of a shard.
 
 ghost use Rattle.std.specs.Prelude.{◌≡◌, IfOk};
 ghost use Rattle.roam_conf.specs.Shown.{shown};
@@ -10,8 +10,7 @@ use roam_realm::Start;
 use roam_wire::NoMemory;
 use std::alloc::Allocator;
 
-/// How a shard began: its number, the configuration, and where each realm began, in the order of
-/// their indexes.
+/// The beginning of a shard: its number, the configuration, and where each realm began, in the order of their indexes.
 #[derive(Drop)]
 pub struct Opening<'c, A: Allocator> {
     pub shard: u16,

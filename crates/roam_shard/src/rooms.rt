@@ -10,11 +10,11 @@ ghost use Rattle.roam_shard.specs.ShardView.{IsShard, shown_opening, states_in};
 
 use crate::gathered::Gathered;
 use crate::opening::Opening;
-use roam_book::only_done_due;
 use roam_conf::ExchangeLines;
 use roam_core::with_room;
 use roam_exchange::{Room, room_for};
 use roam_realm::RealmNumbers;
+use roam_rules::only_done_due;
 use roam_tables::Tables;
 use roam_wire::NoMemory;
 use std::alloc::Allocator;

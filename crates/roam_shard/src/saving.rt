@@ -6,7 +6,7 @@ ghost use Rattle.std.specs.Option.{option_map_or};
 ghost use Rattle.roam_conf.specs.Lookup.{first_place};
 ghost use Rattle.roam_conf.specs.Parts.{shown_realm};
 ghost use Rattle.roam_conf.specs.Shown.{shown};
-ghost use Rattle.roam_ledgers.specs.Shown.{shown_item, shown_items, shown_session, shown_text};
+ghost use Rattle.roam_sessions.specs.ShownLedgers.{shown_item, shown_items, shown_session, shown_text};
 ghost use Rattle.roam_realm.specs.RealmConfig.{realm_config};
 ghost use Rattle.roam_realm.specs.Written.{GainsOpen, GainsRealm};
 ghost use Rattle.roam_core.specs.ManyRealms.{state_at};
@@ -18,8 +18,8 @@ use crate::look::numbers_at;
 use crate::paused::Paused;
 use crate::shard::Shard;
 use roam_conf::{Config, Realm, is_same_name};
-use roam_ledgers::{Item, SessionItem, Text, Writing};
 use roam_realm::{RealmSettings, save_realm};
+use roam_sessions::{Item, SessionItem, Text, Writing};
 use roam_wire::NoMemory;
 use std::alloc::{AllocError, Allocator};
 

@@ -2,9 +2,9 @@
 
 ghost use Rattle.std.specs.Prelude.{◌≡◌, ◌<◌, ◌≤◌, [], false, length, IfOk, IsErr};
 ghost use Rattle.roam_conf.specs.Shown.{shown};
-ghost use Rattle.roam_route.specs.Admission.{admitted, admission};
-ghost use Rattle.roam_route.specs.Events.{IsEvent};
-ghost use Rattle.roam_route.specs.Shown.{WantsMemory, shown_arrival, shown_job};
+ghost use Rattle.roam_admission.specs.Admission.{admitted, admission};
+ghost use Rattle.roam_admission.specs.Events.{IsEvent};
+ghost use Rattle.roam_admission.specs.Shown.{WantsMemory, shown_arrival, shown_job};
 ghost use Rattle.roam_core.specs.ManyRealms.{to_arrival, to_tick};
 ghost use Rattle.roam_core.specs.Openings.{fresh, openings};
 ghost use Rattle.roam_core.specs.ShardRooms.{only_done_from};
@@ -15,12 +15,12 @@ ghost use Rattle.roam_shard.specs.ShardView.{AreStarts};
 use crate::answers::{answer_of, lost_or_refused};
 use crate::opening::first_starts;
 use crate::shard::Shard;
-use roam_book::LATEST;
+use roam_admission::{Datagram, Job, Prepared, prepare};
 use roam_conf::{Config, ExchangeLines};
 use roam_core::{Event, Stepper};
 use roam_exchange::{Answer, one_packet, refused};
 use roam_realm::Start;
-use roam_route::{Datagram, Job, Prepared, prepare};
+use roam_rules::LATEST;
 use roam_wire::{NoMemory, Refusal};
 use std::alloc::Allocator;
 use std::marker::Model;

@@ -6,8 +6,8 @@ use Rattle.std.proofs.KnownBytes.{Appends-nil, Appends-trans}
 use Rattle.std.specs.Prelude.{OnOk, codes}
 use Rattle.std.specs.Io.KnownBytes.{Appends}
 use Rattle.hex.specs.Hex.{encode_with, encode_lower, lower_digits}
-use Rattle.roam_route.specs.Shown.{shown_out}
-use Rattle.roam_route.specs.declared.datagram.Out.{Out}
+use Rattle.roam_admission.specs.Shown.{shown_out}
+use Rattle.roam_admission.specs.declared.datagram.Out.{Out}
 use Rattle.roam_exchange.specs.Turn.{shown_outs}
 use Rattle.roam_sim.specs.Lines.{line_of, lines_of}
 

@@ -1,4 +1,4 @@
--- Why a simulation ends early. Ours.
+-- The causes why a simulation ends early. Ours.
 use Rattle.std.specs.Prelude.{ℕ, List, ◌++◌, codes}
 use Rattle.std.specs.Fmt.{decimal}
 use Rattle.roam_conf_reader.specs.FaultNames.{name_of}

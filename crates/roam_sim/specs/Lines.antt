@@ -8,7 +8,7 @@ use Rattle.roam_address.specs.declared.endpoint.Endpoint.{Endpoint}
 use Rattle.roam_conf.specs.PlaceTexts.{nth_text}
 use Rattle.roam_conf.specs.declared.place.Place.{Place}
 use Rattle.roam_conf.specs.declared.place.Place.TheVariants as place
-use Rattle.roam_route.specs.Admission.{PlainOut}
+use Rattle.roam_admission.specs.Admission.{PlainOut}
 
 -- the index of a realm in decimal, or a hyphen where there is none
 abbrev pub realm_text : Option ℕ → List ℕ

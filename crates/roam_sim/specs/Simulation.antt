@@ -1,10 +1,9 @@
--- What a simulation writes: the lines of the packets that a fresh broker sends for a script's events.
--- Ours.
+-- The output of a simulation: the lines of the packets that a fresh broker sends for a script's events. Ours.
 use Rattle.std.specs.Prelude.{◌≡◌, ◌≢◌, ℕ, List, [], length, Option, Ok}
 use Rattle.std.specs.Io.KnownBytes.{Appends}
 use Rattle.roam_conf.specs.Config.{ConfigView}
 use Rattle.roam_conf_reader.specs.Faults.{States, NoneHolds, every_fault}
-use Rattle.roam_route.specs.Admission.{PlainOut}
+use Rattle.roam_admission.specs.Admission.{PlainOut}
 use Rattle.roam_core.specs.Events.{PlainEvent, kept}
 use Rattle.roam_core.specs.Isolation.{IsIsolatedFromStart}
 use Rattle.roam_core.specs.ManyRealms.{answers_to}

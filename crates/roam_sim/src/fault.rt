@@ -1,4 +1,4 @@
-//! Why a simulation ends early.
+//! The causes why a simulation ends early.
 
 ghost use Rattle.std.specs.Prelude.{Some};
 ghost use Rattle.roam_sim.specs.Faults.{text_of};
@@ -8,7 +8,7 @@ use roam_conf_reader::ConfFault;
 use roam_wire::NoMemory;
 use std::{error, fmt, io};
 
-/// Why a simulation ends early. Its text is what is printed of it.
+/// The cause why a simulation ends early. Its text is what is printed of it.
 ///
 /// The configuration is judged before the script, and both before anything is written.
 #[derive(Clone, Copy, Debug, PartialEq, Eq)]

@@ -45,10 +45,10 @@ pub fn print_endpoint<W: Write>(writer: &mut W, endpoint: Endpoint) -> io::Resul
     write!(writer, "{endpoint}")
 }
 
-/// How many octets are printed at a time.
+/// The number of octets that are printed at a time.
 const PIECE: usize = 512;
 
-/// How many hexadecimal digits those are.
+/// The number of hexadecimal digits of those.
 const PIECE_DIGITS: usize = 1024;
 
 /// Prints each of a few octets as two hexadecimal digits, in lower case.

@@ -13,9 +13,9 @@ ghost use Rattle.roam_sim.specs.Shown.{shown_line};
 
 use crate::places::{index, place};
 use crate::script::{ScriptFault, ScriptLine};
+use roam_admission::Datagram;
 use roam_conf::{Endpoint, decimal};
 use roam_core::Event;
-use roam_route::Datagram;
 use roam_wire::{NoMemory, Octets};
 use std::alloc::Allocator;
 

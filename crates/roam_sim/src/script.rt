@@ -3,7 +3,7 @@
 use roam_core::Event;
 use std::alloc::Allocator;
 
-/// What a line of a script is.
+/// A line of a script.
 #[derive(Drop)]
 pub(crate) enum ScriptLine<A: Allocator> {
     /// Empty, or begins with `#`.
@@ -14,7 +14,7 @@ pub(crate) enum ScriptLine<A: Allocator> {
     Faulty,
 }
 
-/// Why a script isn't read.
+/// The cause why a script isn't read.
 #[derive(Clone, Copy, Debug)]
 pub enum ScriptFault {
     /// The first faulty line. Lines are counted from 1, those that are skipped too.

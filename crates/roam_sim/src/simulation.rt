@@ -14,10 +14,10 @@ ghost use Rattle.roam_sim.specs.Simulation.{IsAccepted, IsSimulated, IsSimulated
 use crate::fault::SimFault;
 use crate::printing::print_packet;
 use crate::reading::read_script;
+use roam_admission::Out;
 use roam_conf::Config;
 use roam_conf_reader::read_config;
 use roam_core::{Outcome, run};
-use roam_route::Out;
 use roam_shard::Shards;
 use std::alloc::{Allocator, Global};
 use std::io;

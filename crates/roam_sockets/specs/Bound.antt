@@ -1,4 +1,4 @@
--- Which socket is whose: those that are bound for a configuration, and those that a thread has of them. Ours.
+-- The owners of sockets: those that are bound for a configuration, and those that a thread has of them. Ours.
 use Rattle.std.specs.Prelude.{◌≡◌, ◌⊎◌, ℕ, ◌<◌, ◌==◌, List, [], ◌∷◌, ◌++◌, false, ⊤, Some, Contains, length, slice_get}
 use Rattle.std.specs.List.{filter}
 use Rattle.roam_address.specs.declared.endpoint.Endpoint.{Endpoint}

@@ -1,4 +1,4 @@
--- How many descriptors a server wants. Ours.
+-- The number of descriptors that a server wants. Ours.
 use Rattle.std.specs.Prelude.{ℕ, ◌+◌, ◌-◌, ◌*◌, length}
 use Rattle.roam_conf.specs.Config.{ConfigView}
 use Rattle.roam_port.specs.Sockets.{socket_endpoints}

@@ -1,4 +1,4 @@
--- Which faults end a server. Ours.
+-- The faults that end a server. Ours.
 use Rattle.std.specs.Prelude.{ℕ, List, Contains, take}
 use Rattle.roam_conf.specs.Config.{ConfigView}
 use Rattle.roam_port.specs.Sockets.{socket_endpoints}

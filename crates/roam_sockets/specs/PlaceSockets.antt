@@ -1,4 +1,4 @@
--- Which socket is whose of those of one number, and by which of them a packet leaves. Ours.
+-- The owners of the sockets of one number, and by which of them a packet leaves. Ours.
 use Rattle.std.specs.Prelude.{◌≡◌, ◌≢◌, ◌⊎◌, ℕ, zero, suc, Option, Some, None, is_some, slice_get, true}
 use Rattle.roam_port.specs.Port.{PortCall, came, nothing_came, receive_failed, went, send_failed}
 use Rattle.roam_port.specs.Sockets.{place_nth}

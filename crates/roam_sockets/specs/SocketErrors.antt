@@ -1,4 +1,4 @@
--- What it says of a socket that the system refused a receive or a send (ours).
+-- The meaning for a socket that the system refused a receive or a send (ours).
 use Rattle.std.specs.declared.io.ErrorKind.{ErrorKind}
 use Rattle.std.specs.declared.io.ErrorKind.TheVariants as kind
 use Rattle.roam_port.specs.declared.port.SendFault.{SendFault}

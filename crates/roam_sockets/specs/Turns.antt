@@ -1,4 +1,4 @@
--- How many sockets a place has. Ours.
+-- The number of sockets that a place has. Ours.
 use Rattle.std.specs.Prelude.{ℕ, ◌*◌, Bool, true, false, if◌then◌else◌}
 use Rattle.roam_conf.specs.Config.{ConfigView}
 use Rattle.roam_conf.specs.declared.place.Place.{Place}

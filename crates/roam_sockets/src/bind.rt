@@ -24,11 +24,11 @@ pub struct BoundSocket {
     pub endpoint: Endpoint,
     /// The worker that hears it.
     pub worker: usize,
-    /// Whether other workers have one of the same endpoint.
+    /// True where other workers have one of the same endpoint.
     pub is_spread: bool,
-    /// Whether there are others of the same endpoint.
+    /// True where there are others of the same endpoint.
     pub is_one_of_several: bool,
-    /// Whether it was open before for another configuration.
+    /// True where it was open before for another configuration.
     pub was_open: bool,
     pub socket: UdpSocket,
 }
@@ -37,7 +37,7 @@ pub struct BoundSocket {
 #[derive(Drop)]
 struct Sockets {
     bound: Vec<BoundSocket>,
-    /// How many descriptors the server wants.
+    /// The number of descriptors that the server wants.
     wanted: u32,
 }
 

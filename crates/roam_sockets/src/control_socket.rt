@@ -14,17 +14,17 @@ use std::os::unix::net::SocketAddr;
 use std::time::{Clock, Duration};
 use std::{io, thread};
 
-/// How many connections may wait to be taken.
+/// The number of connections that may wait to be taken.
 const WAITING: i32 = 16;
 
 /// Its owner alone may read and write.
 const MODE: u32 = 0o600;
 
-/// How long a server that is about to listen at a socket has for it, in milliseconds: where nobody does by then, the
-/// socket was left behind.
+/// The time that a server that is about to listen at a socket has for it, in milliseconds: where nobody does by then,
+/// the socket was left behind.
 const GRACE: u64 = 100;
 
-/// Which socket it is, among all files of the system.
+/// The identity of a socket among all files of the system.
 #[derive(Clone, Copy)]
 struct SocketFile {
     device: u64,

@@ -1,4 +1,4 @@
-//! Which sockets a thread has: those that it receives from, and those from which it sends.
+//! The sockets of a thread: those that it receives from, and those from which it sends.
 
 ghost use Rattle.std.specs.Prelude.{◌≡◌, ◌≤◌, ◌%◌, ◌↔◌, IfErr, IfOk, IsTrue, length, vec_len};
 ghost use Rattle.roam_sockets.specs.Bound.{AreOwnPorts, AreReceiversOf, IsOwn, heard_by};

@@ -1,4 +1,4 @@
-//! How many descriptors a server wants.
+//! The number of descriptors that a server wants.
 
 ghost use Rattle.std.specs.Prelude.{◌≡◌, ◌≤◌, ◌^◌, ◌+◌, length};
 ghost use Rattle.roam_conf.specs.Shown.{shown};
@@ -8,9 +8,9 @@ use crate::workers::sockets_of_several;
 use roam_conf::Config;
 use roam_port::socket_count;
 
-/// How many descriptors a server has beside those of its configuration: the three standard streams, the two sockets at
-/// which connections are taken, one in hand for each of these, 32 connections, and the file of its configuration while
-/// that is read.
+/// The number of descriptors that a server has beside those of its configuration: the three standard streams, the two
+/// sockets at which connections are taken, one in hand for each of these, 32 connections, and the file of its
+/// configuration while that is read.
 const BESIDE: u32 = 40;
 
 /// Returns how many descriptors a configuration takes: its sockets, those that each `auth` and `acct` has beside its

@@ -1,4 +1,4 @@
-//! Why the server ends.
+//! The causes why the server ends.
 
 ghost use Rattle.std.specs.Prelude.{◌≡◌, ◌↔◌, IsTrue, take};
 ghost use Rattle.roam_sockets.specs.Faults.{path_octets};
@@ -9,11 +9,11 @@ use roam_wire::NoMemory;
 use std::alloc::{AllocError, AllocFailed};
 use std::io;
 
-/// Why the system refused a call: its number of the error (errno), or 0 where it gave none.
+/// The reason of the system for refusing a call: its number of the error (errno), or 0 where it gave none.
 #[derive(Clone, Copy, Debug, PartialEq, Eq)]
 pub struct Reason(pub u32);
 
-/// How many octets the path of a UNIX socket has at most.
+/// The number of octets that the path of a UNIX socket has at most.
 const LONGEST_PATH: usize = 107;
 
 /// The path of a UNIX socket, as it is told; or the beginning of another path.
@@ -45,7 +45,7 @@ impl SocketPath {
     }
 }
 
-/// Why the server ends before its time, or doesn't begin.
+/// The cause why the server ends before its time, or doesn't begin.
 #[derive(Clone, Copy, Debug, PartialEq, Eq)]
 pub enum ServeFault {
     /// The clock can't be read at the start.

@@ -1,4 +1,4 @@
-//! What the system gives to a server: sockets, a clock, seeds, and what to wait with.
+//! The system's gifts to a server: sockets, a clock, seeds, and what to wait with.
 //!
 //! Nothing here knows a realm's state, a thread or a hub: sockets are bound at the endpoints of a configuration, and
 //! a receive or a send is one call of one of them. Why a server ends is told in this crate's words, since most of it is

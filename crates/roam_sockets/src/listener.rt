@@ -7,7 +7,7 @@ use std::io;
 use std::net::TcpListener;
 use std::os::fd::AsRawFd;
 
-/// How many connections may wait to be taken.
+/// The number of connections that may wait to be taken.
 const WAITING: i32 = 16;
 
 /// A socket for connections of an endpoint's kind that isn't bound yet, and doesn't wait.

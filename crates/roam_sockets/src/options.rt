@@ -1,4 +1,4 @@
-//! What is asked of a socket by its number: options, room, and an address as the system takes it.
+//! The questions to a socket by its number: options, room, and an address as the system takes it.
 
 ghost use Rattle.std.specs.Prelude.{◌≡◌, ◌<◌, ◌≤◌, pos};
 ghost use Rattle.roam_sockets.specs.declared.options.TheConstants.{RECEIVE_BUFFER};
@@ -8,13 +8,13 @@ use roam_conf::Endpoint;
 use std::net::{IpAddr, UdpSocket};
 use std::os::fd::{AsRawFd, RawFd};
 
-/// What a socket is to have room for, in octets that arrived.
+/// The room that a socket is to have, in octets that arrived.
 pub const RECEIVE_BUFFER: u32 = 4 * 1024 * 1024;
 
 /// The same, in octets, of each of the sockets of an `auth` or `acct`.
 const BUFFER_OF_SEVERAL: u32 = 1024 * 1024;
 
-/// What it is to have room for, in octets that leave.
+/// The room that it is to have, in octets that leave.
 pub const SEND_BUFFER: u32 = 1024 * 1024;
 
 /// Sets an option of a socket, which is a number.

@@ -12,15 +12,15 @@ use std::os::fd::RawFd;
 
 /// The sockets from which a thread sends the packets of the places of one number: each from its own.
 pub struct PlaceSockets<P: Copy> {
-    /// That of the first place.
+    /// The port of the first place.
     first: P,
     /// Those of the further ones, in their order.
     further: Vec<P>,
-    /// Which of them had no room for a packet when it was last tried.
+    /// The one that had no room for a packet when it was last tried.
     blocked: usize,
-    /// Whether the system is asked to tell when that one has room.
+    /// True where the system is asked to tell when that one has room.
     is_watched: bool,
-    /// Where a packet was to go that was lost last, since the system tells that nobody is there.
+    /// The destination of the packet that was lost last, since the system tells that nobody is there.
     unreachable: Option<Endpoint>,
 }
 

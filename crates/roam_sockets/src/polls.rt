@@ -1,4 +1,4 @@
-//! What threads wait with for sockets, and what ends their wait from another thread.
+//! The means by which threads wait for sockets, and what ends their wait from another thread.
 
 ghost use Rattle.std.specs.Prelude.{IfErr};
 ghost use Rattle.roam_sockets.specs.Faults.{IsAfterBinding};
@@ -16,7 +16,7 @@ const WAKE: usize = usize::MAX;
 /// The mark of a socket that has room for a packet again, where it had none.
 const HAS_ROOM: usize = usize::MAX - 1;
 
-/// What a thread waits with for sockets.
+/// The means by which a thread waits for sockets.
 #[derive(Drop)]
 pub struct Polls {
     /// Tells at which sockets something may have arrived.

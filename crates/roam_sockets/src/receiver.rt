@@ -8,10 +8,10 @@ use roam_conf::Place;
 use roam_port::{Heard, listen};
 use std::alloc::Global;
 
-/// How long a socket at which a receive failed is left alone, in milliseconds.
+/// The time for which a socket at which a receive failed is left alone, in milliseconds.
 pub const WAIT_AFTER_FAULT: u64 = 10;
 
-/// How many octets of a datagram are received. A packet has as many at most, and what is behind it is padding
+/// The number of octets of a datagram that are received. A packet has as many at most, and what is behind it is padding
 /// (RFC 2865, section 3): so those left out of a longer one change nothing.
 pub const RECEIVED: usize = 4096;
 
@@ -22,7 +22,7 @@ pub struct Receiver<'s> {
     pub place: Place,
     /// The receives that failed in a row.
     pub faults: u32,
-    /// Whether something may be there: there is word of it, and no receive found nothing since.
+    /// True where something may be there: there is word of it, and no receive found nothing since.
     pub is_ready: bool,
     /// After a receive that failed, the moment from which on it is tried again.
     pub retry_at: Option<u64>,

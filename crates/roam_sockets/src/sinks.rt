@@ -13,10 +13,10 @@ use std::alloc::Global;
 use std::net::UdpSocket;
 use std::os::fd::AsRawFd;
 
-/// How many senders have one at most.
+/// The number of senders that have one at most.
 const MOST: usize = 64;
 
-/// How long they stay open, in milliseconds since the first was opened.
+/// The time that they stay open, in milliseconds since the first was opened.
 const OPEN_FOR: u64 = 1000;
 
 /// A sender, and the socket that nobody reads for it, where the system gave one.
@@ -42,7 +42,7 @@ fn socket_for(endpoint: Endpoint, sender: Endpoint) -> Option<UdpSocket> {
 #[derive(Drop)]
 pub struct Sinks {
     open: Vec<Sink>,
-    /// When all are closed, in milliseconds since the server's start.
+    /// The time when all are closed, in milliseconds since the server's start.
     until: u64,
 }
 

@@ -9,10 +9,10 @@ use std::io::ErrorKind;
 use std::net::{SocketAddr, UdpSocket};
 use std::os::fd::{AsRawFd, RawFd};
 
-/// How often a receive that a signal interrupts is made again before it counts as failed.
+/// The number of times that a receive that a signal interrupts is made again before it counts as failed.
 const TRIES: u32 = 16;
 
-/// What it says of a socket that a receive failed.
+/// The word that a receive failed.
 #[derive(Clone, Copy, Debug, PartialEq, Eq)]
 pub enum Failed {
     /// Nothing is there.

@@ -1,4 +1,4 @@
-//! How many sockets a place has, and which worker hears each.
+//! The number of sockets that a place has, and which worker hears each.
 
 ghost use Rattle.std.specs.Prelude.{◌≡◌, ◌≤◌};
 ghost use Rattle.roam_conf.specs.Shown.{shown};

@@ -1,4 +1,4 @@
--- When a home server may be dialed again (ours).
+-- The time when a home server may be dialed again (ours).
 use Rattle.std.specs.Prelude.{ℕ, ◌*◌, ◌-◌, ◌≤◌, min, Bool, if◌then◌else◌, Option, Some, None}
 use Rattle.roam_streams.specs.declared.redial.Redial.{Redial}
 

@@ -1,4 +1,4 @@
--- What happens on one stream, and what it keeps of it (RFC 6613, section 2).
+-- The events of one stream, and what it keeps of them (RFC 6613, section 2).
 use Rattle.std.specs.Prelude.{◌≡◌, ℕ, List, [], ◌∷◌, ◌++◌}
 use Rattle.roam_streams.specs.Cutting.{IsPacket}
 use Rattle.roam_streams.specs.declared.stream.Stream.{Stream}

@@ -22,7 +22,7 @@ const DISCONNECT_REQUEST: u8 = 40;
 /// The code of a CoA-Request (RFC 5176, section 3).
 const COA_REQUEST: u8 = 43;
 
-/// Where a packet of a home server goes.
+/// The destination of a packet of a home server.
 #[derive(Clone, Copy, Debug, PartialEq, Eq)]
 pub enum Destination {
     /// The realm's socket from which its requests come.
@@ -36,7 +36,7 @@ pub struct DialedStream<A: Allocator> {
     stream: Stream<A>,
     /// The Authenticator of the last request with each Identifier that was put.
     last: [Option<[u8; 16]>; 256],
-    /// When the first packet was put after octets came last.
+    /// The time when the first packet was put after octets came last.
     awaited_since: Option<u64>,
 }
 

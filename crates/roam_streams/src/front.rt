@@ -13,7 +13,7 @@ const LEAST: usize = 20;
 /// The most octets that a packet has (RFC 2865, section 3).
 const MOST: usize = 4096;
 
-/// What stands at the front of octets.
+/// The front of octets.
 #[derive(Clone, Copy, Debug, PartialEq, Eq)]
 pub enum Front {
     /// A whole packet, of so many octets.

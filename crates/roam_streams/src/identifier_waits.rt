@@ -3,7 +3,7 @@
 ghost use Rattle.std.specs.Prelude.{◌≡◌, ◌-◌};
 ghost use Rattle.roam_streams.specs.Waits.{free_at, held_until, with_free_at, none_waits};
 
-/// How long an Identifier waits for an answer before it may be used again, in milliseconds.
+/// The time that an Identifier waits for an answer before it may be used again, in milliseconds.
 const WAIT: u64 = 1000;
 
 /// A socket of the broker at which requests come.

@@ -4,29 +4,29 @@
 ghost use Rattle.roam_streams.specs.Laws.{OneCutting, PiecesDoNotMatter, FaultStays};
 ghost use Rattle.roam_streams.specs.Laws.{RequestsAreNotRepeated, SendsWhatCame, UsesAreSpaced, WritesWhatWasPut};
 
-/// How octets are cut.
+/// States how octets are cut.
 pub fn cutting()
     ensures one { OneCutting }
     ensures pieces { PiecesDoNotMatter }
     ensures fault { FaultStays }
 {}
 
-/// What is sent of a stream.
+/// States what is sent of a stream.
 pub fn sending()
     ensures { SendsWhatCame }
 {}
 
-/// What is written on a stream.
+/// States what is written on a stream.
 pub fn writing()
     ensures { WritesWhatWasPut }
 {}
 
-/// How often an Identifier is used toward the broker.
+/// States how often an Identifier is used toward the proxy.
 pub fn spacing()
     ensures { UsesAreSpaced }
 {}
 
-/// How often a request is put on a dialed connection.
+/// States how often a request is put on a dialed connection.
 pub fn repeating()
     ensures { RequestsAreNotRepeated }
 {}

@@ -10,7 +10,7 @@ use std::marker::Model;
 /// Octets in a row. Contracts see them as a list.
 pub struct OctetQueue<A: Allocator> {
     octets: Vec<u8, A>,
-    /// How many of these are gone.
+    /// The number of these that are gone.
     gone: usize,
 }
 

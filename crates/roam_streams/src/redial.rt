@@ -1,4 +1,4 @@
-//! When a home server may be dialed again.
+//! The time when a home server may be dialed again.
 
 ghost use Rattle.std.specs.Prelude.{◌≡◌, ◌↔◌, IsTrue};
 ghost use Rattle.roam_streams.specs.Dialing.{MayDial, delay_after};
@@ -9,7 +9,7 @@ const LEAST_DELAY: u64 = 500;
 /// The longest time between two dials, in milliseconds.
 const MOST_DELAY: u64 = 8000;
 
-/// When a home server was dialed, and how long after that it may be dialed again.
+/// The time at which a home server was dialed, and how long after that it may be dialed again.
 ///
 /// A front takes each connection, also where the server behind it is away, and closes it then. So a connection shows
 /// that the server is there only by a packet.

@@ -1,4 +1,4 @@
-//! Why something isn't done on a stream: numbers and names that go on where the broker's refusals end.
+//! The causes why something isn't done on a stream: numbers and names that go on where the proxy's refusals end.
 
 ghost use Rattle.std.specs.Prelude.{◌≡◌};
 ghost use Rattle.roam_streams.specs.Faults.{fault_name, fault_number};
@@ -6,7 +6,7 @@ ghost use Rattle.roam_streams.specs.Faults.{fault_name, fault_number};
 use roam_wire::NoMemory;
 use std::fmt;
 
-/// Why a connection isn't taken, or ends, or a datagram is dropped. Its text is its name.
+/// The cause why a connection isn't taken, or ends, or a datagram is dropped. Its text is its name.
 #[derive(Clone, Copy, Debug, PartialEq, Eq)]
 pub enum StreamFault {
     /// A growth was refused. The connection ends.

@@ -15,10 +15,10 @@ use std::alloc::Allocator;
 /// The code of an Accounting-Request (RFC 2866, section 3).
 const ACCOUNTING_REQUEST: u8 = 4;
 
-/// How long a packet may be unfinished, in milliseconds.
+/// The time that a packet may be unfinished, in milliseconds.
 const UNFINISHED: u64 = 10_000;
 
-/// What is to be done with the packet at the front of a connection.
+/// The next step with the packet at the front of a connection.
 #[derive(Clone, Copy, Debug, PartialEq, Eq)]
 pub enum Next {
     /// It is sent there.
@@ -33,7 +33,7 @@ pub enum Next {
 pub struct TakenStream<A: Allocator> {
     stream: Stream<A>,
     waits: IdentifierWaits,
-    /// When a packet was last sent on, or the connection was taken.
+    /// The time when a packet was last sent on, or the connection was taken.
     packet_at: u64,
     /// Since when the packet at the front is unfinished.
     unfinished_since: Option<u64>,

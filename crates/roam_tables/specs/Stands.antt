@@ -1,4 +1,4 @@
--- What the tables stand for (ours).
+-- The meaning of the tables (ours).
 use Rattle.std.specs.Prelude.{◌≡◌, ◌≢◌, ℕ, zero, suc, [], ◌∷◌, slice_index_or, ◌+◌, ◌++◌, ◌-◌, ◌<◌, Bool, nat_lt, List, length, Option, Some, None, option_map, slice_get, min}
 use Rattle.std.specs.List.{AllByRecursion}
 use Rattle.slab.specs.Slab as slab

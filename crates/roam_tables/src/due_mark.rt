@@ -1,4 +1,4 @@
-//! What the runs of a realm have of an entry.
+//! The mark of an entry in the runs of a realm.
 
 ghost use Rattle.std.specs.Prelude.{◌≡◌};
 ghost use Rattle.roam_pending.specs.PlainEntry.{deadline_of, stands_done};
@@ -8,7 +8,7 @@ ghost use Rattle.roam_tables.specs.Private.Marks.{mark_of};
 use roam_pending::{Due, Entry, Standing};
 use std::alloc::Allocator;
 
-/// When an entry is due, and whether it was answered.
+/// The deadline of an entry, with whether it was answered.
 #[derive(Clone, Copy, PartialEq, Eq)]
 pub(crate) struct DueMark {
     pub due: Due,

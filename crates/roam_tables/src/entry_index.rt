@@ -1,4 +1,4 @@
-//! Where each key's entry lies.
+//! The place of each key's entry.
 
 ghost use Rattle.std.proofs.Common.{ap};
 ghost use Rattle.std.specs.Prelude.{◌≡◌, ◌<◌, ◌≤◌, ◌+◌, None, Some};
@@ -11,8 +11,8 @@ ghost use Rattle.roam_wire.specs.Numbered.{tickets_end};
 
 use crate::words::{key_word, realm_word};
 use indexmap::IndexMap;
-use roam_hash::HashKey;
 use roam_pending::Key;
+use roam_random::HashKey;
 use std::alloc::Allocator;
 use std::hash::{BuildHasherDefault, FoldHasher, Hash, Hasher};
 

@@ -1,4 +1,4 @@
-//! What runs of dues and plain runs of tickets are asked for.
+//! The questions to runs of dues and plain runs of tickets.
 
 ghost use Rattle.std.specs.Prelude.{◌≡◌, ◌<◌, ◌≤◌, ◌+◌, OnOk, IsOk};
 ghost use Rattle.std.specs.Ordering.{nat_cmp};

@@ -19,9 +19,9 @@ use std::alloc::Allocator;
 /// of an entry takes memory.
 #[derive(Drop)]
 pub(crate) struct RealmQueues<A: Allocator> {
-    /// When the waiting entries are due.
+    /// The deadlines of the waiting entries.
     pub waits: Run<Due, A>,
-    /// When the done entries are due.
+    /// The deadlines of the done entries.
     pub holds: Run<Due, A>,
     /// The tickets of the done entries: the least makes way.
     pub tickets: Run<u64, A>,

@@ -1,4 +1,4 @@
-//! Which tickets keep a round of a conversation: a run of them for the hash of each round.
+//! The tickets that keep a round of a conversation: a run of them for the hash of each round.
 
 ghost use Rattle.std.proofs.Common.{ap};
 ghost use Rattle.std.specs.Prelude.{◌≡◌, None, Some, IfOk, IsSome, IsTrue, OnErr, OnOk, [], ◌∷◌, option_copied};
@@ -12,7 +12,7 @@ ghost use Rattle.roam_tables.specs.Private.Words.{round_fed};
 use crate::queue::{add_ticket, drop_ticket, make_room};
 use crate::words::realm_word;
 use indexmap::IndexMap;
-use roam_hash::HashKey;
+use roam_random::HashKey;
 use roam_wire::NoMemory;
 use std::alloc::Allocator;
 use std::collections::VecDeque;

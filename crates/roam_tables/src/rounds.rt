@@ -1,4 +1,4 @@
-//! How the runs of rounds follow the entries.
+//! The runs of rounds, as they follow the entries.
 
 ghost use Rattle.std.specs.Prelude.{◌≡◌, IfSome, IsSome, None, OnErr, OnOk, Some, option_map};
 ghost use Rattle.roam_pending.specs.Conversations.{round_with};
@@ -12,8 +12,8 @@ ghost use Rattle.roam_tables.specs.Stands.{place};
 use crate::round_runs::{RoundIndex, RoundKey, join, part};
 use crate::slots::Slot;
 use roam_conf::Link;
-use roam_hash::HashKey;
 use roam_pending::{Entry, Requester, Standing};
+use roam_random::HashKey;
 use roam_wire::NoMemory;
 use slab::Slab;
 use std::alloc::Allocator;

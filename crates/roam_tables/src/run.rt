@@ -19,9 +19,9 @@ use std::marker::Model;
 #[derive(Drop)]
 pub(crate) struct Run<T: Ord, A: Allocator> {
     items: VecDeque<T, A>,
-    /// Which of the items went.
+    /// The marks of the items that went.
     marks: VecDeque<bool, A>,
-    /// How many didn't.
+    /// The number that didn't.
     live: usize,
 }
 

@@ -23,8 +23,8 @@ use crate::rounds::{go, hashes_in, kept_hash, lost_hash_in, move_round};
 use crate::slots::{Slot, entry_in, exchange, put, send_again, set_course, set_ends, take};
 use indexmap::IndexMap;
 use roam_conf::Link;
-use roam_hash::HashKey;
 use roam_pending::{Course, Due, Entries, Entry, Key, Standing};
+use roam_random::HashKey;
 use roam_wire::NoMemory;
 use slab::Slab;
 use std::alloc::Allocator;
@@ -39,7 +39,7 @@ use std::marker::Model;
 pub struct Tables<A: Allocator> {
     /// Whence the memory of rounds comes.
     alloc: A,
-    /// What keys the hashes of all indexes.
+    /// The key of the hashes of all indexes.
     key: HashKey,
     slots: Slab<Slot<A>, A>,
     /// The slot of each realm's ticket.

@@ -1,4 +1,4 @@
-//! What is hashed of a key: few whole words, since a hasher takes these fastest.
+//! The words of a key that are hashed: few whole ones, since a hasher takes these fastest.
 
 ghost use Rattle.std.specs.Prelude.{◌≡◌};
 ghost use Rattle.roam_tables.specs.Private.Words.{key_word, place_number, realm_word};

@@ -3,7 +3,7 @@ use Rattle.std.proofs.Common.{◌≡◌, ℕ, zero, suc, ◌<◌, ◌≤◌, Boo
 use Rattle.std.specs.List.{list_any}
 use Rattle.std.proofs.lemmas.Bool.{and_from, and_left, eq-eqb, le-ltb, lt-ltb, or_cases, or_left, or_right}
 use Rattle.roam_conf.proofs.EqualPartsLemmas.{endpoint_decides}
-use Rattle.roam_notices.specs.declared.turned_away.TurnedAway.{TurnedAway}
+use Rattle.roam_log.specs.declared.turned_away.TurnedAway.{TurnedAway}
 use Rattle.roam_telling.specs.SaidLately.{is_recent}
 use Rattle.roam_telling.specs.declared.said_lately.Said.{Said}
 

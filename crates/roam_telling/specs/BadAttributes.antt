@@ -1,4 +1,4 @@
--- Which attribute of a packet has a wrong Length (RFC 2865, section 5).
+-- The attribute of a packet that has a wrong Length (RFC 2865, section 5).
 use Rattle.std.specs.Prelude.{ℕ, zero, suc, List, [], ◌∷◌, length, drop, Option, Some, None, nat_lt, option_and_then, if◌then◌else◌}
 use Rattle.std.specs.Option.{option_map_or}
 use Rattle.roam_wire.specs.Reading.{attribute_at, front_of, has_length}

@@ -1,8 +1,8 @@
--- What of a refused datagram shows what is wrong with it. Ours.
+-- The part of a dropped datagram that shows what is wrong with it. Ours.
 use Rattle.std.specs.Prelude.{ℕ, ◌-◌, nat_lt, take, List, [], ◌∷◌, Option, Some, None, Result, Ok, Err, option_map, if◌then◌else◌}
-use Rattle.roam_notices.specs.Clues.{ClueView, ahead, asks_for, attribute, behind, code, no_realm_part, no_user_name}
-use Rattle.roam_route.specs.Freshness.{sent_at}
-use Rattle.roam_route.specs.UserName.{realm_part}
+use Rattle.roam_log.specs.Clues.{ClueView, ahead, asks_for, attribute, behind, code, no_realm_part, no_user_name}
+use Rattle.roam_admission.specs.Freshness.{sent_at}
+use Rattle.roam_admission.specs.UserName.{realm_part}
 use Rattle.roam_wire.specs.Attributes.{first_value}
 use Rattle.roam_wire.specs.Packet.{Attribute, Packet}
 use Rattle.roam_wire.specs.Reading.{reading}

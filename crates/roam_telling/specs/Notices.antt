@@ -1,4 +1,4 @@
--- What is told on standard error. Ours.
+-- The notices on standard error. Ours.
 use Rattle.std.specs.Prelude.{ℕ, List, sum_by}
 use Rattle.roam_conf.specs.declared.place.Link.{Link}
 use Rattle.roam_telling.specs.declared.notice.Answering.{Answering}

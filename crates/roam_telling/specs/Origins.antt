@@ -1,4 +1,4 @@
--- Where a reply was refused. Ours.
+-- The place where a reply was dropped. Ours.
 use Rattle.std.specs.Prelude.{ℕ, ◌==◌, List, Option, Some, None, Result, Ok, Err, if◌then◌else◌}
 use Rattle.roam_wire.specs.Attributes.{count_of}
 use Rattle.roam_wire.specs.Packet.{Packet}
@@ -8,9 +8,9 @@ use Rattle.roam_wire.specs.declared.refusal.Refusal.{Refusal}
 use Rattle.roam_wire.specs.declared.refusal.Refusal.TheVariants as refusal
 use Rattle.roam_address.specs.declared.endpoint.Endpoint.{Endpoint}
 use Rattle.roam_conf.specs.declared.place.Place.{Place}
-use Rattle.roam_notices.specs.Clues.{ClueView, shown_clue}
-use Rattle.roam_notices.specs.declared.origin.Origin.{Origin}
-use Rattle.roam_notices.specs.declared.origin.Origin.TheVariants as origin
+use Rattle.roam_log.specs.Clues.{ClueView, shown_clue}
+use Rattle.roam_log.specs.declared.origin.Origin.{Origin}
+use Rattle.roam_log.specs.declared.origin.Origin.TheVariants as origin
 use Rattle.roam_telling.specs.Clues.{clue_in}
 
 -- of a reply that is refused for its seal it is said whether it has one

@@ -1,7 +1,7 @@
 -- Of which home servers it was said lately that they answer and are refused. Ours.
 use Rattle.std.specs.Prelude.{ℕ, Bool, ◌&&◌, ◌==◌, nat_lt}
 use Rattle.roam_conf.specs.Duplicates.{same_endpoint}
-use Rattle.roam_notices.specs.declared.turned_away.TurnedAway.{TurnedAway}
+use Rattle.roam_log.specs.declared.turned_away.TurnedAway.{TurnedAway}
 use Rattle.roam_telling.specs.declared.said_lately.Said.{Said}
 
 -- it was said of that server, and the minute isn't over

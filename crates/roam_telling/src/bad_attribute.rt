@@ -1,4 +1,4 @@
-//! Which attribute of a packet has a wrong Length.
+//! The attribute of a packet that has a wrong Length.
 
 ghost use Rattle.std.specs.Prelude.{◌≡◌, ◌≤◌, length, option_map};
 ghost use Rattle.roam_telling.specs.BadAttributes as spec;

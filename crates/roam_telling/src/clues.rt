@@ -1,14 +1,14 @@
-//! What of a refused datagram shows what is wrong with it.
+//! The part of a dropped datagram that shows what is wrong with it.
 
 ghost use Rattle.std.specs.Prelude.{◌≡◌, option_map};
-ghost use Rattle.roam_notices.specs.Clues.{shown_clue};
-ghost use Rattle.roam_route.specs.Freshness.{sent_at};
+ghost use Rattle.roam_log.specs.Clues.{shown_clue};
+ghost use Rattle.roam_admission.specs.Freshness.{sent_at};
 ghost use Rattle.roam_telling.specs.Clues as spec;
 ghost use Rattle.roam_wire.specs.Reading.{reading};
 
 use crate::bad_attribute::bad_attribute;
-use roam_notices::{AskedRealm, Clue, number_in};
-use roam_route::{Datagram, realm_part};
+use roam_admission::{Datagram, realm_part};
+use roam_log::{AskedRealm, Clue, number_in};
 use roam_wire::attribute_type::{EVENT_TIMESTAMP, USER_NAME};
 use roam_wire::{Refusal, View};
 use std::alloc::Global;

@@ -1,15 +1,15 @@
-//! What is told of a request that is answered before it waits, and of refusals where they were.
+//! The lines of a request that is answered before it waits, and of refusals where they were.
 
 ghost use Rattle.std.specs.Prelude.{◌≡◌, None, Some, option_map};
-ghost use Rattle.roam_notices.specs.Clues.{shown_clue};
-ghost use Rattle.roam_notices.specs.Said as said;
+ghost use Rattle.roam_log.specs.Clues.{shown_clue};
+ghost use Rattle.roam_log.specs.Said as said;
 ghost use Rattle.roam_telling.specs.Origins as origins;
 ghost use Rattle.roam_wire.specs.Reading.{reading};
 
 use crate::clues::clue_of;
+use roam_admission::{Datagram, RejectCause, realm_of};
 use roam_conf::Config;
-use roam_notices::{Clue, Exchange, ExchangeEnd, Origin, error_cause_of, said_by};
-use roam_route::{Datagram, RejectCause, realm_of};
+use roam_log::{Clue, Exchange, ExchangeEnd, Origin, error_cause_of, said_by};
 use roam_wire::attribute_type::MESSAGE_AUTHENTICATOR;
 use roam_wire::{Refusal, View};
 use std::alloc::Global;

@@ -4,19 +4,19 @@ ghost use Rattle.std.specs.Prelude.{◌≡◌, ◌+◌, ◌-◌, ◌^◌, ◌<�
 ghost use Rattle.std.specs.Option.{ForSome};
 ghost use Rattle.roam_conf.specs.Shown.{shown};
 ghost use Rattle.roam_exchange.specs.HappeningsShown.{shown_waited};
-ghost use Rattle.roam_notices.specs.EndedExchanges.{IsLineOf};
-ghost use Rattle.roam_notices.specs.Exchanges.{is_told};
-ghost use Rattle.roam_notices.specs.Folded.{IsCounted};
+ghost use Rattle.roam_log.specs.EndedExchanges.{IsLineOf};
+ghost use Rattle.roam_log.specs.Exchanges.{is_told};
+ghost use Rattle.roam_log.specs.Folded.{IsCounted};
 
 use crate::notices::SECOND;
 use roam_conf::{Config, ExchangeLines};
 use roam_exchange::Waited;
-use roam_notices::{EndedWith, Exchange, ExchangeEnd, FoldedLines, tell_of};
+use roam_log::{EndedWith, Exchange, ExchangeEnd, FoldedLines, tell_of};
 use rtrb::{Consumer, Producer, RingBuffer};
 use std::alloc::{AllocError, Global};
 use std::slice;
 
-/// How many lines of one thread wait to be told. What finds the queue full is dropped, and counted.
+/// The number of lines of one thread that wait to be written. What finds the queue full is dropped, and counted.
 pub const LINES: usize = 2048;
 
 /// A thread's end of its queue of lines. What finds it full is dropped, and counted.
@@ -26,7 +26,7 @@ struct LineQueue {
     lines: Option<Producer<Exchange>>,
     /// Of lines that tell of several requests all of these.
     dropped: u64,
-    /// Whether a line was put since the logger was woken.
+    /// True where a line was put since the logger was woken.
     is_waiting: bool,
 }
 
@@ -65,11 +65,11 @@ pub struct Exchanges {
     queue: LineQueue,
     /// Of which exchanges lines tell.
     told: ExchangeLines,
-    /// What the broker rejected by itself since that was told last.
+    /// The requests that the proxy rejected by itself since that was told last.
     rejected: FoldedLines,
-    /// What was replaced by another request since then.
+    /// The requests that were replaced by another one since then.
     replaced: FoldedLines,
-    /// When both are told, where there is any.
+    /// The time when both are told, where there is any.
     folded_due: Option<u64>,
     /// Since when it is known that a line waits, in milliseconds.
     waits_since: Option<u64>,

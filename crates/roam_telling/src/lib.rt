@@ -1,4 +1,4 @@
-//! What a server's threads tell of what happens, each by its own queues.
+//! The lines of a server's threads, each by its own queues.
 //!
 //! Nothing here writes a line or waits: what is told goes into a queue, whose other end the logger has, and what finds no
 //! room there is counted.

@@ -1,16 +1,16 @@
-//! What is told on standard error.
+//! The notices on standard error.
 
 ghost use Rattle.std.specs.Prelude.{◌≡◌};
 ghost use Rattle.roam_telling.specs.Notices.{notices_in, rest_notice};
 
 use log::{Log, info, warn};
 use roam_conf::{Address, Config, Endpoint, Link};
-use roam_notices::{RefusalCount, RefusedText, TurnedAway, TurnedAwayText, server_endpoint};
+use roam_log::{RefusalCount, RefusedText, TurnedAway, TurnedAwayText, server_endpoint};
 use roam_port::LossCause;
 use roam_sockets::{Reason, words_of};
 use std::fmt::Display;
 
-/// What is told on standard error.
+/// A notice on standard error.
 #[derive(Clone, Copy, PartialEq, Eq)]
 pub enum Notice {
     /// Arrivals or ticks were refused.
@@ -35,7 +35,7 @@ pub enum Notice {
     TurnedAway(TurnedAway),
     /// The server is asked to stop.
     Stopping,
-    /// What serves a configuration can't be started now: that is tried again until it can.
+    /// The threads and sockets of a configuration can't be started now: that is tried again until it can.
     TriesAgain,
     /// A configuration of so many realms, peers and shards is served.
     Serving(usize, usize, u16),
@@ -44,7 +44,7 @@ pub enum Notice {
     Ended(u64, u64),
 }
 
-/// How a home server answers.
+/// The way in which a home server answers.
 #[derive(Clone, Copy, PartialEq, Eq)]
 pub enum Answering {
     /// It answers again.
@@ -69,10 +69,10 @@ pub(crate) fn rest_notice(realm: u16, link: Link, answering: Answering) -> Notic
 /// Returns why packets were lost, in words.
 fn loss_words(cause: LossCause) -> &'static str {
     match cause {
-        LossCause::FullRing => "by a full ring",
+        LossCause::FullRing => "by a full send queue",
         LossCause::Unreachable => "since their destination is unreachable",
-        LossCause::NotPermitted => "since they may not be sent",
-        LossCause::Other => "by other faults of sockets",
+        LossCause::NotPermitted => "since the system does not permit them",
+        LossCause::Other => "by other socket errors",
     }
 }
 
@@ -82,7 +82,7 @@ struct LinkText<'c> {
     realm: &'c str,
 }
 
-/// What isn't configured.
+/// The endpoint that stands for one that isn't configured.
 const NOWHERE: Endpoint = Endpoint {
     ip: Address::UNSPECIFIED,
     port: 0,
@@ -123,7 +123,7 @@ fn tell_lost<R: Log>(rt: &R, cause: LossCause, count: u64, to: Option<Endpoint>)
 
 /// Tells that a socket has less room than it is to have.
 fn tell_narrow<R: Log>(rt: &R, at: Endpoint, octets: u32) {
-    warn!(rt; "{} has room for {} octets alone", at, octets);
+    warn!(rt; "{} has a receive buffer of only {} octets", at, octets);
 }
 
 /// Tells that the counts can't be asked for, and why.
@@ -138,7 +138,7 @@ fn tell_no_metrics<R: Log>(rt: &R, at: Endpoint, reason: Reason) {
 /// Tells that a home server answered, and keeps silent now.
 fn tell_stopped<R: Log>(rt: &R, server: LinkText<'_>) {
     let LinkText { at, realm } = server;
-    warn!(rt; "home server {} of {} stopped answering: it rests", at, realm);
+    warn!(rt; "home server {} of {} stopped answering: marked dead", at, realm);
 }
 
 /// Tells that a home server never answered, and what is usually wrong then.
@@ -146,7 +146,7 @@ fn tell_never_answered<R: Log>(rt: &R, server: LinkText<'_>) {
     let LinkText { at, realm } = server;
     warn!(
         rt;
-        "home server {} of {} never answered: it rests. Wrong secret on either side, wrong port, or this proxy is not a client there", at, realm
+        "home server {} of {} never answered: marked dead. Wrong secret on either side, wrong port, or this proxy is not a client there", at, realm
     );
 }
 
@@ -163,7 +163,7 @@ fn tell_serving<R: Log>(rt: &R, realms: usize, peers: usize, shards: u16) {
 
 /// Tells how much was audited at the end.
 fn tell_ended<R: Log>(rt: &R, steps: u64, times: u64) {
-    info!(rt; "ended after {} steps, let go of {} times: audited", steps, times);
+    info!(rt; "ended after {} steps, history cleared {} times: audited", steps, times);
 }
 
 /// Tells a notice. Waits where standard error has no room.
@@ -181,14 +181,14 @@ pub fn tell<R: Log>(rt: &R, config: &Config, notice: Notice) {
         }
         Notice::Answers(realm, link) => tell_answers(rt, link_text(config, realm, link)),
         Notice::TurnedAway(replies) => warn_text(rt, TurnedAwayText::new(config, replies)),
-        Notice::Stopping => info!(rt; "asked to stop: no request is taken any more"),
-        Notice::TriesAgain => warn!(rt; "what serves can't be started: tried again"),
+        Notice::Stopping => info!(rt; "asked to stop: takes no new requests"),
+        Notice::TriesAgain => warn!(rt; "cannot start to serve: trying again"),
         Notice::Serving(realms, peers, shards) => tell_serving(rt, realms, peers, shards),
         Notice::Ended(steps, times) => tell_ended(rt, steps, times),
     }
 }
 
-/// For how many notices one stands: a notice of dropped ones or of refusals for those.
+/// Returns for how many notices one stands: a notice of dropped ones or of refusals for those.
 pub fn notices_in(notice: Notice) -> u64
     ensures { result ≡ notices_in notice }
 {

@@ -5,17 +5,17 @@ ghost use Rattle.std.specs.Prelude.{IfSome, MatchOption, min, unwrap_or};
 ghost use Rattle.std.specs.Option.{ForSome};
 ghost use Rattle.std.specs.Prelude.{IsSomeAnd};
 ghost use Rattle.std.specs.List.{list_any};
-ghost use Rattle.roam_notices.specs.TurnedAway.{turned_away};
+ghost use Rattle.roam_log.specs.TurnedAway.{turned_away};
 ghost use Rattle.roam_telling.specs.SaidLately.{is_recent};
 ghost use Rattle.rtrb.specs.Ring.{sent};
-ghost use Rattle.roam_notices.specs.Repeats.{all_tallies, row_at, row_of};
-ghost use Rattle.roam_notices.specs.Tallies.{IsNoted, counted_in};
+ghost use Rattle.roam_log.specs.Repeats.{all_tallies, row_at, row_of};
+ghost use Rattle.roam_log.specs.Tallies.{IsNoted, counted_in};
 ghost use Rattle.roam_telling.specs.Notices.{notices_in, notices_among, rest_notice};
 
 use crate::notice::{Answering, Notice, notices_in, rest_notice};
 use crate::said_lately::SaidLately;
 use roam_conf::{Endpoint, Link};
-use roam_notices::{Origin, Repeats, replies_turned_away};
+use roam_log::{Origin, Repeats, replies_turned_away};
 use roam_port::LossCause;
 use roam_wire::Refusal;
 use rtrb::{Consumer, Producer, RingBuffer};
@@ -25,15 +25,14 @@ use std::alloc::{AllocError, Global};
 /// stand in the same line.
 pub const SECOND: u64 = 1000;
 
-/// How many notices of one thread wait to be told. What finds the queue full is dropped, and
-/// counted.
+/// The number of notices of one thread that wait to be written. What finds the queue full is dropped, and counted.
 pub const NOTICES: usize = 1024;
 
 /// A thread's end of its queue of notices, and what was refused since that was told last.
 pub struct Notices {
     queue: Producer<Notice>,
     repeats: Repeats,
-    /// When what was refused is told, where there is any.
+    /// The time when dropped datagrams are told, where there are any.
     due: Option<u64>,
     dropped: u64,
     is_waiting: bool,

@@ -1,7 +1,7 @@
-//! What is told of a reload.
+//! The lines of a reload.
 
 use log::{Level, Log, info, log_enabled, warn};
-use roam_notices::{DroppedText, ReloadEnd, ReloadText};
+use roam_log::{DroppedText, ReloadEnd, ReloadText};
 use std::str;
 
 /// Tells what is said to who asked for another configuration, a line of the log for each line, where the log has

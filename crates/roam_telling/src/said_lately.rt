@@ -2,13 +2,13 @@
 
 ghost use Rattle.std.specs.Prelude.{◌≡◌, ◌<◌, ◌≤◌, ◌+◌, ◌-◌, ◌^◌, ℕ, IfSome, IsFalse, IsSomeAnd, IsTrue, min, slice_get};
 ghost use Rattle.std.specs.List.{list_any};
-ghost use Rattle.roam_notices.specs.declared.turned_away.TurnedAway.{TurnedAway};
+ghost use Rattle.roam_log.specs.declared.turned_away.TurnedAway.{TurnedAway};
 ghost use Rattle.roam_telling.specs.SaidLately.{is_recent};
 
 use roam_conf::{Address, Endpoint};
-use roam_notices::TurnedAway;
+use roam_log::TurnedAway;
 
-/// For how long it isn't said again of a server, in milliseconds.
+/// The time within which it isn't said again of a server, in milliseconds.
 pub const MINUTE: u64 = 60_000;
 
 /// Of how many servers it is said within a minute.

@@ -1,15 +1,15 @@
-//! What each thread that takes part in the hub is made of.
+//! The parts of each thread that takes part in the hub.
 
 ghost use Rattle.std.specs.Prelude.{IfErr};
 ghost use Rattle.roam_sockets.specs.Faults.{IsAfterBinding};
 
-use roam_calls::{Opened, Seat, split};
+use roam_history::{Opened, Seat, split};
 use roam_kits::{Kit, ThreadKits};
 use roam_port::Outbox;
 use roam_sockets::ServeFault;
 use std::alloc::Global;
 
-/// What a worker or the timer is made of: its kit, an outbox, in which packets may wait that others left there, and its
+/// The parts of a worker or the timer: its kit, an outbox, in which packets may wait that others left there, and its
 /// seat at the hub.
 #[derive(Drop)]
 pub struct Part<N: Opened> {

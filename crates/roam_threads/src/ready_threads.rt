@@ -5,12 +5,12 @@ ghost use Rattle.roam_sockets.specs.Faults.{IsAfterBinding};
 
 use crate::parts::{Part, Parts, parts_of};
 use mio::{Events, Poll};
-use roam_calls::{Opened, Seat};
 use roam_counters::Datagrams;
 use roam_counting::{Counting, EventCounts};
-use roam_intake::Mail;
+use roam_history::{Opened, Seat};
+use roam_intake::WorkerJobs;
 use roam_kits::{ExchangeQueues, Kit, Logger, ThreadKits};
-use roam_notices::Exchange;
+use roam_log::Exchange;
 use roam_outgoing::{Outgoing, RoomEvents};
 use roam_port::{Outbox, socket_numbers};
 use roam_sockets::{BoundSocket, ServeFault, ports, receivers};
@@ -19,7 +19,7 @@ use roam_workers::{IN_A_ROUND, Junk, Rests, Shared, Timer, Worker, WorkerContext
 use rtrb::Consumer;
 use std::alloc::{AllocError, Global};
 
-/// For how many octets of a line room is made at the start.
+/// The number of octets of a line for which room is made at the start.
 const LINE: usize = 4096;
 
 /// The threads of a configuration, before they start: those that take part in the hub, and the logger.
@@ -30,7 +30,8 @@ pub struct ReadyThreads<'s, 'c, H, N: Opened> {
     pub logger: Logger<'s>,
 }
 
-/// What a worker or the timer has, with what its kit leaves it: where it waits for what comes, and room for a datagram.
+/// The equipment of a worker or the timer: what its kit leaves it, where it waits for what comes, and room for a
+/// datagram.
 #[derive(Drop)]
 struct Equipped<'s, 'c, H, N: Opened> {
     context: WorkerContext<'s, 'c, H, N>,
@@ -164,7 +165,7 @@ impl<'s, 'c, H, N: Opened> Builder<'s, 'c, H, N> {
         let events = Events::with_capacity(alloc, receivers.len().saturating_add(2))?;
         let ready = Vec::with_capacity(alloc, receivers.len())?;
         let shards = usize::from(self.shared.config.top.shards);
-        let mail = Mail::new(alloc, number, shards, IN_A_ROUND as usize)?;
+        let jobs = WorkerJobs::new(alloc, number, shards, IN_A_ROUND as usize)?;
         let Equipped {
             context,
             arrivals,
@@ -172,7 +173,7 @@ impl<'s, 'c, H, N: Opened> Builder<'s, 'c, H, N> {
         } = self.equip(number, part)?;
         Ok(Worker {
             context,
-            mail,
+            jobs,
             receivers,
             ready,
             poll: arrivals,

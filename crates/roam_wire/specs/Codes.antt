@@ -1,4 +1,4 @@
--- What the codes of packets stand for (RFC 2865 section 4, RFC 2866 section 4, RFC 5176 section 2.3).
+-- The meaning of the codes of packets (RFC 2865 section 4, RFC 2866 section 4, RFC 5176 section 2.3).
 use Rattle.std.specs.Prelude.{ℕ, ◌==◌, ◌||◌, Bool}
 use Rattle.roam_wire.specs.declared.code.TheConstants.{ACCESS_ACCEPT, ACCESS_REJECT, ACCESS_CHALLENGE, DISCONNECT_REQUEST, DISCONNECT_ACK, DISCONNECT_NAK, COA_REQUEST, COA_ACK, COA_NAK}
 

@@ -1,4 +1,4 @@
--- What a datagram reads as (RFC 2865, section 3).
+-- The reading of a datagram (RFC 2865, section 3).
 use Rattle.std.specs.Prelude.{◌≡◌, ℕ, zero, suc, ◌+◌, ◌-◌, ◌*◌, ◌≤◌, List, [], ◌∷◌, length, take, drop, Option, Some, None, option_map, option_and_then, unwrap_or, nat_le, ◌&&◌, Bool, if◌then◌else◌, slice_index}
 use Rattle.std.specs.Prelude.{nat_lt, Result, Ok, Err}
 use Rattle.std.specs.Option.{option_map_or}

@@ -1,4 +1,4 @@
--- What the lists of attributes that don't pass the broker may name (ours).
+-- The attributes that the lists of attributes to be left out may name (ours).
 use Rattle.std.specs.Prelude.{ℕ, ◌==◌, ◌&&◌, Bool, List, [], ◌∷◌, not, nat_le}
 use Rattle.std.specs.List.{list_any}
 use Rattle.roam_wire.specs.declared.removed_attribute.RemovedAttribute.{RemovedAttribute}

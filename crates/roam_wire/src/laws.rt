@@ -6,13 +6,13 @@ ghost use Rattle.roam_wire.specs.Constants.{AccessTypes, AccountingTypes, OtherT
 ghost use Rattle.roam_wire.specs.Laws.{ReadingIsRight, PacketTextReads, PacketTextIsReadAgain};
 ghost use Rattle.roam_wire.specs.Laws.{PacketTextIsOfPacket, PacketTextHasLength, PacketTextIsOctets};
 
-/// What a datagram reads as.
+/// States what a datagram reads as.
 pub fn readings()
     ensures right { ReadingIsRight }
     ensures own { PacketTextReads }
 {}
 
-/// What a packet's octets are.
+/// States what a packet's octets are.
 pub fn packet_octets()
     ensures again { PacketTextIsReadAgain }
     ensures packet { PacketTextIsOfPacket }

@@ -1,4 +1,4 @@
-//! Why the broker refuses an event.
+//! The causes why the proxy drops an event.
 
 ghost use Rattle.std.specs.Prelude.{◌≡◌};
 
@@ -20,7 +20,7 @@ impl<T: Drop> From<AllocFailed<T>> for NoMemory {
     }
 }
 
-/// Why the broker refuses an event. Every refusal leaves the broker as it was, but that
+/// The cause why the proxy drops a datagram or an event (a refusal). Every refusal leaves the proxy as it was, but that
 /// `BadReplyMessageAuthenticator` and `ReplyTooLong` show that a home server is there.
 ///
 /// An arrival is refused by the first of `Short` to `TooLong` whose cause holds, where

@@ -1,6 +1,6 @@
-//! What the lists of attributes that don't pass the broker name.
+//! The attributes that the lists of attributes to be left out name.
 
-/// What a list of attributes that don't pass the broker names (RFC 2865, sections 5 and 5.26).
+/// The attribute that a list of attributes to be left out names (RFC 2865, sections 5 and 5.26).
 #[derive(Clone, Copy, Debug, PartialEq, Eq)]
 pub enum RemovedAttribute {
     /// All attributes of a Type: `"T"`, from 1.

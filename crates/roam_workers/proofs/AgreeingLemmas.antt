@@ -2,9 +2,9 @@
 use Rattle.std.proofs.Common.{◌≡◌, ℕ, List, [], ◌∷◌, ◌++◌, refl, sym, ap, subst, ◌∙◌}
 use Rattle.roam_conf.specs.Config.{ConfigView}
 use Rattle.roam_conf.specs.declared.exchange_lines.ExchangeLines.{ExchangeLines}
-use Rattle.roam_route.specs.Admission.{PlainOut}
+use Rattle.roam_admission.specs.Admission.{PlainOut}
 use Rattle.roam_realm.specs.RealmState.{RealmState}
-use Rattle.roam_route.specs.Events.{arrival_of}
+use Rattle.roam_admission.specs.Events.{arrival_of}
 use Rattle.roam_exchange.specs.Happenings.{PlainHappening}
 use Rattle.roam_exchange.specs.HappeningsShown.{shown_happening}
 use Rattle.roam_core.specs.Agreement.{EventAgrees}
@@ -12,13 +12,13 @@ use Rattle.roam_core.specs.Events.{PlainEvent, arrives, ticks}
 use Rattle.roam_core.specs.HappeningsTo.{happening_to}
 use Rattle.roam_core.specs.ManyRealms.{answer_to, packets_in_turn}
 use Rattle.roam_core.proofs.EventAgreementLemmas.{event-agrees}
-use Rattle.roam_trace.specs.History.{AreSteps, IsHistory, IsStep, states_next, states_then}
-use Rattle.roam_trace.specs.Steps.{PlainAnswer, PlainStep, shown_answer}
-use Rattle.roam_calls.specs.Calls.{HasHappened, IsCall, states_seen}
-use Rattle.roam_calls.specs.Entries.{HistoryEntry, step_entry, steps_in}
-use Rattle.roam_calls.specs.HubOpening.{HubOpening, opening_at}
-use Rattle.roam_calls.specs.Seats.{SeatView}
-use Rattle.roam_calls.proofs.EntryLemmas.{one-step}
+use Rattle.roam_shard.specs.History.{AreSteps, IsHistory, IsStep, states_next, states_then}
+use Rattle.roam_shard.specs.Steps.{PlainAnswer, PlainStep, shown_answer}
+use Rattle.roam_history.specs.Calls.{HasHappened, IsCall, states_seen}
+use Rattle.roam_history.specs.Entries.{HistoryEntry, step_entry, steps_in}
+use Rattle.roam_history.specs.HubOpening.{HubOpening, opening_at}
+use Rattle.roam_history.specs.Seats.{SeatView}
+use Rattle.roam_history.proofs.EntryLemmas.{one-step}
 use Rattle.roam_workers.specs.Agreeing.{AnswersAgree, TicksAgree}
 
 -- a list without its last element

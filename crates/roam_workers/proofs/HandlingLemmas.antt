@@ -6,22 +6,22 @@ use Rattle.roam_wire.specs.declared.refusal.Refusal.TheVariants as refusal
 use Rattle.roam_conf.specs.Config.{ConfigView}
 use Rattle.roam_conf.specs.declared.exchange_lines.ExchangeLines.{ExchangeLines}
 use Rattle.roam_exchange.specs.HappeningsShown.{shown_happening}
-use Rattle.roam_route.specs.Admission.{Arrival, PlainJob, admission, admitted, refused, answered_here}
+use Rattle.roam_admission.specs.Admission.{Arrival, PlainJob, admission, admitted, refused, answered_here}
 use Rattle.roam_conf.specs.declared.place.Place.{Place}
 use Rattle.roam_conf.specs.declared.place.Place.TheVariants as place
-use Rattle.roam_route.proofs.EventLemmas.{event_unkept}
-use Rattle.roam_route.specs.Events.{IsEvent, arrival_of, without_session}
-use Rattle.roam_route.specs.Shown.{IsAdmission, WantsMemory, shown_job, shown_out}
-use Rattle.roam_route.specs.declared.datagram.Out.{Out}
-use Rattle.roam_route.specs.declared.job.Job.{Job}
-use Rattle.roam_route.specs.declared.job.Prepared.{Prepared}
-use Rattle.roam_route.specs.declared.job.Prepared.TheVariants as prepared
-use Rattle.roam_route.specs.declared.local_answer.LocalAnswer.{LocalAnswer}
+use Rattle.roam_admission.proofs.EventLemmas.{event_unkept}
+use Rattle.roam_admission.specs.Events.{IsEvent, arrival_of, without_session}
+use Rattle.roam_admission.specs.Shown.{IsAdmission, WantsMemory, shown_job, shown_out}
+use Rattle.roam_admission.specs.declared.datagram.Out.{Out}
+use Rattle.roam_admission.specs.declared.job.Job.{Job}
+use Rattle.roam_admission.specs.declared.job.Prepared.{Prepared}
+use Rattle.roam_admission.specs.declared.job.Prepared.TheVariants as prepared
+use Rattle.roam_admission.specs.declared.local_answer.LocalAnswer.{LocalAnswer}
 use Rattle.roam_core.specs.Events.{arrives}
-use Rattle.roam_calls.specs.HubOpening.{HubOpening}
-use Rattle.roam_calls.specs.Seats.{SeatView}
-use Rattle.roam_calls.specs.Calls.{HasHappened, IsCall, answered_step}
-use Rattle.roam_calls.specs.declared.answered.Answered.{Answered}
+use Rattle.roam_history.specs.HubOpening.{HubOpening}
+use Rattle.roam_history.specs.Seats.{SeatView}
+use Rattle.roam_history.specs.Calls.{HasHappened, IsCall, answered_step}
+use Rattle.roam_history.specs.declared.answered.Answered.{Answered}
 use Rattle.roam_counters.specs.declared.datagrams.Handling.TheVariants as handling
 use Rattle.roam_counters.specs.Arrivals.{arrival_increments}
 use Rattle.roam_counters.specs.OwnCounts.{CountsView, raised_all}

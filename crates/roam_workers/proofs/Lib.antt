@@ -1,6 +1,7 @@
 pub mod EndingLemmas
 pub mod HandlingLemmas
 pub mod TickLemmas
+pub mod ReceivedLemmas
 pub mod WorkLemmas
-pub mod MailLemmas
+pub mod HandedLemmas
 pub mod AgreeingLemmas

@@ -3,10 +3,10 @@ use Rattle.std.proofs.Common.{◌≡◌, ℕ, Option, Some, None, subst}
 use Rattle.std.specs.declared.alloc.Global.{Global}
 use Rattle.roam_counters.specs.OwnCounts.{raised_all}
 use Rattle.roam_conf.specs.declared.exchange_lines.ExchangeLines.{ExchangeLines}
-use Rattle.roam_calls.specs.HubOpening.{HubOpening}
-use Rattle.roam_calls.specs.Seats.{SeatView}
-use Rattle.roam_calls.specs.Calls.{IsTick, IsTicked}
-use Rattle.roam_calls.specs.declared.answered.Ticked.{Ticked}
+use Rattle.roam_history.specs.HubOpening.{HubOpening}
+use Rattle.roam_history.specs.Seats.{SeatView}
+use Rattle.roam_history.specs.Calls.{IsTick, IsTicked}
+use Rattle.roam_history.specs.declared.answered.Ticked.{Ticked}
 use Rattle.roam_counters.specs.Arrivals.{tick_counts}
 use Rattle.roam_exchange.specs.Turn.{shown_outs}
 use Rattle.roam_outgoing.specs.Sending.{PutsEach}

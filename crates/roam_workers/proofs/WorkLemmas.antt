@@ -2,11 +2,11 @@
 use Rattle.std.proofs.Common.{◌≡◌, ◌∙◌, ℕ, List, [], ◌∷◌, ◌++◌, Option, ap, refl, sym, inl, inr}
 use Rattle.std.specs.declared.alloc.Global.{Global}
 use Rattle.std.proofs.lemmas.List.Sums.{fold-append}
-use Rattle.roam_route.specs.Admission.{Arrival, PlainJob}
+use Rattle.roam_admission.specs.Admission.{Arrival, PlainJob}
 use Rattle.roam_conf.specs.declared.exchange_lines.ExchangeLines.{ExchangeLines}
 use Rattle.roam_exchange.specs.HappeningsShown.{shown_happening}
-use Rattle.roam_calls.specs.HubOpening.{HubOpening}
-use Rattle.roam_calls.specs.Seats.{SeatView}
+use Rattle.roam_history.specs.HubOpening.{HubOpening}
+use Rattle.roam_history.specs.Seats.{SeatView}
 use Rattle.roam_counters.proofs.OwnCountLemmas.{are-sums}
 use Rattle.roam_counters.specs.Arrivals.{arrival_increments, failed_increments}
 use Rattle.roam_counters.specs.Increments.{job_increments}
@@ -187,7 +187,8 @@ all-sends : (o : HubOpening) (start : AtWork) (stands : List AtWork) (end : AtWo
     → PutsEach (all_sent o start stands end did) start.outbox end.outbox
 all-sends o start [] end same = puts_same start.outbox end.outbox (ap (λ (a : AtWork). a.outbox) same)
 all-sends o start (before ∷ earlier) end did =
-    puts_both (all_sent o start earlier before did.0) (sent_one o before end did.1) start.outbox before.outbox end.outbox
+    puts_both (all_sent o start earlier before did.0) (sent_one o before end did.1) start.outbox before.outbox
+    end.outbox
     (all-sends o start earlier before did.0) (one-sends o before end did.1)
 
 pub work-sent : WorkIsSent

@@ -1,19 +1,19 @@
--- What a thread counts and tells of a recorded call, and the packets that it puts out for it, agree (ours): both are of
--- one answer, and the packets are those of which its happening tells.
+-- The agreement of what a thread counts and tells of a recorded call with the packets that it puts out for it (ours):
+-- both are of one answer, and the packets are those of which its happening tells.
 use Rattle.std.specs.declared.alloc.Global.{Global}
 use Rattle.std.specs.Prelude.{ℕ}
 use Rattle.roam_conf.specs.declared.exchange_lines.ExchangeLines.{ExchangeLines}
-use Rattle.roam_route.specs.Admission.{PlainJob}
-use Rattle.roam_route.specs.Events.{arrival_of}
+use Rattle.roam_admission.specs.Admission.{PlainJob}
+use Rattle.roam_admission.specs.Events.{arrival_of}
 use Rattle.roam_exchange.specs.HappeningsShown.{shown_happening}
 use Rattle.roam_exchange.specs.Turn.{shown_outs}
 use Rattle.roam_core.specs.Agreement.{EventAgrees}
 use Rattle.roam_core.specs.Events.{arrives, ticks}
-use Rattle.roam_calls.specs.Calls.{IsTicked}
-use Rattle.roam_calls.specs.HubOpening.{HubOpening}
-use Rattle.roam_calls.specs.Seats.{SeatView}
-use Rattle.roam_calls.specs.declared.answered.Answered.{Answered}
-use Rattle.roam_calls.specs.declared.answered.Ticked.{Ticked}
+use Rattle.roam_history.specs.Calls.{IsTicked}
+use Rattle.roam_history.specs.HubOpening.{HubOpening}
+use Rattle.roam_history.specs.Seats.{SeatView}
+use Rattle.roam_history.specs.declared.answered.Answered.{Answered}
+use Rattle.roam_history.specs.declared.answered.Ticked.{Ticked}
 use Rattle.roam_workers.specs.Handlings.{IsAnswered}
 
 -- of a job: by `IsJobTaken` what is counted is of this happening, and what is put are these packets

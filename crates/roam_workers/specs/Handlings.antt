@@ -1,18 +1,18 @@
--- What becomes of a datagram that a worker takes. Ours.
+-- The fate of a datagram that a worker takes. Ours.
 use Rattle.std.specs.Prelude.{◌≡◌, ◌⊎◌, ℕ, ◌%◌, [], ◌∷◌, Bool, false, true}
 use Rattle.std.specs.declared.alloc.Global.{Global}
 use Rattle.roam_wire.specs.declared.refusal.Refusal.{Refusal}
 use Rattle.roam_wire.specs.declared.refusal.Refusal.TheVariants as refusal
-use Rattle.roam_route.specs.Admission.{Arrival, PlainJob, PlainOut, admission, admitted, refused, answered_here}
-use Rattle.roam_route.specs.Events.{arrival_of, without_session}
-use Rattle.roam_route.specs.RejectCauses.{code_of}
-use Rattle.roam_route.specs.Shown.{WantsMemory}
-use Rattle.roam_route.specs.declared.local_answer.LocalAnswer.{LocalAnswer}
+use Rattle.roam_admission.specs.Admission.{Arrival, PlainJob, PlainOut, admission, admitted, refused, answered_here}
+use Rattle.roam_admission.specs.Events.{arrival_of, without_session}
+use Rattle.roam_admission.specs.RejectCauses.{code_of}
+use Rattle.roam_admission.specs.Shown.{WantsMemory}
+use Rattle.roam_admission.specs.declared.local_answer.LocalAnswer.{LocalAnswer}
 use Rattle.roam_core.specs.Events.{arrives}
-use Rattle.roam_calls.specs.HubOpening.{HubOpening}
-use Rattle.roam_calls.specs.Seats.{SeatView}
-use Rattle.roam_calls.specs.Calls.{HasHappened, IsCall, answered_step}
-use Rattle.roam_calls.specs.declared.answered.Answered.{Answered}
+use Rattle.roam_history.specs.HubOpening.{HubOpening}
+use Rattle.roam_history.specs.Seats.{SeatView}
+use Rattle.roam_history.specs.Calls.{HasHappened, IsCall, answered_step}
+use Rattle.roam_history.specs.declared.answered.Answered.{Answered}
 use Rattle.roam_exchange.specs.HappeningsShown.{shown_happening}
 use Rattle.roam_conf.specs.declared.exchange_lines.ExchangeLines.{ExchangeLines}
 use Rattle.roam_counters.specs.Arrivals.{arrival_increments, failed_increments, refused_increments}

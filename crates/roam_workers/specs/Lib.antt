@@ -1,7 +1,8 @@
 pub mod Agreeing
 pub mod Endings
 pub mod Handlings
-pub mod Mail
+pub mod Received
+pub mod HandedJobs
 pub mod Remedies
 pub mod Requests
 pub mod Ticks

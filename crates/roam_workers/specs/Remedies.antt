@@ -1,7 +1,7 @@
--- What is done about a call that a hub doesn't record. Ours.
+-- The remedy for a call that a hub doesn't record. Ours.
 use Rattle.std.specs.Prelude.{Bool, false}
-use Rattle.roam_calls.specs.declared.fault.HubFault.{HubFault}
-use Rattle.roam_calls.specs.declared.fault.HubFault.TheVariants as hub
+use Rattle.roam_history.specs.declared.fault.HubFault.{HubFault}
+use Rattle.roam_history.specs.declared.fault.HubFault.TheVariants as hub
 use Rattle.roam_workers.specs.declared.context.Remedy.{Remedy}
 use Rattle.roam_workers.specs.declared.context.Remedy.TheVariants as remedy
 

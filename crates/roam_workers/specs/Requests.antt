@@ -1,11 +1,11 @@
--- Which datagrams are requests, and which jobs may lose their session. Requests, by their first octet: Access-Request
--- 1, Accounting-Request 4, Status-Server 12, Disconnect-Request 40, CoA-Request 43 (RFC 2865 section 3, RFC 5997
--- section 3, RFC 5176 section 2.3).
+-- The datagrams that are requests, and the jobs that may lose their session. Requests, by their first octet:
+-- Access-Request 1, Accounting-Request 4, Status-Server 12, Disconnect-Request 40, CoA-Request 43 (RFC 2865 section 3,
+-- RFC 5997 section 3, RFC 5176 section 2.3).
 use Rattle.std.specs.Prelude.{ℕ, ◌==◌, ◌||◌, Bool, false, List, [], ◌∷◌}
 use Rattle.roam_wire.specs.declared.code.TheConstants.{ACCOUNTING_RESPONSE}
 use Rattle.roam_conf.specs.declared.place.Place.{Place}
 use Rattle.roam_conf.specs.declared.place.Place.TheVariants as place
-use Rattle.roam_route.specs.Arrivals.{PlainJob}
+use Rattle.roam_admission.specs.Arrivals.{PlainJob}
 use Rattle.roam_counting.specs.Packets.{code_of}
 
 abbrev pub is_request_code : ℕ → Bool

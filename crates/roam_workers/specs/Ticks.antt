@@ -1,13 +1,13 @@
--- What a worker counts of a tick. Ours.
+-- The counts of a worker for a tick. Ours.
 use Rattle.std.specs.Prelude.{◌≡◌, ◌⊎◌, ℕ, []}
 use Rattle.std.specs.declared.alloc.Global.{Global}
 use Rattle.roam_counters.specs.OwnCounts.{raised_all}
 use Rattle.roam_wire.specs.declared.refusal.Refusal.{Refusal}
 use Rattle.roam_conf.specs.declared.exchange_lines.ExchangeLines.{ExchangeLines}
-use Rattle.roam_calls.specs.HubOpening.{HubOpening}
-use Rattle.roam_calls.specs.Seats.{SeatView}
-use Rattle.roam_calls.specs.Calls.{IsTicked}
-use Rattle.roam_calls.specs.declared.answered.Ticked.{Ticked}
+use Rattle.roam_history.specs.HubOpening.{HubOpening}
+use Rattle.roam_history.specs.Seats.{SeatView}
+use Rattle.roam_history.specs.Calls.{IsTicked}
+use Rattle.roam_history.specs.declared.answered.Ticked.{Ticked}
 use Rattle.roam_counters.specs.Arrivals.{refused_here_increments, tick_counts}
 use Rattle.roam_exchange.specs.Turn.{shown_outs}
 use Rattle.roam_outgoing.specs.Sending.{PutsEach}

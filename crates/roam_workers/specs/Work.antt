@@ -1,15 +1,15 @@
--- What a thread did from its start to its end, and what it counted of that. Ours.
+-- The work of a thread from its start to its end, and its counts. Ours.
 use Rattle.std.specs.Prelude.{◌≡◌, ◌⊎◌, ℕ, ◌+◌, ◌%◌, ◌^◌, ◌<◌, List, [], ◌∷◌, ◌++◌, length, Option}
 use Rattle.std.specs.declared.alloc.Global.{Global}
 use mathlib.Core.Logic.{inl, inr}
-use Rattle.roam_route.specs.Admission.{Arrival, PlainJob, PlainOut}
-use Rattle.roam_route.specs.RejectCauses.{code_of}
+use Rattle.roam_admission.specs.Admission.{Arrival, PlainJob, PlainOut}
+use Rattle.roam_admission.specs.RejectCauses.{code_of}
 use Rattle.roam_wire.specs.declared.refusal.Refusal.TheVariants as refusal
 use Rattle.roam_conf.specs.declared.exchange_lines.ExchangeLines.{ExchangeLines}
 use Rattle.roam_exchange.specs.HappeningsShown.{shown_happening}
 use Rattle.roam_exchange.specs.Turn.{shown_outs}
-use Rattle.roam_calls.specs.HubOpening.{HubOpening}
-use Rattle.roam_calls.specs.Seats.{SeatView}
+use Rattle.roam_history.specs.HubOpening.{HubOpening}
+use Rattle.roam_history.specs.Seats.{SeatView}
 use Rattle.roam_counters.specs.Arrivals.{arrival_increments, failed_increments, refused_here_increments, refused_increments, tick_counts}
 use Rattle.roam_counters.specs.Cells.{cell_of, holder_of}
 use Rattle.roam_counters.specs.Ends.{end_at}
@@ -23,7 +23,7 @@ use Rattle.roam_counters.specs.declared.event.CountedEvent.{CountedEvent}
 use Rattle.roam_counters.specs.declared.increments.Increment.{Increment}
 use Rattle.roam_counting.specs.Counting.{wait_of}
 use Rattle.roam_counting.specs.Packets.{turn_of}
-use Rattle.roam_intake.specs.Letters.{IsAdmitted}
+use Rattle.roam_intake.specs.Jobs.{IsAdmitted}
 use Rattle.roam_outgoing.specs.Sending.{PutsEach}
 use Rattle.roam_port.specs.declared.outbox.Outbox.{Outbox}
 use Rattle.roam_workers.specs.Handlings.{AtWork, FailedCounts, IsHandled, IsJobHandled, IsJobTaken, given_as}

@@ -1,10 +1,10 @@
-//! How a worker gives the hub a job: again where a history is let go of, and an Accounting-Response without its session
-//! where there is no memory for that.
+//! The ways in which a worker gives the hub a job: again where a history is cleared, and an Accounting-Response without
+//! its session where there is no memory for that.
 
 ghost use Rattle.std.specs.Prelude.{◌≡◌, IfErr, IfOk, OnErr, true};
-ghost use Rattle.roam_route.specs.Admission.{PlainJob};
-ghost use Rattle.roam_route.specs.Events.{IsEvent, without_session};
-ghost use Rattle.roam_route.specs.Shown.{shown_job};
+ghost use Rattle.roam_admission.specs.Admission.{PlainJob};
+ghost use Rattle.roam_admission.specs.Events.{IsEvent, without_session};
+ghost use Rattle.roam_admission.specs.Shown.{shown_job};
 ghost use Rattle.roam_counting.specs.Counting.{counts_in};
 ghost use Rattle.roam_counting.specs.Packets.{turn_of};
 ghost use Rattle.roam_workers.specs.Handlings as handlings;
@@ -14,10 +14,10 @@ ghost use Rattle.roam_workers.specs.Requests as requests;
 use crate::codes::may_lose_session;
 use crate::context::WorkerContext;
 use crate::hub_calls::HubCalls;
-use roam_calls::{Answered, HubFault, Opened, Refused};
+use roam_admission::Job;
 use roam_conf::ExchangeLines;
 use roam_counters::CountedTurn;
-use roam_route::Job;
+use roam_history::{Answered, HubFault, Opened, Refused};
 use roam_wire::Refusal;
 use std::alloc::Global;
 use std::sync::Wait;

@@ -1,28 +1,28 @@
-//! What a worker does with a datagram that came.
+//! The work of a worker with a datagram that came.
 
 ghost use Rattle.std.specs.Prelude.{◌≡◌, IfNone, IfSome, IsTrue, true};
-ghost use Rattle.roam_route.specs.Admission.{admission, admitted};
-ghost use Rattle.roam_route.specs.Events.{IsEvent};
-ghost use Rattle.roam_route.specs.Shown.{shown_arrival, shown_job};
+ghost use Rattle.roam_admission.specs.Admission.{admission, admitted};
+ghost use Rattle.roam_admission.specs.Events.{IsEvent};
+ghost use Rattle.roam_admission.specs.Shown.{shown_arrival, shown_job};
 ghost use Rattle.roam_counting.specs.Counting.{counts_in};
-ghost use Rattle.roam_intake.specs.Letters.{jobs_of};
+ghost use Rattle.roam_intake.specs.Jobs.{jobs_of};
 ghost use Rattle.roam_workers.specs.Handlings as handlings;
 ghost use Rattle.roam_workers.specs.Handlings.{IsHandled, IsJobHandled, at_work};
-ghost use Rattle.roam_workers.specs.Mail.{ArrivesHere, IsHandedOn, at_mail};
+ghost use Rattle.roam_workers.specs.HandedJobs.{ArrivesHere, IsHandedOn, receiving};
 ghost use Rattle.roam_workers.specs.Requests.{is_request};
 
 use crate::answering::given_as;
 use crate::codes::is_request;
 use crate::context::WorkerContext;
 use crate::hub_calls::HubCalls;
-use roam_calls::Opened;
+use roam_admission::{Datagram, Job, Prepared, prepare};
 use roam_conf::{Config, Endpoint, Place};
 use roam_counters::Handling;
 use roam_counting::turn_of;
-use roam_intake::Mail;
-use roam_notices::Origin;
+use roam_history::Opened;
+use roam_intake::WorkerJobs;
+use roam_log::Origin;
 use roam_port::endpoint_of;
-use roam_route::{Datagram, Job, Prepared, prepare};
 use roam_telling::origin_of;
 use roam_wire::Refusal;
 use std::alloc::Global;
@@ -66,16 +66,16 @@ impl<H: HubCalls<N>, N: Opened> WorkerContext<'_, '_, H, N> {
         &mut self,
         rt: &R,
         alloc: Global,
-        mail: &mut Mail<N>,
+        jobs: &mut WorkerJobs<N>,
         datagram: &Datagram<Global>,
     )
         ensures { ArrivesHere N.opening self.old.shared.now.told_exchanges self.old.now (shown_arrival datagram.now)
-            (at_mail self.old.seat self.old.counting self.old.outgoing self.old.datagrams mail.old.outgoing.items)
-            (at_mail self.new.seat self.new.counting self.new.outgoing self.new.datagrams mail.new.outgoing.items)
-            (λ q. jobs_of q.items (λ l. l.job)) }
+            (receiving self.old.seat self.old.counting self.old.outgoing self.old.datagrams jobs.old.for_others.items)
+            (receiving self.new.seat self.new.counting self.new.outgoing self.new.datagrams jobs.new.for_others.items)
+            (λ q. jobs_of q.items (λ j. j.job)) }
     {
         self.counting.received(datagram.at);
-        if let Some(handling) = self.handle(rt, alloc, mail, datagram) {
+        if let Some(handling) = self.handle(rt, alloc, jobs, datagram) {
             self.counting.handled(handling);
             self.datagrams = self.datagrams.after(handling);
         }
@@ -110,15 +110,15 @@ impl<H: HubCalls<N>, N: Opened> WorkerContext<'_, '_, H, N> {
         &mut self,
         rt: &R,
         alloc: Global,
-        mail: &mut Mail<N>,
+        jobs: &mut WorkerJobs<N>,
         datagram: &Datagram<Global>,
     ) -> Option<Handling>
         ensures handled { IfSome result (λ handling. IsHandled N.opening self.old.shared.now.told_exchanges self.old.now
             (shown_arrival datagram.now) (at_work self.old.seat self.old.counting self.old.outgoing)
             (at_work self.new.seat self.new.counting self.new.outgoing)
-            handling × (mail.new.outgoing.items ≡ mail.old.outgoing.items)) }
-        ensures handed { IfNone result (IsHandedOn N.opening (shown_arrival datagram.now) mail.old.outgoing.items
-            mail.new.outgoing.items (λ q. jobs_of q.items (λ l. l.job))
+            handling × (jobs.new.for_others.items ≡ jobs.old.for_others.items)) }
+        ensures handed { IfNone result (IsHandedOn N.opening (shown_arrival datagram.now) jobs.old.for_others.items
+            jobs.new.for_others.items (λ q. jobs_of q.items (λ j. j.job))
             × (at_work self.new.seat self.new.counting self.new.outgoing
             ≡ at_work self.old.seat self.old.counting self.old.outgoing)) }
         ensures kept { self.new.datagrams ≡ self.old.datagrams }
@@ -128,7 +128,7 @@ impl<H: HubCalls<N>, N: Opened> WorkerContext<'_, '_, H, N> {
             return Some(Handling::Dropped);
         }
         match prepare(alloc, self.shared.config, datagram) {
-            Ok(Prepared::Job(job)) => self.take_or_hand(rt, mail, job, datagram),
+            Ok(Prepared::Job(job)) => self.take_or_hand(rt, jobs, job, datagram),
             Ok(Prepared::Answered(what, out)) => {
                 let config = self.shared.config;
                 self.counting
@@ -153,7 +153,7 @@ impl<H: HubCalls<N>, N: Opened> WorkerContext<'_, '_, H, N> {
     fn take_or_hand<R: Wait>(
         &mut self,
         rt: &R,
-        mail: &mut Mail<N>,
+        jobs: &mut WorkerJobs<N>,
         job: Job<Global>,
         datagram: &Datagram<Global>,
     ) -> Option<Handling>
@@ -163,18 +163,18 @@ impl<H: HubCalls<N>, N: Opened> WorkerContext<'_, '_, H, N> {
         ensures handled { IfSome result (λ handling. IsHandled N.opening self.old.shared.now.told_exchanges self.old.now
             (shown_arrival datagram.now) (at_work self.old.seat self.old.counting self.old.outgoing)
             (at_work self.new.seat self.new.counting self.new.outgoing)
-            handling × (mail.new.outgoing.items ≡ mail.old.outgoing.items)) }
-        ensures handed { IfNone result (IsHandedOn N.opening (shown_arrival datagram.now) mail.old.outgoing.items
-            mail.new.outgoing.items (λ q. jobs_of q.items (λ l. l.job))
+            handling × (jobs.new.for_others.items ≡ jobs.old.for_others.items)) }
+        ensures handed { IfNone result (IsHandedOn N.opening (shown_arrival datagram.now) jobs.old.for_others.items
+            jobs.new.for_others.items (λ q. jobs_of q.items (λ j. j.job))
             × (at_work self.new.seat self.new.counting self.new.outgoing
             ≡ at_work self.old.seat self.old.counting self.old.outgoing)) }
         ensures kept { self.new.datagrams ≡ self.old.datagrams }
     {
-        if !self.shared.is_anothers(mail.number, &job) {
+        if !self.shared.is_anothers(jobs.number, &job) {
             return Some(self.take(rt, job, Some(datagram)));
         }
         let worker = usize::from(self.shared.config.shard_of(job.realm));
-        match mail.hand(worker, job) {
+        match jobs.set_aside(worker, job) {
             None => None,
             Some(job) => Some(self.take(rt, job, Some(datagram))),
         }

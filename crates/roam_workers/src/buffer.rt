@@ -1,10 +1,10 @@
 //! The buffer in which datagrams are received.
 
-use roam_route::Datagram;
+use roam_admission::Datagram;
 use roam_sockets::RECEIVED;
 use std::alloc::Global;
 
-/// What the buffer of a datagram is filled up with, in one go.
+/// The octets with which the buffer of a datagram is filled up, in one go.
 static FILLING: [u8; RECEIVED] = [0; RECEIVED];
 
 /// Gives a buffer the block again in which a datagram was received, as long as it was. The block has room for that, so

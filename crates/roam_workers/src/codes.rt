@@ -1,11 +1,11 @@
-//! Which datagrams are requests, and which jobs may lose their session.
+//! The datagrams that are requests, and the jobs that may lose their session.
 
 ghost use Rattle.std.specs.Prelude.{◌≡◌};
-ghost use Rattle.roam_route.specs.Shown.{shown_job};
+ghost use Rattle.roam_admission.specs.Shown.{shown_job};
 ghost use Rattle.roam_workers.specs.Requests as requests;
 
+use roam_admission::Job;
 use roam_conf::Place;
-use roam_route::Job;
 use roam_wire::code::{
     ACCESS_REQUEST, ACCOUNTING_REQUEST, ACCOUNTING_RESPONSE, COA_REQUEST, DISCONNECT_REQUEST,
     STATUS_SERVER,

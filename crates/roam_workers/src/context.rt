@@ -1,4 +1,4 @@
-//! What a worker has: its seat at the hub, its packets on their way out, and its notices.
+//! The parts of a worker: its seat at the hub, its packets on their way out, and its notices.
 
 ghost use Rattle.std.specs.Prelude.{◌≡◌, []};
 ghost use Rattle.roam_counters.specs.OwnCounts.{raised_all};
@@ -14,10 +14,10 @@ use crate::ending::{Ending, WorkerEnd};
 use crate::hub_calls::HubCalls;
 use crate::junk::Junk;
 use crate::shared::Shared;
-use roam_calls::{Answered, HubFault, Opened, Seat, Ticked};
 use roam_counters::Datagrams;
 use roam_counting::Counting;
-use roam_notices::Origin;
+use roam_history::{Answered, HubFault, Opened, Seat, Ticked};
+use roam_log::Origin;
 use roam_outgoing::Outgoing;
 use roam_sockets::{now, wall_seconds};
 use roam_telling::{Exchanges, Notices};
@@ -26,7 +26,7 @@ use std::alloc::Global;
 use std::sync::Wait;
 use std::time::Clock;
 
-/// What a worker or the timer has: its seat at the hub, its packets on their way out, and its notices.
+/// The parts of a worker or the timer: its seat at the hub, its packets on their way out, and its notices.
 pub struct WorkerContext<'s, 'c, H, N: Opened> {
     pub shared: &'s Shared<'s, 'c, H, N>,
     pub seat: Seat<Global, N>,
@@ -34,7 +34,7 @@ pub struct WorkerContext<'s, 'c, H, N: Opened> {
     pub notices: Notices,
     pub exchanges: Exchanges,
     pub counting: Counting<'s>,
-    /// What became of the datagrams that it took.
+    /// The fates of the datagrams that it took.
     pub datagrams: Datagrams,
     /// The last moment, in milliseconds since the server's start.
     pub now: u64,
@@ -42,7 +42,7 @@ pub struct WorkerContext<'s, 'c, H, N: Opened> {
     pub seconds: Option<u64>,
     /// From when on stored steps are freed again for want of memory, in milliseconds since the server's start.
     pub free_again_at: u64,
-    /// Whose datagrams are looked at less.
+    /// The senders whose datagrams are looked at less.
     pub junk: Junk,
 }
 
@@ -71,7 +71,7 @@ impl<'s, 'c, H, N: Opened> Drop for WorkerContext<'s, 'c, H, N> {
     }
 }
 
-/// What is done about a call that isn't recorded.
+/// The remedy for a call that isn't recorded.
 #[derive(Clone, Copy, PartialEq, Eq)]
 pub enum Remedy {
     /// The stored steps of its shard are let go of, and the same call is made again.
@@ -257,6 +257,7 @@ impl<H: HubCalls<N>, N: Opened> WorkerContext<'_, '_, H, N> {
         let end = WorkerEnd {
             ending,
             datagrams,
+            jobs: Vec::new(shared.alloc),
             seat,
             outbox: outgoing.into_outbox(),
             rests: None,

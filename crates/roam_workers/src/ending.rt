@@ -1,14 +1,15 @@
-//! Why a worker ended, and what it gives back.
+//! The cause why a worker ended, and what it gives back.
 
 ghost use Rattle.std.specs.Prelude.{◌≡◌, ◌⊎◌, ◌↔◌, IsTrue};
 
 use crate::rests::Rests;
-use roam_calls::{Opened, Seat};
 use roam_counters::Datagrams;
+use roam_history::{Opened, Seat};
+use roam_intake::JobCounts;
 use roam_port::Outbox;
 use std::alloc::Global;
 
-/// Why a worker ended.
+/// The cause why a worker ended.
 #[derive(Clone, Copy, PartialEq, Eq)]
 pub enum Ending {
     /// Another one ended.
@@ -19,30 +20,34 @@ pub enum Ending {
     GaveUp,
 }
 
-/// What a worker gives back.
+/// The parts that a worker gives back.
 #[derive(Drop)]
 pub struct WorkerEnd<N: Opened> {
     pub ending: Ending,
-    /// What became of the datagrams that it received.
+    /// The fates of the datagrams that it received.
     pub datagrams: Datagrams,
+    /// For each queue, how many jobs it handed on to it, and how many it took over from there; none of the timer.
+    pub jobs: Vec<JobCounts>,
     pub seat: Seat<Global, N>,
     /// The packets that still wait for room at a socket.
     pub outbox: Outbox<Global>,
-    /// Which home servers keep silent, as it was told; of the timer alone.
+    /// The home servers that do not answer, as it was told; of the timer alone.
     pub rests: Option<Rests>,
 }
 
-/// What all workers gave back.
+/// The parts that all workers gave back.
 #[derive(Drop)]
 pub struct Ended<N: Opened> {
-    /// Whether one of them gave up a socket.
+    /// True where one of them gave up a socket.
     pub has_given_up: bool,
-    /// What became of the datagrams that all received.
+    /// The fates of the datagrams that all received.
     pub datagrams: Datagrams,
+    /// For each thread, how many jobs it handed on to each queue, and took over from there.
+    pub jobs: Vec<Vec<JobCounts>>,
     pub seats: Vec<Seat<Global, N>>,
     /// The packets of each that still wait, in the order of the workers; the timer's last.
     pub outboxes: Vec<Outbox<Global>>,
-    /// Which home servers keep silent, as it was told; none where the timer didn't run.
+    /// The home servers that do not answer, as it was told; none where the timer didn't run.
     pub rests: Option<Rests>,
 }
 

@@ -1,4 +1,4 @@
-//! What a worker tells of the exchanges that end by what it does.
+//! The lines of the exchanges that end by what a worker does.
 
 ghost use Rattle.std.specs.Prelude.{◌≡◌};
 ghost use Rattle.roam_counting.specs.Counting.{counts_in};
@@ -6,10 +6,10 @@ ghost use Rattle.roam_counting.specs.Counting.{counts_in};
 use crate::context::WorkerContext;
 use crate::hub_calls::HubCalls;
 use crate::silence::silence_of;
-use roam_calls::{Answered, Became, Happening, LeftConversation, Opened, Waited};
+use roam_admission::{Datagram, LocalAnswer, RejectCause};
 use roam_counters::Process;
-use roam_notices::{EndedWith, Exchange, ExchangeEnd};
-use roam_route::{Datagram, LocalAnswer, RejectCause};
+use roam_history::{Answered, Became, Happening, LeftConversation, Opened, Waited};
+use roam_log::{EndedWith, Exchange, ExchangeEnd};
 use roam_telling::{local_reject_of, local_response_of, nak_of};
 use std::alloc::Global;
 use std::sync::Wait;

@@ -1,28 +1,28 @@
-//! What threads ask of a hub.
+//! The calls of threads to a hub.
 
 ghost use Rattle.std.specs.Prelude.{◌≡◌, ◌≢◌, ◌≤◌, ◌%◌, ◌↔◌, IfOk, IfErr, IfSome, IsErrOf, OnErr, OnOk};
 ghost use Rattle.roam_conf.specs.Shown.{shown};
-ghost use Rattle.roam_carry.specs.Carrying.{AreChanged};
-ghost use Rattle.roam_route.specs.Events.{IsEvent};
-ghost use Rattle.roam_route.specs.Shown.{shown_job};
-ghost use Rattle.roam_calls.specs.Calls.{AreGone, Calls, IsLook, Sees, TicksIfDue};
-ghost use Rattle.roam_calls.specs.Looks.{StandsThen, WouldLose};
-ghost use Rattle.roam_calls.specs.Written.{BeginsRealm, SavesThen};
+ghost use Rattle.roam_migrate.specs.Carrying.{AreChanged};
+ghost use Rattle.roam_admission.specs.Events.{IsEvent};
+ghost use Rattle.roam_admission.specs.Shown.{shown_job};
+ghost use Rattle.roam_history.specs.Calls.{AreGone, Calls, IsLook, Sees, TicksIfDue};
+ghost use Rattle.roam_history.specs.Looks.{StandsThen, WouldLose};
+ghost use Rattle.roam_history.specs.Written.{BeginsRealm, SavesThen};
 
-use roam_calls::{Answered, Gauges, HubFault, Opened, Refused, Seat, Ticked};
-use roam_carry::Loss;
+use roam_admission::Job;
 use roam_conf::{Config, ExchangeLines};
-use roam_ledgers::Writing;
-use roam_route::Job;
-use roam_trace::Step;
+use roam_history::{Answered, Gauges, HubFault, Opened, Refused, Seat, Ticked};
+use roam_migrate::Loss;
+use roam_sessions::Writing;
+use roam_shard::Step;
 use roam_wire::NoMemory;
 use std::alloc::{AllocError, Global};
 use std::sync::Wait;
 
-/// How many sessions are written while a shard waits.
+/// The number of sessions that are written while a shard waits.
 pub const SESSIONS_AT_ONCE: usize = 256;
 
-/// What threads ask of a hub, which `N` says in proofs how it opened. Each call waits for the lock of one shard.
+/// The calls of threads to a hub, of which `N` says in proofs how it opened. Each call waits for the lock of one shard.
 pub trait HubCalls<N: Opened> {
     /// Gives a job to the shard of its realm at a moment, in milliseconds. With the answer comes what happened by the
     /// job, with the octets of its request where these lines tell of it. The seat counts the call.

@@ -1,4 +1,4 @@
-//! Which senders are looked at less, since their datagrams are refused for what they are.
+//! The senders that are looked at less, since their datagrams are refused for what they are.
 //!
 //! To find that a Message-Authenticator is wrong takes as long as half an exchange. A sender of whose datagrams many
 //! are refused so within a moment can't have others wait for that: most of its further ones are passed over unread,
@@ -11,7 +11,7 @@ use roam_sockets::Sinks;
 use roam_wire::Refusal;
 use std::alloc::Global;
 
-/// How many binary digits of a time in milliseconds tell when in a moment it is: a moment is 64 milliseconds.
+/// The number of binary digits of a time in milliseconds that tell when in a moment it is: a moment is 64 milliseconds.
 const MOMENT: u32 = 6;
 
 /// So many datagrams of a sender are refused in a moment before others are passed over.
@@ -20,8 +20,8 @@ const PATIENCE: u32 = 32;
 /// One in so many datagrams is looked at all the same.
 const LOOKED_AT: u64 = 16;
 
-/// Where so many datagrams of an address are passed over in a moment, the kernel drops for a while what comes from the
-/// port of each further one.
+/// The number of datagrams of an address, passed over in a moment, from which on the kernel drops for a while what
+/// comes from the port of each further one.
 const FLOOD: u32 = 256;
 
 /// So many senders are told apart at once. One that is met behind another one in its place isn't passed over.

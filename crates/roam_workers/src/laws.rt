@@ -1,4 +1,4 @@
-//! What a thread counted, and what it sent, is of what it did.
+//! Laws of what a thread counted, and what it sent.
 
 ghost use Rattle.roam_workers.specs.Agreeing.{AnswersAgree, TicksAgree};
 ghost use Rattle.roam_workers.specs.Work.{WorkIsCounted, WorkIsSent};
@@ -13,7 +13,8 @@ pub fn work_is_sent()
     ensures { WorkIsSent }
 {}
 
-/// What a thread counts and tells of a call that is recorded, and the packets that it puts out for it, agree.
+/// States that what a thread counts and tells of a call that is recorded, and the packets that it puts out for it,
+/// agree.
 pub fn calls_agree()
     ensures answers { AnswersAgree }
     ensures ticks { TicksAgree }

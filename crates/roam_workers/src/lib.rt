@@ -19,11 +19,13 @@
 //!   the call's event where the steps before it end, as the history says it, by an answer of the broker's own, or by a
 //!   refusal. That what is left for others to read is these counts is code | `WorkerContext::arrive`;
 //!   `WorkerContext::tick`
-//! - or its job is handed on to the worker of the job's shard: it stands behind the others that are handed to that
-//!   one, and nothing is counted | `WorkerContext::arrive`
-//! - jobs that were handed on, and those that come back, are given to the hub one after the other, each once, in their
-//!   order, and counted as what becomes of them; at a thread's end nothing is to be handed on. That the list which is
-//!   taken is the one that waited is code | `WorkerContext::take_letters`, `WorkerContext::hand_all`, `Worker::leave`
+//! - or its job is set aside, to be handed on to the worker of the job's shard: it stands behind the others that are
+//!   handed on to that one, and nothing is counted | `WorkerContext::arrive`
+//! - over any receiver each datagram that it gives is handled once, in order: as one of these | `take_portion`: `heard`
+//! - jobs that were set aside are handed on, all of them, or given to the hub here: one after the other, each once, in
+//!   their order, and counted as what becomes of them. So are those that a queue gave, and as many are counted as taken
+//!   over; at a thread's end nothing is set aside. That the queue which is called is the right one is code, and the audit
+//!   finds it where it isn't | `WorkerContext::hand_to`, `take_jobs`, `take_from`, `hand_all`, `Worker::leave`
 //! - from its start to its end a thread does nothing to its seat and to these counts but that, one datagram, job or
 //!   tick after the other: so each count is what it was and the sum of the increments of all that the thread did |
 //!   `receive_on`, `tick_on`: `HasWorkedTo`; law `work_is_counted`
@@ -48,7 +50,7 @@ mod codes;
 mod context;
 mod ending;
 mod exchange_ends;
-mod handed;
+mod handed_jobs;
 mod hub_calls;
 mod junk;
 mod laws;

@@ -1,14 +1,14 @@
-//! What a thread does where a call of the hub isn't recorded.
+//! The remedies where a call of the hub isn't recorded.
 
 ghost use Rattle.std.specs.Prelude.{◌≡◌};
 ghost use Rattle.roam_counting.specs.Counting.{counts_in};
 
 use crate::context::{Remedy, WorkerContext, remedy_for};
 use crate::hub_calls::HubCalls;
-use roam_calls::{HubFault, Opened};
+use roam_history::{HubFault, Opened};
 use std::sync::Wait;
 
-/// Where memory is wanting, stored steps are freed for it once in so many milliseconds by each thread: what was freed a
+/// The time within which a thread frees stored steps once where memory is wanting, in milliseconds: what was freed a
 /// moment ago can't help a second time.
 const FREE_AGAIN: u64 = 1000;
 

@@ -5,7 +5,7 @@ use crate::timer::REST;
 use mio::Waker;
 use std::sync::atomic::{AtomicBool, Ordering};
 
-/// Whether the timer rests, and what wakes it.
+/// The rest of the timer, and what wakes it.
 #[derive(Drop)]
 pub struct TimerRest<'s> {
     is_resting: AtomicBool,

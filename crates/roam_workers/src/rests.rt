@@ -1,11 +1,11 @@
-//! Which home servers keep silent, as it was told.
+//! The home servers that do not answer, as it was told.
 
-use roam_calls::SERVER_LINKS;
 use roam_conf::{Config, Realm};
+use roam_history::SERVER_LINKS;
 use roam_reload::{is_carried, server_then};
 use std::alloc::{AllocError, Global};
 
-/// Which home servers kept silent when they were looked at last.
+/// The home servers that did not answer when they were looked at last.
 pub struct Rests {
     /// Of each realm its servers' links, by their places.
     pub silent: Vec<[bool; SERVER_LINKS]>,

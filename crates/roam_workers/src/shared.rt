@@ -1,51 +1,51 @@
-//! What the threads share that serve one configuration.
+//! The parts that the threads share that serve one configuration.
 
 ghost use Rattle.std.specs.Prelude.{◌≡◌};
 ghost use Rattle.roam_conf.specs.Shown.{shown};
 
 use crate::rest::TimerRest;
 use mio::Waker;
-use roam_calls::Opened;
 use roam_conf::{Config, ExchangeLines};
 use roam_counting::Counters;
 use roam_desk::{Office, Stopping};
-use roam_intake::Mailbox;
+use roam_history::Opened;
+use roam_intake::LockedQueue;
+use roam_log::StationForm;
 use roam_outgoing::{OldHistory, SharedLosses};
-use roam_stations::StationForm;
 use std::alloc::Global;
 use std::sync::atomic::{AtomicBool, Ordering};
 use std::thread::Parker;
 use std::time::Instant;
 
-/// What the threads share that serve one configuration.
+/// The parts that the threads share that serve one configuration.
 #[derive(Drop)]
 pub struct Shared<'s, 'c, H, N: Opened> {
     pub alloc: Global,
     pub config: &'c Config,
-    /// What answers: in a server the hub.
+    /// The one that answers: in a server the hub.
     pub hub: &'s H,
-    /// What the logger sleeps on.
+    /// The parker on which the logger sleeps.
     pub logger: &'s Parker,
-    /// What ends the wait of the timer, the first, and of each worker.
+    /// The wakers that end the wait of the timer, the first, and of each worker.
     pub wakers: &'s [Waker],
     pub rest: &'s TimerRest<'s>,
-    /// Where each worker finds what others received for its shard, by their numbers.
-    pub mailboxes: &'s [Mailbox<N>],
+    /// The queues in which each worker finds the jobs that others received for its shard, by their numbers.
+    pub queues: &'s [LockedQueue<N>],
     pub losses: &'s SharedLosses,
-    /// What is counted, where somebody reads it.
+    /// The counts, where somebody reads them.
     pub counters: Option<&'s Counters>,
     /// Of which exchanges that end a line tells.
     pub told_exchanges: ExchangeLines,
-    /// How these lines have a station.
+    /// The form of a Calling-Station-Id in these lines.
     pub stations: StationForm,
-    /// Where the server's own thread is asked for something.
+    /// The office where the server's own thread is asked for something.
     pub office: &'s Office,
     pub stopping: &'s Stopping,
     pub old_history: &'s OldHistory,
-    /// Whether all are to end.
+    /// True where all are to end.
     pub stop: &'s AtomicBool,
     pub start: Instant,
-    /// When the server's time is over, in milliseconds since its start; none where it has no end.
+    /// The time when the server's time is over, in milliseconds since its start; none where it has no end.
     pub end: Option<u64>,
     ghost same: { shown config.now ≡ N.opening.config },
 }

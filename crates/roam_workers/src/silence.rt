@@ -1,4 +1,4 @@
-//! Which home servers keep silent is told when that changes.
+//! The word that a home server does not answer, or does again, told when that changes.
 
 ghost use Rattle.std.specs.Prelude.{◌≡◌};
 ghost use Rattle.roam_counting.specs.Counting.{counts_in};
@@ -7,9 +7,9 @@ use crate::context::WorkerContext;
 use crate::hub_calls::HubCalls;
 use crate::rests::Rests;
 use crate::shared::Shared;
-use roam_calls::{Opened, SERVER_LINKS, Seat};
 use roam_conf::{Link, Realm};
-use roam_notices::Silence;
+use roam_history::{Opened, SERVER_LINKS, Seat};
+use roam_log::Silence;
 use roam_telling::Answering;
 use std::alloc::Global;
 use std::sync::Wait;

@@ -5,14 +5,14 @@ ghost use Rattle.roam_workers.specs.Work.{HasWorked};
 
 use crate::context::WorkerContext;
 use crate::hub_calls::HubCalls;
-use roam_calls::{LATE, Opened};
+use roam_history::{LATE, Opened};
 use std::sync::Wait;
 
 /// From one round of ticks to the next, in milliseconds.
 pub const TICK: u64 = 10;
 
-/// For how long a shard is left to its worker that ticked it, in milliseconds: a worker that has enough to do comes
-/// back to it before, and for one that rests the timer ticks it.
+/// The time for which a shard is left to its worker that ticked it, in milliseconds: a worker that has enough to do
+/// comes back to it before, and for one that rests the timer ticks it.
 pub const LEFT_TO_WORKER: u64 = 2 * TICK;
 
 impl<H: HubCalls<N>, N: Opened> WorkerContext<'_, '_, H, N> {
@@ -41,8 +41,8 @@ impl<H: HubCalls<N>, N: Opened> WorkerContext<'_, '_, H, N> {
 
     /// Returns whether the worker of a shard ticks it.
     fn is_left_to_worker(&self, shard: u16) -> bool {
-        match self.shared.mailboxes.get(usize::from(shard)) {
-            Some(mailbox) => mailbox.is_ticked(self.now, LEFT_TO_WORKER),
+        match self.shared.queues.get(usize::from(shard)) {
+            Some(queue) => queue.is_ticked(self.now, LEFT_TO_WORKER),
             None => false,
         }
     }
@@ -60,9 +60,9 @@ impl<H: HubCalls<N>, N: Opened> WorkerContext<'_, '_, H, N> {
     /// Returns whether the worker of this shard is to tick it, since it didn't so for a while. It counts as ticked
     /// then.
     fn is_own_due(&self, shard: u16) -> bool {
-        match self.shared.mailboxes.get(usize::from(shard)) {
-            Some(mailbox) if !mailbox.is_ticked(self.now, TICK) => {
-                mailbox.note_tick(self.now);
+        match self.shared.queues.get(usize::from(shard)) {
+            Some(queue) if !queue.is_ticked(self.now, TICK) => {
+                queue.note_tick(self.now);
                 true
             }
             _ => false,

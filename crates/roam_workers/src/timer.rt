@@ -15,7 +15,7 @@ use crate::silence::{does_any_wait, tell_rests};
 use crate::ticking::TICK;
 use crate::told_losses::tell_losses;
 use mio::{Events, Poll};
-use roam_calls::Opened;
+use roam_history::Opened;
 use std::alloc::Global;
 use std::sync::Wait;
 use std::thread;
@@ -36,9 +36,9 @@ pub struct Timer<'s, 'c, H, N: Opened> {
     pub events: Events<Global>,
     /// For each cause of a loss, when it was told last.
     pub told: [Option<u64>; 4],
-    /// Whether it was told that the server is asked to stop.
+    /// True where it was told that the server is asked to stop.
     pub is_stop_told: bool,
-    /// Which home servers kept silent when that was looked at last.
+    /// The home servers that did not answer when that was looked at last.
     pub rests: Rests,
     /// Since when no request waits, where the server is asked to stop.
     pub quiet_since: Option<u64>,
@@ -97,7 +97,7 @@ fn has_done_all<R: Wait, H: HubCalls<N>, N: Opened>(rt: &R, timer: &mut Timer<'_
         × (timer.new.context.outgoing ≡ timer.old.context.outgoing) }
 {
     if !timer.context.shared.stopping.is_asked()
-        || timer.context.shared.does_mail_wait(rt)
+        || timer.context.shared.do_jobs_wait(rt)
         || does_any_wait(rt, timer.context.shared, &timer.context.seat)
     {
         timer.quiet_since = None;

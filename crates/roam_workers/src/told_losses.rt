@@ -1,11 +1,11 @@
-//! What packets were lost is told, each cause once a minute at most.
+//! The packets that were lost, told for each cause once a minute at most.
 
 ghost use Rattle.std.specs.Prelude.{◌≡◌, ◌↔◌, ◌≤◌, ◌+◌, IsTrue, MatchOption};
 ghost use Rattle.roam_counting.specs.Counting.{counts_in};
 
 use crate::hub_calls::HubCalls;
 use crate::timer::Timer;
-use roam_calls::Opened;
+use roam_history::Opened;
 use roam_outgoing::CAUSES;
 
 /// Lost packets of one cause are told once in so many milliseconds.

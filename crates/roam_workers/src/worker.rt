@@ -2,9 +2,11 @@
 
 ghost use Rattle.std.specs.Prelude.{◌≡◌, []};
 ghost use Rattle.roam_counting.specs.Counting.{counts_in};
-ghost use Rattle.roam_intake.specs.Letters.{HoldsNone};
+ghost use Rattle.roam_intake.specs.Jobs.{HoldsNone, jobs_of};
 ghost use Rattle.roam_outgoing.specs.Sending.{PutsEach, outbox_in};
+ghost use Rattle.roam_workers.specs.HandedJobs.{receiving};
 ghost use Rattle.roam_workers.specs.Handlings.{at_work};
+ghost use Rattle.roam_workers.specs.Received.{HandlesEach};
 ghost use Rattle.roam_workers.specs.Work.{HasWorked, HasWorkedTo};
 
 use crate::buffer::give_back;
@@ -12,8 +14,8 @@ use crate::context::WorkerContext;
 use crate::ending::{Ending, WorkerEnd};
 use crate::hub_calls::HubCalls;
 use mio::{Events, Poll};
-use roam_calls::Opened;
-use roam_intake::{Mail, keep_ready, mark_all_ready, mark_ready, wait_before};
+use roam_history::Opened;
+use roam_intake::{Hearing, WorkerJobs, keep_ready, mark_all_ready, mark_ready, wait_before};
 use roam_port::Heard;
 use roam_sockets::{Receiver, WAIT_AFTER_FAULT};
 use std::alloc::Global;
@@ -21,24 +23,23 @@ use std::sync::Wait;
 use std::thread;
 use std::time::{Clock, Duration};
 
-/// How long a worker gathers lines of exchanges before it wakes the logger, in milliseconds.
-pub const LINES_WITHIN: u64 = 10;
-
-/// How many datagrams a worker takes of one socket in a round.
+/// The time for which a worker gathers lines of exchanges before it wakes the logger, in milliseconds.
+const LINES_WITHIN: u64 = 10;
+/// The number of datagrams that a worker takes of one socket in a round.
 pub const IN_A_ROUND: u32 = 32;
 
 /// The worker that receives from sockets.
 pub struct Worker<'s, 'c, H, N: Opened> {
     pub context: WorkerContext<'s, 'c, H, N>,
-    /// What it hands to others, and is handed.
-    pub mail: Mail<N>,
+    /// The jobs that it hands on to others, and those that it takes over.
+    pub jobs: WorkerJobs<N>,
     pub receivers: Vec<Receiver<'s>>,
     /// The places of the receivers that are ready, each once. It has room for all of them.
     pub ready: Vec<usize>,
     /// The sockets are registered with it, each by its place among the receivers.
     pub poll: Poll,
     pub events: Events<Global>,
-    /// Where datagrams are received: `RECEIVED` octets.
+    /// The octets where datagrams are received: `RECEIVED` of them.
     pub buffer: Vec<u8>,
 }
 
@@ -47,7 +48,7 @@ impl<'s, 'c, H, N: Opened> Drop for Worker<'s, 'c, H, N> {
     fn drop(self) {
         let Self {
             context,
-            mail,
+            jobs,
             receivers,
             ready,
             poll,
@@ -55,7 +56,7 @@ impl<'s, 'c, H, N: Opened> Drop for Worker<'s, 'c, H, N> {
             buffer,
         } = self;
         drop(context);
-        drop(mail);
+        drop(jobs);
         drop(receivers);
         drop(ready);
         drop(poll);
@@ -80,7 +81,7 @@ fn wait<R: Wait + Clock, H, N: Opened>(rt: &R, worker: &mut Worker<'_, '_, H, N>
     let wait = wait.min(worker.context.exchanges.time_left(now, LINES_WITHIN));
     let wait = worker.context.outgoing.wait_for_room(wait);
     let shared = worker.context.shared;
-    let wait = shared.wait_for_mail(rt, worker.mail.number, wait);
+    let wait = shared.wait_for_jobs(rt, worker.jobs.number, wait);
     let timeout = Some(Duration::from_millis(wait));
     if worker.poll.poll(&mut worker.events, timeout).is_ok() {
         mark_ready(
@@ -95,28 +96,34 @@ fn wait<R: Wait + Clock, H, N: Opened>(rt: &R, worker: &mut Worker<'_, '_, H, N>
     worker.context.outgoing.send_again();
 }
 
-/// Takes what arrived at one socket, up to `IN_A_ROUND` datagrams: why the worker ends with it, if it does. Once all
+/// Takes what is heard at one socket, up to `IN_A_ROUND` datagrams: why the worker ends with it, if it does. Once all
 /// are to end it takes no other one: what is there waits for whoever serves next.
-fn take_portion<R: Wait + Clock, H: HubCalls<N>, N: Opened>(
+fn take_portion<R: Wait + Clock, H: HubCalls<N>, N: Opened, T: Hearing>(
     rt: &R,
-    alloc: Global,
     context: &mut WorkerContext<'_, '_, H, N>,
-    mail: &mut Mail<N>,
-    receiver: &mut Receiver<'_>,
+    jobs: &mut WorkerJobs<N>,
+    receiver: &mut T,
     buffer: &mut Vec<u8>,
 ) -> Option<Ending>
-    ensures { HasWorked N.opening (at_work context.old.seat context.old.counting context.old.outgoing)
+    ensures heard { HandlesEach N.opening T.hears
+        (receiving context.old.seat context.old.counting context.old.outgoing context.old.datagrams
+        jobs.old.for_others.items)
+        (receiving context.new.seat context.new.counting context.new.outgoing context.new.datagrams
+        jobs.new.for_others.items)
+        (λ q. jobs_of q.items (λ j. j.job)) receiver.old receiver.new }
+    ensures worked { HasWorked N.opening (at_work context.old.seat context.old.counting context.old.outgoing)
         (at_work context.new.seat context.new.counting context.new.outgoing) }
 {
+    let alloc = context.shared.alloc;
     for _ in 0..IN_A_ROUND {
         if context.shared.is_over() {
             return Some(Ending::Stopped);
         }
-        match receiver.receive(alloc, buffer) {
+        match receiver.hear(alloc, buffer) {
             Heard::Datagram(datagram) => {
                 let mut datagram = datagram;
                 datagram.seconds = context.seconds;
-                context.arrive(rt, alloc, mail, &datagram);
+                context.arrive(rt, alloc, jobs, &datagram);
                 give_back(buffer, datagram);
             }
             Heard::Nothing => return None,
@@ -146,15 +153,15 @@ fn receive_portion<R: Wait + Clock, H: HubCalls<N>, N: Opened>(
     rt: &R,
     alloc: Global,
     context: &mut WorkerContext<'_, '_, H, N>,
-    mail: &mut Mail<N>,
+    jobs: &mut WorkerJobs<N>,
     receiver: &mut Receiver<'_>,
     buffer: &mut Vec<u8>,
 ) -> Option<Ending>
     ensures { HasWorked N.opening (at_work context.old.seat context.old.counting context.old.outgoing)
         (at_work context.new.seat context.new.counting context.new.outgoing) }
 {
-    let ending = take_portion(rt, alloc, context, mail, receiver, buffer);
-    context.hand_all(rt, mail);
+    let ending = take_portion(rt, context, jobs, receiver, buffer);
+    context.hand_all(rt, jobs);
     context.outgoing.send();
     look_after_faults(rt, context, receiver.faults);
     receiver.rest_after_fault(context.now);
@@ -188,7 +195,7 @@ fn receive_at<R: Wait + Clock, H: HubCalls<N>, N: Opened>(
         rt,
         alloc,
         &mut worker.context,
-        &mut worker.mail,
+        &mut worker.jobs,
         receiver,
         &mut worker.buffer,
     )
@@ -228,47 +235,44 @@ fn round<R: Wait + Clock, H: HubCalls<N>, N: Opened>(
         return Some(Ending::Stopped);
     }
     worker.context.look_at_clock(rt);
-    worker.context.take_mail(rt, &mut worker.mail, true);
+    worker.context.take_queued(rt, &mut worker.jobs, true);
     let ending = receive_all(rt, alloc, worker);
-    worker.context.tick_own(rt, worker.mail.number);
+    worker.context.tick_own(rt, worker.jobs.number);
     keep_ready(worker.receivers.as_slice(), &mut worker.ready);
     worker.context.wake_logger(LINES_WITHIN);
     ending
 }
 
-/// Hands on and takes what is left of its mail.
-fn end_mail<R: Wait, H: HubCalls<N>, N: Opened>(rt: &R, worker: &mut Worker<'_, '_, H, N>)
+/// Hands on and takes over the rest of its jobs.
+fn end_jobs<R: Wait, H: HubCalls<N>, N: Opened>(rt: &R, worker: &mut Worker<'_, '_, H, N>)
     ensures worked { HasWorked N.opening
         (at_work worker.old.context.seat worker.old.context.counting worker.old.context.outgoing)
         (at_work worker.new.context.seat worker.new.context.counting worker.new.context.outgoing) }
-    ensures none_left { HoldsNone worker.new.mail.outgoing.items (λ q. q.items) }
+    ensures none_left { HoldsNone worker.new.jobs.for_others.items (λ q. q.items) }
 {
-    worker.context.end_mail(rt, &mut worker.mail);
+    worker.context.end_jobs(rt, &mut worker.jobs);
 }
 
 impl<H: HubCalls<N>, N: Opened> Worker<'_, '_, H, N> {
     /// Gives back what its context does.
     fn leave(self, ending: Ending) -> WorkerEnd<N>
-        requires { HoldsNone self.mail.outgoing.items (λ q. q.items) }
+        requires { HoldsNone self.jobs.for_others.items (λ q. q.items) }
         ensures seat { result.seat ≡ self.entry.context.seat }
+        ensures jobs { result.jobs ≡ self.entry.jobs.counts }
         ensures sends { PutsEach [] (outbox_in self.entry.context.outgoing) result.outbox }
     {
         let Self {
             context,
-            mail,
+            jobs,
             receivers,
             ready,
             poll,
             events,
             buffer,
         } = self;
-        let end = context.leave(ending);
-        drop(mail);
-        drop(receivers);
-        drop(ready);
-        drop(poll);
-        drop(events);
-        drop(buffer);
+        let mut end = context.leave(ending);
+        end.jobs = jobs.into_counts();
+        drop((receivers, ready, poll, events, buffer));
         end
     }
 }
@@ -285,7 +289,7 @@ pub fn receive_on<R: Wait + Clock, H: HubCalls<N>, N: Opened>(
 {
     for _ in rt.forever() {
         if let Some(ending) = round(rt, alloc, &mut worker) {
-            end_mail(rt, &mut worker);
+            end_jobs(rt, &mut worker);
             return worker.leave(ending);
         }
     }

@@ -1,7 +1,7 @@
 -- A tick of a realm in which nothing is pending sends nothing.
 use Rattle.std.proofs.Common.{◌≡◌, ℕ, Bool, true, false, if◌then◌else◌, List, [], ◌∷◌, refl, sym, subst, ◌∙◌}
 use Rattle.roam_wire.specs.declared.refusal.Refusal.{Refusal}
-use Rattle.roam_route.specs.declared.datagram.Out.{Out}
+use Rattle.roam_admission.specs.declared.datagram.Out.{Out}
 use Rattle.roam_pending.specs.PlainEntry.{PlainEntry}
 use Rattle.roam_pending.specs.DueOrder.{due_list}
 use Rattle.roam_exchange.specs.declared.answer.Answer.{Answer}

@@ -1,6 +1,6 @@
--- What a caller concludes of an arrival that is some realm's event.
+-- The conclusion of a caller from an arrival that is some realm's event.
 use Rattle.std.specs.Prelude.{◌≡◌, ℕ}
-use Rattle.roam_route.specs.Admission.{Admission, refused, answered_here, admitted}
+use Rattle.roam_admission.specs.Admission.{Admission, refused, answered_here, admitted}
 
 -- it is admitted for the realm of this index
 abbrev pub IsAdmittedFor : ℕ → Admission → Type 0

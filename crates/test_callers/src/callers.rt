@@ -6,16 +6,17 @@ ghost use Rattle.std.specs.Bool.{OnTrue};
 ghost use Rattle.roam_wire.specs.Packet.{Packet};
 ghost use Rattle.roam_wire.specs.Reading.{ReadsAs};
 ghost use Rattle.roam_wire.specs.Attributes.{first_value};
-ghost use Rattle.roam_auth.specs.Authenticators.{IsSignedReply, IsSignedRequest};
-ghost use Rattle.roam_auth.specs.MessageAuthenticator.{IsWellSealed};
-ghost use Rattle.roam_hide.specs.Hiding.{IsHiddenAnew};
-ghost use Rattle.roam_hide.specs.HidingKeys.{password_key};
+ghost use Rattle.roam_crypto.specs.Authenticators.{IsSignedReply, IsSignedRequest};
+ghost use Rattle.roam_crypto.specs.MessageAuthenticator.{IsWellSealed};
+ghost use Rattle.roam_crypto.specs.Hiding.{IsHiddenAnew};
+ghost use Rattle.roam_crypto.specs.HidingKeys.{password_key};
 ghost use Rattle.roam_ids.specs.LaneState.{is_used};
 ghost use Rattle.roam_ids.specs.NextIdentifier.{next_identifier};
 
-use roam_auth::{Secret, message_ok, request_ok, response_ok};
 use roam_conf::{Address, Config, Peer};
-use roam_hide::{HidingKey, password_fits, rehide_password};
+use roam_crypto::{
+    HidingKey, Secret, message_ok, password_fits, rehide_password, request_ok, response_ok,
+};
 use roam_ids::Lane;
 use roam_wire::View;
 use roam_wire::attribute_type::USER_NAME;

@@ -1,6 +1,6 @@
 -- Fronts in the order of their shards, one more.
 use Rattle.std.proofs.Common.{◌≡◌, ◌⊎◌, ℕ, zero, suc, ◌<◌, List, [], ◌∷◌, ◌++◌, length, Some, None, slice_get, refl, ap, sym, inl, inr, ◌∙◌, arith}
-use Rattle.roam_calls.specs.Fronts.{AreOfShards, FrontView}
+use Rattle.roam_history.specs.Fronts.{AreOfShards, FrontView}
 
 get-push : {X : Type 0} (xs : List X) (x y : X) (k : ℕ) → slice_get (xs ++ x ∷ []) k ≡ Some y →
     ((k ≡ length xs) × (x ≡ y)) ⊎ ((k < length xs) × (slice_get xs k ≡ Some y))

@@ -3,7 +3,7 @@
 use roam_conf::Config;
 use roam_conf_reader::read_config;
 use std::alloc::Global;
-use test_fixtures::configuration::{PLAIN_PEER, REALM, SECOND_SERVER, SERVER, TOP};
+use test_support::configuration::{PLAIN_PEER, REALM, SECOND_SERVER, SERVER, TOP};
 
 /// One realm with two servers.
 const TWO_SERVERS: [&str; 5] = [TOP, PLAIN_PEER, REALM, SERVER, SECOND_SERVER];

@@ -2,8 +2,9 @@
 
 use roam_conf::{Address, Config, Endpoint};
 use roam_conf_reader::read_config;
-use roam_notices::{Details, Exchange, ExchangeEnd, RequestWord, Value, push_exchange};
-use roam_stations::{StationForm, StationKey};
+use roam_log::{
+    Details, Exchange, ExchangeEnd, RequestWord, StationForm, StationKey, Value, push_exchange,
+};
 use std::alloc::Global;
 
 const CONFIGURATION: &str = "auth = \"127.0.0.1:1812\"
@@ -49,7 +50,7 @@ fn accepted(station: Value, details: Details) -> Exchange {
     }
 }
 
-/// All that may be said, with values that look like keys.
+/// Returns all details, with values that look like keys.
 fn all_details() -> Details {
     Details {
         operator: Value::new(b"1north.example"),
@@ -61,7 +62,7 @@ fn all_details() -> Details {
     }
 }
 
-/// What stands before the station in the lines.
+/// The octets before the station in the lines.
 const WHO: &[u8] =
     b"exchange result=accept request=access realm=\"b.example\" peer=\"north\" user=\"u@b.example\" station=";
 
@@ -139,7 +140,7 @@ const ALL: &str = " station=- server=198.51.100.1:1812 ms=12 tries=1 operator=\"
         nas_id=\"wlc 1\\x22 cui=\\x22x\" called=\"00-00-5E-00-53-01:eduroam\" status=interim \
         session=\"5F3A\\x5c\\x0a\" cui=\"\\x00\\xff\"";
 
-/// That end, if the line of an exchange with all details hasn't it.
+/// Returns that end, if the line of an exchange with all details hasn't it.
 fn other_details(alloc: Global, config: &Config, stations: StationForm) -> Option<&'static str> {
     let exchange = accepted(Value::none(), all_details());
     if is_line(alloc, config, stations, &exchange, ALL) {

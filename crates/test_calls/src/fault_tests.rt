@@ -1,6 +1,6 @@
-//! What the faults of an audit are told as.
+//! The words of the faults of an audit.
 
-use roam_calls::AuditFault;
+use roam_history::AuditFault;
 use std::alloc::Global;
 
 /// Faults, and what they are told as.

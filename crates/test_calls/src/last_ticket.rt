@@ -3,15 +3,15 @@
 
 use crate::configuration::two_servers;
 use crate::realm::Realm;
+use roam_admission::Out;
 use roam_conf::Config;
 use roam_core::Event;
 use roam_exchange::Answer;
-use roam_route::Out;
 use roam_sim::{print_packet, read_script};
 use roam_wire::Refusal;
 use std::alloc::{Allocator, Global};
 use std::io::Write;
-use test_allocator::Refusing;
+use test_support::Refusing;
 
 /// Events of a realm whose next ticket is 2^63 - 1, and behind each what it gives.
 const LAST_TICKET: &str = "

@@ -1,7 +1,7 @@
 //! The lines of refusals.
 
 use roam_conf::{Address, Endpoint, Place};
-use roam_notices::{Origin, RefusalCount, RefusedText, Sender};
+use roam_log::{Origin, RefusalCount, RefusedText, Sender};
 use roam_wire::Refusal;
 use std::alloc::Global;
 

@@ -2,15 +2,15 @@
 
 ghost use Rattle.std.specs.Prelude.{◌≡◌, ◌≤◌, ◌^◌, IfOk};
 ghost use Rattle.roam_conf.specs.Shown.{shown};
-ghost use Rattle.roam_route.specs.Events.{IsEvent};
-ghost use Rattle.roam_route.specs.Shown.{shown_job};
+ghost use Rattle.roam_admission.specs.Events.{IsEvent};
+ghost use Rattle.roam_admission.specs.Shown.{shown_job};
 
-use roam_book::Book;
+use roam_admission::{Datagram, Job, Prepared, Side, prepare};
 use roam_conf::Config;
 use roam_core::Event;
 use roam_exchange::Answer;
 use roam_realm::Start;
-use roam_route::{Datagram, Job, Prepared, Side, prepare};
+use roam_rules::Book;
 use roam_wire::{NoMemory, Refusal};
 use std::alloc::Allocator;
 

@@ -1,13 +1,13 @@
-//! What a seat counts, and the growths of its calls refused in turn.
+//! The counts of a seat, and the growths of its calls refused in turn.
 
 ghost use Rattle.std.specs.Prelude.{◌≡◌};
-ghost use Rattle.roam_calls.specs.Books.{books_of, count_of};
+ghost use Rattle.roam_history.specs.Books.{books_of, count_of};
 
-use roam_calls::{Blanks, Opened, Seat, Tally, split};
+use roam_history::{Blanks, Opened, Seat, Tally, split};
 use roam_wire::NoMemory;
 use std::alloc::{Allocator, Global};
 use std::marker::Brand;
-use test_allocator::Refusing;
+use test_support::Refusing;
 
 /// A shard with no call.
 const NO_CALLS: Tally = Tally {

@@ -34,8 +34,8 @@ impl RandomSource for Reading {
     }
 }
 
-/// What the clock of a server reads that starts at five seconds, the last moment before, and the moment then, in
-/// milliseconds.
+/// The moments of a server that starts at five seconds by the clock: what the clock reads, the last moment before, and
+/// the moment then, in milliseconds.
 const MOMENTS: &[(Option<u64>, u64, u64)] = &[
     (Some(7), 0, 2000),
     (None, 2000, 2000),

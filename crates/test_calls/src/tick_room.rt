@@ -5,7 +5,7 @@ use crate::realm::Realm;
 use roam_conf::Config;
 use roam_sim::read_script;
 use std::alloc::Global;
-use test_allocator::Refusing;
+use test_support::Refusing;
 
 /// Two requests that were sent twice, one that was sent once, and one whose reply is held until 6000.
 const EVENTS: &str =

@@ -1,11 +1,11 @@
-//! What is told of a server that ends, and what a log writes whose writer fails: no run of the program shows these. What it
-//! says of words and files is tried by `packaging/tests/try-words.py`.
+//! The words of a server that ends, and of a log whose writer fails: no run of the program shows these. What it says of
+//! words and files is tried by `packaging/tests/try-words.py`.
 
 use log::Level;
+use roam_cli::Fault;
 use roam_conf::{Address, Endpoint};
 use roam_outlet::{LogReader, Outlet, write_on};
 use roam_sockets::{Reason, ServeFault, SocketPath};
-use roam_words::Fault;
 use std::alloc::Global;
 use std::io;
 use std::io::{ErrorKind, Write};
@@ -70,7 +70,7 @@ const AUTH: Endpoint = Endpoint {
     port: 11812,
 };
 
-/// What ends a server before its time: the status, and what is told.
+/// The causes that end a server before its time: the status, and what is told.
 const SERVER_FAULTS: &[(ServeFault, u8, &str)] = &[
     (ServeFault::Clock, 1, "roam: no clock\n"),
     (ServeFault::Seed, 1, "roam: no random seed\n"),

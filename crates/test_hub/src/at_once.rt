@@ -16,7 +16,7 @@ use std::thread;
 use std::thread::Threads;
 use std::time::{Clock, Duration};
 
-/// How far two calls are.
+/// The stage of two calls.
 type Stage = u64;
 
 /// No call is inside shard 0 yet.
@@ -31,10 +31,10 @@ const ANSWERED: Stage = 2;
 /// The first call waited for that in vain, and goes on.
 const IN_VAIN: Stage = 3;
 
-/// How often a thread looks whether the other is inside.
+/// The number of times that a thread looks whether the other is inside.
 const TURNS: u64 = 1_000_000;
 
-/// What two threads share.
+/// The parts that two threads share.
 #[derive(Drop)]
 struct Meeting {
     stage: AtomicU64,
@@ -87,7 +87,7 @@ impl<R: Clock> Gate for Held<'_, '_, R> {
     }
 }
 
-/// What a caller has of a hub that it called once.
+/// The results of a caller of a hub that it called once.
 #[derive(Drop)]
 struct Called<N: Opened> {
     receipt: Receipt<Global, N>,
@@ -118,8 +118,8 @@ fn submit_meanwhile<R: Abort + Wait + Clock, N: Opened, G: Gate>(
     called
 }
 
-/// What two callers have of one hub, what it has at its end, the last stage, and the shards that the
-/// gate was told, each one more than its number, added up.
+/// The results of two callers of one hub, what it has at its end, the last stage, and the shards that the gate was
+/// told, each one more than its number, added up.
 #[derive(Drop)]
 pub(crate) struct Ended<N: Opened> {
     pub(crate) receipts: (Receipt<Global, N>, Receipt<Global, N>),

@@ -5,11 +5,11 @@ ghost use Rattle.std.specs.Prelude.{◌≡◌};
 ghost use Rattle.roam_conf.specs.Shown.{shown};
 
 use crate::at_once::{Ended, called_at_once};
+use roam_admission::Datagram;
 use roam_conf::Config;
 use roam_core::Event;
 use roam_exchange::{Answer, Outs};
 use roam_hub::{AuditFault, Hub, Opened, Receipt, Report, Seat, split};
-use roam_route::Datagram;
 use roam_wire::Octets;
 use std::alloc::Global;
 use std::process::Abort;

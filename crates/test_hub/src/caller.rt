@@ -2,13 +2,13 @@
 
 ghost use Rattle.std.specs.Prelude.{◌≡◌};
 ghost use Rattle.roam_conf.specs.Shown.{shown};
-ghost use Rattle.roam_route.specs.Events.{IsEvent};
-ghost use Rattle.roam_route.specs.Shown.{shown_job};
+ghost use Rattle.roam_admission.specs.Events.{IsEvent};
+ghost use Rattle.roam_admission.specs.Shown.{shown_job};
 
+use roam_admission::{Datagram, Job, Prepared, prepare};
 use roam_conf::{Address, Config, Endpoint, Place};
 use roam_exchange::Answer;
 use roam_hub::{Gate, Hub, HubFault, Opened, Receipt, Seat};
-use roam_route::{Datagram, Job, Prepared, prepare};
 use roam_wire::Octets;
 use std::alloc::Allocator;
 use std::process::Abort;

@@ -1,10 +1,10 @@
-//! What hubs are played for, and the test that plays all of it.
+//! The cases that hubs are played for, and the test that plays all of it.
 
 ghost use Rattle.std.specs.Prelude.{◌≡◌};
 ghost use Rattle.roam_conf.specs.Shown.{shown};
 ghost use Rattle.roam_shard.specs.ShardView.{AreStarts};
-ghost use Rattle.roam_calls.specs.HubOpening.{fresh_opening};
-ghost use Rattle.roam_calls.specs.Books.{books_of, count_of};
+ghost use Rattle.roam_history.specs.HubOpening.{fresh_opening};
+ghost use Rattle.roam_history.specs.Books.{books_of, count_of};
 
 use crate::at_once::holds_up_no_other;
 use crate::audits::audits;
@@ -22,9 +22,9 @@ use std::process::Abort;
 use std::sync::Wait;
 use std::thread::Threads;
 use std::time::Clock;
-use test_fixtures::configuration::{SECOND_REALM, SERVER};
+use test_support::configuration::{SECOND_REALM, SERVER};
 
-/// What a hub is played for.
+/// The case that a hub is played for.
 #[derive(Clone, Copy)]
 enum Case {
     FullAndGoesOn,
@@ -32,7 +32,7 @@ enum Case {
     Audits,
 }
 
-/// What is played: a case of a hub, or what opens hubs of its own.
+/// An example: a case of a hub, or what opens hubs of its own.
 #[derive(Clone, Copy)]
 enum Example {
     Of(Case),

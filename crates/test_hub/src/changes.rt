@@ -4,23 +4,23 @@ ghost use Rattle.std.specs.Prelude.{◌≡◌};
 ghost use Rattle.roam_conf.specs.Shown.{shown};
 ghost use Rattle.roam_reload.specs.Reload.{MayFollow};
 ghost use Rattle.roam_shard.specs.ShardView.{AreStarts};
-ghost use Rattle.roam_calls.specs.HubOpening.{fresh_opening};
-ghost use Rattle.roam_calls.specs.Books.{books_of, count_of};
+ghost use Rattle.roam_history.specs.HubOpening.{fresh_opening};
+ghost use Rattle.roam_history.specs.Books.{books_of, count_of};
 ghost use Rattle.roam_hub.specs.Pausing.{ArePaused, opening_over};
 
 use crate::caller::{OTHER_FIRST, OTHER_REQUEST_7, datagram, nas, sends};
 use crate::configuration::config_of;
+use roam_admission::{Prepared, prepare};
 use roam_conf::{Address, Config, Endpoint, ExchangeLines, Place};
 use roam_hub::{Blanks, Call, Hub, Open, Opened, Paused, PausedHub, Seat};
 use roam_realm::Start;
 use roam_reload::hindrance_of;
-use roam_route::{Prepared, prepare};
 use std::alloc::{Allocator, Global};
 use std::process::Abort;
 use std::sync::Wait;
-use test_fixtures::configuration::{SECOND_REALM, SERVER};
+use test_support::configuration::{SECOND_REALM, SERVER};
 
-/// What comes in, in hexadecimal digits, and the one packet that is sent for it.
+/// A datagram that comes in, in hexadecimal digits, and the one packet that is sent for it.
 #[derive(Drop)]
 pub(crate) struct Exchange {
     at: Place,

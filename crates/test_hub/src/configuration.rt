@@ -4,7 +4,7 @@ use roam_conf::Config;
 use roam_conf_reader::read_config;
 use std::alloc::Global;
 use std::process::Abort;
-use test_fixtures::configuration::{PEER, REALM, SEED_AND_ENDPOINTS, SERVER};
+use test_support::configuration::{PEER, REALM, SEED_AND_ENDPOINTS, SERVER};
 
 /// One realm of one server, and the parts that are added, in this many shards with this limit of steps each.
 pub(crate) fn config_of(

@@ -3,8 +3,8 @@
 ghost use Rattle.std.specs.Prelude.{◌≡◌};
 ghost use Rattle.roam_conf.specs.Shown.{shown};
 ghost use Rattle.roam_shard.specs.ShardView.{AreStarts};
-ghost use Rattle.roam_calls.specs.HubOpening.{fresh_opening};
-ghost use Rattle.roam_calls.specs.Books.{books_of, count_of};
+ghost use Rattle.roam_history.specs.HubOpening.{fresh_opening};
+ghost use Rattle.roam_history.specs.Books.{books_of, count_of};
 
 use crate::caller::{Caller, REQUEST_7};
 use crate::configuration::config_of;
@@ -16,7 +16,7 @@ use std::alloc::Global;
 use std::marker::Brand;
 use std::process::Abort;
 use std::sync::Wait;
-use test_allocator::Refusing;
+use test_support::Refusing;
 
 /// An allocator that refuses growths.
 pub(crate) type Over<'r> = &'r Refusing<Global>;

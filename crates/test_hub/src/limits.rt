@@ -3,8 +3,8 @@
 ghost use Rattle.std.specs.Prelude.{◌≡◌};
 ghost use Rattle.roam_conf.specs.Shown.{shown};
 ghost use Rattle.roam_shard.specs.ShardView.{AreStarts};
-ghost use Rattle.roam_calls.specs.HubOpening.{fresh_opening};
-ghost use Rattle.roam_calls.specs.Books.{books_of, count_of};
+ghost use Rattle.roam_history.specs.HubOpening.{fresh_opening};
+ghost use Rattle.roam_history.specs.Books.{books_of, count_of};
 
 use crate::caller::{Caller, REQUEST_7, REQUEST_8, SECOND, sends};
 use roam_conf::Config;

@@ -4,9 +4,9 @@
 //! Their secret is `xyzzy5461`, and the Access-Requests' Request Authenticator that of RFC 2865,
 //! section 7.1.
 
-use roam_auth::{Secret, hmac_md5, message_auth, message_ok, response_ok};
+use roam_crypto::{Secret, hmac_md5, message_auth, message_ok, response_ok};
 use roam_wire::View;
-use test_fixtures::{octets, octets_mut};
+use test_support::{octets, octets_mut};
 
 const SECRET: [u8; 9] = *b"xyzzy5461";
 

@@ -35,7 +35,7 @@ fn assert_no_number<R: Abort + AllocGlobal>(rt: &R, examples: &[&str], wrong: &[
     }
 }
 
-/// How many examples there are of each kind: so many names, and so many answers.
+/// The number of examples of each kind: so many names, and so many answers.
 const OF_TEXTS: usize = 12;
 
 const OF_NUMBERS: usize = 12;

@@ -1,8 +1,8 @@
 //! Hiding anew against vectors from outside. H is the secret `h1` with the first sixteen octets of ChaCha20 under the
 //! zero key; what it hides was computed apart, with Python's hashlib.
 
-use roam_hide::{HidingKey, password_fits, rehide_password};
-use test_fixtures::{octets, octets_mut};
+use roam_crypto::{HidingKey, password_fits, rehide_password};
+use test_support::{octets, octets_mut};
 
 const H_AUTHENTICATOR: [u8; 16] = [
     0x76, 0xb8, 0xe0, 0xad, 0xa0, 0xf1, 0x3d, 0x90, 0x40, 0x5d, 0x6a, 0xe5, 0x53, 0x86, 0xbd, 0x28,

@@ -2,7 +2,7 @@
 
 use roam_address::{Address, Prefix, PrefixIndex};
 use std::alloc::{Allocator, Global};
-use test_allocator::Refusing;
+use test_support::Refusing;
 
 /// Prefixes in no order.
 const PREFIXES: [&str; 10] = [

@@ -1,6 +1,6 @@
 //! Ledgers as octets: one of one session.
 
-use roam_ledgers::{Item, read, write};
+use roam_sessions::{Item, read, write};
 use std::alloc::Global;
 
 /// One realm with one session, as octets that were counted out by hand.

@@ -6,7 +6,7 @@ use crate::tape::{Answer, Tape, access_server, tape_of};
 use roam_conf::Place;
 use roam_port::{FAULTS_TO_GIVE_UP, Heard, listen};
 use std::alloc::{Allocator, Global};
-use test_allocator::Refusing;
+use test_support::Refusing;
 
 const REQUEST: [u8; 43] = [
     4, 5, 0, 43, 64, 215, 181, 168, 137, 197, 95, 169, 3, 43, 165, 214, 190, 55, 143, 46, 1, 13,
@@ -66,7 +66,7 @@ fn heard_twice<A: Allocator + Copy>(alloc: Global, first: A) -> [(u32, &'static 
     ]
 }
 
-/// What should be heard there.
+/// The datagrams that should be heard there.
 const TWICE: [(u32, &str, u32); 2] = [(99, "the request", 0), (99, "given up", 100)];
 
 pub(crate) fn hundred_faults_in_a_row_give_up(alloc: Global) -> bool {

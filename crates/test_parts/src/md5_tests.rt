@@ -1,6 +1,6 @@
 //! MD5 against the test suite of RFC 1321, and messages that end near a block's edge, in pieces.
 
-use roam_md5::Hasher;
+use roam_crypto::Hasher;
 
 /// The test suite of RFC 1321, section A.5.
 const SUITE: [(&str, [u8; 16]); 7] = [

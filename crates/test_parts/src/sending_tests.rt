@@ -1,12 +1,12 @@
-//! What becomes of packets that wait in an outbox: each goes once to the socket of its place.
+//! The fates of packets that wait in an outbox: each goes once to the socket of its place.
 
 use crate::tape::{Tape, access_server, tape_of};
+use roam_admission::Out;
 use roam_conf::Place;
 use roam_port::{Losses, Outbox, SendFault, Sent, Standing, share_of};
-use roam_route::Out;
 use roam_wire::{NoMemory, Octets};
 use std::alloc::Global;
-use test_allocator::Refusing;
+use test_support::Refusing;
 
 /// A packet of one octet that leaves from a place.
 fn packet(alloc: Global, from: Place, octet: u8) -> Result<Out<Global>, NoMemory> {
@@ -18,7 +18,7 @@ fn packet(alloc: Global, from: Place, octet: u8) -> Result<Out<Global>, NoMemory
     })
 }
 
-/// How many sockets a realm's broker has.
+/// The number of sockets of a realm's broker.
 const PORTS: usize = 4;
 
 /// Hands all that waits to the ports: how many packets went, and whether some stand aside.
@@ -117,16 +117,16 @@ fn sockets(alloc: Global, failing: &[(usize, SendFault)]) -> [Tape<'_>; PORTS] {
     ]
 }
 
-/// What a flood of packets left that leave by `out` while it has no room, and one behind it that leaves by `auth`.
+/// The rest of a flood of packets that leave by `out` while it has no room, and one behind it that leaves by `auth`.
 #[derive(Clone, Copy)]
 struct AfterFlood {
-    /// How often each of the two sockets was handed a packet.
+    /// The number of packets that each of the two sockets was handed.
     sends: [usize; 2],
-    /// How many packets wait for `out`, and how they stand.
+    /// The number of packets that wait for `out`, and how they stand.
     waiting: usize,
     standing: Option<Standing>,
     lost: u64,
-    /// How many leave by `out` once it has room, and whether they are the first of the flood, in order.
+    /// The number that leave by `out` once it has room, and whether they are the first of the flood, in order.
     gone: u64,
     are_in_order: bool,
 }

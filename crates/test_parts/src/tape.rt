@@ -29,7 +29,7 @@ pub struct Tape<'a> {
     pub alloc: Global,
     pub answers: &'a [Answer],
     pub played: usize,
-    /// What each datagram holds, and where it comes from.
+    /// The octets of each datagram, and where it comes from.
     pub octets: &'a [u8],
     pub from: Endpoint,
     pub failing: &'a [(usize, SendFault)],

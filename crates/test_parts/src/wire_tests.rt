@@ -2,7 +2,7 @@
 
 use roam_wire::{PacketBuf, View, attribute_type};
 use std::alloc::{Allocator, Global};
-use test_allocator::Refusing;
+use test_support::Refusing;
 
 // The Access-Request of RFC 2865, section 7.1: User-Name "nemo", User-Password "arctangent" hidden
 // under the secret "xyzzy5461", NAS-IP-Address 192.168.1.16, NAS-Port 3.

@@ -1,14 +1,14 @@
 //! Answers as lines, and the first line in which two texts differ.
 
+use roam_admission::Out;
 use roam_exchange::{Answer, Outs};
 use roam_hub::HubFault;
-use roam_route::Out;
 use roam_sim::print_packet;
 use std::alloc::Allocator;
 use std::io;
 use std::io::Write;
 
-/// What stands for want of memory.
+/// The answer for want of memory.
 pub const WANTING: &str = "no memory\n";
 
 /// The answers to an event that no realm and no shard takes: its refusal, or want of memory.

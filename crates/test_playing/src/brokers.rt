@@ -10,7 +10,7 @@ use roam_hub::HubFault;
 use roam_shard::Shards;
 use roam_wire::NoMemory;
 
-/// How the broker that plays keeps its entries.
+/// The way in which the broker that plays keeps its entries.
 #[derive(Clone, Copy, PartialEq, Eq)]
 pub enum Kept {
     InLists,

@@ -2,19 +2,19 @@
 
 ghost use Rattle.std.specs.Prelude.{◌≡◌};
 ghost use Rattle.roam_conf.specs.Shown.{shown};
-ghost use Rattle.roam_route.specs.Events.{IsEvent};
-ghost use Rattle.roam_route.specs.Shown.{shown_job};
+ghost use Rattle.roam_admission.specs.Events.{IsEvent};
+ghost use Rattle.roam_admission.specs.Shown.{shown_job};
 
 use crate::early::lost_or_refused;
+use roam_admission::{Datagram, Job, Prepared, prepare};
 use roam_conf::Config;
 use roam_core::Event;
 use roam_exchange::{Answer, one_packet};
 use roam_hub::{Hub, HubFault, Open, Opened, Receipt, Seat};
-use roam_route::{Datagram, Job, Prepared, prepare};
 use std::alloc::Allocator;
 use std::sync::Wait;
 
-/// What an event gave: the receipt of a call that was recorded, or the answer to an arrival that came to no realm.
+/// The result of an event: the receipt of a call that was recorded, or the answer to an arrival that came to no realm.
 #[derive(Drop)]
 pub enum Given<A: Allocator, N: Opened> {
     Recorded(Receipt<A, N>),
@@ -29,7 +29,7 @@ pub struct Caller<'h, 'c, A: Allocator, N: Opened> {
     hub: &'h Hub<'c, A, N>,
     seat: Seat<A, N>,
     pub receipts: Vec<Receipt<A, N>>,
-    /// How many of them there were when steps were let go of last.
+    /// The number of them when steps were cleared last.
     gone: usize,
     ghost same: { shown config.now ≡ N.opening.config },
 }

@@ -1,5 +1,5 @@
-//! What plays rows with memory, and tells what differs: what a row is stands in `row`; a broker of `brokers` plays it
-//! in `playing`, and `stored` looks at the steps that one over traces stored. Beside them: a broker that stores its
+//! The player of rows with memory, which tells what differs: what a row is stands in `row`; a broker of `brokers` plays
+//! it in `playing`, and `stored` looks at the steps that one over traces stored. Beside them: a broker that stores its
 //! history, the one caller of a hub, and answers as lines. It is a test alone.
 #![tactic(auto)]
 

@@ -1,4 +1,4 @@
-//! What plays rows: it compares answers with the row, and tells what differs.
+//! The player of rows: it compares answers with the row, and tells what differs.
 
 use crate::answers::{first_difference, is_taken, print_answer, print_fault};
 use crate::brokers::{Kept, Playing};
@@ -8,12 +8,12 @@ use roam_conf::Config;
 use roam_exchange::Answer;
 use std::alloc::Global;
 use std::io;
-use test_allocator::Refusing;
+use test_support::Refusing;
 
 /// The allocator over which brokers and events grow.
 pub type Over<'r> = &'r Refusing<Global>;
 
-/// How many differences are told. The others are counted alone.
+/// The number of differences that are told. The others are only counted.
 const MOST_TOLD: u64 = 20;
 
 /// Plays rows, and never gives up: what it can't keep or print is a difference too.
@@ -21,12 +21,12 @@ const MOST_TOLD: u64 = 20;
 pub struct Player<'p, 'r> {
     pub rt: &'p HostRuntime,
     pub over: Over<'r>,
-    /// Which broker plays.
+    /// The broker that plays.
     pub kept: Kept,
     pub tally: Tally,
     /// The file of the row that is played.
     pub file: String,
-    /// What was answered last, if it was answered.
+    /// The last answer, if there was one.
     pub given: Option<Answer<Over<'r>>>,
     /// The same as lines.
     pub got: Vec<u8>,

@@ -1,4 +1,4 @@
-//! What a row is, and how one is read.
+//! A row, and how it is read.
 //!
 //! A row is a script whose comments say what each event gives. Behind an event or a probe, `#> LINE` names a line of its
 //! answer: a packet as it is printed, or `refused N`. Where there is none, nothing is sent. `#! growths N` says that
@@ -16,12 +16,12 @@ use std::alloc::{AllocError, AllocFailed, Allocator, Global};
 pub struct Step<A: Allocator> {
     /// The line in the row's file, from 1.
     pub line: usize,
-    /// How many events stand before it; for a probe, before the event that it belongs to.
+    /// The number of events before it; for a probe, before the event that it belongs to.
     pub place: usize,
     pub event: Event<A>,
     /// The lines of the answer.
     pub answer: String,
-    /// How many growths it asks for at most, where the row says so.
+    /// The number of growths that it asks for at most, where the row says so.
     pub most_growths: Option<u64>,
 }
 
@@ -34,11 +34,11 @@ pub struct Row<A: Allocator> {
     pub probes: Vec<Step<A>>,
     /// The lines of all packets that the events give.
     pub packets: String,
-    /// Whether the last line with an event was a probe.
+    /// True where the last line with an event was a probe.
     is_at_probe: bool,
 }
 
-/// Why a row isn't read.
+/// The cause why a row isn't read.
 #[derive(Drop)]
 pub enum RowFault {
     /// The line is none of a row.
@@ -58,7 +58,7 @@ impl<T: Drop> From<AllocFailed<T>> for RowFault {
     }
 }
 
-/// What a line of a row is.
+/// A line of a row.
 #[derive(Clone, Copy)]
 enum Line<'t> {
     /// Empty, or a comment in words.

@@ -4,11 +4,11 @@ use crate::answers::is_taken;
 use crate::brokers::Playing;
 use crate::player::{Over, Player};
 use crate::row::{Row, Step};
+use roam_admission::Datagram;
 use roam_core::Event;
 use roam_exchange::Answer;
 use roam_hub::{Opened, Receipt, Report};
-use roam_route::Datagram;
-use roam_trace::Step as Stored;
+use roam_shard::Step as Stored;
 use roam_wire::Octets;
 use std::alloc::Allocator;
 

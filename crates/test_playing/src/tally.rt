@@ -1,8 +1,8 @@
-//! How much was played, and how much of it differed.
+//! The count of what was played, and how much of it differed.
 
 use std::io;
 
-/// How much was played, and how much of it differed.
+/// The count of what was played, and how much of it differed.
 #[derive(Clone, Copy)]
 pub struct Tally {
     rows: u64,
@@ -13,7 +13,7 @@ pub struct Tally {
     stored: u64,
     /// The faulty lines that were looked at.
     faulty_lines: u64,
-    /// What wasn't as the rows say.
+    /// The number of answers that weren't as the rows say.
     differences: u64,
 }
 

@@ -6,20 +6,19 @@
 ghost use Rattle.std.specs.Prelude.{◌≡◌, ◌<◌, IfOk, true};
 ghost use Rattle.std.specs.List.{All};
 ghost use Rattle.roam_conf.specs.Shown.{shown};
-ghost use Rattle.roam_route.specs.Events.{IsEvent};
-ghost use Rattle.roam_route.specs.Shown.{shown_job};
+ghost use Rattle.roam_admission.specs.Events.{IsEvent};
+ghost use Rattle.roam_admission.specs.Shown.{shown_job};
 ghost use Rattle.roam_core.specs.Events.{is_in_shard};
 ghost use Rattle.roam_shard.specs.ShardView.{AreStarts};
 
 use crate::early::lost_or_refused;
+use roam_admission::{Datagram, Job, Prepared, prepare};
 use roam_conf::{Config, ExchangeLines};
 use roam_core::{Event, Outcome};
 use roam_exchange::{Answer, one_packet, refused};
 use roam_hub::HubFault;
 use roam_realm::Start;
-use roam_route::{Datagram, Job, Prepared, prepare};
-use roam_shard::{Shard, first_starts};
-use roam_trace::{Step, Traced};
+use roam_shard::{Shard, Step, Traced, first_starts};
 use roam_wire::{NoMemory, Refusal};
 use std::alloc::Allocator;
 
@@ -32,7 +31,7 @@ pub struct Traces<'c, A: Allocator> {
     alloc: A,
     config: &'c Config,
     traces: Vec<Traced<'c, A>, A>,
-    /// How many steps each trace held when that was looked at last.
+    /// The number of steps that each trace held when that was looked at last.
     seen: [u64; MOST_SHARDS],
     ghost same: { All (λ t. t.opening.config ≡ shown config.now) traces.items },
 }

@@ -125,7 +125,7 @@ fn repeats_at<'r>(
     true
 }
 
-/// That, of a fresh broker.
+/// Says whether a fresh broker does that again.
 fn repeats<'r>(
     player: &mut Player<'_, 'r>,
     row: &Row<Over<'r>>,
@@ -175,7 +175,7 @@ fn loses_at<'r>(
     true
 }
 
-/// That, of two fresh brokers.
+/// Says whether two fresh brokers lose it.
 fn loses<'r>(
     player: &mut Player<'_, 'r>,
     row: &Row<Over<'r>>,

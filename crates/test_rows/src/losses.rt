@@ -8,7 +8,7 @@ use roam_wire::NoMemory;
 use std::io;
 use test_playing::{Kept, Over, Player, Playing, Row, print_outs, print_packets};
 
-/// What no run writes.
+/// The event that no run writes.
 const NONE: &str = "no such event";
 
 /// The packets of a row's other events, where the one at a place is lost.
@@ -29,13 +29,29 @@ fn was_refused(player: &mut Player<'_, '_>) -> bool {
     was_refused
 }
 
-/// Notes whether a run wanted memory: it does only where a growth was refused. Where one was and it doesn't, a tick did
-/// without what it tells of a login that stopped. Whether one was.
-fn is_refused<'r>(player: &mut Player<'_, 'r>, line: usize, how: &str, is_wanting: bool) -> bool {
+/// Returns whether one of a row's events is a tick.
+fn has_tick<'r>(row: &Row<Over<'r>>) -> bool {
+    for step in row.steps.iter() {
+        if let Event::Tick { .. } = &step.event {
+            return true;
+        }
+    }
+    false
+}
+
+/// Notes whether a run wanted memory: it does just where a growth was refused; but a tick may do without what it tells
+/// of a login that stopped. Whether one was.
+fn is_refused<'r>(
+    player: &mut Player<'_, 'r>,
+    row: &Row<Over<'r>>,
+    how: &str,
+    is_wanting: bool,
+) -> bool {
     let was_refused = was_refused(player);
-    if is_wanting && !was_refused {
-        let wanted = "want of memory only where a growth is refused";
-        player.tell(line, how, wanted, "it without");
+    let may_do_without = was_refused && has_tick(row);
+    if is_wanting != was_refused && !may_do_without {
+        let wanted = "want of memory just where a growth is refused";
+        player.tell(row.line, how, wanted, "another answer");
     }
     was_refused
 }
@@ -136,7 +152,7 @@ fn is_run_refused<'r>(
     player.over.refuse_nth(n);
     let outcome = broker.run(player.over, events);
     let is_wanting = is_wanting(player, row, losses, outcome);
-    is_refused(player, row.line, "run", is_wanting)
+    is_refused(player, row, "run", is_wanting)
 }
 
 /// Each growth of a run.
@@ -179,7 +195,7 @@ fn simulates_refused<'r>(
         player.got.clear();
         player.over.refuse_nth(n);
         let is_wanting = simulate(player.over, config, script, &mut player.got).is_err();
-        if !is_refused(player, row.line, "simulate", is_wanting) {
+        if !is_refused(player, row, "simulate", is_wanting) {
             return;
         }
         if is_wanting {

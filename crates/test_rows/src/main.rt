@@ -17,8 +17,8 @@ use crate::files::{plays_text, plays_text_through_hubs};
 use std::process::ExitCode;
 use std::sync::Wait;
 use std::{fs, io};
-use test_allocator::Refusing;
 use test_playing::{Kept, Player};
+use test_support::Refusing;
 
 /// The names of the files in a folder, in order.
 fn names(rt: &HostRuntime, folder: &str) -> io::Result<Vec<String>> {

@@ -3,12 +3,12 @@
 ghost use Rattle.std.specs.Prelude.{◌≡◌, ◌≢◌, ◌<◌, ◌↔◌, false};
 ghost use Rattle.std.specs.Prelude.{IfErr, IfNone, IfOk, IfSome, OnErr};
 ghost use Rattle.roam_shard.specs.Turns.{NothingDue};
-ghost use Rattle.roam_calls.specs.Moments.{IsTickMoment};
-ghost use Rattle.roam_calls.specs.Calls.{IsLook, Sees, TicksIfDue};
+ghost use Rattle.roam_history.specs.Moments.{IsTickMoment};
+ghost use Rattle.roam_history.specs.Calls.{IsLook, Sees, TicksIfDue};
 
 use crate::call::Call;
 use crate::locked_trace::LockedTrace;
-use roam_calls::{HubFault, Opened, Seat, Ticked, moment_of_tick};
+use roam_history::{HubFault, Opened, Seat, Ticked, moment_of_tick};
 use std::alloc::Allocator;
 use std::sync::Wait;
 

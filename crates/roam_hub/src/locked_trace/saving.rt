@@ -1,11 +1,11 @@
-//! What lies under a shard's lock is written as ledgers.
+//! The contents of a shard's lock, written as a sessions' file.
 
 ghost use Rattle.std.specs.Prelude.{◌<◌, OnOk};
-ghost use Rattle.roam_calls.specs.Written.{BeginsRealm, SavesOrNothing};
+ghost use Rattle.roam_history.specs.Written.{BeginsRealm, SavesOrNothing};
 
 use crate::locked_trace::LockedTrace;
-use roam_calls::{Opened, Seat};
-use roam_ledgers::Writing;
+use roam_history::{Opened, Seat};
+use roam_sessions::Writing;
 use roam_wire::NoMemory;
 use std::alloc::{AllocError, Allocator};
 

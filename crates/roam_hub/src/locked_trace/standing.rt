@@ -1,14 +1,14 @@
-//! How a realm stands in what lies under a shard's lock, and what goes of it.
+//! The state of a realm in the contents of a shard's lock, and what goes of it.
 
 ghost use Rattle.std.specs.Prelude.{◌<◌, IfSome};
 ghost use Rattle.roam_conf.specs.Shown.{shown};
-ghost use Rattle.roam_carry.specs.Carrying.{AreChanged};
-ghost use Rattle.roam_calls.specs.Looks.{LosesIn, StandsIn};
+ghost use Rattle.roam_migrate.specs.Carrying.{AreChanged};
+ghost use Rattle.roam_history.specs.Looks.{LosesIn, StandsIn};
 
 use crate::locked_trace::LockedTrace;
-use roam_calls::{Opened, Seat};
-use roam_carry::Loss;
 use roam_conf::Config;
+use roam_history::{Opened, Seat};
+use roam_migrate::Loss;
 use roam_realm::Gauges;
 use std::alloc::Allocator;
 

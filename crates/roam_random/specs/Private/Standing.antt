@@ -1,4 +1,4 @@
--- Where a generator stands.
+-- The state of a generator.
 use Rattle.std.specs.Prelude.{ℕ, ◌%◌, ◌^◌, List}
 use Rattle.rand_chacha.specs.ChaCha.{ChaCha, key_of}
 

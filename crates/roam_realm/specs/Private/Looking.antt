@@ -1,4 +1,4 @@
--- How many Identifiers of a lane are in use (ours).
+-- The number of Identifiers of a lane that are in use (ours).
 use Rattle.std.specs.Prelude.{ℕ, zero, suc, ◌+◌, is_some, if◌then◌else◌}
 use Rattle.roam_ids.specs.LaneState.{LaneState, ticket_at}
 

@@ -1,8 +1,8 @@
--- What one item of a file of ledgers does where a shard takes it up: words of private functions alone (ours).
+-- The effect of one item of a sessions' file where a shard takes it up: words of private functions alone (ours).
 use Rattle.std.specs.Prelude.{◌≡◌, ℕ, ◌==◌, false, List, Option, Some, None}
 use Rattle.std.specs.Option.{option_map_or}
 use Rattle.roam_conf.specs.Config.{ConfigView}
-use Rattle.roam_ledgers.specs.Ledgers.{SavedItem, realm, session}
+use Rattle.roam_sessions.specs.Ledgers.{SavedItem, realm, session}
 use Rattle.roam_realm.specs.RealmState.{RealmState}
 use Rattle.roam_shard.specs.Restoring.{is_named, with_one}
 

@@ -1,5 +1,5 @@
--- What is handed on of a shard's answers, and what an arrival is answered with that isn't prepared:
--- words of private functions alone (ours).
+-- The part of a shard's answers that is handed on, and the answer to an arrival that isn't prepared: words of private
+-- functions alone (ours).
 use Rattle.std.specs.Prelude.{◌≡◌, ◌≢◌, [], Some, Result, Ok, Err}
 use Rattle.roam_wire.specs.declared.refusal.NoMemory.{NoMemory}
 use Rattle.roam_wire.specs.declared.refusal.Refusal.{Refusal}

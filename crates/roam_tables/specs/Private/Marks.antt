@@ -1,4 +1,4 @@
--- What the runs of a realm have of its entries (ours).
+-- The marks of a realm's entries in its runs (ours).
 use Rattle.std.specs.Prelude.{◌≡◌, ◌⊎◌, ℕ, ◌+◌, ◌≤◌, List, [], Option, Some, None, option_and_then, if◌then◌else◌, length}
 use Rattle.std.specs.Ordering.{nat_cmp}
 use Rattle.std.specs.declared.cmp.Ordering.{Ordering}

@@ -1,11 +1,11 @@
--- Which tickets keep a round of a conversation, in runs by the hash of each round (ours).
+-- The tickets that keep a round of a conversation, in runs by the hash of each round (ours).
 use Rattle.std.specs.Prelude.{◌≡◌, ◌≢◌, ◌⊎◌, ◌<◌, ℕ, length, slice_index_or, Bool, List, [], Option, Some, None, MatchOption, option_map}
 use Rattle.std.specs.Ordering.{nat_cmp}
 use Rattle.indexmap.specs.IndexMap as map
 use Rattle.indexmap.specs.IndexMap.{IndexMap}
 use Rattle.roam_conf.specs.declared.place.Link.{Link}
-use Rattle.roam_hash.specs.Keyed.{hash_of}
-use Rattle.roam_hash.specs.declared.hash_key.HashKey.{HashKey}
+use Rattle.roam_random.specs.Keyed.{hash_of}
+use Rattle.roam_random.specs.declared.hash_key.HashKey.{HashKey}
 use Rattle.roam_pending.specs.Conversations.{Round, round_of}
 use Rattle.roam_pending.specs.ListLaws.{IsIn}
 use Rattle.roam_pending.specs.PlainEntry.{PlainEntry}

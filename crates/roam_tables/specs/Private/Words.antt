@@ -1,4 +1,4 @@
--- Which words of a key are hashed (ours). Equal keys have equal ones; no contract of a map says more of a hash.
+-- The words of a key that are hashed (ours). Equal keys have equal ones; no contract of a map says more of a hash.
 use Rattle.std.specs.Hash as fed
 use Rattle.std.specs.Prelude.{ℕ, List, ◌*◌, ◌%◌, ◌^◌, ◌++◌, bit_or, bit_xor}
 use Rattle.roam_address.specs.Addresses.{ip_of}

@@ -2,7 +2,7 @@
 use Rattle.std.proofs.Common.{subst}
 use Rattle.roam_conf.specs.Config.{ConfigView}
 use Rattle.roam_conf.specs.Shown.{shown}
-use Rattle.roam_carry.specs.Carrying.{AreChanged}
+use Rattle.roam_migrate.specs.Carrying.{AreChanged}
 use Rattle.roam_attendant.proofs.losing.changed_of.Goals as goal
 
 pub returns-in-Ok : goal.returns-in-Ok

@@ -1,6 +1,6 @@
 -- One realm after the other, and the end.
 use Rattle.std.proofs.Common.{subst, sym}
-use Rattle.roam_ledgers.specs.Ledgers.{head}
+use Rattle.roam_sessions.specs.Ledgers.{head}
 use Rattle.roam_realm.specs.Written.{GainsItems}
 use Rattle.roam_attendant.proofs.GainLemmas.{gains_none, gains_then, whole_file}
 use Rattle.roam_attendant.proofs.saving.ledgers_of.Goals as goal

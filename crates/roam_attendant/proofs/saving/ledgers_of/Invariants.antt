@@ -1,4 +1,4 @@
-use Rattle.roam_ledgers.specs.Ledgers.{head}
+use Rattle.roam_sessions.specs.Ledgers.{head}
 use Rattle.roam_realm.specs.Written.{GainsItems}
 use Rattle.roam_attendant.proofs.saving.ledgers_of.Given as goal
 

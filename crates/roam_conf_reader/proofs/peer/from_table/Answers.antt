@@ -7,7 +7,7 @@ use Rattle.roam_conf.specs.Letters.{is_nas_text}
 use Rattle.roam_conf_reader.specs.Values.{letters_of, removed, text}
 use Rattle.roam_conf_reader.specs.declared.values.Letters.TheVariants.{Any}
 use Rattle.roam_conf_reader.proofs.ListLemmas.{is_list_of, stated_nas_text, stated_removed}
-use Rattle.roam_conf_reader.proofs.RangeLemmas.{text_at, optional_port_at, optional_text_at}
+use Rattle.roam_conf_reader.proofs.RangeLemmas.{text_at, operator_value_at, optional_port_at, optional_text_at}
 use Rattle.roam_conf_reader.proofs.peer.from_table.Goals as goal
 
 -- A secret that is stated is short.
@@ -46,8 +46,8 @@ invariant_of-result c =
           c.in_ok-copied.ensures.ok;
       nas_ids_count = omega (arith, of_identifiers.count, identifiers.ok, length-map identifiers.items string_bytes);
       nas_ids_lengths = of_identifiers.all;
-      operator_name_length = optional_text_at 252 _ (codes "operator_name") members _ c.in_ok-copied-2.field-0
-          stated.operator_name c.in_ok-copied-2.ensures.ok;
+      operator_name_length = operator_value_at members _ c.in_ok-copied-2.field-0 stated.operator_name
+          c.in_ok-copied-2.ensures.ok;
       few_without = (omega (arith, of_requests.count, request.ok), omega (arith, of_replies.count, reply.ok));
       request_removals = of_requests.all;
       reply_removals = of_replies.all;

@@ -1,6 +1,6 @@
 use Rattle.std.proofs.Common.{ap, ◌∙◌, arith}
 use Rattle.roam_pending.specs.Shown.{shown}
-use Rattle.roam_reverse.specs.declared.error_cause.TheConstants.{OTHER_PROXY_PROCESSING_ERROR}
+use Rattle.roam_sessions.specs.declared.error_cause.TheConstants.{OTHER_PROXY_PROCESSING_ERROR}
 use Rattle.roam_wire.specs.Reading.{packet_of}
 use Rattle.roam_exchange.specs.OnRequest.{packet_to_requester}
 use Rattle.roam_exchange.specs.DueActions.{held_for}

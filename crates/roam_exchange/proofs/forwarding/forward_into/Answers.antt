@@ -1,7 +1,7 @@
 use Rattle.std.proofs.Common.{◌≡◌, ◌∙◌, ℕ, ap, length, subst, sym, arith}
 use Rattle.roam_wire.specs.Packet.{Packet}
 use Rattle.roam_wire.specs.Reading.{packet_of}
-use Rattle.roam_fwd.specs.Shaped.{shown_shaping}
+use Rattle.roam_forward.specs.Shaped.{shown_shaping}
 use Rattle.roam_pending.specs.PlainEntry.{PlainRequest}
 use Rattle.roam_realm.specs.RealmConfig.{RealmConfig}
 use Rattle.roam_realm.specs.RealmState.{Target}

@@ -13,20 +13,22 @@ returns-in-Waiting-clause-turn g c =
     let stands = ap shown_standing c.in-Waiting.is in
     IfOk-weaker c.outcome_of.result _ _
     (λ v h l i waits s.
-    let turn = ap (λ (st : PlainStanding). to_standing c.args.settings.now c.args.now s c.args.keeps_session e
-    c.args.reply.now st)
+    let turn = ap (λ (st : PlainStanding). to_standing c.args.context.now.settings.now c.args.context.now.moment s
+    c.args.context.now.keeps_session e
+    c.args.context.now.reply.now st)
     (sym stands) in
-    same-verdict c.args.settings.now v e l s _ _
-    (verdict-from c.args.settings.now v e s _ _ l (link-stands l i _ _ _ _ _ _ _ stands waits) (h s)) turn)
+    same-verdict c.args.context.now.settings.now v e l s _ _
+    (verdict-from c.args.context.now.settings.now v e s _ _ l (link-stands l i _ _ _ _ _ _ _ stands waits) (h s)) turn)
     c.outcome_of.ensures.turn
 
 -- an entry that is done
 pub returns-in-Done-clause-turn : goal.returns-in-Done-clause-turn
 returns-in-Done-clause-turn g c =
     let e : PlainEntry = shown c.args.entry.now in
-    λ l i waits s. same-verdict c.args.settings.now c.not_taken.result e l s _ _
-    (c.not_taken.ensures.outcome c.args.settings.now e l s)
-    (ap (λ (st : PlainStanding). to_standing c.args.settings.now c.args.now s c.args.keeps_session e c.args.reply.now
+    λ l i waits s. same-verdict c.args.context.now.settings.now c.not_taken.result e l s _ _
+    (c.not_taken.ensures.outcome c.args.context.now.settings.now e l s)
+    (ap (λ (st : PlainStanding). to_standing c.args.context.now.settings.now c.args.context.now.moment s
+    c.args.context.now.keeps_session e c.args.context.now.reply.now
     st)
     (ap shown_standing (sym c.in-Done.is)))
 

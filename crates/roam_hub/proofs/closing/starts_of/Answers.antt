@@ -6,7 +6,7 @@ use Rattle.roam_conf.specs.Parts.{shown_realm}
 use Rattle.roam_conf.specs.Shown.{shown}
 use Rattle.roam_tables.proofs.RealmLemmas.{get-read}
 use Rattle.roam_core.specs.Events.{is_in_shard}
-use Rattle.roam_calls.specs.Audit.{steps_of}
+use Rattle.roam_history.specs.Audit.{steps_of}
 use Rattle.roam_hub.specs.Closing.{all_steps}
 use Rattle.roam_hub.proofs.HubLemmas.{all_starts, good_starts, no_starts, one_start_more, start_closed, steps-there}
 use Rattle.roam_hub.proofs.closing.starts_of.Goals as goal

@@ -1,8 +1,8 @@
 use Rattle.std.proofs.Common.{◌≡◌, ◌++◌, ◌∷◌, [], List, length, map, refl, ap, sym, ◌∙◌, arith}
 use Rattle.std.proofs.lemmas.List.{map-append}
-use Rattle.roam_calls.specs.Entries.{HistoryEntry}
-use Rattle.roam_calls.specs.Fronts.{FrontView, entries_of}
-use Rattle.roam_calls.specs.Shown.{all_in, items_of}
+use Rattle.roam_history.specs.Entries.{HistoryEntry}
+use Rattle.roam_history.specs.Fronts.{FrontView, entries_of}
+use Rattle.roam_history.specs.Shown.{all_in, items_of}
 use Rattle.roam_hub.specs.Closing.{all_steps, stored_events, stored_in}
 use Rattle.roam_hub.proofs.HubLemmas.{no_shards, none_closed, none_whole, one_more_closed, push_shards, push_whole}
 use Rattle.roam_hub.proofs.closing.taken_apart.Goals as goal

@@ -1,6 +1,6 @@
 use Rattle.std.specs.Vec.Iter.{into_iter_items, into_iter_len}
 use Rattle.std.proofs.Common.{◌≡◌, ◌+◌, ◌≤◌, length, map, vec_len, vec_capacity}
-use Rattle.roam_calls.specs.Fronts.{AreOfShards, AreWhole, entries_of}
+use Rattle.roam_history.specs.Fronts.{AreOfShards, AreWhole, entries_of}
 use Rattle.roam_hub.specs.Closing.{AreClosed, all_steps, stored_events, stored_in}
 use Rattle.roam_hub.proofs.closing.taken_apart.Given as goal
 

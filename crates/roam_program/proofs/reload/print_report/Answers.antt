@@ -1,4 +1,4 @@
-use Rattle.roam_printing.proofs.PrintedLemmas.{printed_then}
+use Rattle.roam_cli.proofs.PrintedLemmas.{printed_then}
 use Rattle.roam_program.proofs.reload.print_report.Goals as goal
 
 -- what becomes of the realms, and what stays

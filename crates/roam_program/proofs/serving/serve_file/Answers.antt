@@ -1,5 +1,5 @@
 use Rattle.roam_program.proofs.AnswerLemmas.{serve-prevents-all}
-use Rattle.roam_commands.proofs.UnreadLemmas.{unread-serve-prevents}
+use Rattle.roam_cli.proofs.UnreadLemmas.{unread-serve-prevents}
 use Rattle.roam_program.proofs.serving.serve_file.Goals as goal
 
 -- The file isn't read.

@@ -1,6 +1,6 @@
 -- The file's text states the configuration that is served.
 use Rattle.roam_conf.specs.Shown.{shown}
-use Rattle.roam_commands.proofs.OutcomeLemmas.{accepted-text, unread-serves}
+use Rattle.roam_cli.proofs.OutcomeLemmas.{accepted-text, unread-serves}
 use Rattle.roam_program.proofs.EndLemmas.{serve-fails}
 use Rattle.roam_program.proofs.serving.serve_text.Goals as goal
 

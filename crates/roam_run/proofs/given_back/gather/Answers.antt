@@ -6,7 +6,7 @@ use Rattle.std.proofs.lemmas.List.{map-append}
 use Rattle.roam_workers.specs.declared.ending.Ending.TheVariants as ending
 use Rattle.std.proofs.lemmas.List.{nil_from_length}
 use Rattle.roam_counters.specs.Datagrams.{all_of, with_all}
-use Rattle.roam_workers.specs.Endings.{datagrams_of, endings_of}
+use Rattle.roam_workers.specs.Endings.{datagrams_of, endings_of, job_counts_of}
 use Rattle.roam_workers.proofs.EndingLemmas.{all-seen, given-up-after, none-gave-up}
 use Rattle.roam_run.proofs.given_back.gather.Goals as goal
 
@@ -16,6 +16,7 @@ loop-end-init g c =
     record {
       given_up = none-gave-up;
       datagrams = rw c.none-datagrams.ensures (ap (λ ends. all_of (datagrams_of ends)) iter.0);
+      jobs = c.args.results.none_yet;
       all = iter.0;
       left = iter.1 ∙ c.args.results.ends.ok.0 ∙ ap length (sym iter.0);
     }
@@ -32,6 +33,8 @@ loop-end-preserved g c =
       datagrams = (
           let all_before = ap (λ ends. with_all c.loop-end.ended.datagrams.counts (datagrams_of ends)) (sym steps.0) in
           rw c.add-added.ensures.datagrams (all_before ∙ inv.datagrams));
+      jobs = c.in_default.ensures.jobs ∙ ap (λ xs. xs ++ c.in-Some.end.jobs ∷ []) inv.jobs
+          ∙ sym (map-append (λ e. e.jobs) c.loop-end.yielded (c.in-Some.end ∷ []));
       all = append_assoc c.loop-end.yielded (c.in-Some.end ∷ []) _ ∙ ap (λ l. c.loop-end.yielded ++ l) (sym steps.0)
           ∙ inv.all;
       left = omega (arith, short, steps.1, inv.left);
@@ -51,3 +54,11 @@ returns-clause-gave_up g c =
     let all_ends = c.args.results.ends.items in
     let all = all-seen c.loop-end.yielded (into_iter_items c.loop-end.end-iterator) all_ends none inv.all in
     subst (λ ends. IsTrue c.loop-end.ended.has_given_up ↔ Contains (endings_of ends) ending.GaveUp) all inv.given_up
+
+pub returns-clause-jobs : goal.returns-clause-jobs
+returns-clause-jobs g c =
+    let inv = c.loop-end.invariant in
+    let none : length (into_iter_items c.loop-end.end-iterator) ≡ 0 = sym inv.left ∙ c.in-None.ensures.steps.0 in
+    let all_ends = c.args.results.ends.items in
+    let all = all-seen c.loop-end.yielded (into_iter_items c.loop-end.end-iterator) all_ends none inv.all in
+    inv.jobs ∙ ap (λ ends. job_counts_of ends) all

@@ -1,7 +1,7 @@
 -- What the file has is taken up, or nothing is.
 use Rattle.std.specs.Prelude.{[]}
 use Rattle.roam_conf.specs.Shown.{shown}
-use Rattle.roam_ledgers.specs.Shown.{shown_items}
+use Rattle.roam_sessions.specs.ShownLedgers.{shown_items}
 use Rattle.roam_serve.specs.Begins.{HaveBegun}
 use Rattle.roam_serve.proofs.BeginLemmas.{by-some}
 use Rattle.roam_serve.proofs.beginning.begin_from.Goals as goal

@@ -1,6 +1,6 @@
 -- The shard begins, takes up what the file has, and stands still while it is counted.
 use Rattle.roam_conf.specs.Shown.{shown}
-use Rattle.roam_ledgers.specs.Shown.{shown_items}
+use Rattle.roam_sessions.specs.ShownLedgers.{shown_items}
 use Rattle.roam_serve.proofs.BeginLemmas.{opened-fresh, opened-paused, taken-up}
 use Rattle.roam_serve.proofs.beginning.begin_one.Goals as goal
 

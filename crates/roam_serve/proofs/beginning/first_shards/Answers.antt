@@ -1,7 +1,7 @@
 -- One shard begins after the other.
 use Rattle.std.proofs.Common.{arith}
 use Rattle.roam_conf.specs.Shown.{shown}
-use Rattle.roam_ledgers.specs.Shown.{shown_items}
+use Rattle.roam_sessions.specs.ShownLedgers.{shown_items}
 use Rattle.roam_serve.proofs.BeginLemmas.{all-begun, none-begun, one-more-begun}
 use Rattle.roam_serve.proofs.beginning.first_shards.Goals as goal
 

@@ -1,5 +1,5 @@
 use Rattle.roam_conf.specs.Shown.{shown}
-use Rattle.roam_ledgers.specs.Shown.{shown_items}
+use Rattle.roam_sessions.specs.ShownLedgers.{shown_items}
 use Rattle.roam_serve.proofs.BeginLemmas.{HaveBegunSoFar}
 use Rattle.roam_serve.proofs.beginning.first_shards.Given as goal
 

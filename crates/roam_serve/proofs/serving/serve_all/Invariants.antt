@@ -1,6 +1,6 @@
 use Rattle.std.proofs.Common.{◌≡◌, List}
 use Rattle.roam_conf.specs.Shown.{shown}
-use Rattle.roam_ledgers.specs.Ledgers.{SavedItem}
+use Rattle.roam_sessions.specs.Ledgers.{SavedItem}
 use Rattle.roam_hub.specs.Pausing.{ArePaused}
 use Rattle.roam_run.specs.Closed.{MayGoOn}
 use Rattle.roam_serve.specs.Begins.{opening_with}

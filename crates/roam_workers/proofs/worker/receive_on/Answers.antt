@@ -15,5 +15,5 @@ pub returns-in-Some-round : goal.returns-in-Some-round
 returns-in-Some-round g c =
     let o = g.N.Opened.opening in
     let did = worked_after _ _ _ _ c.loop.invariant c.round.ensures in
-    let ended = worked_after _ _ _ _ did c.end_mail.ensures.worked in
+    let ended = worked_after _ _ _ _ did c.end_jobs.ensures.worked in
     (_, sent_on o _ _ _ _ _ _ _ ended c.leave.ensures.seat refl c.leave.ensures.sends)

@@ -16,7 +16,7 @@ returns g c =
     c.wait.ensures.kept.2 in
     let looked = kept_on o _ _ _ _ _ _ _ waited c.look_at_clock.ensures.kept.0 c.look_at_clock.ensures.kept.1
     (ap outbox_in c.look_at_clock.ensures.kept.2) in
-    let taken = worked_after _ _ _ _ looked c.take_mail.ensures.worked in
+    let taken = worked_after _ _ _ _ looked c.take_queued.ensures.worked in
     let heard = worked_after _ _ _ _ taken c.receive_all-ending.ensures in
     let ticked = worked_after _ _ _ _ heard c.tick_own.ensures in
     kept_on o _ _ _ _ _ _ _ ticked c.wake_logger.ensures.kept.0 c.wake_logger.ensures.kept.1

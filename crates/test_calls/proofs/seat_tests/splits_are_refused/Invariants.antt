@@ -1,6 +1,6 @@
 use Rattle.std.proofs.Common.{[]}
-use Rattle.roam_calls.specs.Books.{books_of}
-use Rattle.roam_calls.specs.HubOpening.{no_opening}
+use Rattle.roam_history.specs.Books.{books_of}
+use Rattle.roam_history.specs.HubOpening.{no_opening}
 use Rattle.test_calls.proofs.seat_tests.splits_are_refused.Given as goal
 
 -- a hub of two shards

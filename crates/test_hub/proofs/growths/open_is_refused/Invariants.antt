@@ -1,6 +1,6 @@
 use Rattle.roam_conf.specs.Shown.{shown}
-use Rattle.roam_calls.specs.Books.{books_of}
-use Rattle.roam_calls.specs.HubOpening.{fresh_opening}
+use Rattle.roam_history.specs.Books.{books_of}
+use Rattle.roam_history.specs.HubOpening.{fresh_opening}
 use Rattle.test_hub.proofs.growths.open_is_refused.Given as goal
 
 -- the hub that is opened here

@@ -1,5 +1,5 @@
 use Rattle.roam_conf.specs.Shown.{shown}
-use Rattle.roam_calls.specs.Books.{books_of}
+use Rattle.roam_history.specs.Books.{books_of}
 use Rattle.roam_hub.specs.Pausing.{opening_over}
 use Rattle.test_hub.proofs.growths_of_changes.stands.Given as goal
 

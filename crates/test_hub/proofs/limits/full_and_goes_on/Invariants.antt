@@ -1,6 +1,6 @@
 use Rattle.roam_conf.specs.Shown.{shown}
-use Rattle.roam_calls.specs.Books.{books_of}
-use Rattle.roam_calls.specs.HubOpening.{fresh_opening}
+use Rattle.roam_history.specs.Books.{books_of}
+use Rattle.roam_history.specs.HubOpening.{fresh_opening}
 use Rattle.test_hub.proofs.limits.full_and_goes_on.Given as goal
 
 -- the hub that goes on

@@ -2,7 +2,7 @@
 use Rattle.std.proofs.Common.{◌≡◌}
 use Rattle.std.proofs.lemmas.List.Elements.{All-push}
 use Rattle.roam_conf.specs.Shown.{shown}
-use Rattle.roam_trace.specs.History.{TraceView}
+use Rattle.roam_shard.specs.History.{TraceView}
 use Rattle.test_playing.proofs.traces.traces_of.Goals as goal
 
 pub loop-number-preserved : goal.loop-number-preserved

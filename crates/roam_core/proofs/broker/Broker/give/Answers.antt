@@ -2,9 +2,9 @@
 use Rattle.std.proofs.Common.{◌<◌, ℕ, length, set, sym, ap, subst, ◌∙◌, arith}
 use Rattle.roam_conf.specs.Config.{ConfigView}
 use Rattle.roam_conf.specs.Shown.{shown}
-use Rattle.roam_route.specs.Events.{IsEvent}
-use Rattle.roam_route.specs.Shown.{shown_job}
-use Rattle.roam_route.proofs.EventLemmas.{event_realm}
+use Rattle.roam_admission.specs.Events.{IsEvent}
+use Rattle.roam_admission.specs.Shown.{shown_job}
+use Rattle.roam_admission.proofs.EventLemmas.{event_realm}
 use Rattle.roam_realm.specs.RealmConfig.{RealmConfig, realm_config}
 use Rattle.roam_realm.specs.RealmState.{RealmState}
 use Rattle.roam_exchange.specs.Turn.{Turn}

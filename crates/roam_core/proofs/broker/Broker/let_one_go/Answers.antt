@@ -3,7 +3,7 @@ use Rattle.std.proofs.Common.{◌≡◌, ◌<◌, ◌∙◌, [], true, length, s
 use Rattle.std.proofs.lemmas.Bool.Decides.{nat_tests}
 use Rattle.std.proofs.lemmas.List.{length-map}
 use Rattle.roam_conf.specs.Shown.{shown}
-use Rattle.roam_book.specs.BookView.{BookView}
+use Rattle.roam_rules.specs.BookView.{BookView}
 use Rattle.roam_exchange.specs.OnTick.{on_tick}
 use Rattle.roam_realm.specs.RealmConfig.{realm_config}
 use Rattle.roam_realm.specs.RealmState.{RealmState}

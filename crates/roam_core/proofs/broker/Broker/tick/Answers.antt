@@ -3,7 +3,7 @@ use Rattle.std.proofs.Common.{◌≡◌, ◌≤◌, ◌<◌, List, length, ap, s
 use Rattle.std.proofs.lemmas.List.{length-map}
 use Rattle.roam_conf.specs.Parts.{shown_realm}
 use Rattle.roam_conf.specs.Shown.{shown}
-use Rattle.roam_book.specs.BookView.{BookView}
+use Rattle.roam_rules.specs.BookView.{BookView}
 use Rattle.roam_core.specs.BrokerView.{BrokerView, states_of}
 use Rattle.roam_core.specs.ShardRooms.{AreRooms, only_done_from}
 use Rattle.roam_core.proofs.ShardLemmas.{ticked}

@@ -2,9 +2,9 @@
 use Rattle.std.proofs.Common.{◌≡◌, ◌<◌, ◌++◌, List, true, length, set, is_some, refl, ap, sym, subst, ◌∙◌, arith}
 use Rattle.std.proofs.lemmas.List.{append-nil, length-map, map-append}
 use Rattle.roam_conf.specs.Shown.{shown}
-use Rattle.roam_route.specs.Admission.{PlainOut}
-use Rattle.roam_route.specs.Shown.{shown_out}
-use Rattle.roam_book.specs.BookView.{BookView}
+use Rattle.roam_admission.specs.Admission.{PlainOut}
+use Rattle.roam_admission.specs.Shown.{shown_out}
+use Rattle.roam_rules.specs.BookView.{BookView}
 use Rattle.roam_realm.specs.RealmState.{RealmState}
 use Rattle.roam_exchange.specs.Rooms.{IsRoomFor, only_done_due}
 use Rattle.roam_exchange.specs.Turn.{Turn, packets_of, shown_outs, state_after}

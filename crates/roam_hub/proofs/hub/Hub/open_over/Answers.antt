@@ -3,11 +3,11 @@ use Rattle.std.proofs.Common.{◌≡◌, ◌+◌, ◌++◌, ◌∷◌, [], ℕ, 
 use Rattle.std.specs.Vec.Iter.{into_iter_items}
 use Rattle.std.proofs.lemmas.List.{map-append, replicate-append-replicate}
 use Rattle.roam_conf.specs.Shown.{shown}
-use Rattle.roam_calls.specs.Books.{book_of}
-use Rattle.roam_calls.specs.Entries.{HistoryEntry}
-use Rattle.roam_calls.specs.Fronts.{FrontView, entries_of}
-use Rattle.roam_calls.specs.HubOpening.{HubOpening}
-use Rattle.roam_calls.specs.declared.blank.Blank.{Blank}
+use Rattle.roam_history.specs.Books.{book_of}
+use Rattle.roam_history.specs.Entries.{HistoryEntry}
+use Rattle.roam_history.specs.Fronts.{FrontView, entries_of}
+use Rattle.roam_history.specs.HubOpening.{HubOpening}
+use Rattle.roam_history.specs.declared.blank.Blank.{Blank}
 use Rattle.roam_hub.specs.Pausing.{states_of_one}
 use Rattle.roam_hub.proofs.HubLemmas.{no_shards, push_shards}
 use Rattle.roam_hub.proofs.hub.Hub.open_over.Goals as goal

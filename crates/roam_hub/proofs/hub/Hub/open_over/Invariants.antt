@@ -1,7 +1,7 @@
 use Rattle.std.specs.Vec.Iter.{into_iter_items, into_iter_len}
 use Rattle.std.proofs.Common.{◌≡◌, ◌+◌, ◌≤◌, [], ℕ, length, replicate, vec_len, vec_capacity, Some, slice_get}
-use Rattle.roam_calls.specs.Fronts.{AreOfShards, entries_of}
-use Rattle.roam_calls.specs.declared.blank.Blank.{Blank}
+use Rattle.roam_history.specs.Fronts.{AreOfShards, entries_of}
+use Rattle.roam_history.specs.declared.blank.Blank.{Blank}
 use Rattle.roam_hub.proofs.hub.Hub.open_over.Given as goal
 
 abbrev pub invariant-loop-blank : goal.invariant-loop-blank

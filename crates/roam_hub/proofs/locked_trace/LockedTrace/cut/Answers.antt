@@ -1,12 +1,12 @@
 -- The shard stands where its whole history ends.
 use Rattle.std.proofs.Common.{◌≡◌, ℕ, List, ap, subst, sym, ◌∙◌}
 use Rattle.roam_shard.specs.ShardView.{OpeningView}
-use Rattle.roam_trace.specs.History.{IsHistory, end_of}
-use Rattle.roam_trace.specs.Steps.{PlainStep, events_of}
-use Rattle.roam_calls.specs.Entries.{IsWhole, steps_in, stored_of}
-use Rattle.roam_calls.specs.Fronts.{FrontView}
-use Rattle.roam_calls.specs.HubOpening.{opening_at}
-use Rattle.roam_calls.proofs.EntryLemmas.{closed-stored, is_whole_closed}
+use Rattle.roam_shard.specs.History.{IsHistory, end_of}
+use Rattle.roam_shard.specs.Steps.{PlainStep, events_of}
+use Rattle.roam_history.specs.Entries.{IsWhole, steps_in, stored_of}
+use Rattle.roam_history.specs.Fronts.{FrontView}
+use Rattle.roam_history.specs.HubOpening.{opening_at}
+use Rattle.roam_history.proofs.EntryLemmas.{closed-stored, is_whole_closed}
 use Rattle.roam_hub.specs.Keeping.{KeptView}
 use Rattle.roam_hub.proofs.KeptLemmas.{events_kept, whole_end, whole_history, whole_steps}
 use Rattle.roam_hub.proofs.locked_trace.LockedTrace.cut.Goals as goal

@@ -2,7 +2,7 @@
 use Rattle.std.proofs.Common.{◌≡◌, false, List, subst, sym}
 use Rattle.roam_realm.specs.RealmState.{RealmState}
 use Rattle.roam_shard.specs.Turns.{NothingDue}
-use Rattle.roam_calls.specs.Moments.{IsTickMoment}
+use Rattle.roam_history.specs.Moments.{IsTickMoment}
 use Rattle.roam_hub.specs.Keeping.{KeptView}
 use Rattle.roam_hub.proofs.locked_trace.LockedTrace.due_moment.Goals as goal
 

@@ -2,7 +2,7 @@
 use Rattle.std.proofs.Common.{◌≡◌, true, List, ap, subst, sym, ◌∙◌}
 use Rattle.std.proofs.lemmas.Option.{IfSome_then}
 use mathlib.Core.List.{IsPrefix}
-use Rattle.roam_calls.specs.Seats.{front_of}
+use Rattle.roam_history.specs.Seats.{front_of}
 use Rattle.roam_realm.specs.RealmState.{RealmState}
 use Rattle.roam_core.specs.ManyRealms.{state_at}
 use Rattle.roam_shard.specs.Looks.{StandsAs}

@@ -1,9 +1,9 @@
 -- Whether anything was due where the shard stands, at the end of its history.
 use Rattle.std.proofs.Common.{◌≡◌, ℕ, ap, sym, subst, ◌∙◌}
 use mathlib.Core.List.{IsPrefix}
-use Rattle.roam_calls.specs.Fronts.{FrontView}
-use Rattle.roam_calls.specs.Seats.{SeatView, front_of, having_seen}
-use Rattle.roam_calls.specs.Calls.{IsLook, Sees}
+use Rattle.roam_history.specs.Fronts.{FrontView}
+use Rattle.roam_history.specs.Seats.{SeatView, front_of, having_seen}
+use Rattle.roam_history.specs.Calls.{IsLook, Sees}
 use Rattle.roam_hub.specs.Keeping.{KeptView}
 use Rattle.roam_hub.proofs.KeptLemmas.{look}
 use Rattle.roam_hub.proofs.locked_trace.LockedTrace.is_due.Given.{Over}

@@ -1,11 +1,11 @@
 -- The stored steps are let go of, and the history says so.
 use Rattle.std.proofs.Common.{◌≡◌, ℕ, ◌++◌, ◌∷◌, [], length, ap, sym, subst, ◌∙◌, arith}
 use mathlib.Core.List.{IsPrefix}
-use Rattle.roam_trace.specs.History.{Ends, TraceView, stored_steps, without_steps}
-use Rattle.roam_calls.specs.Entries.{gone_of, let_go_entry}
-use Rattle.roam_calls.specs.Fronts.{FrontView}
-use Rattle.roam_calls.specs.Seats.{after_letting_go, front_of}
-use Rattle.roam_calls.specs.Calls.{AreGone, Sees}
+use Rattle.roam_shard.specs.History.{Ends, TraceView, stored_steps, without_steps}
+use Rattle.roam_history.specs.Entries.{gone_of, let_go_entry}
+use Rattle.roam_history.specs.Fronts.{FrontView}
+use Rattle.roam_history.specs.Seats.{after_letting_go, front_of}
+use Rattle.roam_history.specs.Calls.{AreGone, Sees}
 use Rattle.roam_hub.specs.Keeping.{IsKept, KeptView}
 use Rattle.roam_hub.proofs.KeptLemmas.{gone_of_shard, kept_gone}
 use Rattle.roam_hub.proofs.locked_trace.LockedTrace.let_go.Given.{Over}

@@ -4,9 +4,9 @@ use Rattle.std.proofs.lemmas.Option.{IfSome_then}
 use mathlib.Core.List.{IsPrefix}
 use Rattle.roam_conf.specs.Config.{ConfigView}
 use Rattle.roam_conf.specs.Shown.{shown}
-use Rattle.roam_calls.specs.Seats.{front_of}
+use Rattle.roam_history.specs.Seats.{front_of}
 use Rattle.roam_realm.specs.RealmState.{RealmState}
-use Rattle.roam_carry.specs.Carrying.{AreChanged}
+use Rattle.roam_migrate.specs.Carrying.{AreChanged}
 use Rattle.roam_core.specs.ManyRealms.{state_at}
 use Rattle.roam_shard.specs.Looks.{IsLoss}
 use Rattle.roam_shard.specs.ShardView.{OpeningView}

@@ -1,15 +1,15 @@
 -- The call is the last step of the shard's one history.
 use Rattle.std.proofs.Common.{◌≡◌, ℕ, ◌-◌, ◌^◌, ◌++◌, ◌∷◌, [], List, length, min, refl, ap, sym, subst, ◌∙◌, arith}
 use mathlib.Core.List.{IsPrefix}
-use Rattle.roam_route.specs.Events.{arrival_of}
-use Rattle.roam_route.specs.Shown.{shown_job}
+use Rattle.roam_admission.specs.Events.{arrival_of}
+use Rattle.roam_admission.specs.Shown.{shown_job}
 use Rattle.roam_core.specs.Events.{PlainEvent, arrives}
-use Rattle.roam_trace.specs.History.{TraceView, with_event}
-use Rattle.roam_trace.specs.Steps.{PlainStep, events_of, octets_in, shown_answer}
-use Rattle.roam_calls.specs.Entries.{HistoryEntry, last_of, step_entry, stored_of}
-use Rattle.roam_calls.proofs.EntryLemmas.{last-push}
-use Rattle.roam_calls.specs.Fronts.{FrontView}
-use Rattle.roam_calls.specs.Seats.{SeatView, after_call, front_of, having_seen}
+use Rattle.roam_shard.specs.History.{TraceView, with_event}
+use Rattle.roam_shard.specs.Steps.{PlainStep, events_of, octets_in, shown_answer}
+use Rattle.roam_history.specs.Entries.{HistoryEntry, last_of, step_entry, stored_of}
+use Rattle.roam_history.proofs.EntryLemmas.{last-push}
+use Rattle.roam_history.specs.Fronts.{FrontView}
+use Rattle.roam_history.specs.Seats.{SeatView, after_call, front_of, having_seen}
 use Rattle.roam_hub.specs.Keeping.{KeptView}
 use Rattle.roam_hub.proofs.KeptLemmas.{Recorded, events_kept, full, has_happened, recorded, sees_whole}
 use Rattle.roam_hub.proofs.RefusedLemmas.{is_there, only_full}

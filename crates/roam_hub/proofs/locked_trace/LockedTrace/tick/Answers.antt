@@ -3,18 +3,18 @@ use Rattle.std.proofs.Common.{◌≡◌, ℕ, ◌-◌, ◌^◌, ◌++◌, ◌∷
 use mathlib.Core.List.{IsPrefix}
 use Rattle.roam_core.specs.Events.{PlainEvent, ticks}
 use Rattle.roam_core.specs.HappeningsTo.{happening_to}
-use Rattle.roam_trace.specs.History.{TraceView, end_of, step_at, with_event}
-use Rattle.roam_calls.specs.HubOpening.{opening_at}
-use Rattle.roam_trace.specs.Steps.{PlainStep, events_of, octets_in, shown_answer}
-use Rattle.roam_calls.specs.Entries.{HistoryEntry, last_of, step_entry, stored_of, steps_in}
-use Rattle.roam_calls.proofs.EntryLemmas.{last-push}
-use Rattle.roam_calls.specs.Fronts.{FrontView}
-use Rattle.roam_calls.specs.Seats.{SeatView, after_call, front_of, having_seen}
+use Rattle.roam_shard.specs.History.{TraceView, end_of, step_at, with_event}
+use Rattle.roam_history.specs.HubOpening.{opening_at}
+use Rattle.roam_shard.specs.Steps.{PlainStep, events_of, octets_in, shown_answer}
+use Rattle.roam_history.specs.Entries.{HistoryEntry, last_of, step_entry, stored_of, steps_in}
+use Rattle.roam_history.proofs.EntryLemmas.{last-push}
+use Rattle.roam_history.specs.Fronts.{FrontView}
+use Rattle.roam_history.specs.Seats.{SeatView, after_call, front_of, having_seen}
 use Rattle.roam_hub.specs.Keeping.{KeptView}
 use Rattle.roam_hub.proofs.KeptLemmas.{Recorded, events_kept, full, has_happened, recorded, whole_end}
 use Rattle.roam_hub.proofs.RefusedLemmas.{only_full}
-use Rattle.roam_calls.specs.declared.fault.HubFault.TheVariants as hub
-use Rattle.roam_trace.specs.declared.fault.TraceFault.TheVariants as trace
+use Rattle.roam_history.specs.declared.fault.HubFault.TheVariants as hub
+use Rattle.roam_shard.specs.declared.fault.TraceFault.TheVariants as trace
 use Rattle.roam_hub.proofs.locked_trace.LockedTrace.tick.Given.{Over}
 use Rattle.roam_hub.proofs.locked_trace.LockedTrace.tick.Goals as goal
 

@@ -3,15 +3,15 @@ use Rattle.std.proofs.Common.{◌≡◌, ◌↔◌, ℕ, ◌++◌, ◌∷◌, []
 use Rattle.roam_realm.specs.RealmState.{RealmState}
 use Rattle.roam_shard.specs.Turns.{NothingDue}
 use mathlib.Core.List.{IsPrefix}
-use Rattle.roam_calls.specs.Moments.{IsTickMoment}
-use Rattle.roam_trace.specs.History.{end_of}
-use Rattle.roam_calls.specs.Entries.{HistoryEntry, step_entry, steps_in}
-use Rattle.roam_calls.specs.Fronts.{FrontView}
-use Rattle.roam_calls.specs.HubOpening.{opening_at}
-use Rattle.roam_calls.specs.Seats.{SeatView, front_of, having_seen}
+use Rattle.roam_history.specs.Moments.{IsTickMoment}
+use Rattle.roam_shard.specs.History.{end_of}
+use Rattle.roam_history.specs.Entries.{HistoryEntry, step_entry, steps_in}
+use Rattle.roam_history.specs.Fronts.{FrontView}
+use Rattle.roam_history.specs.HubOpening.{opening_at}
+use Rattle.roam_history.specs.Seats.{SeatView, front_of, having_seen}
 use Rattle.roam_hub.specs.Keeping.{KeptView}
 use Rattle.roam_core.specs.Events.{ticks}
-use Rattle.roam_calls.specs.Calls.{answered_step}
+use Rattle.roam_history.specs.Calls.{answered_step}
 use Rattle.roam_hub.proofs.KeptLemmas.{due_call, look}
 use Rattle.roam_hub.proofs.locked_trace.LockedTrace.tick_if_due.Goals as goal
 

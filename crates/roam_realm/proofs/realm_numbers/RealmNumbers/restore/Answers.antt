@@ -2,10 +2,10 @@ use Rattle.std.proofs.Common.{◌≡◌, ◌&&◌, ◌∙◌, not, List, ap, sub
 use Rattle.std.specs.Str.{bytes_eq}
 use Rattle.roam_conf.specs.Config.{PeerView}
 use Rattle.roam_conf.specs.Lookup.{first_place}
-use Rattle.roam_ledgers.specs.Shown.{shown_session}
-use Rattle.roam_reverse.specs.Parts.{AreShort}
-use Rattle.roam_reverse.specs.Sessions.{Session, with_session}
-use Rattle.roam_reverse.specs.Shown.{shown_octets}
+use Rattle.roam_sessions.specs.ShownLedgers.{shown_session}
+use Rattle.roam_sessions.specs.Parts.{AreShort}
+use Rattle.roam_sessions.specs.Sessions.{Session, with_session}
+use Rattle.roam_sessions.specs.ShownSessions.{shown_octets}
 use Rattle.roam_realm.proofs.SavingLemmas.{on_both, taken_some, under}
 use Rattle.roam_realm.proofs.realm_numbers.RealmNumbers.restore.Goals as goal
 

@@ -1,7 +1,7 @@
 use Rattle.std.proofs.Common.{◌≡◌, List, Some, subst}
 use Rattle.roam_conf.specs.Config.{PeerView}
-use Rattle.roam_ledgers.specs.Shown.{shown_session}
-use Rattle.roam_reverse.specs.Parts.{shown_parts}
+use Rattle.roam_sessions.specs.ShownLedgers.{shown_session}
+use Rattle.roam_sessions.specs.Parts.{shown_parts}
 use Rattle.roam_realm.specs.Saving.{saved_session}
 use Rattle.roam_realm.proofs.WrittenLemmas.{gains_one, on_one}
 use Rattle.roam_realm.proofs.realm_numbers.RealmNumbers.save_one.Goals as goal

@@ -1,5 +1,5 @@
 use Rattle.std.proofs.Common.{ℕ, subst}
-use Rattle.roam_fwd.specs.Shaped.{HasShortName}
+use Rattle.roam_forward.specs.Shaped.{HasShortName}
 use Rattle.roam_conf.specs.Shown.{shown}
 use Rattle.roam_realm.specs.RealmConfig.{RealmConfig, realm_config}
 use Rattle.roam_realm.specs.Shapings.{shaping_of}

@@ -2,9 +2,9 @@
 use Rattle.std.proofs.Common.{◌≡◌, ◌∙◌, ◌+◌, ◌++◌, ◌∷◌, [], List, ℕ, take, refl, ap, sym, subst}
 use Rattle.std.proofs.lemmas.List.{map_more}
 use Rattle.roam_conf.specs.Shown.{shown}
-use Rattle.roam_ledgers.specs.Ledgers.{SavedItem}
-use Rattle.roam_ledgers.specs.Shown.{shown_item, shown_items}
-use Rattle.roam_ledgers.specs.declared.item.Item.{Item}
+use Rattle.roam_sessions.specs.Ledgers.{SavedItem}
+use Rattle.roam_sessions.specs.ShownLedgers.{shown_item, shown_items}
+use Rattle.roam_sessions.specs.declared.item.Item.{Item}
 use Rattle.roam_shard.specs.Pausing.{states_under}
 use Rattle.roam_shard.specs.Private.Items.{TakesUp}
 use Rattle.roam_shard.proofs.ItemLemmas.{AreTakenUp, nothing-so-far, one-more}

@@ -1,6 +1,6 @@
 use Rattle.std.proofs.Common.{◌≡◌, take}
 use Rattle.roam_conf.specs.Shown.{shown}
-use Rattle.roam_ledgers.specs.Shown.{shown_items}
+use Rattle.roam_sessions.specs.ShownLedgers.{shown_items}
 use Rattle.roam_shard.specs.Pausing.{StandsUnder, states_under}
 use Rattle.roam_shard.proofs.ItemLemmas.{AreTakenUp}
 use Rattle.roam_shard.proofs.paused.Paused.restore.Given as goal

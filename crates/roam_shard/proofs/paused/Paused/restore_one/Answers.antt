@@ -9,7 +9,7 @@ use Rattle.roam_shard.specs.Pausing.{opening_under, states_under}
 use Rattle.roam_shard.specs.Restoring.{with_one}
 use Rattle.roam_realm.specs.RealmConfig.{RealmConfig, realm_config}
 use Rattle.roam_realm.specs.Saving.{taken_up}
-use Rattle.roam_ledgers.specs.Shown.{shown_session}
+use Rattle.roam_sessions.specs.ShownLedgers.{shown_session}
 use Rattle.roam_realm.proofs.WrittenLemmas.{on_one}
 use Rattle.roam_shard.proofs.RestoredLemmas.{restored_shard}
 use Rattle.roam_shard.proofs.ShardLemmas.{length-states}

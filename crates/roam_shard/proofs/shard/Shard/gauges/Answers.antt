@@ -3,7 +3,7 @@ use Rattle.std.proofs.lemmas.List.{length-map}
 use Rattle.std.proofs.lemmas.Option.{slice_get_within}
 use Rattle.roam_conf.specs.Parts.{shown_realm}
 use Rattle.roam_pending.specs.PlainEntry.{PlainEntry}
-use Rattle.roam_reverse.specs.Sessions.{Session}
+use Rattle.roam_sessions.specs.Sessions.{Session}
 use Rattle.roam_shard.specs.ShardView.{shown_opening}
 use Rattle.roam_shard.proofs.LookLemmas.{entries-seen, not_own, sessions-seen}
 use Rattle.roam_shard.proofs.shard.Shard.gauges.Goals as goal

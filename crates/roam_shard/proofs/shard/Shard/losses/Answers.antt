@@ -6,7 +6,7 @@ use Rattle.std.proofs.lemmas.Option.{slice_get_within}
 use Rattle.roam_conf.specs.Config.{ConfigView}
 use Rattle.roam_conf.specs.Parts.{shown_realm}
 use Rattle.roam_conf.specs.Shown.{shown}
-use Rattle.roam_carry.specs.Carrying.{AreChanged}
+use Rattle.roam_migrate.specs.Carrying.{AreChanged}
 use Rattle.roam_shard.specs.ShardView.{ShardView, shown_opening}
 use Rattle.roam_shard.proofs.FollowLemmas.{here_within}
 use Rattle.roam_shard.proofs.LookLemmas.{carried_lost, gone_lost}

@@ -3,7 +3,7 @@ use Rattle.std.proofs.Common.{arith, ◌∙◌, List, length, ap, subst}
 use Rattle.std.proofs.lemmas.List.{length-map}
 use Rattle.std.proofs.lemmas.Option.{slice_get_within}
 use Rattle.roam_conf.specs.Parts.{shown_realm}
-use Rattle.roam_reverse.specs.Sessions.{Session}
+use Rattle.roam_sessions.specs.Sessions.{Session}
 use Rattle.roam_realm.specs.RealmConfig.{RealmConfig, realm_config}
 use Rattle.roam_realm.specs.Written.{GainsOpen}
 use Rattle.roam_realm.proofs.WrittenLemmas.{gains_none, on_one}

@@ -4,16 +4,16 @@ use Rattle.std.proofs.lemmas.List.{length-map}
 use Rattle.roam_conf.specs.Config.{ConfigView}
 use Rattle.roam_conf.specs.Shown.{shown}
 use Rattle.roam_conf.specs.Parts.{shown_realm}
-use Rattle.roam_route.specs.Events.{IsEvent}
-use Rattle.roam_route.specs.Shown.{shown_job}
-use Rattle.roam_route.proofs.EventLemmas.{event_realm}
+use Rattle.roam_admission.specs.Events.{IsEvent}
+use Rattle.roam_admission.specs.Shown.{shown_job}
+use Rattle.roam_admission.proofs.EventLemmas.{event_realm}
 use Rattle.roam_tables.proofs.RealmLemmas.{get-read}
 use Rattle.roam_wire.specs.Packet.{AreOctets}
 use Rattle.roam_exchange.specs.Happenings.{event_happening}
 use Rattle.roam_exchange.specs.OneRealm.{event_of, on_event}
 use Rattle.roam_realm.specs.RealmConfig.{realm_config}
 use Rattle.roam_exchange.specs.Turn.{Turn, packets_of}
-use Rattle.roam_book.proofs.JobLemmas.{job_of_book}
+use Rattle.roam_rules.proofs.JobLemmas.{job_of_book}
 use Rattle.roam_core.specs.Events.{is_in_shard}
 use Rattle.roam_shard.specs.ShardView.{ShardView, shown_opening}
 use Rattle.roam_shard.proofs.ShardLemmas.{numbers_there, own_turn, realm_kept, realm_list, realm_sound, shard_seen, shard_written}

@@ -1,8 +1,8 @@
 -- One realm's part of a tick.
 use Rattle.std.proofs.Common.{◌≡◌, ◌+◌, ◌++◌, ◌∙◌, List, true, is_some, refl, ap, sym, subst, length, set, arith}
 use Rattle.std.proofs.lemmas.List.{append-nil, map-append}
-use Rattle.roam_route.specs.Admission.{PlainOut}
-use Rattle.roam_route.specs.Shown.{shown_out}
+use Rattle.roam_admission.specs.Admission.{PlainOut}
+use Rattle.roam_admission.specs.Shown.{shown_out}
 use Rattle.roam_conf.specs.declared.exchange_lines.ExchangeLines.{ExchangeLines}
 use Rattle.roam_exchange.specs.Happenings.{PlainDue, tick_happening}
 use Rattle.roam_exchange.specs.HappeningsShown.{shown_dues}

@@ -3,8 +3,8 @@ use Rattle.std.proofs.Common.{ap, subst}
 use Rattle.std.specs.Prelude.{Err}
 use Rattle.roam_conf.specs.Config.{ConfigView}
 use Rattle.roam_conf.specs.Shown.{shown}
-use Rattle.roam_route.specs.Admission.{admission}
-use Rattle.roam_route.specs.Shown.{WantsMemory, shown_arrival}
+use Rattle.roam_admission.specs.Admission.{admission}
+use Rattle.roam_admission.specs.Shown.{WantsMemory, shown_arrival}
 use Rattle.roam_core.specs.BrokerView.{BrokerView}
 use Rattle.roam_shard.proofs.AcrossLemmas.{whole_across}
 use Rattle.roam_shard.proofs.LostLemmas.{refusal_gives, refusal_of, refusal_wants}

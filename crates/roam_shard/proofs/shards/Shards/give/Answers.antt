@@ -3,10 +3,10 @@ use Rattle.std.proofs.Common.{◌≡◌, ◌%◌, ◌<◌, true, length, set, sy
 use Rattle.std.proofs.lemmas.Bool.Decides.{nat_tests}
 use Rattle.roam_conf.specs.Config.{ConfigView}
 use Rattle.roam_conf.specs.Shown.{shown}
-use Rattle.roam_route.specs.Events.{IsEvent}
-use Rattle.roam_route.specs.Shown.{shown_job}
-use Rattle.roam_route.specs.Admission.{admitted}
-use Rattle.roam_route.proofs.EventLemmas.{event_realm}
+use Rattle.roam_admission.specs.Events.{IsEvent}
+use Rattle.roam_admission.specs.Shown.{shown_job}
+use Rattle.roam_admission.specs.Admission.{admitted}
+use Rattle.roam_admission.proofs.EventLemmas.{event_realm}
 use Rattle.roam_tables.proofs.RealmLemmas.{get-read}
 use Rattle.roam_core.specs.BrokerView.{BrokerView}
 use Rattle.roam_core.specs.Events.{is_in_shard}

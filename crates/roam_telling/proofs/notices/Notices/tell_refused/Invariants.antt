@@ -1,8 +1,8 @@
 -- What was told, what was dropped and what is still to be told are together what they were.
 use Rattle.std.proofs.Common.{◌≡◌, ◌+◌, ◌<◌, ◌^◌, length}
 use Rattle.rtrb.specs.Ring.{sent}
-use Rattle.roam_notices.specs.Repeats.{all_tallies}
-use Rattle.roam_notices.specs.Tallies.{counted_in}
+use Rattle.roam_log.specs.Repeats.{all_tallies}
+use Rattle.roam_log.specs.Tallies.{counted_in}
 use Rattle.roam_telling.specs.Notices.{notices_among}
 use Rattle.roam_telling.proofs.notices.Notices.tell_refused.Given as goal
 

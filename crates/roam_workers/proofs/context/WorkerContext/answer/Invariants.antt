@@ -1,6 +1,6 @@
 use Rattle.std.proofs.Common.{◌≡◌}
-use Rattle.roam_route.specs.Events.{IsEvent}
-use Rattle.roam_route.specs.Shown.{shown_job}
+use Rattle.roam_admission.specs.Events.{IsEvent}
+use Rattle.roam_admission.specs.Shown.{shown_job}
 use Rattle.roam_counting.specs.Counting.{counts_in}
 use Rattle.roam_workers.proofs.context.WorkerContext.answer.Given as goal
 

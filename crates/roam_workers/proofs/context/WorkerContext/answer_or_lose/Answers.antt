@@ -2,9 +2,9 @@
 use Rattle.std.proofs.Common.{◌≡◌, ◌∙◌, Bool, true, sym}
 use Rattle.std.proofs.lemmas.Result.{IfOk-weaker}
 use Rattle.std.specs.declared.alloc.Global.{Global}
-use Rattle.roam_route.specs.Events.{without_session}
-use Rattle.roam_route.specs.Shown.{shown_job}
-use Rattle.roam_calls.specs.declared.answered.Answered.{Answered}
+use Rattle.roam_admission.specs.Events.{without_session}
+use Rattle.roam_admission.specs.Shown.{shown_job}
+use Rattle.roam_history.specs.declared.answered.Answered.{Answered}
 use Rattle.roam_workers.specs.Handlings.{IsAnswered, given_as}
 use Rattle.roam_workers.proofs.HandlingLemmas.{given_so, unkept}
 use Rattle.roam_workers.proofs.context.WorkerContext.answer_or_lose.Goals as goal

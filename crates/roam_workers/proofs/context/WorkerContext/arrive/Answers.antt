@@ -2,19 +2,19 @@
 use Rattle.std.proofs.Common.{◌∙◌, ap, inr}
 use Rattle.roam_counters.specs.Datagrams.{handled}
 use Rattle.roam_counters.specs.declared.datagrams.Datagrams.{Datagrams}
-use Rattle.roam_route.specs.Shown.{shown_arrival}
-use Rattle.roam_workers.specs.Mail.{at_mail}
-use Rattle.roam_workers.proofs.MailLemmas.{arrived_here}
+use Rattle.roam_admission.specs.Shown.{shown_arrival}
+use Rattle.roam_workers.specs.HandedJobs.{receiving}
+use Rattle.roam_workers.proofs.HandedLemmas.{arrived_here}
 use Rattle.roam_workers.proofs.context.WorkerContext.arrive.Goals as goal
 
 pub returns-in-Some : goal.returns-in-Some
 returns-in-Some g c =
     let self = c.args.self.now in
     let new = c.handle.new.self in
-    let out = c.handle.new.mail.outgoing.items in
+    let out = c.handle.new.jobs.for_others.items in
     arrived_here g.N.Opened.opening self.shared.now.told_exchanges self.now (shown_arrival c.args.datagram.now)
-    (at_mail self.seat self.counting self.outgoing self.datagrams c.args.mail.now.outgoing.items)
-    (at_mail new.seat new.counting new.outgoing c.after-self.result out) _ c.in-Some.handling
+    (receiving self.seat self.counting self.outgoing self.datagrams c.args.jobs.now.for_others.items)
+    (receiving new.seat new.counting new.outgoing c.after-self.result out) _ c.in-Some.handling
     c.in-Some.ensures.handled.0
     (c.after-self.ensures
     ∙ ap (λ (d : Datagrams). handled d.counts c.in-Some.handling) c.in-Some.ensures.kept)

@@ -7,9 +7,9 @@ use Rattle.roam_conf.specs.Shown.{shown}
 use Rattle.roam_counters.specs.Arrivals.{refused_increments}
 use Rattle.roam_counters.specs.Ends.{end_at}
 use Rattle.roam_counters.specs.Increments.{local_increments}
-use Rattle.roam_route.specs.Admission.{admission}
-use Rattle.roam_route.specs.Shown.{IsAdmission, shown_arrival, shown_out}
-use Rattle.roam_route.specs.declared.job.Prepared.{Prepared}
+use Rattle.roam_admission.specs.Admission.{admission}
+use Rattle.roam_admission.specs.Shown.{IsAdmission, shown_arrival, shown_out}
+use Rattle.roam_admission.specs.declared.job.Prepared.{Prepared}
 use Rattle.roam_counting.specs.Counting.{counts_in}
 use Rattle.roam_outgoing.proofs.SendingLemmas.{puts_from}
 use Rattle.roam_outgoing.specs.Sending.{outbox_in}
@@ -56,7 +56,8 @@ returns-in-Err-clause-handled g c =
     let new = at_work c.refuse.new.self.seat c.refuse.new.self.counting c.refuse.new.self.outgoing in (
       subst (IsHandled o lines self.now d (at_work self.seat self.counting self.outgoing) new) (sym
           c.refused_as.ensures)
-          (refusal_is o lines _ self.now d c.in-Err.refusal (at_work self.seat self.counting self.outgoing) new self.shared.now.same
+          (refusal_is o lines _ self.now d c.in-Err.refusal (at_work self.seat self.counting self.outgoing) new
+          self.shared.now.same
           c.in-Err.ensures.answer
           (λ (none : c.in-Err.refusal ≡ refusal.NoMemory).
           c.in-Err.ensures.memory (ap Err none))

@@ -4,8 +4,8 @@ use Rattle.roam_counters.specs.OwnCounts.{CountsView, raised_all}
 use Rattle.roam_exchange.specs.HappeningsShown.{shown_happening}
 use Rattle.roam_counters.specs.Arrivals.{failed_increments}
 use Rattle.roam_counters.specs.Increments.{job_increments}
-use Rattle.roam_route.specs.Shown.{shown_job}
-use Rattle.roam_calls.specs.Seats.{SeatView}
+use Rattle.roam_admission.specs.Shown.{shown_job}
+use Rattle.roam_history.specs.Seats.{SeatView}
 use Rattle.roam_counting.specs.Counting.{counts_in, wait_of}
 use Rattle.roam_outgoing.proofs.SendingLemmas.{puts_from}
 use Rattle.roam_outgoing.specs.Sending.{outbox_in}

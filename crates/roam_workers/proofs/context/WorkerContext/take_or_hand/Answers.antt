@@ -1,17 +1,17 @@
 -- What becomes of the job becomes of its datagram; or the job is handed on.
 use Rattle.std.proofs.Common.{◌∙◌, ◌%◌, ap, refl, sym}
-use Rattle.roam_route.specs.Admission.{PlainJob, admitted}
-use Rattle.roam_route.specs.Shown.{shown_arrival, shown_job}
-use Rattle.roam_workers.proofs.MailLemmas.{handed_on, job_handled}
+use Rattle.roam_admission.specs.Admission.{PlainJob, admitted}
+use Rattle.roam_admission.specs.Shown.{shown_arrival, shown_job}
+use Rattle.roam_workers.proofs.HandedLemmas.{handed_on, job_handled}
 use Rattle.roam_workers.proofs.context.WorkerContext.take_or_hand.Goals as goal
 
 pub returns-in-None-clause-handed : goal.returns-in-None-clause-handed
 returns-in-None-clause-handed g c =
     let self = c.args.self.now in (
-      handed_on g.N.Opened.opening (shown_arrival c.args.datagram.now) c.args.mail.now.outgoing.items
-          c.hand.new.self.outgoing.items _ (shown_job c.args.job) c.from-worker.result c.requires.admission
+      handed_on g.N.Opened.opening (shown_arrival c.args.datagram.now) c.args.jobs.now.for_others.items
+          c.set_aside.new.self.for_others.items _ (shown_job c.args.job) c.from-worker.result c.requires.admission
           (c.from-worker.ensures ∙ c.shard_of.ensures.value ∙ (λ i. c.args.job.realm % (self.shared.now.same i).shards))
-          c.in-None.ensures.handed,
+          c.in-None.ensures.aside,
       refl,
     )
 

@@ -1,7 +1,0 @@
-use Rattle.roam_auth.specs.Authenticators.{request_authenticator, response_authenticator}
-use Rattle.roam_auth.proofs.request.request_auth.Goals as goal
-
--- it is the Response Authenticator over sixteen zero octets
-pub returns : goal.returns
-unfolding request_authenticator response_authenticator
-returns c = c.response_auth.ensures

@@ -1,6 +1,0 @@
-use Rattle.roam_book.proofs.JobLemmas.{event_taken}
-use Rattle.roam_book.proofs.laws.events.Goals as goal
-
--- the law is the lemma
-pub returns : goal.returns
-returns c = event_taken

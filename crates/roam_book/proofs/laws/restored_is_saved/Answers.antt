@@ -1,5 +1,0 @@
-use Rattle.roam_realm.proofs.SavingLemmas.{restored_is_saved}
-use Rattle.roam_book.proofs.laws.restored_is_saved.Goals as goal
-
-pub returns : goal.returns
-returns c = restored_is_saved

@@ -1,8 +1,0 @@
-use Rattle.std.proofs.Common.{take}
-use Rattle.std.specs.List.{All}
-use Rattle.roam_calls.specs.Audit.{HasSeen}
-use Rattle.roam_calls.specs.Shown.{whole_of}
-use Rattle.roam_calls.proofs.report.Report.has_all.Given as goal
-
-abbrev pub invariant-loop-seat : goal.invariant-loop-seat
-invariant-loop-seat g l = All (HasSeen g.N.Opened.opening.config.shards (whole_of l.self)) (take l.seat-index l.seats)

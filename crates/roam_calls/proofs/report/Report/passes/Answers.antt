@@ -1,8 +1,0 @@
--- What is found of the seats.
-use Rattle.roam_calls.specs.Shown.{recorded, whole_of}
-use Rattle.roam_calls.proofs.AuditLemmas.{first_fault}
-use Rattle.roam_calls.proofs.report.Report.passes.Goals as goal
-
-pub returns-in-Err : goal.returns-in-Err
-returns-in-Err g c =
-    first_fault (recorded c.args.self.now) (whole_of c.args.self.now) c.args.seats.now c.in-Err.fault c.in-Err.ensures

@@ -1,5 +1,0 @@
-use Rattle.roam_carry.specs.Private.Moving.{IsMoving}
-use Rattle.roam_carry.proofs.lanes.move_lanes.Given as goal
-
-abbrev pub invariant-loop-place : goal.invariant-loop-place
-invariant-loop-place g l = IsMoving l.old l.new l.fn.before.items l.before.items l.after.items l.place

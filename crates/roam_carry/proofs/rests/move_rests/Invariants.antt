@@ -1,5 +1,0 @@
-use Rattle.roam_carry.proofs.MovedRestLemmas.{AreRestsTo}
-use Rattle.roam_carry.proofs.rests.move_rests.Given as goal
-
-abbrev pub invariant-loop-place : goal.invariant-loop-place
-invariant-loop-place g l = AreRestsTo l.old l.new l.before l.after.items l.place

@@ -1,0 +1,9 @@
+pub mod EscapedLemmas
+pub mod WriteLemmas
+pub mod WordLemmas
+pub mod PrintedLemmas
+pub mod CompareLemmas
+pub mod OutcomeLemmas
+pub mod PreventLemmas
+pub mod StateLemmas
+pub mod UnreadLemmas

@@ -1,0 +1,9 @@
+use Rattle.roam_cli.proofs.PrintedLemmas.{printed_more}
+use Rattle.roam_cli.proofs.changes.print_endpoints.Goals as goal
+
+-- one endpoint more
+pub loop-nth-preserved : goal.loop-nth-preserved
+loop-nth-preserved g c =
+    let contents = g.W.Write.contents in
+    printed_more (contents c.args.writer.now) (contents c.loop-nth.writer) (contents c.print_endpoint.new.writer)
+    c.loop-nth.invariant c.in_ok-print_endpoint.ensures

@@ -1,0 +1,11 @@
+use Rattle.roam_cli.proofs.PrintedLemmas.{printed_then}
+use Rattle.roam_cli.proofs.realm_changes.print_lost_server.Goals as goal
+
+-- one, and the other
+pub returns : goal.returns
+returns g c =
+    let contents = g.W.Write.contents in
+    let start = contents c.args.writer.now in
+    let out-1 = contents c.print_lost_at.new.writer in
+    printed_then start out-1 (contents c.print_lost_account.new.writer) c.print_lost_account.result
+    c.in_ok-print_lost_at.ensures c.print_lost_account.ensures

@@ -1,0 +1,10 @@
+pub mod CommandLine
+pub mod Escaped
+pub mod Report
+pub mod Shown
+pub mod Unread
+pub mod Printed
+pub mod CommandFaults
+pub mod Outcomes
+pub mod Reaching
+pub mod Waits

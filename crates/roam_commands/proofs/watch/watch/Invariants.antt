@@ -1,6 +1,0 @@
-use Rattle.roam_printing.specs.Printed.{IsPrinted}
-use Rattle.roam_commands.proofs.watch.watch.Given as goal
-
--- something was printed so far
-abbrev pub invariant-loop : goal.invariant-loop
-invariant-loop g l = IsPrinted (g.W.Write.contents l.fn.out) (g.W.Write.contents l.out)

@@ -1,4 +1,0 @@
-pub mod CommandFaults
-pub mod Outcomes
-pub mod Reaching
-pub mod Waits

@@ -1,5 +1,0 @@
-pub mod RemovalLemmas
-pub mod LeftLemmas
-pub mod WithoutLemmas
-pub mod WithoutLawLemmas
-pub mod WholeLemmas

@@ -1,8 +1,0 @@
-use Rattle.std.proofs.Common.{◌≡◌, false, take}
-use Rattle.std.specs.List.{list_any}
-use Rattle.roam_filter.specs.Removal.{is_some_of}
-use Rattle.roam_filter.proofs.removal.any_of.Given as goal
-
--- none so far is it
-abbrev pub invariant-loop-removed : goal.invariant-loop-removed
-invariant-loop-removed l = list_any (is_some_of l.vendor) (take l.removed-index l.list) ≡ false

@@ -1,3 +1,0 @@
-pub mod Removal
-pub mod Without
-pub mod WithoutLaws

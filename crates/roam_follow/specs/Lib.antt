@@ -1,4 +1,0 @@
-pub mod Paused
-pub mod Following
-pub mod Losing
-pub mod Private

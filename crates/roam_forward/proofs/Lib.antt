@@ -1,0 +1,16 @@
+pub mod RemovalLemmas
+pub mod LeftLemmas
+pub mod WithoutLemmas
+pub mod WithoutLawLemmas
+pub mod WholeLemmas
+pub mod ForwardedLemmas
+pub mod BufferLemmas
+pub mod AccessLemmas
+pub mod LawLemmas
+pub mod ArrangedLemmas
+pub mod CarriedLemmas
+pub mod ShapedLemmas
+pub mod AddedLemmas
+pub mod ShapedLawLemmas
+pub mod ShorterLemmas
+pub mod ShortLemmas

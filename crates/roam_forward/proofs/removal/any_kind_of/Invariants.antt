@@ -1,0 +1,8 @@
+use Rattle.std.proofs.Common.{◌≡◌, false, take}
+use Rattle.std.specs.List.{list_any}
+use Rattle.roam_forward.specs.Removal.{is_kind_of}
+use Rattle.roam_forward.proofs.removal.any_kind_of.Given as goal
+
+-- none so far is it
+abbrev pub invariant-loop-removed : goal.invariant-loop-removed
+invariant-loop-removed l = list_any (is_kind_of l.vendor l.kind) (take l.removed-index l.list) ≡ false

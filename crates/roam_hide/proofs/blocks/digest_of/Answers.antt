@@ -1,6 +1,0 @@
-use Rattle.std.proofs.Common.{[]}
-use Rattle.roam_hide.proofs.blocks.digest_of.Goals as goal
-
--- both pieces were taken in
-pub returns : goal.returns
-returns c = c.finalize.ensures _ (c.update-2.ensures _ (c.update.ensures [] c.new-hasher.ensures))

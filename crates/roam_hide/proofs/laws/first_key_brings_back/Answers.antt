@@ -1,5 +1,0 @@
-use Rattle.roam_hide.proofs.HidingLemmas.{first_key_back}
-use Rattle.roam_hide.proofs.laws.first_key_brings_back.Goals as goal
-
-pub returns : goal.returns
-returns c = first_key_back

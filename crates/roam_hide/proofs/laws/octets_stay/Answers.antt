@@ -1,5 +1,0 @@
-use Rattle.roam_hide.proofs.OctetLemmas.{AreOctets-hidden_anew, AreOctets-attribute_anew}
-use Rattle.roam_hide.proofs.laws.octets_stay.Goals as goal
-
-pub returns : goal.returns
-returns c = record { hidden = AreOctets-hidden_anew; attribute = AreOctets-attribute_anew }

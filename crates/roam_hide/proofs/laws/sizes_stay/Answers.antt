@@ -1,9 +1,0 @@
-use Rattle.roam_hide.proofs.SaltedFunctionLemmas.{length_hidden_anew}
-use Rattle.roam_hide.proofs.VendorLemmas.{length_attribute_anew}
-use Rattle.roam_hide.proofs.laws.sizes_stay.Goals as goal
-
-pub returns-clause-hidden : goal.returns-clause-hidden
-returns-clause-hidden c = length_hidden_anew
-
-pub returns-clause-attribute : goal.returns-clause-attribute
-returns-clause-attribute c = length_attribute_anew

@@ -1,4 +1,0 @@
-pub mod FieldLemmas
-pub mod ItemLemmas
-pub mod LoopLemmas
-pub mod ReadLemmas

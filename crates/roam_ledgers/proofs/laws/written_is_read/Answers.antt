@@ -1,5 +1,0 @@
-use Rattle.roam_ledgers.proofs.ItemLemmas.{written_is_read}
-use Rattle.roam_ledgers.proofs.laws.written_is_read.Goals as goal
-
-pub returns : goal.returns
-returns c = written_is_read

@@ -1,4 +1,0 @@
-pub mod Ledgers
-pub mod Reading
-pub mod Shown
-pub mod LedgerLaws

@@ -1,5 +1,0 @@
-use Rattle.roam_md5.proofs.StepLemmas.{f_same}
-use Rattle.roam_md5.proofs.steps.f_fn.Goals as goal
-
-pub returns : goal.returns
-returns c = f_same c.args.x c.args.y c.args.z c.ranges.x.fits c.ranges.y.fits c.ranges.z.fits

@@ -1,5 +1,0 @@
-use Rattle.roam_md5.proofs.StepLemmas.{xor_regrouped}
-use Rattle.roam_md5.proofs.steps.h_fn.Goals as goal
-
-pub returns-then-t-eq0 : goal.returns-then-t-eq0
-returns-then-t-eq0 c = xor_regrouped c.args.x c.args.y c.args.z

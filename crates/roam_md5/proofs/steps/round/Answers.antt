@@ -1,6 +1,0 @@
-use Rattle.std.proofs.Common.{refl, slice_index}
-use Rattle.roam_md5.proofs.StepLemmas.{add32_regrouped}
-use Rattle.roam_md5.proofs.steps.round.Goals as goal
-
-pub returns : goal.returns
-returns c = rw (c.rotate_left.ensures, add32_regrouped (slice_index c.args.v 0) c.args.f c.args.k c.args.word) refl

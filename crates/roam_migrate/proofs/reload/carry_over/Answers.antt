@@ -1,0 +1,45 @@
+use Rattle.std.proofs.Common.{arith}
+use Rattle.roam_migrate.specs.Reload.{Carries}
+use Rattle.roam_migrate.proofs.CarriedOverLemmas.{ready_none, untouched_state}
+use Rattle.roam_migrate.proofs.EntriesOverLemmas.{no_fewer}
+use Rattle.roam_migrate.proofs.ReloadLemmas.{sound_stays}
+use Rattle.roam_migrate.proofs.reload.carry_over.Goals as goal
+
+pub add_lanes-requires-clause-few : goal.add_lanes-requires-clause-few
+add_lanes-requires-clause-few g c =
+    let stays = c.stands_as_it_is.ensures.stays c.if-stands_as_it_is.true in
+    let ready = ready_none c.args.old.now c.args.new.now c.args.numbers.now c.args.fresh stays c.requires.ready in
+    omega (arith, c.requires.sound.lane_count, no_fewer c.args.old.now c.args.new.now ready.1)
+
+pub add_lanes-requires-clause-room : goal.add_lanes-requires-clause-room
+add_lanes-requires-clause-room g c =
+    let stays = c.stands_as_it_is.ensures.stays c.if-stands_as_it_is.true in
+    let ready = ready_none c.args.old.now c.args.new.now c.args.numbers.now c.args.fresh stays c.requires.ready in
+    ready.0
+
+pub returns-then-stands_as_it_is-clause-state : goal.returns-then-stands_as_it_is-clause-state
+returns-then-stands_as_it_is-clause-state g c =
+    let untouched = c.stands_as_it_is.ensures.untouched c.if-stands_as_it_is.true in
+    let k : Carries c.args.old.now c.args.new.now = record {
+      seed = c.requires.seed;
+      index = c.requires.index;
+      table = untouched.table;
+      peers = untouched.peers;
+    } in
+    let more = c.add_lanes.ensures in
+    untouched_state c.args.old.now c.args.new.now (g.E.Entries.entries_of c.args.entries.now c.args.old.now.index)
+    c.args.numbers.now c.add_lanes.new.numbers k c.requires.sound.lane_count more.more more.ticket more.stream_position
+    more.rests more.sessions
+
+pub returns-then-stands_as_it_is-clause-sound : goal.returns-then-stands_as_it_is-clause-sound
+returns-then-stands_as_it_is-clause-sound g c =
+    let untouched = c.stands_as_it_is.ensures.untouched c.if-stands_as_it_is.true in
+    let k : Carries c.args.old.now c.args.new.now = record {
+      seed = c.requires.seed;
+      index = c.requires.index;
+      table = untouched.table;
+      peers = untouched.peers;
+    } in
+    let more = c.add_lanes.ensures in
+    sound_stays c.args.old.now c.args.new.now k (g.E.Entries.entries_of c.args.entries.now c.args.old.now.index)
+    c.args.numbers.now c.add_lanes.new.numbers more.more more.ticket more.stream_position more.sessions c.requires.sound

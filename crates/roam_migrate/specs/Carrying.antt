@@ -1,0 +1,64 @@
+-- The parts at hand when a realm goes on under another part of a configuration: words of private functions alone
+-- (ours).
+use Rattle.std.specs.Prelude.{◌≡◌, ◌⊎◌, Bool, true, false, ℕ, ◌<◌, ◌≤◌, List, [], ◌∷◌, ◌++◌, if◌then◌else◌, length, map, Option, Some, None, slice_get, vec_capacity}
+use Rattle.std.specs.List.{AllByRecursion}
+use Rattle.roam_conf.specs.Config.{PeerView}
+use Rattle.roam_conf.specs.Duplicates.{has_pair_of_servers}
+use Rattle.roam_pending.specs.ListLaws.{IsIn}
+use Rattle.roam_reload.specs.Kept.{same_outs, same_servers}
+use Rattle.roam_reload.specs.Reload.{KeepsPeers, peer_part, realm_part}
+use Rattle.roam_realm.specs.RealmConfig.{RealmConfig, link_count}
+use Rattle.roam_realm.specs.Rests.{all_awake}
+use Rattle.roam_realm.specs.declared.realm_numbers.RealmNumbers.{RealmNumbers}
+use Rattle.roam_migrate.specs.Private.Moving.{AreFresh}
+use Rattle.roam_migrate.specs.Losses.{LossView}
+use Rattle.roam_migrate.specs.declared.lanes.FreshLanes.{FreshLanes}
+use Rattle.roam_migrate.specs.declared.losses.Loss.{Loss}
+
+-- what holds where it isn't told otherwise
+abbrev pub Unless : Bool → Type 0 → Type 0
+Unless true P = Unit {0}
+Unless false P = P
+
+-- numbers, and one more where it counts
+abbrev pub noted : List ℕ → ℕ → Bool → List ℕ
+noted numbers number counts = if counts then numbers ++ number ∷ [] else numbers
+
+-- each is less than all that stand behind it
+abbrev pub AreRising : List ℕ → Type 0
+AreRising [] = Unit {0}
+AreRising (n ∷ ns) = AllByRecursion (λ m. n < m) ns × AreRising ns
+
+-- an old peer's table is the one that it was, in the part on which packets depend, or its index is one of these, which
+-- rise
+pub record AreChanged (old new : List PeerView) (changed : List ℕ) : Type 0 where
+  pub told :
+      (peer : ℕ) → peer < length old
+      → IsIn peer changed ⊎ (slice_get (map peer_part new) peer ≡ slice_get (map peer_part old) peer)
+  pub rising : AreRising changed
+
+-- neither a realm's table nor any peer's is another one, as far as packets depend on them
+pub record StandsAsItIs (old new : RealmConfig) : Type 0 where
+  pub table : realm_part new.realm ≡ realm_part old.realm
+  pub peers : KeepsPeers old.peers new.peers
+
+-- in neither part two servers are at one endpoint: so each has one place in the other part, if any
+abbrev pub HaveDistinctServers : RealmConfig → RealmConfig → Type 0
+HaveDistinctServers old new = (has_pair_of_servers old.realm ≡ false) × (has_pair_of_servers new.realm ≡ false)
+
+-- each server and each `out` stands where it stood, and no peer's place is gone
+pub record StandAsBefore (old new : RealmConfig) : Type 0 where
+  pub out : same_outs old.realm new.realm ≡ true
+  pub servers : same_servers old.realm.servers new.realm.servers ≡ true
+  pub peers : length old.peers ≤ length new.peers
+
+-- the memory is there: of further lanes, where each link stands where it stood; else of all
+abbrev pub IsReadyToCarry : {A : Type 0} → RealmConfig → RealmConfig → RealmNumbers A → Option (FreshLanes A) → Type 0
+IsReadyToCarry old new numbers None =
+    (link_count new ≤ vec_capacity numbers.lanes) × StandAsBefore old new
+IsReadyToCarry old new numbers (Some fresh) =
+    AreFresh new fresh.lanes.items × (fresh.rests.items ≡ all_awake new)
+
+-- what is counted of losses
+abbrev pub shown_loss : Loss → LossView
+shown_loss loss = record { waiting = loss.waiting; held = loss.held; sessions = loss.sessions }

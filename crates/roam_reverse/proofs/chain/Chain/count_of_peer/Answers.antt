@@ -1,5 +1,0 @@
-use Rattle.roam_reverse.specs.Stands.{session_at}
-use Rattle.roam_reverse.proofs.chain.Chain.count_of_peer.Goals as goal
-
-pub returns : goal.returns
-returns g c = λ sound is. c.count.ensures (session_at c.args.self.now) sound.of_peer is

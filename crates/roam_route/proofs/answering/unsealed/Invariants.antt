@@ -1,6 +1,0 @@
-use Rattle.roam_route.proofs.AnswerLemmas.{IsFilling}
-use Rattle.roam_route.proofs.answering.unsealed.Given as goal
-
--- the packet so far, with the Proxy-States that are left, is the whole
-abbrev pub invariant-loop-attribute : goal.invariant-loop-attribute
-invariant-loop-attribute g l = IsFilling l.fn.code l.fn.request l.attribute-iterator l.packet

@@ -1,0 +1,20 @@
+use Rattle.std.proofs.Common.{refl}
+use Rattle.roam_rules.specs.RealmTurn.{entries}
+use Rattle.roam_realm.proofs.SoundLemmas.{rests-sound}
+use Rattle.roam_rules.proofs.realm_broker.RealmBroker.hear.Goals as goal
+
+-- another rest is all that changes
+pub returns-in-Some-clause-keeps : goal.returns-in-Some-clause-keeps
+returns-in-Some-clause-keeps g c =
+    let old = c.args.self.now in
+    let kept = c.requires.realm in
+    record {
+      realm = record {
+        kept_here = kept.kept_here;
+        sound = rests-sound old.settings.now (entries g.E.Entries old) _ old.numbers.now c.hear.new.self kept.sound
+            c.hear.ensures;
+        list = kept.list;
+      };
+      loans = record { settings = refl; same_entries = refl; same_numbers = refl; keeps = refl };
+      others = λ r differs. refl;
+    }

@@ -1,0 +1,42 @@
+-- A chain stays one while its tables grow.
+use Rattle.std.proofs.Common.{◌≡◌, ℕ, ◌+◌, ◌<◌, List, length, Option, sym, ap, ◌∙◌, subst}
+use Rattle.std.specs.Prelude.{nat_eq, option_map}
+use Rattle.std.specs.Map.{lookup}
+use Rattle.indexmap.specs.IndexMap.{IndexMap}
+use Rattle.roam_wire.specs.Numbered.{tickets_end}
+use Rattle.roam_sessions.specs.Facets.{AreFaceted}
+use Rattle.roam_sessions.specs.Kept.{kept_session}
+use Rattle.roam_sessions.specs.Maps.{groups_of, session_of}
+use Rattle.roam_sessions.specs.Private.Groups.{IsGrouped, PlainGroups}
+use Rattle.roam_sessions.specs.Private.Tickets.{all_listed}
+use Rattle.roam_sessions.specs.Sessions.{Session}
+use Rattle.roam_sessions.specs.Stands.{AreTickets, HaveRoom, IsSound, session_at, whole_rows}
+use Rattle.roam_sessions.specs.declared.chain.Chain.{Chain}
+use Rattle.roam_sessions.specs.declared.facets.Facets.{Facets}
+use Rattle.roam_sessions.specs.declared.open_session.OpenSession.{OpenSession}
+
+-- what is so of the sessions of a map, where its entries are others'
+same-sessions : {A H : Type 0} (m n : IndexMap ℕ (OpenSession A) H) (P : (ℕ → Option Session) → Type 0)
+    → n.entries ≡ m.entries → P (session_of m) → P (session_of n)
+same-sessions {A} m n P same h =
+    subst (λ (es : List (ℕ × OpenSession A)). P (λ t. option_map kept_session (lookup (nat_eq t) es))) (sym same) h
+
+-- groups that stay, whatever the sessions are
+abbrev pub FacetsStay : {A : Type 0} → Facets A → Facets A → Type 0
+FacetsStay f g = (F : ℕ → Option Session) → AreFaceted F f → AreFaceted F g
+
+pub grown-sound : {A : Type 0} (c d : Chain A) → IsSound c → d.by_ticket.entries ≡ c.by_ticket.entries
+    → groups_of d.whole ≡ groups_of c.whole → FacetsStay c.of_peer d.of_peer
+    → d.next ≡ c.next → HaveRoom d.spare d → d.next + d.spare < tickets_end → IsSound d
+grown-sound c d sound entries whole peers next room tickets = record {
+  tickets = subst (λ (n : ℕ). AreTickets (session_at d) n) (sym next)
+      (same-sessions c.by_ticket d.by_ticket (λ F. AreTickets F c.next) entries sound.tickets);
+  whole = subst (λ (p : PlainGroups). IsGrouped (whole_rows (session_at d)) p) (sym whole)
+      (same-sessions c.by_ticket d.by_ticket (λ F. IsGrouped (whole_rows F) (groups_of c.whole)) entries sound.whole);
+  of_peer = same-sessions c.by_ticket d.by_ticket (λ F. AreFaceted F d.of_peer) entries
+      (peers (session_at c) sound.of_peer);
+  count = same-sessions c.by_ticket d.by_ticket (λ F. length (all_listed F) ≡ length c.by_ticket.entries) entries
+      sound.count ∙ sym (ap (λ es. length es) entries);
+  room = room;
+  ticket_room = tickets;
+}

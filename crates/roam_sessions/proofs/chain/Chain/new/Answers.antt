@@ -1,0 +1,47 @@
+use Rattle.std.proofs.Common.{◌≡◌, ℕ, List, length, None, refl, sym, ap, ◌∙◌, arith}
+use Rattle.std.specs.Prelude.{option_map}
+use Rattle.roam_wire.specs.Numbered.{tickets_end}
+use Rattle.roam_sessions.specs.Maps.{session_of}
+use Rattle.roam_sessions.specs.Private.Row.{whole_row}
+use Rattle.roam_sessions.specs.Sessions.{Session}
+use Rattle.roam_sessions.specs.Stands.{whole_rows}
+use Rattle.roam_sessions.proofs.ListedLemmas.{listed-none}
+use Rattle.roam_sessions.proofs.chain.Chain.new.Goals as goal
+
+pub returns-clause-sound : goal.returns-clause-sound
+unfolding tickets_end
+returns-clause-sound g c =
+    let F = session_of c.new.result in
+    let none : (t : ℕ) → session_of c.new.result t ≡ None = λ t. rw c.new.ensures.empty refl in
+    record {
+      tickets = record {
+        distinct = λ t u s a b. absurd (let k = none t in cc (k, a));
+        given = λ t le. none t;
+        within = omega arith;
+      };
+      whole = c.new-2.ensures (whole_rows F) (λ t. ap (option_map whole_row) (none t));
+      of_peer = c.new-3.ensures F none;
+      count = ap (λ (l : List Session). length l) (listed-none F 0 tickets_end (λ u le. none u))
+          ∙ sym c.new.ensures.len;
+      room = record {
+        by_ticket = omega arith;
+        whole = record { ends = omega arith; beside = omega arith };
+        of_peer = record {
+          by_peer = record { ends = omega arith; beside = omega arith };
+          by_address = record { ends = omega arith; beside = omega arith };
+          by_identifier = record { ends = omega arith; beside = omega arith };
+          by_both = record { ends = omega arith; beside = omega arith };
+          by_ipv6 = record { ends = omega arith; beside = omega arith };
+          by_address_ipv6 = record { ends = omega arith; beside = omega arith };
+          by_identifier_ipv6 = record { ends = omega arith; beside = omega arith };
+          by_all = record { ends = omega arith; beside = omega arith };
+          by_id = record { ends = omega arith; beside = omega arith };
+        };
+      };
+      ticket_room = omega arith;
+    }
+
+pub returns-clause-empty : goal.returns-clause-empty
+returns-clause-empty g c =
+    let none : (t : ℕ) → session_of c.new.result t ≡ None = λ t. rw c.new.ensures.empty refl in
+    listed-none (session_of c.new.result) 0 tickets_end (λ u le. none u)

@@ -1,0 +1,33 @@
+-- The meaning of the code's maps (ours).
+use Rattle.std.specs.Prelude.{ℕ, ◌≤◌, List, Option, option_map, nat_eq}
+use Rattle.std.specs.Cmp.Lexicographic.{pointwise}
+use Rattle.indexmap.specs.IndexMap as map
+use Rattle.indexmap.specs.IndexMap.{IndexMap, spare}
+use Rattle.roam_sessions.specs.Kept.{kept_session}
+use Rattle.roam_sessions.specs.Private.Groups.{PlainGroups}
+use Rattle.roam_sessions.specs.Sessions.{Session}
+use Rattle.roam_sessions.specs.declared.ends.Ends.{Ends}
+use Rattle.roam_sessions.specs.declared.neighbours.Beside.{Beside}
+use Rattle.roam_sessions.specs.declared.groups.Groups.{Groups}
+use Rattle.roam_sessions.specs.declared.kept_row.KeptRow.{KeptRow}
+use Rattle.roam_sessions.specs.declared.open_session.OpenSession.{OpenSession}
+
+-- the ends of the group of a row
+abbrev pub ends_at : {Z H : Type 0} → IndexMap (KeptRow Z) Ends H → List ℕ → Option Ends
+ends_at m row = map.get_by (λ k. pointwise nat_eq row k.octets.items) m
+
+-- the neighbours of a number
+abbrev pub beside_at : {H : Type 0} → IndexMap ℕ Beside H → ℕ → Option Beside
+beside_at m t = map.get nat_eq m t
+
+abbrev pub groups_of : {A : Type 0} → Groups A → PlainGroups
+groups_of g = record { ends = ends_at g.ends; beside = beside_at g.beside }
+
+-- there is room for so many numbers more
+pub record HasRoom {A : Type 0} (n : ℕ) (g : Groups A) : Type 0 where
+  pub ends : n ≤ spare g.ends
+  pub beside : n ≤ spare g.beside
+
+-- the session of a ticket
+abbrev pub session_of : {A H : Type 0} → IndexMap ℕ (OpenSession A) H → ℕ → Option Session
+session_of m t = option_map kept_session (map.get nat_eq m t)

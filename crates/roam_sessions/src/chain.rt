@@ -1,0 +1,251 @@
+//! The sessions of a ledger in the order in which they were opened.
+
+ghost use Rattle.std.specs.Prelude.{◌≡◌, ◌≢◌, ℕ, ◌+◌, ◌-◌, ◌<◌, ◌≤◌, [], ◌∷◌, ◌++◌, false};
+ghost use Rattle.std.specs.Prelude.{None, Some, IsOk, IsSome, OnOk, OnErr, filter, is_some, length};
+ghost use Rattle.std.specs.Prelude.{option_map};
+ghost use Rattle.roam_sessions.specs.Private.Tickets.{IsOneOf, IsTicketOf, NoneBefore};
+ghost use Rattle.roam_sessions.specs.Sessions.{agrees, has_most, within, without_first};
+ghost use Rattle.roam_sessions.specs.Kept.{kept_session, shown_asked, shown_session};
+ghost use Rattle.roam_sessions.specs.Parts.{shown_parts};
+ghost use Rattle.roam_sessions.specs.Stands.{IsSound, session_at, session_count, sessions_of};
+ghost use Rattle.roam_sessions.specs.Maps.{session_of};
+ghost use Rattle.indexmap.specs.IndexMap.{index_map_len, spare};
+ghost use Rattle.roam_wire.specs.Numbered.{PutsAt};
+
+use crate::asked::{AskedRef, SessionRef};
+use crate::facets::Facets;
+use crate::groups::Groups;
+use crate::open_session::{NewSession, OpenSession};
+use crate::parts::SessionParts;
+use crate::row::Row;
+use indexmap::IndexMap;
+use roam_random::HashKey;
+use roam_wire::NoMemory;
+use std::alloc::Allocator;
+use std::hash::{BuildHasherDefault, FoldHasher};
+
+/// The session of each ticket. Nobody outside picks tickets.
+pub(crate) type ByTicket<A> = IndexMap<u64, OpenSession<A>, BuildHasherDefault<FoldHasher>, A>;
+
+/// Sessions in the order in which they were opened. Each has a ticket, and these rise. They are found by all that they
+/// are, by the names of their access servers, and by the id.
+pub(crate) struct Chain<A: Allocator> {
+    pub(crate) by_ticket: ByTicket<A>,
+    pub(crate) whole: Groups<A>,
+    pub(crate) of_peer: Facets<A>,
+    /// The ticket of the session that is opened next.
+    pub(crate) next: u64,
+    /// The number of sessions for which more room was made.
+    pub(crate) spare: usize,
+}
+
+impl<A: Allocator> Drop for Chain<A> {
+    fn drop(self) {
+        let Self {
+            by_ticket,
+            whole,
+            of_peer,
+            next: _,
+            spare: _,
+        } = self;
+        drop(by_ticket);
+        drop(whole);
+        drop(of_peer);
+    }
+}
+
+/// Puts a session at a ticket that none has, where there is room. Takes no memory.
+fn put<A: Allocator + Copy>(map: &mut ByTicket<A>, ticket: u64, session: OpenSession<A>)
+    requires room { 0 < spare map.old }
+    requires free { session_of map.old ticket ≡ None }
+    ensures puts { PutsAt (session_of map.old) (session_of map.new) ticket (Some (kept_session session)) }
+    ensures len { index_map_len map.new ≡ index_map_len map.old + 1 }
+    ensures room { spare map.old ≤ spare map.new + 1 }
+{
+    let _old = map.insert(ticket, session).unwrap();
+}
+
+/// Takes the session of a ticket out.
+fn take<A: Allocator + Copy>(map: &mut ByTicket<A>, ticket: u64) -> OpenSession<A>
+    requires { IsSome (session_of map.old ticket) }
+    ensures was { session_of map.old ticket ≡ Some (kept_session result) }
+    ensures puts { PutsAt (session_of map.old) (session_of map.new) ticket None }
+    ensures len { index_map_len map.new + 1 ≡ index_map_len map.old }
+    ensures room { spare map.old ≤ spare map.new }
+{
+    map.swap_remove(&ticket).unwrap()
+}
+
+impl<A: Allocator + Copy> Chain<A> {
+    /// No sessions. Takes no memory.
+    pub(crate) fn new(alloc: A, key: HashKey) -> Chain<A>
+        ensures sound { IsSound result }
+        ensures empty { sessions_of result ≡ [] }
+    {
+        Chain {
+            by_ticket: IndexMap::new(alloc),
+            whole: Groups::new(alloc, key),
+            of_peer: Facets::new(alloc, key),
+            next: 0,
+            spare: 0,
+        }
+    }
+
+    /// Returns how many sessions there are.
+    pub(crate) fn len(&self) -> usize
+        ensures { result ≡ session_count self.now }
+    {
+        self.by_ticket.len()
+    }
+
+    /// The ticket of a session.
+    pub(crate) fn find(&self, session: SessionRef<'_>) -> Option<u64>
+        ensures { IsSound self.now → IsTicketOf (shown_session session.entry) (session_at self.now) result }
+    {
+        self.whole.oldest(Row::of(session.asked()).as_slice())
+    }
+
+    /// The ticket of a session that is to be opened, where it is there: by the row that it has.
+    pub(crate) fn find_new(&self, new: &NewSession<A>) -> Option<u64>
+        ensures { IsSound self.now → IsTicketOf (kept_session new.now.session) (session_at self.now) result }
+    {
+        self.whole.oldest(new.whole.as_slice())
+    }
+
+    /// Makes room for one session more. No session changes. There is none once the tickets are used
+    /// up, after 2^64 - 1 sessions, which isn't reached.
+    pub(crate) fn reserve(&mut self) -> Result<(), NoMemory>
+        requires { IsSound self.old }
+        ensures sound { IsSound self.new }
+        ensures ok { OnOk result (0 < self.new.spare) }
+        ensures succeeds { 0 < self.old.spare → IsOk result }
+        ensures err { OnErr result (self.new.spare ≡ self.old.spare) }
+        ensures sessions { sessions_of self.new ≡ sessions_of self.old }
+        ensures rows { session_at self.new ≡ session_at self.old }
+        ensures next { self.new.next ≡ self.old.next }
+        ensures count { session_count self.new ≡ session_count self.old }
+    {
+        if self.spare > 0 {
+            return Ok(());
+        }
+        if self.next == u64::MAX {
+            return Err(NoMemory);
+        }
+        self.by_ticket.reserve(1)?;
+        self.whole.reserve()?;
+        self.of_peer.reserve()?;
+        self.spare = 1;
+        Ok(())
+    }
+
+    /// Puts a session last, where there is room. Takes no memory.
+    pub(crate) fn append(&mut self, new: NewSession<A>)
+        requires sound { IsSound self.old }
+        requires room { 0 < self.old.spare }
+        requires absent { (t : ℕ) → session_at self.old t ≢ Some (kept_session new.session) }
+        ensures sound { IsSound self.new }
+        ensures sessions { sessions_of self.new
+            ≡ sessions_of self.old ++ kept_session new.session ∷ [] }
+        ensures puts { PutsAt (session_at self.old) (session_at self.new) self.old.next
+            (Some (kept_session new.session)) }
+        ensures next { self.new.next ≡ self.old.next + 1 }
+        ensures count { session_count self.new ≡ session_count self.old + 1 }
+    {
+        let ticket = self.next;
+        put(&mut self.by_ticket, ticket, new.session);
+        self.whole.append(ticket, Some(new.whole));
+        self.of_peer.append(ticket, new.of_peer);
+        self.next = ticket + 1;
+        self.spare -= 1;
+    }
+
+    /// Takes the session of a ticket out.
+    pub(crate) fn remove(&mut self, ticket: u64)
+        requires sound { IsSound self.old }
+        requires held { IsSome (session_at self.old ticket) }
+        ensures sound { IsSound self.new }
+        ensures sessions { PutsAt (session_at self.old) (session_at self.new) ticket None }
+        ensures next { self.new.next ≡ self.old.next }
+        ensures count { session_count self.new + 1 ≡ session_count self.old }
+        ensures room { self.new.spare ≡ self.old.spare }
+    {
+        let session = take(&mut self.by_ticket, ticket);
+        self.whole
+            .remove(ticket, Row::of(session.lend().asked()).as_slice());
+        self.of_peer.remove(ticket, session.lend());
+    }
+
+    /// Takes the oldest session of the peer that has most out; of several that have most, the oldest of all theirs.
+    pub(crate) fn remove_of_most(&mut self)
+        requires { IsSound self.old }
+        ensures sound { IsSound self.new }
+        ensures sessions { sessions_of self.new
+            ≡ without_first (has_most (sessions_of self.old)) (sessions_of self.old) }
+        ensures count { session_count self.new ≡ session_count self.old - 1 }
+        ensures room { self.new.spare ≡ self.old.spare }
+    {
+        if let Some(ticket) = self.of_peer.oldest_of_most() {
+            self.remove(ticket);
+        }
+    }
+
+    /// Takes out the oldest session of the peer that has most, where there is one more than may be.
+    pub(crate) fn keep_within(&mut self, limit: usize)
+        requires sound { IsSound self.old }
+        requires few { session_count self.old ≤ limit + 1 }
+        ensures sound { IsSound self.new }
+        ensures sessions { sessions_of self.new ≡ within limit (sessions_of self.old) }
+        ensures count { session_count self.new ≤ limit }
+        ensures room { self.new.spare ≡ self.old.spare }
+    {
+        if self.len() > limit {
+            self.remove_of_most();
+        }
+    }
+
+    /// The ticket of the oldest session that agrees with what is asked, which names no id. Looks at no other one.
+    pub(crate) fn oldest(&self, asked: AskedRef<'_>) -> Option<u64>
+        ensures agrees { IsSound self.now → (shown_asked asked.entry).id ≡ None
+            → IsOneOf (agrees (shown_asked asked.entry)) (session_at self.now) result }
+        ensures first { IsSound self.now → (shown_asked asked.entry).id ≡ None
+            → NoneBefore (agrees (shown_asked asked.entry)) (session_at self.now) result }
+    {
+        self.of_peer.oldest(asked)
+    }
+
+    /// Returns how many sessions agree with what is asked, which names no id.
+    pub(crate) fn count_of_peer(&self, asked: AskedRef<'_>) -> usize
+        ensures { IsSound self.now → is_some (shown_asked asked.entry).id ≡ false
+            → result ≡ length (filter (agrees (shown_asked asked.entry)) (sessions_of self.now)) }
+    {
+        self.of_peer.count(asked)
+    }
+
+    /// Adds the tickets of all sessions, in no order.
+    pub(crate) fn add_tickets(&self, tickets: &mut Vec<u64, A>) -> Result<(), NoMemory> {
+        match tickets.extend_from_slice(self.by_ticket.keys().as_slice()) {
+            Ok(()) => Ok(()),
+            Err(_) => Err(NoMemory),
+        }
+    }
+
+    /// The session of a ticket, where it lies.
+    pub(crate) fn session(&self, ticket: u64) -> Option<SessionRef<'_>>
+        ensures { option_map shown_session result ≡ session_at self.now ticket }
+    {
+        match self.by_ticket.get(&ticket) {
+            Some(session) => Some(session.lend()),
+            None => None,
+        }
+    }
+
+    /// The session of a ticket, where there is one.
+    pub(crate) fn parts_of(&self, ticket: u64) -> Option<SessionParts<'_>>
+        ensures { option_map shown_parts result ≡ session_at self.now ticket }
+    {
+        match self.by_ticket.get(&ticket) {
+            Some(session) => Some(session.parts()),
+            None => None,
+        }
+    }
+}

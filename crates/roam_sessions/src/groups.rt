@@ -1,0 +1,135 @@
+//! Numbers in groups. Each group is a chain of its numbers in rising order, so that none of them costs more to take out
+//! than another, and whatever is asked of a group costs the same however many there are.
+
+ghost use Rattle.std.specs.Prelude.{◌≡◌, ℕ, ◌<◌, ◌+◌, List, Option, None, Some, IsOk, OnOk, option_map};
+ghost use Rattle.roam_sessions.specs.Private.Groups.{Comes, Goes, IsGrouped, IsLargest, count_of, newer_of, oldest_of};
+ghost use Rattle.roam_sessions.specs.Maps.{HasRoom, groups_of};
+
+use crate::ends::{Ends, GroupEnds, ends_behind, ends_left, ends_of, larger, newest_of, note, set};
+use crate::neighbours::{Beside, Neighbours, put, set_newer, set_older, take};
+use indexmap::IndexMap;
+use roam_random::HashKey;
+use roam_wire::NoMemory;
+use std::alloc::Allocator;
+
+/// Numbers, each in the group of a row. Which row that is stands with who has the numbers.
+pub(crate) struct Groups<A: Allocator> {
+    pub(crate) ends: GroupEnds<A>,
+    pub(crate) beside: Neighbours<A>,
+}
+
+// By hand, as those of what holds groups: so a proof sees one call wherever a ledger ends, and not each of its maps.
+impl<A: Allocator> Drop for Groups<A> {
+    fn drop(self) {
+        let Self { ends, beside } = self;
+        drop(ends);
+        drop(beside);
+    }
+}
+
+impl<A: Allocator + Copy> Groups<A> {
+    /// No numbers. Takes no memory.
+    pub(crate) fn new(alloc: A, key: HashKey) -> Groups<A>
+        ensures { (f : ℕ → Option (List ℕ)) → ((t : ℕ) → f t ≡ None)
+            → IsGrouped f (groups_of result) }
+    {
+        Groups {
+            ends: IndexMap::with_hasher(alloc, key),
+            beside: IndexMap::new(alloc),
+        }
+    }
+
+    /// Returns how many numbers a group has.
+    pub(crate) fn count(&self, row: &[u8]) -> usize
+        ensures { result ≡ count_of (groups_of self.now) row.now }
+    {
+        match ends_of(&self.ends, row) {
+            None => 0,
+            Some(ends) => ends.count,
+        }
+    }
+
+    /// The oldest number of a group.
+    pub(crate) fn oldest(&self, row: &[u8]) -> Option<u64>
+        ensures { result ≡ oldest_of (groups_of self.now) row.now }
+    {
+        match ends_of(&self.ends, row) {
+            None => None,
+            Some(ends) => Some(ends.oldest),
+        }
+    }
+
+    /// The next newer number of the group of a number.
+    pub(crate) fn newer(&self, number: u64) -> Option<u64>
+        ensures { result ≡ newer_of (groups_of self.now) number }
+    {
+        match self.beside.get(&number) {
+            Some(beside) => beside.newer,
+            None => None,
+        }
+    }
+
+    /// The oldest number of the group that has most; of several that have most, the oldest of all theirs. Looks at each
+    /// group once.
+    pub(crate) fn oldest_of_largest(&self) -> Option<u64>
+        ensures { IsLargest (groups_of self.now) result }
+    {
+        let mut best: Option<Ends> = None;
+        for i in 0..self.ends.len() {
+            if let Some((_row, ends)) = self.ends.get_index(i) {
+                best = Some(larger(best, *ends));
+            }
+        }
+        match best {
+            None => None,
+            Some(ends) => Some(ends.oldest),
+        }
+    }
+
+    /// Makes room for one number more. Nothing changes.
+    pub(crate) fn reserve(&mut self) -> Result<(), NoMemory>
+        ensures ok { OnOk result (HasRoom 1 self.new) }
+        ensures succeeds { HasRoom 1 self.old → IsOk result }
+        ensures room { (n : ℕ) → HasRoom n self.old → HasRoom n self.new }
+        ensures same { groups_of self.new ≡ groups_of self.old }
+    {
+        self.ends.reserve(1)?;
+        self.beside.reserve(1)?;
+        Ok(())
+    }
+
+    /// Puts a number last in the group of a row, if one is given, where there is room. Takes no memory.
+    pub(crate) fn append(&mut self, number: u64, row: Option<Vec<u8, A>>)
+        requires { HasRoom 1 self.old }
+        ensures grouped { (f g : ℕ → Option (List ℕ)) → IsGrouped f (groups_of self.old)
+            → Comes f g number (option_map (λ r. r.items) row) → IsGrouped g (groups_of self.new) }
+        ensures room { (n : ℕ) → HasRoom (n + 1) self.old → HasRoom n self.new }
+    {
+        let Some(row) = row else {
+            return;
+        };
+        let ends = ends_of(&self.ends, row.as_slice());
+        let older = newest_of(ends);
+        note(&mut self.ends, row, ends_behind(ends, number));
+        let beside = Beside { older, newer: None };
+        put(&mut self.beside, number, beside);
+        set_newer(&mut self.beside, older, Some(number));
+    }
+
+    /// Takes a number out of the group of its row: its neighbours are each other's from now on.
+    pub(crate) fn remove(&mut self, number: u64, row: &[u8])
+        ensures grouped { (f g : ℕ → Option (List ℕ)) → IsGrouped f (groups_of self.old)
+            → Goes f g number (Some row.now) → IsGrouped g (groups_of self.new) }
+        ensures room { (n : ℕ) → HasRoom n self.old → HasRoom n self.new }
+    {
+        let Some(ends) = ends_of(&self.ends, row) else {
+            return;
+        };
+        let Some(beside) = take(&mut self.beside, number) else {
+            return;
+        };
+        set_newer(&mut self.beside, beside.older, beside.newer);
+        set_older(&mut self.beside, beside.newer, beside.older);
+        set(&mut self.ends, row, ends_left(ends, beside));
+    }
+}

@@ -1,7 +1,0 @@
-use Rattle.std.proofs.Common.{All, take}
-use Rattle.roam_status.specs.Tables.{Fits}
-use Rattle.roam_status.proofs.tables.width_of.Given as goal
-
--- the cells so far fit
-abbrev pub invariant-loop-row : goal.invariant-loop-row
-invariant-loop-row l = All (Fits l.at l.width) (take l.row-index l.rows)

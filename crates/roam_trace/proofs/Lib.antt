@@ -1,2 +1,0 @@
-pub mod OctetLemmas
-pub mod HistoryLemmas

@@ -1,5 +1,0 @@
-pub mod CommandLine
-pub mod Escaped
-pub mod Report
-pub mod Shown
-pub mod Unread
