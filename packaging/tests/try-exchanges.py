@@ -116,7 +116,8 @@ def try_counts(program, work, exchanges, homes):
             waiting[key] = (kind, packet, time.monotonic())
             kinds[kind] += 1
             sent += 1
-            if sent % 50 == 0:
+            # So seldom that never 32 come within 64 ms: then the server would read few of the others from this address.
+            if sent % 100 == 0:
                 broken = access_request(0, b'bad@a.example', secret=b'another-secret!!')
                 access.sockets[0].send(broken)
                 bad += 1
