@@ -176,7 +176,7 @@ def table() -> str:
     names = {"proof": "proofs", "tests": "tests, proved", "edits": "must-fail edits", "runs": "programs and tests, run"}
     for kind in KINDS:
         of = sorted(((each[kind], crate) for crate, each in minutes.items() if each[kind] > 0), reverse=True)
-        long = [(taken, crate) for taken, crate in of if taken >= 2]
+        long = [(taken, crate) for taken, crate in of if taken >= 8]
         said = ", ".join(f"`{crate}` {taken:.1f}" for taken, crate in long)
         rest = sum(taken for taken, _ in of) - sum(taken for taken, _ in long)
         if of:

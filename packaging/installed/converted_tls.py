@@ -131,7 +131,9 @@ class Front:
         return "\n".join(lines) + "\n"
 
     def write(self, out, folder, auths, accts):
-        """Writes the three files into a folder, or else as comments behind the configuration."""
+        """Writes the three files into a folder, which it makes, or else as comments behind the configuration."""
+        if folder:
+            os.makedirs(folder, exist_ok=True)
         for name, text in (("haproxy.cfg", self.haproxy()), ("names.map", self.map()), ("streams.conf", self.streams(auths, accts))):
             if folder:
                 with open(os.path.join(folder, name), "w", encoding="utf-8") as file:

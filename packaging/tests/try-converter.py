@@ -438,7 +438,6 @@ def look_at_front(directory, written, roam, converter, paths, take):
     """What is written for haproxy and `roam streams`, once as files and once as comments: the two are the same. Returns the
     lines of each file."""
     texts, folder = {}, os.path.join(directory, "front")
-    os.mkdir(folder)
     done = run([sys.executable, converter, *paths, "--front", folder])
     want("--front" not in done.stdout and "--front" in written, done.stderr)
     for name in ("haproxy.cfg", "names.map", "streams.conf"):

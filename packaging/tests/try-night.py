@@ -451,7 +451,7 @@ PLAYS = {
         ("NoEntry", [("tries = 2", "tries = 1")], lambda night: night.logs_in('User-Name = "slow@uni.example"', waits=2)),
         ("stopped answering", [], dies),
     ],
-    "Some devices": [
+    "Some devices, or EAP stops midway": [
         ("result=accept", [], lambda night: night.logs_in()),
         ("result=abandoned", [of_realm("hold = 1000")], stops),
         ("result=abandoned", [of_realm("hold = 1000"), ('"all"', '"final"')], stops),
