@@ -10,10 +10,10 @@ from around import packets
 SECRET = b"radsec"
 
 
-def access(number, salt=b"", user=b"u@a.example", attributes=()):
+def access(number, salt=b"", user=b"u@a.example", attributes=(), password=b"a password"):
     """An Access-Request of an Identifier, told from others by its salt, with further attributes."""
     authenticator = hashlib.md5(b"%d" % number + salt).digest()
-    password = packets.hidden(b"a password".ljust(16, b"\0"), SECRET, authenticator)
+    password = packets.hidden(password.ljust(16, b"\0"), SECRET, authenticator)
     attributes = [(80, packets.ZEROS), (1, user), (2, password), *attributes]
     return packets.text(packets.ACCESS_REQUEST, number, authenticator,
                         packets.sealed(packets.ACCESS_REQUEST, number, authenticator, attributes, SECRET))
@@ -98,6 +98,8 @@ class Home:
         self.listener.listen(64)
         # Each packet that came: when, the number of its connection, and the packet.
         self.came, self.streams, self.rule, self.is_over = [], [], None, False
+        # How many connections came, also such as weren't taken since TLS failed.
+        self.dialed = 0
         threading.Thread(target=self.take, daemon=True).start()
 
     def take(self):
@@ -106,6 +108,7 @@ class Home:
                 connection, _ = self.listener.accept()
             except OSError:
                 return
+            self.dialed += 1
             connection.setsockopt(socket.IPPROTO_TCP, socket.TCP_NODELAY, 1)
             try:
                 connection = self.context.wrap_socket(connection, server_side=True) if self.context else connection
@@ -150,6 +153,8 @@ class Home:
 
     def close(self):
         self.is_over = True
+        # So that the thread that accepts ends, and the address is free.
+        self.listener.shutdown(socket.SHUT_RDWR)
         self.listener.close()
         self.cut()
 
