@@ -45,7 +45,7 @@ class Stream:
     def send(self, octets):
         self.connection.sendall(octets)
 
-    def packet(self, seconds=3.0):
+    def packet(self, seconds=10.0):
         """The next packet, or None where none comes in time or the other side ends it."""
         end = time.monotonic() + seconds
         while len(self.rest) < 4 or len(self.rest) < int.from_bytes(self.rest[2:4], "big"):
@@ -64,7 +64,7 @@ class Stream:
         octets, self.rest = self.rest[:size], self.rest[size:]
         return packets.Packet(octets)
 
-    def ends(self, seconds=3.0):
+    def ends(self, seconds=10.0):
         """Whether the other side ends it in time."""
         while not self.is_ended:
             if self.packet(seconds) is None:
@@ -132,7 +132,7 @@ class Home:
                     except OSError:
                         return
 
-    def wait_for(self, count, seconds=3.0):
+    def wait_for(self, count, seconds=10.0):
         """Waits until so many packets came. Answers whether they did."""
         end = time.monotonic() + seconds
         while len(self.came) < count and time.monotonic() < end:
@@ -172,7 +172,7 @@ def answers_at_length(stream, packet):
     stream.send(reply)
 
 
-def accepted_by(stream, number, seconds=3.0):
+def accepted_by(stream, number, seconds=10.0):
     """Whether an Access-Accept with this Identifier comes next."""
     packet = stream.packet(seconds)
     return packet is not None and (packet.code, packet.id) == (packets.ACCESS_ACCEPT, number)

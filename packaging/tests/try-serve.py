@@ -175,7 +175,7 @@ def hostile(program):
                 ends.client.sendto(bytes([octet]) * size, (HERE, to))
                 time.sleep(.02)
         wanted = {number: 3 * count for number, count in collections.Counter(row[3] for row in HOSTILE).items()}
-        for _ in range(100):
+        for _ in range(400):
             counts = server.counts()
             found = {number: total(counts, "roam_refusals_total", number=number) for number in wanted}
             if found == wanted:
@@ -286,6 +286,7 @@ def told(program):
         ends.home.sendto(signed(40, 7, attribute(32, b"nas1") + attribute(44, b"unknown"), b"h1"), (HERE, REVERSE))
         server.waits_for(r"result=nak request=disconnect .* tries=0 .*error_cause=503 cause=session_context_not_found\n")
         ends.home.sendto(signed(40, 8, attribute(32, b"nas1") + attribute(1, b"u@a.example") + attribute(44, b"x"), b"h1"), (HERE, REVERSE))
+        ends.coa.settimeout(10)
         packet, source = heard(ends.coa)
         want(packet is not None, "an order comes to the access server")
         ends.coa.sendto(sealed_answer(42, packet, b"xyzzy5461", [(101, (506).to_bytes(4, "big"))]), source)
@@ -306,6 +307,7 @@ def silent(program):
              "given up, and no reply")
         drained(ends.home)
         ends.client.sendto(named(2), (HERE, AUTH))
+        ends.home.settimeout(10)
         packet, source = heard(ends.home)
         ends.home.sendto(answer(2, packet, b"h1"), source)
         server.waits_for(r"result=accept ")
