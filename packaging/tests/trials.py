@@ -1,7 +1,7 @@
 #!/usr/bin/env python3
 """trials.py [--until SECONDS] WHEN [PROGRAM]
 
-Runs the trials of trials.txt that run then (scripts, gate, trials, around), each within three minutes in the gate, and says how long
+Runs the trials of trials.txt that run then (scripts, gate, trials, around), each within five minutes in the gate, and says how long
 each took. With `trials` it runs those of the gate too, under their full load. One that fails is run once more, since a busy machine drops
 datagrams; what it printed last is shown. Each has a network of its own where root runs them and one can be had (unshare, ip): so nothing
 else here holds its ports. One for which something isn't installed is left out, and named; so is one that would begin
@@ -34,7 +34,9 @@ def rows(when):
 
 def own_network():
     """The words before those of a command that give it a network of its own; none where that can't be had."""
-    before = ["unshare", "-n", "sh", "-c", 'ip link set lo up && exec "$@"', "sh"]
+    # The ports that the system gives out there are none that a trial names.
+    line = 'ip link set lo up || exit 1; { echo 50000 60999 > /proc/sys/net/ipv4/ip_local_port_range; } 2> /dev/null; exec "$@"'
+    before = ["unshare", "-n", "sh", "-c", line, "sh"]
     try:
         return before if os.geteuid() == 0 and subprocess.run([*before, "true"], capture_output=True, check=False).returncode == 0 else []
     except OSError:
@@ -68,7 +70,7 @@ def main():
             why = f"since {', '.join(missing)} isn't here" if missing else "for want of a program" if "PROGRAM" in words else "for want of time"
             print(f"LEFT OUT {why}: {words[0]}", flush=True)
             continue
-        begun, limit = time.monotonic(), 180 if given[0] in ("gate", "scripts") else 900
+        begun, limit = time.monotonic(), 300 if given[0] in ("gate", "scripts") else 900
         if not is_good(words, limit, before) and not is_good(words, limit, before):
             failed.append(" ".join(words))
         print(f"tried: {' '.join(words)} ({time.monotonic() - begun:.0f} s), {place} of {len(found)}", flush=True)
