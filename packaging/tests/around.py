@@ -169,6 +169,8 @@ def tried(start, look):
         around, ended = Around(directory), []
         try:
             start(around)
+            if around.server:
+                around.server.waits_for()
             time.sleep(3)
             look(around)
             ended = around.close()

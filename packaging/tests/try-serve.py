@@ -153,7 +153,7 @@ def served(program, *words, options=("--seed-of-file",), **keys):
 def accounting(program):
     """The worked exchange; a second server beside the first has no port; the time ends the server."""
     begin = time.monotonic()
-    with served(program, "6000") as (server, ends):
+    with served(program, "12000") as (server, ends):
         ends.complete(ACCOUNTING)
         counts = server.counts()
         for who in ("realm", "server", "peer"):
@@ -162,7 +162,7 @@ def accounting(program):
         second = run(program, "serve", "--seed-of-file", server.conf)
         want(second[0] == 1 and "roam: cannot " in second[2], f"a second server is declined: {second}")
         server.balances()
-        want(server.ends(60) == 0 and time.monotonic() - begin >= 6, "it ends at its time")
+        want(server.ends(60) == 0 and time.monotonic() - begin >= 12, "it ends at its time")
         steps, times = steps_of(server)
         want(steps <= 100 and times == 0, f"a server at rest stores {steps} steps")
 
@@ -296,7 +296,7 @@ def told(program):
 def silent(program):
     """Of a request that nobody answers it is told whether its server ever did: by its line, by the server's, in the status and by what the
     alert goes by."""
-    with served(program, tries=1, wait=300, hold=0, rest=20000) as (server, ends):
+    with served(program, tries=1, wait=1500, hold=0, rest=30000) as (server, ends):
         ends.client.sendto(named(1), (HERE, AUTH))
         server.waits_for(r'result=given_up .* why=never_answered .*hint="wrong secret on either side, wrong port, or this proxy is not')
         server.waits_for(rf"home server {HERE}:{HOME} of a\.example never answered: marked dead\. Wrong secret on either side")
