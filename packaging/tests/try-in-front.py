@@ -8,6 +8,7 @@ revoked one and none, and a home server whose certificate has another name.
 
 It needs haproxy, radsecproxy, freeradius, openssl, unshare and ip, and no root where users may have networks of their own.
 """
+import importlib
 import os
 import re
 import subprocess
@@ -19,7 +20,7 @@ sys.dont_write_bytecode = True
 import eap_ttls
 from around import Around, command, in_own_network
 from looks import BAD, changed, end, go_on, over_lines, want, words
-from radius import packets
+from radius import asked, bound, heard, packets
 from stream_ends import SECRET, Home, access, accounting, answer, answers
 from stream_tls import SAMPLES, client, home_context, make_certificates, placed
 
@@ -201,6 +202,20 @@ def at_once(around):
     want(good == 64, f"{good} of 64 connections at once have a login")
 
 
+def of_freeradius(around):
+    """64 logins at once of a client that is a FreeRADIUS: it too has each reply in a record of its own."""
+    text = importlib.import_module("try-tls").COLLEGE.replace("proxy.college.example", COLLEGE)
+    around.freeradius("college", text.format(around.directory), proxies="yes")
+    to, got = ("127.0.3.2", 1812), set()
+    want(asked(access(0, b"first", b"u@home.example"), to, "127.0.3.9", 1, 20), "a login of a FreeRADIUS")
+    with bound(0, "127.0.3.9", 10) as nas:
+        for number in range(64):
+            nas.sendto(access(number, b"at once", b"u%d@home.example" % number), to)
+        while len(got) < 64 and (octets := heard(nas)[0]) and octets[0] == packets.ACCESS_ACCEPT:
+            got.add(octets[1])
+    want(len(got) == 64, f"{len(got)} of 64 at once are accepted")
+
+
 def in_flight(around):
     """A peer's connection has 256 requests waiting at a home server, which then answers all of them."""
     home, one = Home((AT_HOME, 2083), home_context(around.directory, "radius.home.example")), Peer(around.directory, UNIVERSITY)
@@ -263,6 +278,7 @@ def tried(program, front, begin, code):
             strangers(around, code)
             if "front" in around.running:
                 at_once(around)
+                of_freeradius(around)
             home = around.running["home"]
             around.kill("home")
             home.wait()
