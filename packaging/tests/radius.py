@@ -136,7 +136,7 @@ def drained(at, first=.3, then=.3):
     return found
 
 
-def asked(packet, to, source=HERE, seconds=2, times=1):
+def asked(packet, to, source=HERE, seconds=10, times=1):
     """The reply to a request that is sent so often, so many seconds apart, from a port of its own; nothing."""
     with contextlib.closing(bound(0, source, seconds)) as one:
         for _ in range(times):

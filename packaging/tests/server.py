@@ -102,7 +102,7 @@ def imbalances(page, may_lose=()):
     return found
 
 
-def want_balance(ask, may_lose=(), seconds=5):
+def want_balance(ask, may_lose=(), seconds=20):
     """Wants the metrics to balance at rest, which may take so many seconds: `ask` gives their page."""
     end = time.monotonic() + seconds
     while (found := imbalances(ask(), may_lose)) and time.monotonic() < end:
@@ -153,14 +153,14 @@ class Server:
             time.sleep(.02)
         return found or sys.exit(f"it doesn't tell {pattern!r}: {self.said()}")
 
-    def tells(self, line, seconds=5):
+    def tells(self, line, seconds=20):
         """Whether this is told, at the latest after so long: which servers keep silent is looked at about each second."""
         end = time.monotonic() + seconds
         while line not in self.said() and time.monotonic() < end:
             time.sleep(.05)
         return line in self.said()
 
-    def is_asked(self, seconds=5):
+    def is_asked(self, seconds=20):
         """Whether it answers at its control socket within so many seconds."""
         end = time.monotonic() + seconds
         while time.monotonic() < end and self.process.poll() is None:
@@ -188,7 +188,7 @@ class Server:
     def count(self, name, *held, **labels):
         return total(self.counts(), name, *held, **labels)
 
-    def balances(self, seconds=5):
+    def balances(self, seconds=20):
         """Wants its metrics to balance: see `want_balance`."""
         want_balance(lambda: self.ctl("metrics").stdout, self.may_lose, seconds)
 

@@ -10,10 +10,10 @@ from around import packets
 SECRET = b"radsec"
 
 
-def access(number, salt=b"", user=b"u@a.example", attributes=()):
+def access(number, salt=b"", user=b"u@a.example", attributes=(), password=b"a password"):
     """An Access-Request of an Identifier, told from others by its salt, with further attributes."""
     authenticator = hashlib.md5(b"%d" % number + salt).digest()
-    password = packets.hidden(b"a password".ljust(16, b"\0"), SECRET, authenticator)
+    password = packets.hidden(password.ljust(16, b"\0"), SECRET, authenticator)
     attributes = [(80, packets.ZEROS), (1, user), (2, password), *attributes]
     return packets.text(packets.ACCESS_REQUEST, number, authenticator,
                         packets.sealed(packets.ACCESS_REQUEST, number, authenticator, attributes, SECRET))
@@ -45,7 +45,7 @@ class Stream:
     def send(self, octets):
         self.connection.sendall(octets)
 
-    def packet(self, seconds=3.0):
+    def packet(self, seconds=10.0):
         """The next packet, or None where none comes in time or the other side ends it."""
         end = time.monotonic() + seconds
         while len(self.rest) < 4 or len(self.rest) < int.from_bytes(self.rest[2:4], "big"):
@@ -64,7 +64,7 @@ class Stream:
         octets, self.rest = self.rest[:size], self.rest[size:]
         return packets.Packet(octets)
 
-    def ends(self, seconds=3.0):
+    def ends(self, seconds=10.0):
         """Whether the other side ends it in time."""
         while not self.is_ended:
             if self.packet(seconds) is None:
@@ -98,6 +98,8 @@ class Home:
         self.listener.listen(64)
         # Each packet that came: when, the number of its connection, and the packet.
         self.came, self.streams, self.rule, self.is_over = [], [], None, False
+        # How many connections came, also such as weren't taken since TLS failed.
+        self.dialed = 0
         threading.Thread(target=self.take, daemon=True).start()
 
     def take(self):
@@ -106,6 +108,7 @@ class Home:
                 connection, _ = self.listener.accept()
             except OSError:
                 return
+            self.dialed += 1
             connection.setsockopt(socket.IPPROTO_TCP, socket.TCP_NODELAY, 1)
             try:
                 connection = self.context.wrap_socket(connection, server_side=True) if self.context else connection
@@ -129,7 +132,7 @@ class Home:
                     except OSError:
                         return
 
-    def wait_for(self, count, seconds=3.0):
+    def wait_for(self, count, seconds=10.0):
         """Waits until so many packets came. Answers whether they did."""
         end = time.monotonic() + seconds
         while len(self.came) < count and time.monotonic() < end:
@@ -150,6 +153,8 @@ class Home:
 
     def close(self):
         self.is_over = True
+        # So that the thread that accepts ends, and the address is free.
+        self.listener.shutdown(socket.SHUT_RDWR)
         self.listener.close()
         self.cut()
 
@@ -167,7 +172,7 @@ def answers_at_length(stream, packet):
     stream.send(reply)
 
 
-def accepted_by(stream, number, seconds=3.0):
+def accepted_by(stream, number, seconds=10.0):
     """Whether an Access-Accept with this Identifier comes next."""
     packet = stream.packet(seconds)
     return packet is not None and (packet.code, packet.id) == (packets.ACCESS_ACCEPT, number)

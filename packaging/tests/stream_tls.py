@@ -169,8 +169,8 @@ def wait_for_front(directory, at=FRONT, seconds=20):
 
 
 def comes(around, name, text):
-    """Whether a line with this text comes within three seconds."""
-    for _ in range(60):
+    """Whether a line with this text comes within ten seconds."""
+    for _ in range(200):
         if text in around.log(name):
             return True
         time.sleep(0.05)

@@ -1,9 +1,10 @@
 #!/usr/bin/env python3
 """trials.py [--until SECONDS] WHEN [PROGRAM]
 
-Runs the trials of trials.txt that run then (scripts, gate, trials, around), each within three minutes in the gate, and says how long
+Runs the trials of trials.txt that run then (scripts, gate, trials, around), each within five minutes in the gate, and says how long
 each took. With `trials` it runs those of the gate too, under their full load. One that fails is run once more, since a busy machine drops
-datagrams; what it printed last is shown. One for which something isn't installed is left out, and named; so is one that would begin
+datagrams; what it printed last is shown. Each has a network of its own where root runs them and one can be had (unshare, ip): so nothing
+else here holds its ports. One for which something isn't installed is left out, and named; so is one that would begin
 later than so many seconds from now. The status is 1 where one fails, and the last lines name each of them.
 """
 import os
@@ -31,10 +32,21 @@ def rows(when):
     return found
 
 
-def is_good(words, limit):
+def own_network():
+    """The words before those of a command that give it a network of its own; none where that can't be had."""
+    # The ports that the system gives out there are none that a trial names.
+    line = 'ip link set lo up || exit 1; { echo 50000 60999 > /proc/sys/net/ipv4/ip_local_port_range; } 2> /dev/null; exec "$@"'
+    before = ["unshare", "-n", "sh", "-c", line, "sh"]
+    try:
+        return before if os.geteuid() == 0 and subprocess.run([*before, "true"], capture_output=True, check=False).returncode == 0 else []
+    except OSError:
+        return []
+
+
+def is_good(words, limit, before):
     """Whether a trial passes; what it printed last is shown where it doesn't."""
     try:
-        ran = subprocess.run([os.path.join(HERE, words[0]), *words[1:]], stdout=subprocess.PIPE, stderr=subprocess.STDOUT, timeout=limit, check=False)
+        ran = subprocess.run([*before, os.path.join(HERE, words[0]), *words[1:]], stdout=subprocess.PIPE, stderr=subprocess.STDOUT, timeout=limit, check=False)
         status, printed = ran.returncode, ran.stdout
     except subprocess.TimeoutExpired as late:
         status, printed = f"nothing within {limit} s", late.stdout or b""
@@ -50,7 +62,7 @@ def main():
     if not 1 <= len(given) <= 2 or given[0] not in WHEN:
         print(__doc__, file=sys.stderr)
         return 2
-    failed, found = [], rows(given[0])
+    failed, found, before = [], rows(given[0]), own_network()
     for place, (words, needs) in enumerate(found, 1):
         words = [os.path.abspath(given[1]) if it == "PROGRAM" and given[1:] else it for it in words]
         missing = [it for it in needs if not (shutil.which(it) or shutil.which(it, path="/usr/sbin:/sbin"))]
@@ -58,8 +70,8 @@ def main():
             why = f"since {', '.join(missing)} isn't here" if missing else "for want of a program" if "PROGRAM" in words else "for want of time"
             print(f"LEFT OUT {why}: {words[0]}", flush=True)
             continue
-        begun, limit = time.monotonic(), 180 if given[0] in ("gate", "scripts") else 900
-        if not is_good(words, limit) and not is_good(words, limit):
+        begun, limit = time.monotonic(), 300 if given[0] in ("gate", "scripts") else 900
+        if not is_good(words, limit, before) and not is_good(words, limit, before):
             failed.append(" ".join(words))
         print(f"tried: {' '.join(words)} ({time.monotonic() - begun:.0f} s), {place} of {len(found)}", flush=True)
     print("".join(f"FAILED: {it}\n" for it in failed), end="")

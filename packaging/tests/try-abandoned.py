@@ -14,7 +14,7 @@ Access-Challenge has a State that the next Access-Request gives back. It fails u
    returned;
 6. a realm that holds no replies tells of none.
 
-It needs no root, and takes four seconds.
+It needs no root, and takes seven seconds.
 """
 import json
 import re
@@ -32,7 +32,7 @@ from server import configuration, peer, places, realm
 PORT, HOMES = 18260, (28260, 28262, 28264)
 OTHER, SECRET, HOME_SECRET = '127.0.0.2', b'a-secret-of-nas1', b'a-secret-of-home'
 CHALLENGE, ACCEPT, STATE, EAP = 11, 2, 24, 79
-HOLD, PAUSE = 1000, .1
+HOLD, PAUSE = 4000, .1
 REALMS, UNHELD = ('a.example', 'b.example'), 'c.example'
 
 
@@ -59,7 +59,7 @@ class Login:
 
     def __init__(self, user, source=HERE):
         self.user, self.state, self.number, self.begun = user.encode(), None, 0, time.monotonic()
-        self.socket = bound(0, source, 2)
+        self.socket = bound(0, source, 10)
 
     def sends(self, state=None):
         """Sends the next round, with another State where one is given, and gives the code of the reply."""
@@ -92,7 +92,8 @@ def told(server, user):
 def want_time(line, rounds, held):
     """Wants the whole time of a line: its pauses, and for how long its last Challenge was held."""
     least = (rounds - 1) * PAUSE * 1000 + (HOLD if held else 0)
-    want(least <= int(line['login_ms']) <= least + 1500, f"{line['user']}: {line['login_ms']} ms since the first of {rounds} rounds")
+    # So much more at most: each round may be late where the machine has much else to do.
+    want(least <= int(line['login_ms']) <= least + 3500, f"{line['user']}: {line['login_ms']} ms since the first of {rounds} rounds")
     want(int(line['ms']) <= int(line['login_ms']) - (rounds - 1) * PAUSE * 1000 + 50, f"of which the last round took {line['ms']}")
 
 

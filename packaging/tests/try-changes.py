@@ -23,7 +23,7 @@ from server import Server, configuration, peer, realm, total
 import broker as apart
 from changes import ChangingBroker
 
-SEEDS, EVENTS, LIMIT = range(1, 17), 130, 50
+SEEDS, EVENTS, LIMIT, LEAST, TIMES = range(1, 17), 130, 50, 100, 4
 # From this seed on time passes: what falls due is so many milliseconds away from all else that happens.
 TIMED, MARGIN, EVENTS_IN_TIME = 15, 300, 60
 AUTH, ACCT, OUT, REVERSE, COA, HOME = 39012, 39013, 39020, 39040, 39799, 39112
@@ -152,17 +152,20 @@ class Ends:
         for place, one in self.at.items():
             self.poll.register(one, select.EPOLLIN)
             self.by_fd[one.fileno()] = place
-        self.watch, self.number = bound(0, WATCH, 3), 0
+        # How long it took last until the program had come so far, in milliseconds.
+        self.watch, self.number, self.took = bound(0, WATCH, 3), 0, 0.
 
     def taken(self, count):
-        """What came since, as from where, where to, and octets: at least so much is waited for, two seconds at most."""
+        """What came since, as from where, where to, and octets: at least so much is waited for, ten seconds at most."""
         self.number = (self.number + 1) % 256
         authenticator = bytes([self.number]) * 16
         seal = packets.sealed(12, self.number, authenticator, [(packets.SEAL, packets.ZEROS)], SECRETS[0].encode())
         self.watch.sendto(packets.text(12, self.number, authenticator, seal), (HERE, AUTH))
-        found, until, is_past = [], time.monotonic() + 2, False
+        found, begun, is_past = [], time.monotonic(), False
+        until = begun + 10
         while time.monotonic() < until and not (is_past and len(found) >= count):
-            is_past = is_past or bool(select.select([self.watch], [], [], .005)[0]) and self.watch.recv(4096)[1] == self.number
+            if not is_past and select.select([self.watch], [], [], .005)[0] and self.watch.recv(4096)[1] == self.number:
+                is_past, self.took = True, (time.monotonic() - begun) * 1000
             for fd, _ in self.poll.poll(0 if not is_past or len(found) >= count else .05):
                 place = self.by_fd[fd]
                 octets, source = self.at[place].recvfrom(4096)
@@ -186,10 +189,24 @@ class Play:
         self.server.waits_for()
         self.broker = ChangingBroker(apart.Config(self.file.text()))
         self.asked, self.sent, self.refused, self.done = [], [], collections.Counter(), []
+        # Whether the machine held something up for so long that what falls due is no more apart from all else, and what differed then.
+        self.is_late, self.spoilt = False, None
 
     def now(self):
         """The moment of the other broker's clock, in milliseconds."""
         return int((time.monotonic() - self.began) * 1000) if self.is_timed else 0
+
+    def looks(self, holds, what):
+        """Wants this, and tells whether it is so. A play in which time passes is spoilt where something was held up before."""
+        if not holds and self.is_late:
+            self.spoilt = what
+        else:
+            want(holds, what)
+        return holds
+
+    def notes(self, took):
+        """Notes whether something took too long, in milliseconds."""
+        self.is_late = self.is_late or self.is_timed and took > MARGIN * 2 // 3
 
     def pass_time(self, ahead=MARGIN):
         """Waits until nothing falls due that is near, and looks at what was sent for all that did. Each falls due at its own moment."""
@@ -197,16 +214,17 @@ class Play:
         while near := [e.deadline for it in self.broker.realms for e in it.entries if e.deadline < self.now() + ahead]:
             moment = min(near)
             time.sleep(max(0, moment + MARGIN - self.now()) / 1000)
+            self.notes(self.now() - moment - MARGIN)
             sent = self.broker.tick(moment, 0)
             wanted, falls = wanted + [(self.place_of(at), to, octets) for _, at, to, octets in sent], falls + 1
         if not falls:
             return True
         got = self.ends.taken(len(wanted))
+        self.notes(self.ends.took)
         self.done.append(f"-- time passes: {falls} fall due, {len(wanted)} packets")
-        want(got == sorted(wanted), f"seed {self.seed}, time passes:\n" + "\n".join(
+        return self.looks(got == sorted(wanted), f"seed {self.seed}, time passes:\n" + "\n".join(
             f"    {word} {one[0]} -> {one[1]} {one[2].hex()}" for word, of in (("wanted", sorted(wanted)), ("got", got)) for one in of)
             + "\n    before it:\n      " + "\n      ".join(self.done[-6:]))
-        return got == sorted(wanted)
 
     def place_of(self, place):
         """The endpoint of a place under the file of the time."""
@@ -220,19 +238,21 @@ class Play:
         """An event for both: whether what is sent for it is the same."""
         if self.is_timed and not self.pass_time():
             return False
-        line = f"A {self.now()}/{int(time.time())} {place} {apart.at(*source)} {octets.hex()}"
+        began = self.now()
+        line = f"A {began}/{int(time.time())} {place} {apart.at(*source)} {octets.hex()}"
         waiting = {id(e): e.octets for _, e in self.waiting()}
         sent, refusal = self.broker.event(line)
         self.refused[refusal] += refusal is not None
         self.sent += [(it, e.link, e.octets) for it, e in self.waiting() if waiting.get(id(e)) != e.octets]
         wanted = sorted((self.place_of(at), to, octets) for _, at, to, octets in sent)
         self.ends.at[source].sendto(octets, self.place_of(place))
+        self.notes(self.now() - began)
         got = self.ends.taken(len(wanted))
+        self.notes(self.ends.took)
         self.done.append(f"{what}: {line[:140]}")
-        want(got == wanted, f"seed {self.seed}, event {len(self.done)}, {what}:\n" + "\n".join(
+        return self.looks(got == wanted, f"seed {self.seed}, event {len(self.done)}, {what}:\n" + "\n".join(
             f"    {word} {one[0]} -> {one[1]} {one[2].hex()}" for word, of in (("wanted", wanted), ("got", got)) for one in of)
             + f"\n    refusal {refusal}; before it:\n      " + "\n      ".join(self.done[-6:]))
-        return got == wanted
 
     def waiting(self):
         return [(it, e) for it in self.broker.realms for e in it.entries if e.waits()]
@@ -310,13 +330,14 @@ class Play:
     def change(self):
         if self.is_timed and not self.pass_time(3 * MARGIN):
             return False
-        what = self.file.change()
+        what, began = self.file.change(), self.now()
         answer = self.server.reload(self.file.text(), ("--lose",))
         self.done.append(f"-- {what}")
         if answer.returncode:
             want(False, f"seed {self.seed}: {what} is followed, and not: {answer.stdout[:300]}")
             return False
         self.broker.follow(apart.Config(self.file.text()))
+        self.notes(self.now() - began)
         return self.look_at_refusals()
 
     def look_at_refusals(self):
@@ -325,8 +346,7 @@ class Play:
         found = {number: total(counts, "roam_refusals_total", number=number) for number in range(1, 30)}
         wanted = {number: self.refused[number] for number in range(1, 30)}
         differs = {number: (found[number], wanted[number]) for number in wanted if found[number] != wanted[number]}
-        want(not differs, f"seed {self.seed}, after {self.done[-1]}: refused are, and should be: {differs}")
-        return not differs
+        return self.looks(not differs, f"seed {self.seed}, after {self.done[-1]}: refused are, and should be: {differs}")
 
     def run(self):
         makes = (self.request, self.repeat, self.reply, self.late, self.disconnect, self.junk, self.change)
@@ -335,7 +355,7 @@ class Play:
                 return
         time.sleep(.1)
         extra = self.ends.taken(0)
-        want(extra == [] and self.look_at_refusals(), f"seed {self.seed}: nothing more comes, but {extra}")
+        self.looks(extra == [] and self.look_at_refusals(), f"seed {self.seed}: nothing more comes, but {extra}")
         self.server.balances()
 
 
@@ -371,23 +391,35 @@ def held_above(play):
     ask("one of which one is held")
 
 
+def played_once(program, seed):
+    """A play of a seed, which has ended."""
+    with tempfile.TemporaryDirectory() as folder:
+        play = Play(program, folder, seed)
+        try:
+            held_above(play) if seed == 1 else play.run()
+        finally:
+            play.server.__exit__()
+            play.ends.close()
+    return play
+
+
 def main():
     program, *seeds = words(__doc__, 1, 99)
     go_on()
     be_quiet()
     begun, played, changes = time.monotonic(), 0, 0
     for seed in [int(it) for it in seeds] or SEEDS:
-        if not seeds and time.monotonic() - begun > LIMIT:
+        if not seeds and time.monotonic() - begun > LIMIT and changes >= LEAST:
             break
-        with tempfile.TemporaryDirectory() as folder:
-            play = Play(program, folder, seed)
-            try:
-                held_above(play) if seed == 1 else play.run()
-            finally:
-                play.server.__exit__()
-                play.ends.close()
-            played, changes = played + len(play.done), changes + sum(it.startswith("-- ") and "time passes" not in it for it in play.done)
-    want(bool(seeds) or changes >= 100, f"{changes} changes are a hundred or more")
+        for _ in range(TIMES):
+            play = played_once(program, seed)
+            if not play.spoilt:
+                break
+            print(f"seed {seed} is spoilt, since something was held up for more than {MARGIN * 2 // 3} ms", flush=True)
+        else:
+            want(False, f"{TIMES} times spoilt, {play.spoilt}")
+        played, changes = played + len(play.done), changes + sum(it.startswith("-- ") and "time passes" not in it for it in play.done)
+    want(bool(seeds) or changes >= LEAST, f"{changes} changes are {LEAST} or more")
     print(f"{played} events, {changes} of them changes, in {time.monotonic() - begun:.0f} s")
     return end("each packet is as the broker written apart has it")
 

@@ -60,7 +60,7 @@ def no_clock(path):
 def at_a_start(server, path, made):
     with no_clock(path):
         server.start(LD_PRELOAD=made)
-        want(server.ends(10) == 1 and server.said() == "roam: no clock\n", f"it ends at its start: {server.said()}")
+        want(server.ends(30) == 1 and server.said() == "roam: no clock\n", f"it ends at its start: {server.said()}")
 
 
 def for_a_while(server, path, made):
@@ -68,12 +68,12 @@ def for_a_while(server, path, made):
     server.waits_for()
     home = HomeServer(HOME, b"a-secret-of-home")
     request = access(1, b"u@a.example")
-    with contextlib.closing(bound(0, HERE, 2)) as client, contextlib.closing(bound(HOME + 1, HERE, .1)) as silent:
+    with contextlib.closing(bound(0, HERE, 10)) as client, contextlib.closing(bound(HOME + 1, HERE, .1)) as silent:
         client.sendto(request, (HERE, PORT))
         reply = heard(client)[0]
         want(reply, "a request is answered")
         client.sendto(accounting(2, b"u@a.example", b"1", b"a-secret-of-nas1", body=attribute(32, b"nas1")), (HERE, PORT + 1))
-        silent.settimeout(2)
+        silent.settimeout(10)
         sent = heard(silent)[0]
         want(sent, "another one is forwarded, and not answered")
         with no_clock(path):
@@ -84,6 +84,7 @@ def for_a_while(server, path, made):
             want(heard(client)[0] == reply and home.came == came, "a duplicate gets the reply that is held")
             want(asked(access(3, b"u@a.example"), (HERE, PORT)), "a request is answered meanwhile")
         begun = time.monotonic()
+        silent.settimeout(10)
         want(heard(silent)[0] == sent, f"with the clock it is sent again, after {time.monotonic() - begun:.1f} s")
     server.stop()
 

@@ -8,6 +8,7 @@ killed server left behind is taken over, one of a server that runs is not; and a
 answers each request that it took, takes none any more, ends with 0 and removes the socket. The load is RATE requests a
 second (4,000), by as many processes as there are realms, each with a home server in another process.
 """
+import array
 import collections
 import contextlib
 import http.client
@@ -95,21 +96,28 @@ class AccessServer:
                 self.answered += len(self.sockets[at].recv(4096)) >= 20
         return self.answered > before
 
-    def take_all(self, seconds):
-        """Takes replies until none comes for so long."""
-        while self.take(seconds):
-            pass
+    def take_all(self, count, seconds=20):
+        """Takes replies until there are so many, so long at most. Answers whether there are."""
+        end = time.monotonic() + seconds
+        while self.answered < count and time.monotonic() < end:
+            self.take(.05)
+        return self.answered == count
 
 
 def ask_for(realm, rate, seconds, told):
-    """Sends so many requests a second, and tells how many were sent and answered at the end."""
-    access, begin = AccessServer(realm), time.monotonic()
+    """Sends so many requests a second, and tells at which moments, and, when it is asked, how many of them were answered."""
+    access, begin, moments = AccessServer(realm), time.monotonic(), array.array('d')
     while time.monotonic() < begin + seconds:
         while access.users < (time.monotonic() - begin) * rate:
             access.send()
+            moments.append(time.monotonic())
         access.take(.001)
-    access.take_all(1)
-    told.send((access.users, access.answered))
+    told.send(moments)
+    # What comes too late or twice is counted, too.
+    access.take_all(told.recv())
+    while access.take(.2):
+        pass
+    told.send(access.answered)
 
 
 class OverUnix(http.client.HTTPConnection):
@@ -171,11 +179,9 @@ def try_hostile(server, access):
         with contextlib.suppress(OSError):
             slow.send(bytes([octet]))
         time.sleep(1)
-    before = access.answered
     for _ in range(100):
         access.send()
-    access.take_all(1)
-    want(access.answered - before == 100, 'who opens connections and asks nothing holds no request up')
+    want(access.take_all(access.users), 'who opens connections and asks nothing holds no request up')
     want(server.ctl('status').returncode == 0, 'nor `roam ctl`')
     for one in idle + [slow, long]:
         one.close()
@@ -202,7 +208,7 @@ def try_stop(server, homes, rate):
     told, loads = [], []
     for realm in range(REALMS):
         near, far = multiprocessing.Pipe()
-        loads.append(multiprocessing.Process(target=ask_for, args=(realm, rate / REALMS, 4, far), daemon=True))
+        loads.append(multiprocessing.Process(target=ask_for, args=(realm, rate / REALMS, 5, far), daemon=True))
         told.append(near)
     for load in loads:
         load.start()
@@ -210,11 +216,17 @@ def try_stop(server, homes, rate):
     asked = time.monotonic()
     answer = server.ctl('stop')
     ended, status = time.monotonic(), server.ends(40)
-    sums = [sum(numbers) for numbers in zip(*(near.recv() for near in told))]
-    taken = sum(home.count() for home in homes)
-    print(f'     {sums[0]} sent in 4 s, {taken} taken, {sums[1]} answered, {ended - asked:.2f} s from the question to the end')
-    want(.3 * sums[0] < taken < .65 * sums[0], 'it took requests until it was asked, and none after it')
-    want(sums[1] == taken, 'each request that it took was answered')
+    moments = [near.recv() for near in told]
+    of_each = [home.count() for home in homes]
+    for near, count in zip(told, of_each):
+        near.send(count)
+    taken, back = sum(of_each), sum(near.recv() for near in told)
+    # What lay in its sockets when it was asked is lost, and a worker may take some more until it knows of it.
+    before, until = (sum(when < moment for one in moments for when in one) for moment in (asked - .5, ended + .5))
+    print(f'     {sum(map(len, moments))} sent in 5 s, {before} and {until} of them until half a second before it was asked and after that, '
+          f'{taken} taken, {back} answered, {ended - asked:.2f} s from the question to the end')
+    want(0 < before <= taken <= until, 'it took requests until it was asked, and none after it')
+    want(back == taken, 'each request that it took was answered')
     want(answer.returncode == 0 and answer.stdout == 'stopping\n', '`roam ctl` says so')
     want(status == 0 and 'audited' in server.said() and 'asked to stop' in server.said(), 'it ends with 0, audited')
     want(not os.path.exists(server.path), 'and removes the socket')
@@ -241,8 +253,7 @@ def main():
                  'but not while somebody listens')
             for _ in range(200):
                 access.send()
-            access.take_all(1)
-            want(access.answered == 200, '200 requests are answered')
+            want(access.take_all(200), '200 requests are answered')
             try_status(server, 200)
             try_hostile(server, access)
             server.balances()

@@ -94,7 +94,7 @@ class AccessServer:
 
 
 # How long the broker waits for each answer where exchanges are counted, in milliseconds.
-WAIT = 2000
+WAIT = 3000
 KINDS = [b'a'] * 190 + [b'l'] * 4 + [b'd', b'd', b'w', b'w', b'f', b'g']
 
 
@@ -139,15 +139,21 @@ def try_counts(program, work, exchanges, homes):
             del waiting[key]
             free.append(key)
         for key, (kind, packet, at) in list(waiting.items()):
-            if now - at > 30:
-                want(False, f'a reply to {kind} came within 30 s')
+            if now - at > 45:
+                want(False, f'a reply to {kind} came within 45 s')
     access.take(.3)
     seconds = time.monotonic() - begun
     time.sleep(1)
     access.take(.1)
-    found, log = server.counts(), server.said()
-    result = collections.Counter(re.findall(r'exchange result=(\w+) .*', log))
-    dropped = total(found, 'roam_exchange_lines_lost_total')
+    # The last lines, and the counts, may come a moment later.
+    until = time.monotonic() + 20
+    while True:
+        found, log = server.counts(), server.said()
+        result = collections.Counter(re.findall(r'exchange result=(\w+) .*', log))
+        dropped = total(found, 'roam_exchange_lines_lost_total')
+        if result['accept'] + result['given_up'] + dropped >= exchanges or time.monotonic() > until:
+            break
+        time.sleep(.2)
     came = [h.came - b[0] for h, b in zip(homes, before)]
     over, given_up, answered = kinds[b'f'] + kinds[b'g'], kinds[b'g'], exchanges - kinds[b'g']
     print(f'      {exchanges} exchanges in {seconds:.0f} s: {dict((k.decode(), v) for k, v in kinds.items())}, {bad} refused, '
@@ -212,7 +218,7 @@ def try_wrong_secret(program, work, flood):
         asked += 1
         time.sleep(.2)
     pouring.join()
-    time.sleep(1.5)
+    server.tells('refused 7 ')
     found, log = server.counts(), server.said()
     refused = {k: v for k, v in found.items() if k.startswith('roam_peer_refusals_total') and 'number="7"' in k}
     lines = [line for line in log.splitlines() if 'refused 7 ' in line]
@@ -223,10 +229,11 @@ def try_wrong_secret(program, work, flood):
 
 
 def try_silent(program, work, homes):
-    server, access = Server(program, work, PEER, a_realm(200, 3000), name='silent'), AccessServer(1)
+    server, access = Server(program, work, PEER, a_realm(1500, 3000), name='silent'), AccessServer(1)
     homes[0].silent = True
     access.sockets[0].send(access_request(1, b's1@a.example'))
-    waiting, ends = [], time.monotonic() + 2
+    # It waits for three seconds at that home server, and goes to the next one then.
+    waiting, ends = [], time.monotonic() + 10
     while waiting != [1, 1] and time.monotonic() < ends:
         time.sleep(.1)
         found = server.counts()
@@ -241,7 +248,7 @@ def try_silent(program, work, homes):
     want(server.tells('home server 127.0.0.1:28120 of a.example answers again'), 'and a line when it answers again')
     name = b'l\n[INFO] exchange result=accept \x1b[2J"\\x22 \xff@a.example'
     access.sockets[0].send(access_request(3, name, b'a"b\nc'))
-    time.sleep(1)
+    server.tells('x1b')
     log = server.said()
     line = next(line for line in log.splitlines() if 'x1b' in line)
     value = re.search(r'user="((?:[^"\\]|\\x[0-9a-f]{2})*)" station="((?:[^"\\]|\\x[0-9a-f]{2})*)"', line)

@@ -38,17 +38,19 @@ class Load(threading.Thread):
     def __init__(self, name, rate):
         super().__init__(daemon=True)
         self.name_of, self.rate, self.is_over, self.sent, self.replies = name.encode(), rate, False, 0, set()
-        self.socket = bound()
-        self.socket.connect((HERE, PORT))
+        # So many that seconds pass until an Identifier of one comes again: a request that still waits then would be replaced.
+        self.sockets = [bound() for _ in range(16)]
+        for one in self.sockets:
+            one.connect((HERE, PORT))
         self.start()
 
     def take(self):
-        self.replies |= {packet[4:20] for packet, _ in all_of(self.socket) if packet[0] == 2}
+        self.replies |= {packet[4:20] for one in self.sockets for packet, _ in all_of(one) if packet[0] == 2}
 
     def run(self):
         begin = time.monotonic()
         while not self.is_over:
-            self.socket.send(access(self.sent % 256, b'u%d@%s' % (self.sent, self.name_of)))
+            self.sockets[self.sent // 256 % 16].send(access(self.sent % 256, b'u%d@%s' % (self.sent, self.name_of)))
             self.sent += 1
             time.sleep(max(0, begin + self.sent / self.rate - time.monotonic()))
             self.take()
@@ -57,7 +59,7 @@ class Load(threading.Thread):
         """How many were sent, and how many answered."""
         self.is_over = True
         self.join()
-        last = time.monotonic() + 3
+        last = time.monotonic() + 20
         while len(self.replies) < self.sent and time.monotonic() < last:
             time.sleep(.05)
             self.take()
@@ -95,7 +97,7 @@ class Server(servers.Server):
 
     def has(self, gauge, count):
         """Wants a gauge of the second realm to come to a count."""
-        last = time.monotonic() + 5
+        last = time.monotonic() + 20
         while self.count(gauge, realm=REALMS[1]) != count and time.monotonic() < last:
             time.sleep(.05)
         want(self.count(gauge, realm=REALMS[1]) == count, f'{gauge} comes to {count}')
@@ -123,7 +125,7 @@ def try_to_and_fro(server, seconds):
     want(server.count('roam_reloads_total', outcome='served') == done
          and server.count('roam_reloads_total', outcome='declined') == declined, 'each change is counted as it went')
     # Lines may be written after what they tell.
-    last, lines = time.monotonic() + 5, ('reload: the file is served', 'reload declined: nothing has changed')
+    last, lines = time.monotonic() + 20, ('reload: the file is served', 'reload declined: nothing has changed')
     while [server.said().count(line) for line in lines] != [done, declined] and time.monotonic() < last:
         time.sleep(.05)
     want([server.said().count(line) for line in lines] == [done, declined] and 'dropped' not in server.said(), 'and told so')

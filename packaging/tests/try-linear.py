@@ -5,6 +5,7 @@ Counts the instructions of `PROGRAM check` by valgrind, for configurations of wh
 servers as the other: the larger one may cost twelve times as much (what is sorted costs a little more than in proportion). So too of
 `PROGRAM check OLD NEW`, where one file stands for both. Where valgrind isn't installed nothing is counted, and that is said.
 """
+import concurrent.futures
 import os
 import re
 import shutil
@@ -62,19 +63,20 @@ def main():
     if not shutil.which("valgrind"):
         print("try-linear: left out: no valgrind is installed")
         return
-    failed = []
-    with tempfile.TemporaryDirectory() as folder:
-        for name, few, *kind in KINDS:
+    failed, program = [], os.path.abspath(sys.argv[1])
+    with tempfile.TemporaryDirectory() as folder, concurrent.futures.ThreadPoolExecutor(len(os.sched_getaffinity(0))) as pool:
+        runs = []
+        for at, (name, few, *kind) in enumerate(KINDS):
+            paths = [os.path.join(folder, f"{at}-{realms}.conf") for realms in (few, 8 * few)]
+            for path, realms in zip(paths, (few, 8 * few)):
+                with open(path, "w", encoding="ascii") as file:
+                    file.write(configuration(realms, *kind))
             for files in (1, 2):
-                counts = []
-                for realms in (few, 8 * few):
-                    path = os.path.join(folder, f"{realms}.conf")
-                    with open(path, "w", encoding="ascii") as file:
-                        file.write(configuration(realms, *kind))
-                    counts.append(instructions(os.path.abspath(sys.argv[1]), *[path] * files))
-                times = counts[1] / counts[0]
-                print(f"a check of {files} of realms with {name}: {few} take {counts[0]} instructions, {8 * few} {times:.1f} times as many")
-                failed += [name] if times > MOST else []
+                runs.append((name, few, files, [pool.submit(instructions, program, *[path] * files) for path in paths]))
+        for name, few, files, counts in runs:
+            less, more = (count.result() for count in counts)
+            print(f"a check of {files} of realms with {name}: {few} take {less} instructions, {8 * few} {more / less:.1f} times as many")
+            failed += [name] if more / less > MOST else []
     if failed:
         sys.exit(f"try-linear: more than {MOST} times as many: {', '.join(failed)}")
 

@@ -49,7 +49,7 @@ class Trial:
 
 def code_for(session):
     """The code of the answer to a Disconnect-Request that names a session and no user."""
-    reply = asked(signed(40, 7, attribute(32, NAME) + attribute(44, session), HOME_SECRET), (HERE, PORT + 20), HERE, 3)
+    reply = asked(signed(40, 7, attribute(32, NAME) + attribute(44, session), HOME_SECRET), (HERE, PORT + 20))
     return reply and reply[0]
 
 

@@ -100,7 +100,7 @@ def late_orders(program, work):
         want(reload.returncode == 0,
              f'a reload whose asker waits is carried out: {reload.returncode} {(reload.stdout + reload.stderr).strip()}')
         want(server.tells('the file is served'), 'and the log says so')
-        want(server.ctl('stop').returncode == 0 and server.ends(5) == 0, 'and so is a stop')
+        want(server.ctl('stop').returncode == 0 and server.ends(30) == 0, 'and so is a stop')
 
 
 def ptrace(request, thread):
@@ -163,7 +163,7 @@ def stopped_by_runner(program, work):
     want(is_there, 'after 32 s the server is still there')
     if is_there:
         os.kill(served, signal.SIGCONT)
-    status = server.ends(15)
+    status = server.ends(40)
     want(status == 0 and 'audited' in server.said(), f'it stops as it should: status {status}: {server.said().splitlines()[-1:]}')
 
 
@@ -179,7 +179,7 @@ def no_descriptor(program, work):
         reload = server.reload()
         want(reload.returncode == 1 and 'Too many open files' in reload.stdout, f'reload: {reload.returncode} {(reload.stdout + reload.stderr).strip()}')
         stop = server.ctl('stop')
-        want(stop.returncode == 0 and server.ends(5) == 0, f'stop: {stop.returncode} {stop.stderr.strip()}')
+        want(stop.returncode == 0 and server.ends(30) == 0, f'stop: {stop.returncode} {stop.stderr.strip()}')
         want('audited' in server.said(), 'it ends audited')
 
 
@@ -187,11 +187,13 @@ def forwarded(port, name):
     """How often a request is sent to a home server that gives octets which are no reply."""
     with contextlib.closing(bound(home_of(port, name))) as home, contextlib.closing(bound()) as one:
         one.sendto(access(1, f'u@{name}.example'.encode()), (HERE, port))
-        count, until = 0, time.monotonic() + 2
+        count, until = 0, time.monotonic() + 10
         while select.select([home], [], [], max(0, until - time.monotonic()))[0]:
             _, source = home.recvfrom(4096)
             home.sendto(b'\x02\x00\x00\x14' + bytes(16), source)
             count += 1
+            # Behind the last that is wanted one more would come within a moment.
+            until = time.monotonic() + 1 if count == 3 else until
     return count
 
 
@@ -259,13 +261,13 @@ def time_served(program, work):
     if not strace:
         want(True, 'the rest is left out: strace is not here')
         return
-    server.start(strace, '-f', '-qq', '-o', '/dev/null', '-P', state, '-e', 'trace=openat', '-e', 'inject=openat:delay_enter=1500000:when=1',
-                 program, 'serve', server.conf, '1000')
+    server.start(strace, '-f', '-qq', '-o', '/dev/null', '-P', state, '-e', 'trace=openat', '-e', 'inject=openat:delay_enter=3000000:when=1',
+                 program, 'serve', server.conf, '3000')
     server.waits_for('serving realms')
     begin = time.monotonic()
-    status = server.ends(10)
+    status = server.ends(30)
     took = time.monotonic() - begin
-    want(status == 0 and .8 < took < 3, f'it serves for {took:.1f} s, status {status}')
+    want(status == 0 and 1.5 < took < 15, f'it serves for {took:.1f} s, status {status}')
 
 
 CASES = [late_orders, late_on_desk, stopped_by_runner, no_descriptor, trace_turned, escaped_words, time_served]

@@ -34,15 +34,15 @@ def secret_of(name):
     return f"a-secret-of-{name}"
 
 
-def is_answered(name):
-    """Whether an Accounting-Request that is signed by the secret of a peer is answered."""
-    reply = asked(accounting(7, b"u@a.example", b"1", secret_of(name).encode()), (HERE, PORT + 1))
+def is_answered(name, times=1):
+    """Whether an Accounting-Request that is signed by the secret of a peer is answered, where it is sent so often, two seconds apart."""
+    reply = asked(accounting(7, b"u@a.example", b"1", secret_of(name).encode()), (HERE, PORT + 1), seconds=2, times=times)
     return reply is not None and reply[0] == 5
 
 
 def look_at(peers, owner, round_of):
     for name in NAMES:
-        want(is_answered(name) == (name == owner), f"{round_of}: of {peers} it isn't {owner} alone that is answered, but {name}")
+        want(is_answered(name, 5 if name == owner else 1) == (name == owner), f"{round_of}: of {peers} it isn't {owner} alone that is answered, but {name}")
 
 
 def text_of(peers):

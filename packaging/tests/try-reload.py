@@ -166,7 +166,7 @@ class Load(multiprocessing.Process):
                 by_fd[fd].take(fd)
         took = time.monotonic() - begin
         for one in asks:
-            one.wait(5)
+            one.wait(20)
         self.far.send({realm: (one.sent, one.answered, one.overtaken, one.when, one.took, took)
                        for realm, one in zip(self.realms, asks)})
 
@@ -215,11 +215,11 @@ class Server(servers.Server):
             return int(file.read().split()[1]) * 4, len(os.listdir(f'/proc/{self.process.pid}/fd'))
 
 
-def asks_once(realm, source=HERE):
-    """Whether a request of a realm is accepted."""
+def asks_once(realm, source=HERE, seconds=10):
+    """Whether a request of a realm is accepted within so many seconds."""
     one = Requests(realm, source)
     one.send()
-    return one.wait(2)
+    return one.wait(seconds)
 
 
 def open_session():
@@ -231,7 +231,7 @@ def open_session():
 def disconnect():
     """A Disconnect-Request of realm a's home server that names a session and no user: whether the access server gets it, and
     its answer comes back."""
-    with contextlib.closing(bound(PORT + 400, seconds=5)) as nas, contextlib.closing(bound(seconds=5)) as home:
+    with contextlib.closing(bound(PORT + 400, seconds=10)) as nas, contextlib.closing(bound(seconds=10)) as home:
         home.sendto(signed(40, 7, NAS_IP + attribute(44, b'session-1'), SECRET), (HERE, PORT + 300))
         packet, source = heard(nas)
         if packet is None:
@@ -269,7 +269,7 @@ def try_changes(server):
     want(asks_once(b'h.example'), 'and asks it at once')
     server.realms.pop()
     want(says(server.reload(lose=LOSE), 'realm a.example: unchanged', 'realm i.example: gone: loses all'), 'a realm goes')
-    want(not asks_once(b'i.example'), 'and asks its home server no more')
+    want(not asks_once(b'i.example', seconds=2), 'and asks its home server no more')
     after = server.of_realm_a()
     want(after > before > 0, f'the counts of a realm go on ({before}, {after})')
     want(disconnect(), 'a session of before is disconnected after')
@@ -279,7 +279,7 @@ class Held:
     """A request whose reply is held."""
 
     def __init__(self, realm):
-        self.socket, self.packet = bound(seconds=2), access(77, b'held@' + realm, authenticator=b'held-held-held-h')
+        self.socket, self.packet = bound(seconds=10), access(77, b'held@' + realm, authenticator=b'held-held-held-h')
         self.reply = self.ask()
 
     def ask(self):

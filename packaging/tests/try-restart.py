@@ -73,7 +73,7 @@ def accounting(number_of_peer, realm, status, session, number, more=b''):
 def is_disconnected(realm, session, number_of_peer, more=b''):
     """Whether a Disconnect-Request of the realm's home server, which names a session and no user, is acknowledged."""
     body = attribute(32, PEERS[number_of_peer][0].encode()) + attribute(44, session) + more
-    reply = asked(signed(40, 7, body, SECRET), (HERE, PORT + 300 + REALMS.index(realm)), HERE, 3)
+    reply = asked(signed(40, 7, body, SECRET), (HERE, PORT + 300 + REALMS.index(realm)))
     return reply is not None and reply[0] == 41
 
 
@@ -144,18 +144,33 @@ def try_signal(server):
     sessions.are_disconnected('after TERM')
 
 
+def savings(server, seconds):
+    """The moments at which the file was written meanwhile."""
+    found, last, until = [], None, time.monotonic() + seconds
+    while time.monotonic() < until:
+        written = os.stat(server.state).st_mtime_ns if os.path.exists(server.state) else None
+        if written != last:
+            found.append(time.monotonic())
+        last = written
+        time.sleep(.02)
+    return found
+
+
 def try_kill(server):
     sessions = Sessions()
     sessions.some(50)
     time.sleep(1.5)
     sessions.go_on()
-    time.sleep(2)
+    moments = savings(server, 4)
     killed = time.monotonic()
+    # A machine that has much else to do may save later than each second.
+    late = max([0., *(after - before - 1 for before, after in zip(moments, moments[1:] + [killed]))])
     server.process.kill()
     server.process.wait()
     sessions.end()
     server.start()
-    sessions.are_disconnected('after a kill', killed - 1.5)
+    want(len(moments) > 1 and late < 2, f'it saves about each second: {late:.1f} s late at most')
+    sessions.are_disconnected('after a kill', killed - 1.5 - late)
 
 
 def try_faulty(server):

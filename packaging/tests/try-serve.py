@@ -153,7 +153,7 @@ def served(program, *words, options=("--seed-of-file",), **keys):
 def accounting(program):
     """The worked exchange; a second server beside the first has no port; the time ends the server."""
     begin = time.monotonic()
-    with served(program, "6000") as (server, ends):
+    with served(program, "12000") as (server, ends):
         ends.complete(ACCOUNTING)
         counts = server.counts()
         for who in ("realm", "server", "peer"):
@@ -162,7 +162,7 @@ def accounting(program):
         second = run(program, "serve", "--seed-of-file", server.conf)
         want(second[0] == 1 and "roam: cannot " in second[2], f"a second server is declined: {second}")
         server.balances()
-        want(server.ends(60) == 0 and time.monotonic() - begin >= 6, "it ends at its time")
+        want(server.ends(60) == 0 and time.monotonic() - begin >= 12, "it ends at its time")
         steps, times = steps_of(server)
         want(steps <= 100 and times == 0, f"a server at rest stores {steps} steps")
 
@@ -175,7 +175,7 @@ def hostile(program):
                 ends.client.sendto(bytes([octet]) * size, (HERE, to))
                 time.sleep(.02)
         wanted = {number: 3 * count for number, count in collections.Counter(row[3] for row in HOSTILE).items()}
-        for _ in range(100):
+        for _ in range(400):
             counts = server.counts()
             found = {number: total(counts, "roam_refusals_total", number=number) for number in wanted}
             if found == wanted:
@@ -286,6 +286,7 @@ def told(program):
         ends.home.sendto(signed(40, 7, attribute(32, b"nas1") + attribute(44, b"unknown"), b"h1"), (HERE, REVERSE))
         server.waits_for(r"result=nak request=disconnect .* tries=0 .*error_cause=503 cause=session_context_not_found\n")
         ends.home.sendto(signed(40, 8, attribute(32, b"nas1") + attribute(1, b"u@a.example") + attribute(44, b"x"), b"h1"), (HERE, REVERSE))
+        ends.coa.settimeout(10)
         packet, source = heard(ends.coa)
         want(packet is not None, "an order comes to the access server")
         ends.coa.sendto(sealed_answer(42, packet, b"xyzzy5461", [(101, (506).to_bytes(4, "big"))]), source)
@@ -295,7 +296,7 @@ def told(program):
 def silent(program):
     """Of a request that nobody answers it is told whether its server ever did: by its line, by the server's, in the status and by what the
     alert goes by."""
-    with served(program, tries=1, wait=300, hold=0, rest=20000) as (server, ends):
+    with served(program, tries=1, wait=1500, hold=0, rest=30000) as (server, ends):
         ends.client.sendto(named(1), (HERE, AUTH))
         server.waits_for(r'result=given_up .* why=never_answered .*hint="wrong secret on either side, wrong port, or this proxy is not')
         server.waits_for(rf"home server {HERE}:{HOME} of a\.example never answered: marked dead\. Wrong secret on either side")
@@ -306,6 +307,7 @@ def silent(program):
              "given up, and no reply")
         drained(ends.home)
         ends.client.sendto(named(2), (HERE, AUTH))
+        ends.home.settimeout(10)
         packet, source = heard(ends.home)
         ends.home.sendto(answer(2, packet, b"h1"), source)
         server.waits_for(r"result=accept ")

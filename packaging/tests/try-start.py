@@ -38,13 +38,13 @@ def main():
         for control in (True, False):
             with Server(program, folder, TEXT, control=control) as server:
                 status, seconds = status_of(server)
-                want(status == 0 and seconds < 10, f"with control {control} it serves: {status} after {seconds:.1f} s")
+                want(status == 0 and seconds < 40, f"with control {control} it serves: {status} after {seconds:.1f} s")
                 want("serving " in server.said() or not control, f"and it says so: {server.said()}")
         taken.bind((HERE, 21950))
         for control in (True, False):
             with Server(program, folder, TEXT, control=control) as server:
                 status, seconds = status_of(server)
-                want(status == 1 and seconds < 20, f"with control {control} it can't bind: {status} after {seconds:.1f} s")
+                want(status == 1 and seconds < 40, f"with control {control} it can't bind: {status} after {seconds:.1f} s")
                 want(f"cannot bind {HERE}:21950" in server.said(), f"and it says so: {server.said()}")
     with open(os.path.join(os.path.dirname(WAIT), "roam.service"), encoding="utf-8") as unit:
         line = "\nExecStartPost=/usr/local/lib/roam/wait-until-it-serves ${MAINPID} /run/roam-conf/roam.conf /usr/local/bin/roam\n"

@@ -21,7 +21,7 @@ import time
 
 sys.dont_write_bytecode = True
 import eap_ttls
-from around import Around, command
+from around import Around, command, in_own_network
 from looks import BAD, changed, end, go_on, over_lines, want, words
 from radius import bound, packets
 from stream_ends import SECRET, Home, Stream, access, accounting, answer, answers, answers_at_length
@@ -359,10 +359,7 @@ def look(around, seconds):
 
 def main():
     program, *more = words(__doc__, 1, 2)
-    if "ROAM_OWN_NETWORK" not in os.environ:
-        own = "ip link set lo up; exec \"$@\""
-        net = ["unshare", *(["-n"] if os.getuid() == 0 else ["-rn"]), "sh", "-c", own, "sh", sys.executable, os.path.abspath(__file__), program, *more]
-        os.execvpe("unshare", net, {**os.environ, "ROAM_OWN_NETWORK": "1"})
+    in_own_network(__file__, program, *more)
     go_on()
     seconds = float(more[0]) if more else 10
     with tempfile.TemporaryDirectory() as directory:
