@@ -1,5 +1,5 @@
 use Rattle.roam_cli.proofs.PrintedLemmas.{printed_more}
-use Rattle.roam_cli.proofs.changes.print_peers.Goals as goal
+use Rattle.roam_cli.proofs.peer_changes.print_peers.Goals as goal
 
 -- one peer more
 pub loop-index-preserved : goal.loop-index-preserved
