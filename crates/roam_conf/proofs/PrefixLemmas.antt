@@ -149,9 +149,9 @@ index_or_none peers prefixes (Ok (Some i)) are h = (
 prefixes_distinct : (peers : List PeerView) → has_duplicate_peer peers ≡ false → has_duplicate_prefix peers ≡ false
 unfolding has_duplicate_peer
 prefixes_distinct peers distinct =
-    let behind = (or_parts (has_pair same_peer peers)
-    (has_duplicate_prefix peers || has_pair bytes_eq (nas_texts peers)) distinct).1 in
-    (or_parts (has_duplicate_prefix peers) (has_pair bytes_eq (nas_texts peers)) behind).0
+    let before = (or_parts (has_pair same_peer peers || has_duplicate_prefix peers)
+    (has_pair bytes_eq (nas_texts peers)) distinct).0 in
+    (or_parts (has_pair same_peer peers) (has_duplicate_prefix peers) before).1
 
 pub not_twice : (peers : List PeerView) → has_duplicate_peer peers ≡ false → has_duplicate_prefix peers ≡ true → ⊥
 not_twice peers distinct twice = false≢true (sym (prefixes_distinct peers distinct) ∙ twice)

@@ -87,8 +87,9 @@ names_peer : (ps : List PeerView) (s : Session) (p : PeerView) → has_duplicate
     → slice_get ps s.peer ≡ Some p → p.gone ≡ false → AreShort s → session_named ps (named_by p s) ≡ Some s
 unfolding named_by has_duplicate_peer
 names_peer ps s p once there here short =
-    let apart = (or_parts (has_pair same_peer ps)
-    (has_duplicate_prefix ps || has_pair bytes_eq (nas_texts ps)) once).0 in
+    let before = (or_parts (has_pair same_peer ps || has_duplicate_prefix ps) (has_pair bytes_eq (nas_texts ps))
+    once).0 in
+    let apart = (or_parts (has_pair same_peer ps) (has_duplicate_prefix ps) before).0 in
     let place : 0 + s.peer ≡ s.peer = omega arith in
     rw (
       short_is p s short,

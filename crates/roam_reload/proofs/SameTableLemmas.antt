@@ -69,9 +69,10 @@ closer_peer a b is =
 pub peers_differ : (peers : List PeerView) → has_duplicate_peer peers ≡ false → has_pair same_peer_name peers ≡ false
 unfolding has_duplicate_peer
 peers_differ peers none =
+    let before = (or_parts (has_pair same_peer peers || has_duplicate_prefix peers)
+    (has_pair bytes_eq (nas_texts peers)) none).0 in
     fewer_pairs same_peer same_peer_name closer_peer peers
-    (or_parts (has_pair same_peer peers)
-    (has_duplicate_prefix peers || has_pair bytes_eq (nas_texts peers)) none).0
+    (or_parts (has_pair same_peer peers) (has_duplicate_prefix peers) before).0
 
 -- ---- nor two realms, without ASCII case
 
