@@ -165,7 +165,7 @@ def said_of(program, folder, old, new):
         paths.append(f"{folder}/{name}.conf")
         with open(paths[-1], "w", encoding="utf-8") as file:
             file.write(text)
-    return run(program, "check", *paths).stdout
+    return run(program, "check", *paths)[1]
 
 
 def goes(program, folder, server, home, case):
@@ -193,7 +193,7 @@ def main():
     lost = "peer nas1: ip: loses what came from addresses that are no longer its own\n"
     cases = [("an address goes", file_of(both), file_of(of_first(FIRST)), lost),
              ("another client gets it", file_of(of_first("127.0.21.0/24")), file_of(of_first("127.0.21.0/24"), peer("nas2", SECOND)),
-              "peer nas2: new\n")]
+              f"peer nas2: new\npeer nas1: loses what came from {SECOND}, which is nas2's\n")]
     with tempfile.TemporaryDirectory() as folder:
         want("peer nas1: ip: loses nothing\n" in said_of(program, folder, file_of(both), file_of(of_first(THIRD, SECOND, FIRST))),
              "roam check says that a further address takes nothing")
