@@ -10,36 +10,36 @@ use Rattle.roam_reload.proofs.DifferenceLemmas.{agrees, differs}
 use Rattle.roam_reload.proofs.peers.peer_difference.Goals as goal
 
 -- it takes reverse requests elsewhere
-pub returns-then-ne-4-clause-some : goal.returns-then-ne-4-clause-some
-returns-then-ne-4-clause-some c =
+pub returns-then-ne-3-clause-some : goal.returns-then-ne-3-clause-some
+returns-then-ne-3-clause-some c =
     let old = c.args.old.now.coa in
     let new = c.args.new.now.coa in
-    differs old new (option_eq endpoint_eq old new) c.ne-else-ne-3.result
-    (whole_option_decides endpoint_eq endpoint_decides old new) c.ne-else-ne-3.ensures c.if-ne-4.true
+    differs old new (option_eq endpoint_eq old new) c.ne-else-ne-2.result
+    (whole_option_decides endpoint_eq endpoint_decides old new) c.ne-else-ne-2.ensures c.if-ne-3.true
 
 -- it stands for other access servers
-pub returns-then-ne-8-clause-some : goal.returns-then-ne-8-clause-some
-returns-then-ne-8-clause-some c =
+pub returns-then-ne-7-clause-some : goal.returns-then-ne-7-clause-some
+returns-then-ne-7-clause-some c =
     let old = c.args.old.now.nas_ids.items in
     let new = c.args.new.now.nas_ids.items in
-    differs (map string_bytes old) (map string_bytes new) (pointwise string_eq old new) c.ne-else-ne-7.result
-    (list_decides string_eq string_bytes text_decides old new) c.ne-else-ne-7.ensures c.if-ne-8.true
+    differs (map string_bytes old) (map string_bytes new) (pointwise string_eq old new) c.ne-else-ne-6.result
+    (list_decides string_eq string_bytes text_decides old new) c.ne-else-ne-6.ensures c.if-ne-7.true
 
 -- other attributes are taken out of requests
-pub returns-then-ne-10-clause-some : goal.returns-then-ne-10-clause-some
-returns-then-ne-10-clause-some c =
+pub returns-then-ne-9-clause-some : goal.returns-then-ne-9-clause-some
+returns-then-ne-9-clause-some c =
     let old = c.args.old.now.request_without.items in
     let new = c.args.new.now.request_without.items in
     differs old new (pointwise removed_eq old new) c.ne-else-old-new-2.result
-    (whole_list_decides removed_eq removed_decides old new) c.ne-else-old-new-2.ensures c.if-ne-10.true
+    (whole_list_decides removed_eq removed_decides old new) c.ne-else-old-new-2.ensures c.if-ne-9.true
 
 -- other attributes are taken out of replies
-pub returns-then-ne-11-clause-some : goal.returns-then-ne-11-clause-some
-returns-then-ne-11-clause-some c =
+pub returns-then-ne-10-clause-some : goal.returns-then-ne-10-clause-some
+returns-then-ne-10-clause-some c =
     let old = c.args.old.now.reply_without.items in
     let new = c.args.new.now.reply_without.items in
-    differs old new (pointwise removed_eq old new) c.ne-else-ne-10.result
-    (whole_list_decides removed_eq removed_decides old new) c.ne-else-ne-10.ensures c.if-ne-11.true
+    differs old new (pointwise removed_eq old new) c.ne-else-ne-9.result
+    (whole_list_decides removed_eq removed_decides old new) c.ne-else-ne-9.ensures c.if-ne-10.true
 
 -- peers with equal keys have equal parts
 same_part : (a b : PeerView) → b.gone ≡ a.gone → b.name ≡ a.name → b.secret ≡ a.secret → b.coa ≡ a.coa →
@@ -66,31 +66,31 @@ same_part a b gone name secret coa nas_ip nas_ipv6 nas_id nas_ids operator_name 
     }
 
 -- no key differs
-pub returns-else-ne-11-clause-none : goal.returns-else-ne-11-clause-none
-returns-else-ne-11-clause-none c =
+pub returns-else-ne-10-clause-none : goal.returns-else-ne-10-clause-none
+returns-else-ne-10-clause-none c =
     let old = c.args.old.now in
     let new = c.args.new.now in
     let identifiers : map string_bytes new.nas_ids.items ≡ map string_bytes old.nas_ids.items =
     agrees (map string_bytes old.nas_ids.items) (map string_bytes new.nas_ids.items)
-    (pointwise string_eq old.nas_ids.items new.nas_ids.items) c.ne-else-ne-7.result
+    (pointwise string_eq old.nas_ids.items new.nas_ids.items) c.ne-else-ne-6.result
     (list_decides string_eq string_bytes text_decides old.nas_ids.items new.nas_ids.items)
-    c.ne-else-ne-7.ensures c.if-ne-8.false in
+    c.ne-else-ne-6.ensures c.if-ne-7.false in
     let requests : new.request_without.items ≡ old.request_without.items =
     agrees old.request_without.items new.request_without.items
     (pointwise removed_eq old.request_without.items new.request_without.items) c.ne-else-old-new-2.result
     (whole_list_decides removed_eq removed_decides old.request_without.items new.request_without.items)
-    c.ne-else-old-new-2.ensures c.if-ne-10.false in
+    c.ne-else-old-new-2.ensures c.if-ne-9.false in
     let replies : new.reply_without.items ≡ old.reply_without.items =
     agrees old.reply_without.items new.reply_without.items
-    (pointwise removed_eq old.reply_without.items new.reply_without.items) c.ne-else-ne-10.result
+    (pointwise removed_eq old.reply_without.items new.reply_without.items) c.ne-else-ne-9.result
     (whole_list_decides removed_eq removed_decides old.reply_without.items new.reply_without.items)
-    c.ne-else-ne-10.ensures c.if-ne-11.false in
+    c.ne-else-ne-9.ensures c.if-ne-10.false in
     let gone : new.gone ≡ old.gone = search rules in
     let name : string_bytes new.name ≡ string_bytes old.name = search rules in
     let secret : new.secret ≡ old.secret = search rules in
     let coa : new.coa ≡ old.coa =
-    agrees old.coa new.coa (option_eq endpoint_eq old.coa new.coa) c.ne-else-ne-3.result
-    (whole_option_decides endpoint_eq endpoint_decides old.coa new.coa) c.ne-else-ne-3.ensures c.if-ne-4.false in
+    agrees old.coa new.coa (option_eq endpoint_eq old.coa new.coa) c.ne-else-ne-2.result
+    (whole_option_decides endpoint_eq endpoint_decides old.coa new.coa) c.ne-else-ne-2.ensures c.if-ne-3.false in
     let nas_ip : new.nas_ip ≡ old.nas_ip = search rules in
     let nas_ipv6 : new.nas_ipv6 ≡ old.nas_ipv6 = search rules in
     let nas_id : option_map string_bytes new.nas_id ≡ option_map string_bytes old.nas_id = search rules in
