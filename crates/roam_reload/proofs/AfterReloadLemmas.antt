@@ -8,6 +8,7 @@ use Rattle.roam_reload.specs.Differences.{IsOtherPeer, RealmsDiffer}
 use Rattle.roam_reload.specs.Reload.{IsCarried, IsUntouched, KeepsPeers, realm_part}
 use Rattle.roam_reload.specs.declared.keys.RealmKey.{RealmKey}
 use Rattle.roam_reload.specs.declared.keys.RealmKey.TheVariants.{Gone, Out, Reverse, Tries, Wait, Hold, MaxPending, MaxSessions, Rest, RestAfter, Servers, Peers, LoopPrevention, Accounting, RequestWithout, ReplyWithout, Share, PeerShare, OwnNames, Conversations, OwnSessions, CoaClients}
+use Rattle.roam_reload.proofs.PeerLemmas.{kept_each}
 
 -- some realm
 abbrev no_realm : RealmView
