@@ -1,5 +1,5 @@
 -- Where each peer keeps its prefixes, whatever their order, and none is new, each source is whose it was.
-use Rattle.std.proofs.Common.{◌≡◌, ℕ, ◌+◌, ◌&&◌, ◌||◌, ◌==◌, Bool, true, false, not, cond, List, [], ◌∷◌, ◌++◌, filter, length, map, drop, get_or, Option, Some, refl, sym, ap, ◌∙◌, slice_get, inl, inr, arith}
+use Rattle.std.proofs.Common.{◌≡◌, ℕ, suc, ◌+◌, ◌&&◌, ◌||◌, ◌==◌, Bool, true, false, not, cond, List, [], ◌∷◌, ◌++◌, filter, length, map, drop, get_or, Option, Some, refl, sym, ap, ◌∙◌, slice_get, inl, inr, arith}
 use Rattle.std.proofs.lemmas.Bool.{and_parts, cases_Bool, false≢true}
 use Rattle.std.specs.List.{flat_map, list_all, list_any, position_from}
 use Rattle.std.specs.Option.{option_map_or}
