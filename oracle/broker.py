@@ -85,7 +85,7 @@ class Config:
         for client in (client for realm in document["realm"] for client in realm.get("coa_client", [])):
             client["ip"] = one_text(client["ip"])
         for peer in self.peers:
-            peer["prefix"] = ipaddress.ip_network(peer["ip"])
+            peer["prefixes"] = [ipaddress.ip_network(text) for text in listed(peer["ip"])]
         self.realms = [with_unsaid(realm) for realm in document["realm"]]
         for realm in self.realms:
             realm["outs"] = [endpoint(text) for text in listed(realm["out"])]
@@ -93,8 +93,9 @@ class Config:
                 server["links"] = {k: endpoint(server[k]) for k in ("auth", "acct") if k in server}
 
     def peer_of(self, ip):
-        """The index of the access server with the longest prefix that has that address."""
-        having = [(p["prefix"].prefixlen, i) for i, p in enumerate(self.peers) if ipaddress.ip_address(ip) in p["prefix"]]
+        """The index of the access server with the longest of all prefixes that have that address."""
+        having = [(prefix.prefixlen, i) for i, peer in enumerate(self.peers) for prefix in peer["prefixes"]
+                  if ipaddress.ip_address(ip) in prefix]
         return max(having)[1] if having else None
 
     def names_of(self, realm):
@@ -124,7 +125,7 @@ class Config:
         table = self.realms[realm]
         addresses = [ip for server in table["server"] for ip, _ in server["links"].values()]
         is_loop = table.get("loop_prevention", False) and any(
-            ipaddress.ip_address(ip) in self.peers[peer]["prefix"] for ip in addresses)
+            ipaddress.ip_address(ip) in prefix for ip in addresses for prefix in self.peers[peer]["prefixes"])
         return self.is_peer_of(realm, peer) and not is_loop
 
     def link_of(self, realm, out, source):

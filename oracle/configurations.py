@@ -229,6 +229,11 @@ secret = "{name}"
 """
 
 
+def at_addresses(peer, *addresses):
+    """The table of an access server, with these as its addresses."""
+    return re.sub(r'(?m)^ip = .*$', f"ip = {json.dumps(addresses)}", peer)
+
+
 def decided(peer=None, second=None, top=None, servers_of_first=None, peers=None, **keys):
     """One realm or two, with keys of the first access server, of the second realm (None: there is none) and of the
     top table, and with other servers of the first realm or other access servers where they are said."""
@@ -450,7 +455,41 @@ ADDRESSES = {
                at_prefix("homes", "198.51.100.0/30"))),
 }
 
+# Access servers at several addresses.
+NAS1_AT_THREE = at_addresses(NAS1, "192.0.2.1", "192.0.2.8/29", "2001:DB8:0::9")
+N3 = N2.replace("n2", "n3").replace("s2", "s3")
+SEVERAL = {
+    "several-addresses": decided(peers=(NAS1_AT_THREE,)),
+    "addresses-within-others": decided(peers=(
+        at_addresses(NAS1, "192.0.2.0/24", "10.1.0.0/16", "2001:db8::/32"),
+        at_addresses(N2, "192.0.2.7", "10.0.0.0/8", "10.1.2.0/24", "2001:db8:1::/48"),
+        at_addresses(N3, "0.0.0.0/0", "192.0.2.128/25", "2001:db8:1:1::/64", "::/0", "10.1.2.3"))),
+    "share-of-several-addresses": decided(peers=(NAS1_AT_THREE,), peer_share=2),
+    "logins-of-several-addresses": decided(
+        peers=(at_addresses(NAS1, "192.0.2.1", "192.0.2.9", "2001:db8::9"),
+               at_addresses(N2, "192.0.2.8/29").replace("s2", "xyzzy5461")),
+        servers_of_first=servers(2), rest=10000, conversations=True, tries=1, hold=60000),
+    "no-loops-by-any-address": decided(
+        second={}, peers=(at_addresses(NAS1, "192.0.2.1", "198.51.100.0/30"),), loop_prevention=True),
+    "own-sessions-of-several-addresses": decided(peers=(NAS1_AT_THREE,), own_sessions=True),
+    "keys-at-several-addresses": decided(
+        peers=(NAS1_AT_THREE + stated(require_seal=True, operator_name="inst.example", request_without=["30"], ask_cui=True),),
+        top={"status_server": True}),
+    "one-address-in-an-array": decided(peers=(at_addresses(NAS1, "192.0.2.1"), N2), peers_of="nas1"),
+    "two-servers-of-several-addresses": decided(
+        peers=(at_addresses(NAS1, "192.0.2.0/30", "2001:db8::9") + stated(reply_without=["25"]),), tries=1,
+        servers_of_first=servers(2)),
+}
+
 RANDOM = {
+    "addresses": configuration(
+        realm("a", [*servers(1), server("198.51.100.2", "h2", require_seal=True)], wait=10, hold=60, tries=1, max_pending=9,
+              max_sessions=4, rest=40, rest_after=1, also=["*.a", "*"], conversations=True, peer_share=4, own_sessions=True),
+        realm("b", servers(2), wait=8, hold=20, max_pending=6, max_sessions=3, loop_prevention=True, peers_of="nas1 n2 home1"),
+        peers=(at_addresses(NAS1, "192.0.2.0/29", "192.0.2.9", "2001:db8::/126") + stated(nas_ids=["wlc-*"]),
+               at_addresses(N2_COA, "192.0.2.2", "192.0.2.8/30", "2001:db8::2", "10.0.0.0/8"),
+               at_addresses(HOME1, "10.0.0.0/30", "198.51.100.1", "192.0.2.4/31")),
+        seed="6d" * 32, status_server=True),
     "own": configuration(
         realm("a", [*servers(1), client("198.51.100.9", "pc"), client("198.51.100.2", "p2")], wait=10, hold=20, tries=1, rest=30,
               max_pending=6, max_sessions=4, also=["*.a.b"], own_sessions=True, reply_without=["6", "26.9"]),
@@ -512,7 +551,7 @@ RANDOM = {
         peers=(NAS2, NAS1, NAS3), seed="1c" * 32, shards=2, max_attributes=12),
 }
 
-CONFIGURATIONS = POLICIES | REVERSES | LOGINS | ADDRESSES | PLACES | RANDOM | {
+CONFIGURATIONS = POLICIES | REVERSES | LOGINS | ADDRESSES | SEVERAL | PLACES | RANDOM | {
     "one-server": one(),
     "seal-required": configuration(realm("a.example", servers(1)), peers=(NAS1 + "require_seal = true\n",)),
     "no-session": one(max_sessions=0),

@@ -8,6 +8,8 @@ import sys
 
 NAME = re.compile(r"[A-Za-z0-9.-]{1,253}\Z")
 TABLES, SERVERS, PLACES, ALSO, REJECTS = 1024, 8, 8, 256, 1024
+# The most addresses of a peer.
+PREFIXES = 8
 # Behind `*` a server is silent where one home server behind it is.
 REST_AFTER_OF_ALL, HOPS = 50, 10
 
@@ -81,6 +83,22 @@ def network_of(text):
 def network_text(network):
     """A prefix as roam's `ip` has it."""
     return str(network.network_address if network.prefixlen == network.max_prefixlen else network)
+
+
+def network_texts(networks):
+    """One prefix, or a list of them, as a value."""
+    texts = [f'"{network_text(it)}"' for it in networks]
+    return texts[0] if len(texts) == 1 else "[" + ", ".join(texts) + "]"
+
+
+def by_so_many(these, count):
+    """The parts of a list, each of so many or, the last, of fewer."""
+    return [these[at:at + count] for at in range(0, len(these), count)]
+
+
+def is_in_one(network, networks):
+    """Whether a prefix lies in one of these."""
+    return any(network.version == it.version and network.subnet_of(it) for it in networks)
 
 
 def parts_of(text):

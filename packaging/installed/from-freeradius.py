@@ -10,8 +10,8 @@ Where a whole client or realm isn't carried over, its status is 1.
 
 import sys
 
-from converted_conf import (ALSO, HOPS, NAME, PLACES, REJECTS, REST_AFTER_OF_ALL, SERVERS, TABLES, Written, closed, endpoint_of, fault_of, kind_of,
-                            network_of, network_text, options_of, peer_name, toml)
+from converted_conf import (ALSO, HOPS, NAME, PLACES, PREFIXES, REJECTS, REST_AFTER_OF_ALL, SERVERS, TABLES, Written, closed, endpoint_of, fault_of,
+                            kind_of, network_of, network_text, network_texts, options_of, peer_name, toml)
 from converted_conf import endpoint_text as written, endpoint_texts as written_all
 from converted_tls import FOLDER, LOOPBACK, Front, literal
 from freeradius_conf import Unreadable, read
@@ -31,6 +31,8 @@ REASONS = {
 INSIDE = {"coa": "`wait` and `tries` of the realm count for Disconnects too", "limit": "`max_pending`, `share` and `peer_share` of the realm bound what waits",
           "tls": "UDP alone"}
 ADDRESSES = ("ipaddr", "ipv4addr", "ipv6addr")
+# What is said of a client's Message-Authenticators.
+SEALS = ("require_message_authenticator", "limit_proxy_state")
 
 
 def stated_address(section):
@@ -58,6 +60,7 @@ class Conversion:
         self.inner = [it for server in root.of("server") if "inner" in server.name for it in server.of("listen")]
         self.clients = [*root.own("client"), *(it for group in root.own("clients") for it in group.own("client") if is_tls(it))]
         self.used, self.addresses, self.names, self.front = set(), set(), set(), Front()
+        self.peers, self.joined = 0, []
         self.lost_parts, self.lost_tables, self.rejects, self.reject_at, self.realms, self.taken = [], [], [], 0, 0, []
 
     def run(self):
@@ -167,7 +170,9 @@ class Conversion:
     # Clients
 
     def write_client(self, section):
-        out, before = self.out, len(self.addresses)
+        if section in self.joined:
+            return
+        out, before = self.out, self.peers
         secret, fault = secret_of(section)
         if (section.get("proto") or "udp").lower() not in ("udp", "*", "tls"):
             fault = f"no {section.get('proto').upper()}"
@@ -176,12 +181,38 @@ class Conversion:
             out.lose(f"client {section.name}: {fault}")
         elif network in self.addresses:
             out.lose(f"client {section.name}: {network_text(network)} is a client before it")
-        elif network and len(self.addresses) == TABLES:
+        elif network and self.peers == TABLES:
             out.lose(f"client {section.name}: roam takes {TABLES} peers")
         elif network:
-            self.write_peer(section, network, secret)
-        if len(self.addresses) == before:
+            self.write_peer(section, self.with_those_beside(section, network), secret)
+        if self.peers == before:
             self.lost_tables.append(f"client {section.name}")
+
+    def group_of(self, section):
+        """What the clients of one peer have in common: the shortname, the secret and the seals. None for one that stands alone."""
+        (secret, fault), short = secret_of(section), section.get("shortname")
+        if not short or fault or is_tls(section) or section.get("coa_server") or (section.get("proto") or "udp").lower() not in ("udp", "*"):
+            return None
+        return short, secret, *(self.said(section, key).lower() for key in SEALS)
+
+    def with_those_beside(self, section, network):
+        """The prefix of a client, and those of further clients of its group, which are this peer's too."""
+        networks, group = [network], self.group_of(section)
+        for other in self.clients[self.clients.index(section) + 1:] if group else []:
+            if len(networks) == PREFIXES:
+                break
+            if other in self.joined or self.group_of(other) != group:
+                continue
+            self.joined.append(other)
+            beside = self.network(other, stated_address(other) or other.name)
+            if beside and beside not in self.addresses:
+                networks += [beside] if beside not in networks else []
+                self.lose_settings(other, ("proto",))
+                continue
+            if beside:
+                self.out.lose(f"client {other.name}: {network_text(beside)} is a client before it")
+            self.lost_tables.append(f"client {other.name}")
+        return networks
 
     def network_of_tls(self, section):
         """The address that haproxy gives the connections of a client's certificate."""
@@ -202,9 +233,13 @@ class Conversion:
             return None
         return network
 
+    def said(self, section, key):
+        """What is said of a client: by itself, or else for all."""
+        return section.get(key) or self.security and self.security.get(key) or "no"
+
     def wants(self, section, key):
-        """Whether yes is said of a client: by itself, or else for all."""
-        said = section.get(key) or self.security and self.security.get(key) or "no"
+        """Whether yes is said of a client."""
+        said = self.said(section, key)
         if said.lower() == "auto":
             self.out.change(f"client {section.name}: {key} auto: there is no auto, so it isn't required")
         return said.lower() in ("yes", "on", "1")
@@ -226,13 +261,14 @@ class Conversion:
             return [f"coa = {written(place)}", f'{key} = "{network_text(network)}"']
         return []
 
-    def write_peer(self, section, network, secret):
+    def write_peer(self, section, networks, secret):
         out = self.out
-        self.addresses.add(network)
+        self.addresses |= set(networks)
+        self.peers += 1
         seal, limit = self.wants(section, "require_message_authenticator"), self.wants(section, "limit_proxy_state")
         self.lose_settings(section, ("proto",))
-        coa = self.coa_of(section, network)
-        out.put("[[peer]]", f"name = {toml(peer_name(section.get('shortname') or section.name, self.names))}", f'ip = "{network_text(network)}"',
+        coa = self.coa_of(section, networks[0])
+        out.put("[[peer]]", f"name = {toml(peer_name(section.get('shortname') or section.name, self.names))}", f"ip = {network_texts(networks)}",
                 f"secret = {toml(secret)}", *(["require_seal = true"] if seal else []), *(["limit_proxy_state = true"] if limit and not seal else []),
                 *coa, "")
 
@@ -411,7 +447,7 @@ def main():
         conversion.run()
     except (Unreadable, ValueError) as error:
         sys.exit(f"from-freeradius.py: {error}")
-    closed("from-freeradius.py", conversion.out, len(conversion.addresses), conversion.realms, conversion)
+    closed("from-freeradius.py", conversion.out, conversion.peers, conversion.realms, conversion)
 
 
 if __name__ == "__main__":

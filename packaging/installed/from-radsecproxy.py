@@ -10,8 +10,8 @@ import ipaddress
 import re
 import sys
 
-from converted_conf import (ALSO, HOPS, NAME, PLACES, REJECTS, REST_AFTER_OF_ALL, SERVERS, TABLES, Written, closed, endpoint_of, fault_of, kind_of,
-                            network_of, network_text, options_of, parts_of, peer_name, toml)
+from converted_conf import (ALSO, HOPS, NAME, PLACES, PREFIXES, REJECTS, REST_AFTER_OF_ALL, SERVERS, TABLES, Written, by_so_many, closed, endpoint_of,
+                            fault_of, is_in_one, kind_of, network_of, network_text, network_texts, options_of, parts_of, peer_name, toml)
 from converted_conf import endpoint_text as written, endpoint_texts as written_all
 from converted_tls import FOLDER, LOOPBACK, Front, literal
 from radsecproxy_conf import Block, Unreadable, blocks_of
@@ -90,7 +90,7 @@ class Conversion:
         self.of_kind = lambda kind: [block for block in blocks if block.kind == kind]
         self.servers = {block.name.lower(): block for block in self.of_kind("server")}
         self.rewrites = {block.name: block for block in self.of_kind("rewrite")}
-        self.used, self.addresses, self.names = set(), {}, set()
+        self.used, self.addresses, self.names, self.peers = set(), {}, set(), 0
         self.lost_parts, self.lost_tables, self.rejects, self.reject_at = [], [], [], 0
         self.realms, self.taken, self.forwarding, self.front = 0, [], [], Front()
 
@@ -245,7 +245,8 @@ class Conversion:
             out.lose(f"client {block.name}: {fault}")
             self.lost_tables.append(f"client {block.name}")
             return
-        if not any([self.write_peers(block, host, secret) for host in hosts]):
+        networks, is_known = self.networks_of(block, hosts)
+        if not any([self.write_peer_at(block, some, secret) for some in by_so_many(networks, PREFIXES)]) and not is_known:
             self.lost_tables.append(f"client {block.name}")
 
     def write_tls_client(self, block, secret):
@@ -255,7 +256,7 @@ class Conversion:
         if known:
             out.change(f"client {block.name}: its certificate is peer {known}'s, before it: one peer, from whichever address it comes")
             return
-        if len(self.addresses) == TABLES:
+        if self.peers == TABLES:
             out.lose(f"client {block.name}: roam takes {TABLES} peers")
             self.lost_tables.append(f"client {block.name}")
             return
@@ -265,7 +266,7 @@ class Conversion:
             out.change(f"client {block.name}: names.map has {', '.join(subjects)} as the common name of its certificate: see that it is so")
         elif not subjects:
             out.change(f"client {block.name}: write the common name of its certificate into names.map")
-        self.write_peer(block, network_of(address), secret)
+        self.write_peer(block, [network_of(address)], secret)
 
     def tell_certificates(self):
         """Where haproxy has the certificates of the blocks of TLS."""
@@ -276,21 +277,26 @@ class Conversion:
                             f" and {FOLDER}/ca.pem, which is {files[2]}")
             self.front.checks_revoked |= block.is_on("crlcheck")
 
-    def write_peers(self, block, host, secret):
-        """Whether what it names is a peer, by this block or by one before it."""
-        out, network = self.out, self.network(block, host)
-        if network is None:
+    def networks_of(self, block, hosts):
+        """The prefixes of a client that no client before it has, and whether one before it has any."""
+        networks, is_known = [], False
+        for network in (it for host in hosts for it in [self.network(block, host)] if it):
+            text, before = network_text(network), self.first_around(network)
+            if before is not None:
+                at = "is a client before it" if before == network else f"is in {before} of a client before it"
+                self.out.lose(f"client {block.name}: {text} {at}, which radsecproxy takes first")
+                is_known = True
+            elif not is_in_one(network, networks):
+                networks.append(network)
+        return networks, is_known
+
+    def write_peer_at(self, block, networks, secret):
+        """Whether there is a table left for a client at these prefixes, which it then has."""
+        if self.peers == TABLES:
+            texts = ", ".join(network_text(it) for it in networks)
+            self.out.lose(f"client {block.name}: {texts}: roam takes {TABLES} peers")
             return False
-        text, before = network_text(network), self.first_around(network)
-        if before is not None and before == network:
-            out.lose(f"client {block.name}: {text} is a client before it, which radsecproxy takes first")
-        elif before is not None:
-            out.lose(f"client {block.name}: {text} is in {before} of a client before it, which radsecproxy takes first")
-        elif len(self.addresses) == TABLES:
-            out.lose(f"client {block.name}: {text}: roam takes {TABLES} peers")
-            return False
-        else:
-            self.write_peer(block, network, secret)
+        self.write_peer(block, networks, secret)
         return True
 
     def first_around(self, network):
@@ -318,13 +324,14 @@ class Conversion:
         """Why a name isn't an address, where it was looked up too."""
         return "a name that has no address now" if self.options.resolve else why
 
-    def write_peer(self, block, network, secret):
+    def write_peer(self, block, networks, secret):
         out = self.out
         chosen = peer_name(block.name, self.names)
         if block.name not in self.addresses.values():
             self.tell_client(block)
-        self.addresses[network] = block.name
-        out.put("[[peer]]", f"name = {toml(chosen)}", f'ip = "{network_text(network)}"', f"secret = {toml(secret)}")
+        self.addresses |= dict.fromkeys(networks, block.name)
+        self.peers += 1
+        out.put("[[peer]]", f"name = {toml(chosen)}", f"ip = {network_texts(networks)}", f"secret = {toml(secret)}")
         if block.is_on("requiremessageauthenticator"):
             out.put("require_seal = true")
         elif block.is_on("requiremessageauthenticatorproxy"):
@@ -633,7 +640,7 @@ def main():
         conversion.run()
     except (Unreadable, ValueError) as error:
         sys.exit(f"from-radsecproxy.py: {error}")
-    closed("from-radsecproxy.py", conversion.out, len(conversion.addresses), conversion.realms, conversion)
+    closed("from-radsecproxy.py", conversion.out, conversion.peers, conversion.realms, conversion)
 
 
 if __name__ == "__main__":

@@ -3,6 +3,9 @@
 What is expected is that of the format's description: its sample configuration, its table of changes, and its ranges.
 """
 
+# As many addresses as a peer may have.
+EIGHT = '["' + '", "'.join(f"10.0.0.{n}" for n in range(8)) + '"]'
+
 # The keys of the broker.
 TOP = """\
 shards = 1
@@ -211,6 +214,14 @@ OF_THE_SAMPLE = [
     # Addresses of both kinds, and prefixes.
     ('"192.0.2.1"', None, '"192.0.2.0/24"', '"192.0.2.1/32"', '"2001:db8::/48"', '"2001:DB8:0:0:0:0:192.0.2.1"'),
     ('"192.0.2.1"', "BadValue", '"192.0.2.1/24"', '"192.0.2.0/33"', '"::ffff:192.0.2.1"', '"[2001:db8::1]"'),
+    # A peer at several addresses, of which no two are equal, also in another form.
+    ('ip = "192.0.2.1"', None, 'ip = ["192.0.2.1"]', f"ip = {EIGHT}", 'ip = ["10.0.0.0/8", "10.0.0.0/9", "10.0.0.0", "0.0.0.0/0", "::/0", "::"]'),
+    ('ip = "192.0.2.1"', "BadValue", "ip = []", f'ip = {EIGHT[:-1]}, "10.0.0.8"]', 'ip = [["192.0.2.1"]]', 'ip = ["192.0.2.1", 1]',
+     'ip = ["192.0.2.1", "10.0.0.1/8"]', 'ip = ["192.0.2.1", "::ffff:192.0.2.1"]', 'ip = ["192.0.2.1:5000"]', 'ip = "192.0.2.1, 192.0.2.2"',
+     'ip = ["10.0.0.0/8", "10.0.0.0/8", ""]'),
+    ('ip = "192.0.2.1"', "DuplicatePeer", 'ip = ["192.0.2.1", "192.0.2.1"]', 'ip = ["192.0.2.1/32", "10.0.0.0/8", "192.0.2.1"]',
+     'ip = ["2001:db8::/32", "2001:DB8:0::/32"]'),
+    ('nas_ip = "192.0.2.1"', "BadValue", 'nas_ip = ["192.0.2.1"]'),
     ('nas_ip = "192.0.2.1"', None, 'nas_ipv6 = "2001:db8::1"'),
     ('nas_ip = "192.0.2.1"', "BadValue", 'nas_ipv6 = "192.0.2.1"', 'nas_ip = "2001:db8::1"'),
     ('coa = "192.0.2.1:3799"', None, 'coa = "[2001:db8::1]:3799"'),
@@ -340,6 +351,8 @@ DOCUMENTS = [
     ([TOP, PEER], AS_IT_IS, AS_IT_IS, "Missing"),
     ([TOP, PEER, REALM, SERVER, REALM, SERVER], "a.example", "A.EXAMPLE", "DuplicateRealm"),
     ([TOP, PEER, SECOND_PEER, REALM, SERVER], "192.0.2.2", "192.0.2.1", "DuplicatePeer"),
+    ([TOP, PEER, SECOND_PEER, REALM, SERVER], '"192.0.2.2"', '["10.0.0.0/8", "192.0.2.1"]', "DuplicatePeer"),
+    ([TOP, PEER, SECOND_PEER, REALM, SERVER], '"192.0.2.2"', '["192.0.2.0/24", "192.0.2.0/31"]', None),
     ([TOP, PEER, SECOND_PEER, REALM, SERVER], "nas2", "nas1", "DuplicatePeer"),
     ([TOP, PEER, SECOND_PEER, THIRD_PEER, REALM, SERVER], "nas2", "NAS1", None),
     ([TOP, PEER, SECOND_PEER, REALM, SERVER], 'secret = "s"\n', 'secret = "s"\nnas_ip = "192.0.2.1"\n', "DuplicatePeer"),
@@ -597,6 +610,7 @@ WHOLE = [
      'peers = ["nas1"]\nloop_prevention = true\naccounting = "drop"\n',
      'request_without = ["126"]\nreply_without = ["6"]\nshare = 7\n', NO_ACCT],
     [TOP, PEER, SECOND_PEER, "require_seal = true\n", REALM, SERVER, SECOND_SERVER, SECOND_REALM, SERVER],
+    [TOP, PEER.replace('"192.0.2.1"', '["192.0.2.1", "2001:DB8:0::/48", "10.1.0.0/16"]', 1), REALM, SERVER],
 ]
 LEAST = [LEAST_TOP, PLAIN_PEER, LEAST_REALM, SERVER]
 LEAST_WITH_REVERSE = [LEAST_TOP, PLAIN_PEER, LEAST_REALM, 'reverse = "127.0.0.1:3000"\n', SERVER]

@@ -1,7 +1,7 @@
 #!/usr/bin/env python3
 """try-converter.py [ROAM]
 
-Tries from-radsecproxy.py on a file of eduroam's kind, with 10 clients, 8 servers and 12 realms, on one that rewrites
+Tries from-radsecproxy.py on a file of eduroam's kind, with 12 clients, 8 servers and 12 realms, on one that rewrites
 attributes, and on one of 500 realms. Where radsecproxy is installed, it judges them (`-p`). What is written has to keep
 docs/FILES.md, and to choose for each of many names the realm that radsecproxy chooses. Where a program ROAM is given,
 `roam check` judges it too.
@@ -46,6 +46,7 @@ rewrite no-vlan { removeAttribute 81 }
 
 client wireless-1 { host 192.0.2.1; type udp; secret "a\bc%41 d"; duplicateInterval 10; fticksVISCOUNTRY EX }
 client wireless-2 { host 192.0.2.2; host 192.0.2.3; type udp; secret 'it is "quoted"' }
+client access-points { host 192.0.2.128; host 192.0.2.129; host 192.0.2.130; host 192.0.2.131; host 192.0.2.132; host 192.0.2.133; host 192.0.2.134; host 192.0.2.135; host 192.0.2.136; host 192.0.2.128; host 192.0.2.2; type udp; secret of-nine }
 client wired { host 192.0.2.16/30; type udp; secret prefix-of-four; rewriteIn no-vlan }
 client wired-1 { host 192.0.2.18; type udp; secret one-of-four }
 client dormitories { host 10.20.0.0/16; type udp; secret prefix-of-many }
@@ -306,7 +307,9 @@ def keeps_the_rules(conf):
         want(set(peer) <= {"name", "ip", "secret", "require_seal", "limit_proxy_state", "operator_name", "operator_namespace", "ask_cui",
                              "request_without", "reply_without", "coa", "nas_ip", "nas_ipv6"})
         keeps_lists(peer)
-        want(str(ipaddress.ip_network(peer["ip"])).removesuffix("/32").removesuffix("/128") == peer["ip"])
+        want(isinstance(peer["ip"], str) or 2 <= len(peer["ip"]) <= 8)
+        for prefix in all_of(peer, "ip"):
+            want(str(ipaddress.ip_network(prefix)).removesuffix("/32").removesuffix("/128") == prefix)
         want(re.fullmatch(r"[A-Za-z0-9._-]{1,64}", peer["name"]) and 1 <= len(peer["secret"].encode()) <= 64)
     names, endpoints = [], [*all_of(conf, "auth"), *all_of(conf, "acct")]
     for realm in conf["realm"]:
@@ -329,7 +332,7 @@ def keeps_the_rules(conf):
     names += conf.get("reject", [])
     for name in names:
         want(re.fullmatch(r"(\*\.)?[A-Za-z0-9.-]{1,253}|\*", name), name)
-    for unique in ([name.lower() for name in names], endpoints, [peer["ip"] for peer in conf["peer"]],
+    for unique in ([name.lower() for name in names], endpoints, [it for peer in conf["peer"] for it in all_of(peer, "ip")],
                    [peer["name"] for peer in conf["peer"]]):
         want(len(set(unique)) == len(unique))
     want(all(map(is_endpoint, endpoints)))
@@ -453,7 +456,7 @@ def look_at_front(directory, written, roam, converter, paths, take):
     bound = re.findall(r"^    bind (127\.\S+)$", texts["haproxy.cfg"], re.M)
     want(sorted(asked) == sorted(at) == sorted(bound), f"{asked} {at} {bound}")
     addresses = re.findall(r"^    server (\S+) \S+ source (\S+) maxconn 16 weight 0$", texts["haproxy.cfg"], re.M)
-    want(addresses == [(it["name"], it["ip"]) for it in conf["peer"] if it["ip"].startswith("127.")], f"{addresses}")
+    want(addresses == [(it["name"], it["ip"]) for it in conf["peer"] if all_of(it, "ip")[0].startswith("127.")], f"{addresses}")
     want(all(f" {it} " in texts["haproxy.cfg"] for it in streams.get("take", [])), "haproxy hands on where connections are taken")
     if roam:
         judged = run([roam, "check", "--streams", os.path.join(folder, "streams.conf")])
@@ -550,16 +553,20 @@ def main():
     be_quiet()
     read_expressions()
     network()
-    conf = look_over("eduroam.conf", EDUROAM, 7, 6, TOLD, LOST, roam)
+    conf = look_over("eduroam.conf", EDUROAM, 8, 6, TOLD, LOST, roam)
     want("log_exchanges" not in conf and conf["control"] == "/run/roam/control" and conf["answer_unnamed"])
     want(conf["reject"] == ["myabc.com", "*.myabc.com", "*.3gppnetwork.org", "suspended.example"])
     want([realm.get("accounting") for realm in conf["realm"]] == [None, "drop", "answer", "drop", "drop", None])
     want([(peer["name"], peer["ip"]) for peer in conf["peer"] if peer.get("request_without") == ["81"]] == [("wired", "192.0.2.16/30")])
     want([peer["ip"] for peer in conf["peer"] if "/" in peer["ip"]] == ["192.0.2.16/30", "10.20.0.0/16"])
+    # A client of several hosts is one peer; of more than eight, one for each eight.
+    want([(peer["name"], peer["ip"]) for peer in conf["peer"] if peer["ip"].__class__ is list] == [
+        ("wireless-2", ["192.0.2.2", "192.0.2.3"]), ("access-points", [f"192.0.2.{n}" for n in range(128, 136)])])
+    want([peer["ip"] for peer in conf["peer"] if peer["name"] == "access-points-2"] == ["192.0.2.136"])
     want(conf["realm"][3]["out"].startswith("[::1]:") and conf["realm"][3]["server"][0]["auth"] == "[2001:db8::2]:1812")
     want([server["auth"] for server in conf["realm"][4]["server"]] == ["198.51.100.18:11812", "[2001:db8::2]:1812"])
     want([it.rpartition(":")[0] for it in conf["realm"][4]["out"]] == ["203.0.113.10", "[::1]"])
-    want([peer["secret"] for peer in conf["peer"]][:3] == ["a\\bcA d"] + ['it is "quoted"'] * 2)
+    want([peer["secret"] for peer in conf["peer"]][:4] == ["a\\bcA d", 'it is "quoted"', "of-nine", "of-nine"])
     last = conf["realm"][5]
     want(last["also"] == ["*"] and last["tries"] == 2 and last["wait"] == 3000 and last["loop_prevention"] and last["rest_after"] == 50)
     want([server["acct"] for server in conf["realm"][0]["server"]] == ["198.51.100.17:1813", "198.51.100.18:11813"])

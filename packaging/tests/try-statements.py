@@ -40,13 +40,13 @@ def keys_of_page():
 
 
 def spelled(key, value):
-    """A value as it is printed: of an address, a prefix and an endpoint there is one text (RFC 5952); one endpoint stands alone."""
+    """A value as it is printed: of an address, a prefix and an endpoint there is one text (RFC 5952); one of an array stands alone."""
+    if key in ENDPOINTS | {"ip"} and isinstance(value, list):
+        each = [spelled(key, one) for one in value]
+        return each[0] if len(each) == 1 else each
     if key in ("ip", "nas_ipv6"):
         network = ipaddress.ip_network(value)
         return str(network.network_address if network.num_addresses == 1 else network)
-    if key in ENDPOINTS and isinstance(value, list):
-        each = [spelled(key, one) for one in value]
-        return each[0] if len(each) == 1 else each
     if key in ENDPOINTS:
         host, port = value.rsplit(":", 1)
         return f"[{ipaddress.ip_address(host[1:-1])}]:{port}" if host.startswith("[") else value

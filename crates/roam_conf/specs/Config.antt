@@ -19,14 +19,15 @@ pub record CoaClientView : Type 0 where
   pub ip : Address
   pub secret : List ℕ
 
--- an access server, or the proxy of a visited network, or all at the addresses of a prefix: how it is known and named,
--- what its Access-Requests need, what is added to its requests, and what is taken out of them and of what is sent to
--- it; or one that went from the file while it was served, which nothing means any more. Its `operator_name` is the
--- value of an Operator-Name: the octet of its namespace, and the name behind it (RFC 5580, section 4.1)
+-- an access server, or the proxy of a visited network, or all at the addresses of some prefixes, whose order says
+-- nothing: how it is known and named, what its Access-Requests need, what is added to its requests, and what is taken
+-- out of them and of what is sent to it; or one that went from the file while it was served, which nothing means any
+-- more. Its `operator_name` is the value of an Operator-Name: the octet of its namespace, and the name behind it (RFC
+-- 5580, section 4.1)
 pub record PeerView : Type 0 where
   pub gone : Bool
   pub name : List ℕ
-  pub ip : PrefixView
+  pub ips : List PrefixView
   pub secret : List ℕ
   pub coa : Option Endpoint
   pub nas_ip : Option (List ℕ)

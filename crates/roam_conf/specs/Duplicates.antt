@@ -1,9 +1,10 @@
 -- The values that may not stand twice in a configuration. Ours.
-use Rattle.std.specs.Prelude.{ℕ, ◌==◌, ◌&&◌, ◌||◌, not, if◌then◌else◌, Bool, false, List, [], ◌∷◌, ◌++◌, Option, Some}
+use Rattle.std.specs.Prelude.{ℕ, ◌==◌, ◌&&◌, ◌||◌, not, if◌then◌else◌, Bool, false, List, [], ◌∷◌, ◌++◌, filter, Option, Some}
 use Rattle.std.specs.List.{list_any, filter_map, flat_map, cons_option}
 use Rattle.std.specs.Option.{option_to_list, option_map_or}
 use Rattle.std.specs.Str.{bytes_eq}
 use Rattle.roam_address.specs.declared.endpoint.Endpoint.{Endpoint}
+use Rattle.roam_address.specs.Prefixes.{PrefixView}
 use Rattle.roam_address.specs.Same.{same_address, same_prefix}
 use Rattle.roam_conf.specs.Config.{ServerView, CoaClientView, PeerView, PatternView, RealmView}
 use Rattle.roam_conf.specs.Operators.{same_operator_if_there}
@@ -27,13 +28,22 @@ abbrev pub same_if_there : Option (List ℕ) → Option (List ℕ) → Bool
 same_if_there (Some a) (Some b) = bytes_eq a b
 same_if_there _ _ = false
 
--- equal names, prefixes, NAS-IP-Addresses or NAS-IPv6-Addresses, or Operator-Names that mean the same, of two that are
--- both here
+-- the peer is here; the prefixes of all peers that are
+abbrev pub is_present : PeerView → Bool
+is_present peer = not peer.gone
+
+abbrev pub prefixes_of : PeerView → List PrefixView
+prefixes_of peer = peer.ips
+
+abbrev pub prefixes_present : List PeerView → List PrefixView
+prefixes_present peers = flat_map prefixes_of (filter is_present peers)
+
+-- equal names, NAS-IP-Addresses or NAS-IPv6-Addresses, or Operator-Names that mean the same, of two that are both here
 abbrev pub same_peer : PeerView → PeerView → Bool
 same_peer a b =
     not a.gone && not b.gone
-    && (bytes_eq a.name b.name || same_prefix a.ip b.ip || same_if_there a.nas_ip b.nas_ip
-    || same_if_there a.nas_ipv6 b.nas_ipv6 || same_operator_if_there a.operator_name b.operator_name)
+    && (bytes_eq a.name b.name || same_if_there a.nas_ip b.nas_ip || same_if_there a.nas_ipv6 b.nas_ipv6
+    || same_operator_if_there a.operator_name b.operator_name)
 
 -- the texts of a peer's `nas_id` and `nas_ids`; those of all peers
 abbrev pub nas_texts_of : PeerView → List (List ℕ)
@@ -73,9 +83,15 @@ some_server_at endpoints servers =
 unfoldable pub has_duplicate_realm : List RealmView → List PatternView → Bool
 has_duplicate_realm realms reject = has_pair same_pattern (flat_map patterns_of realms ++ reject)
 
--- two peers are the same in one of the five, or two texts of `nas_id` and `nas_ids` of all peers are equal
+-- two prefixes are the same among all of all peers that are here, also two of one peer
+abbrev pub has_duplicate_prefix : List PeerView → Bool
+has_duplicate_prefix peers = has_pair same_prefix (prefixes_present peers)
+
+-- two peers are the same in one of the four, or two prefixes of peers, or two texts of `nas_id` and `nas_ids` of all
+-- peers are equal
 unfoldable pub has_duplicate_peer : List PeerView → Bool
-has_duplicate_peer peers = has_pair same_peer peers || has_pair bytes_eq (nas_texts peers)
+has_duplicate_peer peers =
+    has_pair same_peer peers || has_duplicate_prefix peers || has_pair bytes_eq (nas_texts peers)
 
 -- two of the broker's own sockets are at one endpoint
 unfoldable pub has_duplicate_endpoint : List Endpoint → List Endpoint → List RealmView → Bool

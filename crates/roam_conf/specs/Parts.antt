@@ -28,7 +28,7 @@ abbrev pub shown_peer : Peer → PeerView
 shown_peer peer = record {
   gone = peer.gone;
   name = string_bytes peer.name;
-  ip = shown_prefix peer.ip;
+  ips = map shown_prefix peer.ips.items;
   secret = peer.secret;
   coa = peer.coa;
   nas_ip = peer.nas_ip;

@@ -66,7 +66,7 @@ impl Config {
     ghost use Rattle.roam_conf.specs.Index.{pattern_key, pattern_seen};
     ghost use Rattle.roam_conf.specs.Lookup.{realm_named, realm_owning, owner_with, may_fit, patterns_for, after_dots};
     ghost use Rattle.roam_conf.specs.Lookup.{further_patterns, first_answer};
-    ghost use Rattle.roam_conf.specs.Lookup.{asker_at, peer_with_ip, link_in, IsLinkIn};
+    ghost use Rattle.roam_conf.specs.Lookup.{asker_at, is_source_of, peer_with_ip, link_in, IsLinkIn};
     ghost use Rattle.roam_conf.specs.Shown.{shown};
 
     /// Returns whose a pattern is; none has a name of more than 253 octets in it.
@@ -230,12 +230,22 @@ impl Config {
         }
     }
 
-    /// The index of the peer whose prefix is the longest of those, of peers that are here, that have the address.
+    /// The index of the peer that has the longest of all prefixes, of peers that are here, that have the address.
     pub fn peer_by_ip(&self, ip: Address) -> Option<u16>
         ensures value { result ≡ peer_with_ip (shown self.now).peers ip }
         ensures bound { IfSome result (λ p. p < vec_len self.now.peers) }
     {
         self.found_by.ips.longest(ip)
+    }
+
+    /// Returns whether a source at an address is this peer's.
+    pub fn is_source_of(&self, peer: u16, ip: Address) -> bool
+        ensures { result ≡ is_source_of (shown self.now).peers peer ip }
+    {
+        match self.peer_by_ip(ip) {
+            Some(found) => found == peer,
+            None => false,
+        }
     }
 
     /// The index of the peer that asks from an address at the `auth` of this place; none where there is no such `auth`.

@@ -54,7 +54,7 @@ pub peer_unique : (members : Members) (a b : PeerView) → StatesPeer members a 
 peer_unique ms a b p q =
     let gone = p.here ∙ sym q.here in
     let name = same_value _ a.name b.name p.name q.name in
-    let ip = same_value _ a.ip b.ip p.ip q.ip in
+    let ips = same_value _ a.ips b.ips p.ips q.ips in
     let secret = same_value _ a.secret b.secret p.secret q.secret in
     let coa = same_value _ a.coa b.coa p.coa q.coa in
     let nas_ip = same_value _ a.nas_ip b.nas_ip p.nas_ip q.nas_ip in
@@ -71,7 +71,7 @@ peer_unique ms a b p q =
     λ i. record {
       gone = gone i;
       name = name i;
-      ip = ip i;
+      ips = ips i;
       secret = secret i;
       coa = coa i;
       nas_ip = nas_ip i;

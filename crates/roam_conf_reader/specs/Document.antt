@@ -9,7 +9,7 @@ use Rattle.roam_conf.specs.declared.accounting.Accounting.{Accounting}
 use Rattle.roam_conf.specs.declared.accounting.Accounting.TheVariants as kinds
 use Rattle.roam_conf.specs.Config.{ServerView, CoaClientView, PeerView, RealmView, ConfigView}
 use Rattle.roam_conf_reader.specs.Operators.{operator_at}
-use Rattle.roam_conf_reader.specs.Values.{number, letters_of, text, address, ipv4, ipv6, prefix, endpoint, endpoints, endpoints_if_there, seed_or_zeros, flag, exchange_lines, station_word, number_or, pattern, list_of, rejects, removed, nas_ids, peer_names, accounting, array_of, item_count, value_at, optional_at, file_path, socket_path}
+use Rattle.roam_conf_reader.specs.Values.{number, letters_of, text, address, ipv4, ipv6, prefixes, endpoint, endpoints, endpoints_if_there, seed_or_zeros, flag, exchange_lines, station_word, number_or, pattern, list_of, rejects, removed, nas_ids, peer_names, accounting, array_of, item_count, value_at, optional_at, file_path, socket_path}
 
 -- the required keys of the five tables
 abbrev pub server_required : List (List ℕ)
@@ -102,7 +102,7 @@ pub record StatesClient (members : Members) (client : CoaClientView) : Type 0 wh
 pub record StatesPeer (members : Members) (peer : PeerView) : Type 0 where
   pub here : peer.gone ≡ false
   pub name : value_at (text 64 (letters_of PeerName)) (codes "name") members ≡ Some peer.name
-  pub ip : value_at prefix (codes "ip") members ≡ Some peer.ip
+  pub ips : value_at prefixes (codes "ip") members ≡ Some peer.ips
   pub secret : value_at (text 64 (letters_of Any)) (codes "secret") members ≡ Some peer.secret
   pub coa : optional_at endpoint (codes "coa") members ≡ Some peer.coa
   pub nas_ip : optional_at ipv4 (codes "nas_ip") members ≡ Some peer.nas_ip

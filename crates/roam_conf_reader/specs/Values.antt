@@ -168,7 +168,13 @@ endpoints most (array items) =
     if nat_le 1 (item_count items) && nat_le (item_count items) most then each_of endpoint items else None
 endpoints most found = one_of (endpoint found)
 
--- the same; none where they are absent
+-- a prefix, or an array of 1 to 8 prefixes
+unfoldable pub prefixes : Data → Option (List PrefixView)
+prefixes (array items) =
+    if nat_le 1 (item_count items) && nat_le (item_count items) 8 then each_of prefix items else None
+prefixes found = one_of (prefix found)
+
+-- as many endpoints; none where they are absent
 abbrev pub endpoints_if_there : ℕ → Option Data → Option (List Endpoint)
 endpoints_if_there most None = Some []
 endpoints_if_there most (Some found) = endpoints most found

@@ -1,8 +1,8 @@
 //! The values that may not stand twice in a configuration.
 //!
-//! What may be many is found by an index: names and patterns of realms, NAS-Identifiers, the sockets of the broker, and
-//! the endpoints of peers among those of all servers. The other searches compare all pairs: of at most 1024 peers, 8
-//! `coa_client`s of a realm, and 16 endpoints of one realm's servers.
+//! What may be many is found by an index: names and patterns of realms, prefixes of peers, NAS-Identifiers, the sockets
+//! of the broker, and the endpoints of peers among those of all servers. The other searches compare all pairs: of at
+//! most 1024 peers, 8 `coa_client`s of a realm, and 16 endpoints of one realm's servers.
 
 ghost use Rattle.std.specs.Prelude.{◌≡◌, ◌≤◌, ◌+◌, ◌++◌, ◌||◌, Some, None, IfOk, OnOk, false, length, map, drop};
 ghost use Rattle.std.specs.List.{list_any};

@@ -4,13 +4,12 @@ ghost use Rattle.std.specs.Prelude.{◌≡◌, ◌≤◌, IfSome, option_map};
 ghost use Rattle.std.specs.Option.{option_copied};
 ghost use Rattle.toml.specs.Data.{get_member};
 ghost use Rattle.toml.specs.View.{table_view, array_view};
-ghost use Rattle.roam_address.specs.Prefixes.{shown_prefix};
 ghost use Rattle.roam_conf_reader.specs.Values as spec;
 ghost use Rattle.roam_conf_reader.specs.Values.{letters_of, value_at, optional_at};
 
 use crate::station_word::StationWord;
 use crate::values::{self, Letters, value};
-use roam_conf::{Accounting, Address, Endpoint, ExchangeLines, Prefix};
+use roam_conf::{Accounting, Address, Endpoint, ExchangeLines};
 use toml::value::Array;
 use toml::{Table, Value};
 
@@ -18,12 +17,6 @@ pub(crate) fn address(table: &Table, key: &str) -> Option<Address>
     ensures { result ≡ value_at spec.address key.now (table_view table.now) }
 {
     values::address_of(value(table, key)?)
-}
-
-pub(crate) fn prefix(table: &Table, key: &str) -> Option<Prefix>
-    ensures { option_map shown_prefix result ≡ value_at spec.prefix key.now (table_view table.now) }
-{
-    values::prefix_of(value(table, key)?)
 }
 
 pub(crate) fn endpoint(table: &Table, key: &str) -> Option<Endpoint>

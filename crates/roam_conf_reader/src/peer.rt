@@ -13,8 +13,8 @@ ghost use Rattle.roam_conf_reader.specs.Texts.{StatesPeerBesideLists};
 use crate::operator::{OperatorText, operator_text};
 use crate::tables::{PEER_KEYS, PEER_OPTIONAL_KEYS, has_only};
 use crate::values::Letters;
-use crate::{ConfFault, keys, names, operator, removed};
-use roam_conf::{Endpoint, Peer, Prefix, SharedSecret};
+use crate::{ConfFault, keys, names, operator, prefixes, removed};
+use roam_conf::{Endpoint, Peer, SharedSecret};
 use std::alloc::Global;
 use toml::Table;
 use toml::value::Array;
@@ -23,7 +23,6 @@ use toml::value::Array;
 #[derive(Clone, Copy)]
 struct PeerText<'a> {
     name: &'a str,
-    ip: Prefix,
     secret: &'a str,
     coa: Option<Endpoint>,
     nas_ip: Option<[u8; 4]>,
@@ -44,9 +43,8 @@ fn peer_text(table: &Table) -> Option<PeerText<'_>>
     if !has_only(table, &PEER_KEYS, &PEER_OPTIONAL_KEYS) {
         return None;
     }
-    let (Some(name), Some(ip), Some(secret)) = (
+    let (Some(name), Some(secret)) = (
         keys::text(table, "name", 64, Letters::PeerName),
-        keys::prefix(table, "ip"),
         keys::text(table, "secret", 64, Letters::Any),
     ) else {
         return None;
@@ -69,7 +67,6 @@ fn peer_text(table: &Table) -> Option<PeerText<'_>>
     };
     Some(PeerText {
         name,
-        ip,
         secret,
         coa,
         nas_ip,
@@ -108,7 +105,7 @@ fn from_table(alloc: Global, table: &Table) -> Result<Peer, ConfFault>
     Ok(Peer {
         gone: false,
         name: String::from_str(alloc, text.name)?,
-        ip: text.ip,
+        ips: prefixes::at(alloc, table, "ip")?,
         coa: text.coa,
         nas_ip: text.nas_ip,
         nas_ipv6: text.nas_ipv6,

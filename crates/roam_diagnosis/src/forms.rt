@@ -21,6 +21,8 @@ pub(crate) enum ValueForm {
     Network(NetworkForm),
     /// An endpoint, or an array of 1 to so many.
     Endpoints(u32),
+    /// A prefix, or an array of 1 to so many.
+    Prefixes(u32),
     /// An array of so many to so many endpoints of 127.0.0.0/8.
     LocalEndpoints(u32, u32),
     /// A text of 1 to so many octets.
@@ -59,9 +61,10 @@ pub(crate) fn bounds_of(form: ValueForm) -> Option<(u32, u32)> {
         ValueForm::Number(least, most)
         | ValueForm::LocalEndpoints(least, most)
         | ValueForm::Tables(least, most) => Some((least, most)),
-        ValueForm::Endpoints(most) | ValueForm::Text(most) | ValueForm::Path(most) => {
-            Some((1, most))
-        }
+        ValueForm::Endpoints(most)
+        | ValueForm::Prefixes(most)
+        | ValueForm::Text(most)
+        | ValueForm::Path(most) => Some((1, most)),
         ValueForm::Secret | ValueForm::PeerName => Some((1, 64)),
         ValueForm::RealmName => Some((1, 253)),
         ValueForm::Names => Some((0, 256)),
@@ -159,6 +162,7 @@ fn text_fits(form: ValueForm, text: &str) -> bool {
         ValueForm::Seed => is_seed(text),
         ValueForm::Network(form) => form.fits(text),
         ValueForm::Endpoints(_) => NetworkForm::Endpoint.fits(text),
+        ValueForm::Prefixes(_) => NetworkForm::Prefix.fits(text),
         ValueForm::LocalEndpoints(..) => NetworkForm::LocalEndpoint.fits(text),
         ValueForm::Text(most) => has_length(text, most),
         ValueForm::Digit => is_digit(text),
@@ -215,7 +219,7 @@ pub(crate) fn is_list(form: ValueForm) -> bool {
 /// Returns whether an array of the form has texts, each of which may be wrong.
 fn may_be_list(form: ValueForm) -> bool {
     match form {
-        ValueForm::Endpoints(_) => true,
+        ValueForm::Endpoints(_) | ValueForm::Prefixes(_) => true,
         _ => is_list(form),
     }
 }

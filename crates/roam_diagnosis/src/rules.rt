@@ -35,7 +35,7 @@ const TOP: [Rule; 22] = [
 
 const PEER: [Rule; 15] = [
     Rule("name", true, ValueForm::PeerName),
-    Rule("ip", true, ValueForm::Network(NetworkForm::Prefix)),
+    Rule("ip", true, ValueForm::Prefixes(8)),
     Rule("secret", true, ValueForm::Secret),
     Rule("coa", false, ValueForm::Network(NetworkForm::Endpoint)),
     Rule("nas_ip", false, ValueForm::Network(NetworkForm::Ipv4)),

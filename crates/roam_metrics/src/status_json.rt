@@ -1,5 +1,6 @@
 //! The state of a server, as JSON (RFC 8259).
 
+use crate::addresses::AddressesJson;
 use crate::servers::Standing;
 use crate::totals::{Service, Totals};
 use crate::{About, Counts, Gauge, Reloads};
@@ -158,11 +159,8 @@ fn write_peers<C: Counts>(out: &mut String, counts: &C, config: &Config) -> Resu
         let comma = comma(before);
         before = 1;
         let name = peer.name.as_str();
-        let ip = peer.ip;
-        write!(
-            out,
-            "{comma}{{\"name\":\"{name}\",\"ip\":\"{ip}\",{totals}}}"
-        )?;
+        let ip = AddressesJson(peer.ips.as_slice());
+        write!(out, "{comma}{{\"name\":\"{name}\",\"ip\":{ip},{totals}}}")?;
     }
     Ok(())
 }

@@ -1,5 +1,6 @@
 //! The state of a server, as tables that a person reads.
 
+use crate::addresses::AddressesCell;
 use crate::spans::span_of;
 use crate::tables::{Cell, Row, push_table};
 use crate::totals::{Service, Totals};
@@ -209,7 +210,7 @@ fn write_peers<C: Counts>(
         let number = u16::try_from(at).unwrap_or(u16::MAX);
         let totals = Totals::of_peer(counts, number);
         table.push(peer.name.as_str())?;
-        table.push(peer.ip)?;
+        table.push(AddressesCell(peer.ips.as_slice()))?;
         table.push_numbers(&[
             totals.requests,
             totals.forwarded,

@@ -4,17 +4,17 @@ ghost use Rattle.std.specs.Prelude.{◌≡◌, ◌<◌, IfSome, IfNone, Some, No
 ghost use Rattle.roam_wire.specs.Reading.{IsPacketText, packet_of};
 ghost use Rattle.roam_pending.specs.Realms.{with_ends, with_home};
 ghost use Rattle.roam_pending.specs.Shown.{shown, shown_request};
-ghost use Rattle.roam_reload.specs.Kept.{keeps_coa, of_peer};
+ghost use Rattle.roam_reload.specs.Kept.{keeps_coa, keeps_request, keeps_source, of_peer};
 ghost use Rattle.roam_realm.specs.RealmConfig.{RealmConfig};
 ghost use Rattle.roam_realm.specs.Sound.{IsOfPeer, IsRequest};
 ghost use Rattle.roam_migrate.specs.Reload.{entry_then, fits, link_before, link_then, request_from, request_then};
 ghost use Rattle.roam_migrate.specs.Reload.{way_before, way_then};
 
-use roam_conf::Link;
+use roam_conf::{Address, Link};
 use roam_forward::can_be_shaped;
 use roam_pending::{Entry, Request, Requester, Standing};
 use roam_realm::RealmSettings;
-use roam_reload::{home_then, is_same_out, peer_keeps_coa, peer_keeps_requests, server_then};
+use roam_reload::{home_then, is_same_out, peer_keeps_coa, peer_keeps_secret, server_then};
 use roam_wire::View;
 use std::alloc::Allocator;
 
@@ -124,6 +124,20 @@ fn still_fits<A: Allocator>(new: &RealmSettings<'_>, peer: u16, request: &Reques
     can_be_shaped(&packet, &new.shaping_from(peer))
 }
 
+/// Returns whether a source that was a peer's still is.
+fn keeps_source(old: &RealmSettings<'_>, new: &RealmSettings<'_>, peer: u16, ip: Address) -> bool
+    ensures { result ≡ keeps_source old.now.peers new.now.peers peer ip }
+{
+    new.is_source_of(peer, ip) || !old.is_source_of(peer, ip)
+}
+
+/// Returns whether the requests of a peer stay that came from an address.
+fn keeps_request(old: &RealmSettings<'_>, new: &RealmSettings<'_>, peer: u16, ip: Address) -> bool
+    ensures { result ≡ keeps_request old.now.peers new.now.peers peer ip }
+{
+    peer_keeps_secret(old.peers(), new.peers(), peer) && keeps_source(old, new, peer, ip)
+}
+
 /// Returns whether a peer's request stays.
 fn peer_stays<A: Allocator>(
     old: &RealmSettings<'_>,
@@ -137,7 +151,7 @@ fn peer_stays<A: Allocator>(
         ≡ Some (request_from (shown_request request.now) (with_home None request.now.requester)) }
     ensures goes { result ≡ false → request_then old.now new.now (shown_request request.now) ≡ None }
 {
-    if peer_keeps_requests(old.peers(), new.peers(), peer) {
+    if keeps_request(old, new, peer, request.key.from.ip) {
         still_fits(new, peer, request)
     } else {
         false

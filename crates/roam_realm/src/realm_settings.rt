@@ -3,6 +3,7 @@
 ghost use Rattle.std.specs.Prelude.{◌≡◌, ◌<◌, ◌≤◌, ℕ, IfOk, Some, length, map, slice_get, vec_len};
 ghost use Rattle.std.specs.Result.{result_err};
 ghost use Rattle.roam_wire.specs.Secret.{IsSecret};
+ghost use Rattle.roam_conf.specs.Lookup.{is_source_of};
 ghost use Rattle.roam_conf.specs.Shown.{shown};
 ghost use Rattle.roam_conf.specs.Parts.{shown_realm, shown_peer, shown_server};
 ghost use Rattle.roam_sessions.specs.Causes.{cause};
@@ -11,7 +12,7 @@ ghost use Rattle.roam_realm.specs.RealmConfig.{realm_config, server_secret, peer
 ghost use Rattle.roam_realm.specs.RealmConfig.{seal_required, IsLink, IsRequester};
 
 use crate::hashing::hash_key;
-use roam_conf::{Config, Link, Peer, Realm, Server};
+use roam_conf::{Address, Config, Link, Peer, Realm, Server};
 use roam_crypto::Secret;
 use roam_pending::Requester;
 use roam_random::HashKey;
@@ -60,6 +61,13 @@ impl<'c> RealmSettings<'c> {
         ensures { shown_realm result.now ≡ self.now.realm }
     {
         &self.config.realms[usize::from(self.realm)]
+    }
+
+    /// Returns whether a source at an address is this peer's.
+    pub fn is_source_of(&self, peer: u16, ip: Address) -> bool
+        ensures { result ≡ is_source_of self.now.peers peer ip }
+    {
+        self.config.is_source_of(peer, ip)
     }
 
     /// The seed of the random words.

@@ -1,15 +1,17 @@
 -- The parts that stay the same between two configurations, as far as what waits in a realm, what is held there and what
 -- its ledger has depend on it: tests of the tables that stand at one number in both. Each is true of equal tables.
 -- Ours.
-use Rattle.std.specs.Prelude.{ℕ, ◌-◌, ◌&&◌, ◌||◌, not, nat_lt, Bool, true, false, List, [], ◌∷◌, length, Option, Some, None, option_and_then, option_map, slice_get, if◌then◌else◌}
+use Rattle.std.specs.Prelude.{◌≡◌, ℕ, ◌-◌, ◌&&◌, ◌||◌, not, nat_lt, Bool, true, false, List, [], ◌∷◌, length, Option, Some, None, option_and_then, option_map, slice_get, if◌then◌else◌}
 use Rattle.std.specs.Cmp.Lexicographic.{pointwise}
+use Rattle.std.specs.List.{list_all, list_any}
 use Rattle.std.specs.Option.{option_map_or, option_to_list}
 use Rattle.std.specs.Str.{bytes_eq}
 use Rattle.roam_address.specs.declared.address.Address.{Address}
+use Rattle.roam_address.specs.Prefixes.{PrefixView}
 use Rattle.roam_address.specs.Same.{same_address, same_prefix}
 use Rattle.roam_conf.specs.Config.{CoaClientView, PeerView, RealmView, ServerView}
 use Rattle.roam_conf.specs.Duplicates.{same_endpoint}
-use Rattle.roam_conf.specs.Lookup.{first_place, home_with_ip}
+use Rattle.roam_conf.specs.Lookup.{first_place, home_with_ip, is_source_of}
 use Rattle.roam_conf.specs.Secrets.{home_secret}
 
 -- both are there and the same by a test, or neither is
@@ -27,17 +29,22 @@ same_values true b = b
 same_values false b = not b
 
 -- ## What stays with a peer
--- The requests of a peer stay, waiting or answered, where it is here in both with the same `ip` and `secret`: their
--- replies go there, and are signed with that. What waits at its `coa` stays where `coa` and `secret` are the same. Its
--- sessions stay where it is here, whatever else changes.
+-- A request of a peer stays, waiting or answered, where the peer is here in both with the same `secret`, and the
+-- address from which it came is still the peer's: no other peer has a longer prefix for it. Its reply goes there, and
+-- is signed with that secret. What waits at its `coa` stays where `coa` and `secret` are the same. Its sessions stay
+-- where it is here, whatever else changes.
 -- Source: ours
--- Rules out: a reply signed with another secret than that by which the request came; one that goes to another
--- address; sessions lost by a new secret
--- Stands in: `roam_reload` `Kept.antt`: `keeps_requests`, `keeps_coa`, `stays`; `peer_keeps_requests`,
--- `peer_keeps_coa`
+-- Rules out: a reply signed with another secret than that by which the request came; one that goes to an address that
+-- isn't the peer's any more; a request lost by a further address of its peer, or by another order of them; sessions
+-- lost by a new secret
+-- Stands in: `roam_reload` `Kept.antt`: `keeps_request`, `keeps_coa`, `stays`; `peer_keeps_secret`, `peer_keeps_coa`
 --
-abbrev pub keeps_requests : PeerView → PeerView → Bool
-keeps_requests old new = stays old.gone new.gone && same_prefix old.ip new.ip && bytes_eq old.secret new.secret
+abbrev pub keeps_secret : PeerView → PeerView → Bool
+keeps_secret old new = stays old.gone new.gone && bytes_eq old.secret new.secret
+
+-- a source that was the peer's still is
+abbrev pub keeps_source : List PeerView → List PeerView → ℕ → Address → Bool
+keeps_source old new peer ip = is_source_of new peer ip || not (is_source_of old peer ip)
 
 abbrev pub keeps_coa : PeerView → PeerView → Bool
 keeps_coa old new =
@@ -50,6 +57,23 @@ keeps_sessions old new = stays old.gone new.gone
 abbrev pub of_peer : (PeerView → PeerView → Bool) → List PeerView → List PeerView → ℕ → Bool
 of_peer test old new peer =
     option_map_or (λ before. option_map_or (test before) (slice_get new peer) false) (slice_get old peer) true
+
+-- the requests of the peer of a number stay that came from the address
+abbrev pub keeps_request : List PeerView → List PeerView → ℕ → Address → Bool
+keeps_request old new peer ip = of_peer keeps_secret old new peer && keeps_source old new peer ip
+
+-- each source that is a peer's is that peer's then too: no further peer has a longer prefix for it
+abbrev pub KeepsSources : List PeerView → List PeerView → Type 0
+KeepsSources old new =
+    (peer : ℕ) (ip : Address) → is_source_of old peer ip ≡ true → is_source_of new peer ip ≡ true
+
+-- each of these prefixes is one of the others
+abbrev pub are_among : List PrefixView → List PrefixView → Bool
+are_among others prefixes = list_all (λ prefix. list_any (same_prefix prefix) others) prefixes
+
+-- the prefixes are the same ones, whatever their order
+abbrev pub same_prefixes : List PrefixView → List PrefixView → Bool
+same_prefixes a b = are_among b a && are_among a b
 
 -- ## Same server
 -- A server of a realm is the same in both where `auth`, `acct` and `secret` are equal, wherever it stands in the order

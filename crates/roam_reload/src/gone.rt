@@ -7,16 +7,18 @@ ghost use Rattle.roam_reload.specs.Numbers.{gone_peer, gone_realm};
 use roam_conf::{Endpoint, Peer, Realm, SharedSecret};
 use std::alloc::{AllocError, Global};
 
-/// Returns what stands where a peer went: its name and address, which nothing means any more.
+/// Returns what stands where a peer went: its name and addresses, which nothing means any more.
 pub(crate) fn gone_peer(alloc: Global, peer: &Peer) -> Result<Peer, AllocError>
     ensures { IfOk result (λ gone. shown_peer gone ≡ gone_peer (shown_peer peer.now)) }
 {
     let name = String::from_str(alloc, peer.name.as_str())?;
     let secret = SharedSecret::new(alloc, "-")?;
+    let mut ips = Vec::new(alloc);
+    ips.extend_from_slice(peer.ips.as_slice())?;
     Ok(Peer {
         gone: true,
         name,
-        ip: peer.ip,
+        ips,
         secret,
         coa: None,
         nas_ip: None,

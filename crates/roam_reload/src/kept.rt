@@ -4,7 +4,7 @@ ghost use Rattle.std.specs.Prelude.{◌≡◌, ◌≤◌, length, map, option_ma
 ghost use Rattle.roam_conf.specs.Duplicates.{same_endpoint};
 ghost use Rattle.roam_conf.specs.Lookup.{first_place};
 ghost use Rattle.roam_conf.specs.Parts.{shown_peer, shown_realm, shown_server};
-ghost use Rattle.roam_reload.specs.Kept.{both_or_none, keeps_coa, keeps_requests, keeps_sessions, of_peer};
+ghost use Rattle.roam_reload.specs.Kept.{both_or_none, keeps_coa, keeps_secret, keeps_sessions, of_peer};
 ghost use Rattle.roam_reload.specs.Kept.{same_out, same_outs, same_server, same_servers, server_then, stays};
 
 use roam_conf::{Endpoint, Peer, Realm, Server, is_same_endpoint};
@@ -27,11 +27,11 @@ fn is_same_if_any(a: Option<Endpoint>, b: Option<Endpoint>) -> bool
     }
 }
 
-/// Returns whether the requests of a peer stay.
-fn keeps_requests(old: &Peer, new: &Peer) -> bool
-    ensures { result ≡ keeps_requests (shown_peer old.now) (shown_peer new.now) }
+/// Returns whether a peer that was here still is, with the same secret.
+fn keeps_secret(old: &Peer, new: &Peer) -> bool
+    ensures { result ≡ keeps_secret (shown_peer old.now) (shown_peer new.now) }
 {
-    stays(old, new) && old.ip.leading() == new.ip.leading() && old.secret == new.secret
+    stays(old, new) && old.secret == new.secret
 }
 
 /// Returns whether what waits at a peer's `coa` stays.
@@ -48,12 +48,12 @@ fn peer_at(peers: &[Peer], peer: u16) -> Option<&Peer>
     peers.get(usize::from(peer))
 }
 
-/// Returns whether the requests of the peer of an index stay.
-pub fn peer_keeps_requests(old: &[Peer], new: &[Peer], peer: u16) -> bool
-    ensures { result ≡ of_peer keeps_requests (map shown_peer old.now) (map shown_peer new.now) peer }
+/// Returns whether the peer of an index still is here, with the same secret: without that none of its requests stays.
+pub fn peer_keeps_secret(old: &[Peer], new: &[Peer], peer: u16) -> bool
+    ensures { result ≡ of_peer keeps_secret (map shown_peer old.now) (map shown_peer new.now) peer }
 {
     match (peer_at(old, peer), peer_at(new, peer)) {
-        (Some(old), Some(new)) => keeps_requests(old, new),
+        (Some(old), Some(new)) => keeps_secret(old, new),
         (None, _) => true,
         (Some(_), None) => false,
     }
