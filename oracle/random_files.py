@@ -1,5 +1,6 @@
 """The files of random scripts."""
 from random_access import AccessScript, VendorScript
+from random_balanced import BalancedScript
 from random_ends import EndsScript
 from random_federation import FederationScript, SilenceScript
 from random_logins import LoginScript
@@ -35,6 +36,9 @@ FILES = {
     "logins-by-several": (LoginPlaceScript, "logins-by-several", 27001, 90),
     "logins-and-shares": (LoginScript, "logins-and-shares", 23001, 80),
     "logins-in-two-shards": (LoginScript, "logins-in-two-shards", 24001, 80),
+    "balanced-logins": (BalancedScript, "balanced-realms", 30001, 90),
+    "balanced-in-two-shards": (BalancedScript, "balanced-realms-in-two-shards", 31001, 90),
+    "services-apart-in-logins": (BalancedScript, "realms-of-services-apart", 32001, 60),
     "mutated": (MutatedScript, "all", 12001, 50),
     "mutated-and-shared": (MutatedScript, "all-and-shared", 13001, 50),
     "mutated-in-two-shards": (MutatedScript, "all-in-two-shards", 14001, 50),

@@ -34,7 +34,11 @@ both_itself same h (Some x) = h x
 
 server_itself : (s : ServerView) → same_server s s ≡ true
 server_itself s =
-    rw (same_itself s.auth, both_itself same_endpoint same_itself s.acct, bytes_itself s.secret) refl
+    rw (
+      both_itself same_endpoint same_itself s.auth,
+      both_itself same_endpoint same_itself s.acct,
+      bytes_itself s.secret,
+    ) refl
 
 pub servers_itself : (ss : List ServerView) → same_servers ss ss ≡ true
 servers_itself [] = refl
@@ -49,12 +53,13 @@ address_itself ip = (address_decides ip ip).1 refl
 prefix_itself : (prefix : PrefixView) → same_prefix prefix prefix ≡ true
 prefix_itself prefix = key_itself (bits_of prefix)
 
-ips_itself : (ips : List Address) → pointwise same_address ips ips ≡ true
-ips_itself [] = refl
-ips_itself (ip ∷ ips) = rw (address_itself ip, ips_itself ips) refl
-
 source_itself : (s : Source) → same_source s s ≡ true
-source_itself s = rw (ips_itself s.ips, bytes_itself s.secret) refl
+source_itself s =
+    rw (
+      both_itself same_address address_itself s.ip,
+      both_itself same_address address_itself s.other_ip,
+      bytes_itself s.secret,
+    ) refl
 
 never_closes : (takes : Bool) → (takes && not takes) ≡ false
 never_closes true = refl
