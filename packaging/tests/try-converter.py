@@ -126,11 +126,12 @@ client elsewhere { host 192.0.2.4; type udp; secret of-elsewhere; rewrite toward
 
 server upper { host 198.51.100.1; type udp; secret of-upper; rewriteIn guests }
 server home { host 198.51.100.17; type udp; secret of-home; rewriteOut towards-home }
+server home-acct { host 198.51.100.17; port 1813; type udp; secret of-home; rewriteOut towards-home }
 server home-2 { host 198.51.100.18; type udp; secret of-home; loopPrevention off }
 server elsewhere { host 198.51.100.33; type udp; secret of-elsewhere }
 
 realm shut.a.example { }
-realm /@(.+\.)?a\.example$/ { server home; server home-2; accountingServer home; accountingServer home-2 }
+realm /@(.+\.)?a\.example$/ { server home; server home-2; accountingServer home-acct }
 realm b.example { server elsewhere; accountingResponse on }
 realm c.example { server elsewhere }
 realm /@.+\.3gppnetwork\.org$/ { replyMessage "no telephones"; accountingResponse on }
