@@ -1,0 +1,160 @@
+-- The servers of a service, the list of them that is turned, and the links of such a list.
+use Rattle.std.proofs.Common.{◌≡◌, ℕ, suc, zero, ◌+◌, ◌<◌, ◌≤◌, ◌-◌, Bool, true, false, cond, List, [], ◌∷◌, ◌++◌, Option, Some, None, refl, ap, sym, ◌∙◌, arith, inl, inr, length, drop, take, is_some}
+use Rattle.std.specs.Prelude.{◌==◌, if◌then◌else◌, slice_get}
+use Rattle.std.specs.List.{AllByRecursion, find}
+use Rattle.std.specs.Option.{option_and_then, option_or}
+use Rattle.std.proofs.lemmas.Bool.{cases_Bool}
+use Rattle.std.proofs.lemmas.Option.{slice_get_past, slice_get_within}
+use Rattle.roam_address.specs.declared.endpoint.Endpoint.{Endpoint}
+use Rattle.roam_conf.specs.Config.{ServerView}
+use Rattle.roam_conf.specs.declared.place.Link.{Link}
+use Rattle.roam_pending.proofs.TestLemmas.{all-append}
+use Rattle.roam_realm.specs.RealmConfig.{RealmConfig, IsLink, server_link, service_at, ways_to}
+use Rattle.roam_realm.specs.ServerOrder.{behind, links_to, places_of, server_ways, turned}
+use Rattle.roam_realm.specs.declared.service.Service.{Service}
+use Rattle.roam_realm.proofs.WaysToLemmas.{find-append, server-is, ways-to-are}
+
+-- ---- a list from a place on
+
+pub from-next : (xs : List ℕ) (n x : ℕ) → slice_get xs n ≡ Some x → drop n xs ≡ x ∷ drop (suc n) xs
+from-next [] n x at = cc
+from-next (y ∷ ys) zero x at = let same : y ≡ x = cc in rw same refl
+from-next (y ∷ ys) (suc n) x at = from-next ys n x at
+
+pub element : (xs : List ℕ) (n : ℕ) → n < length xs → (x : ℕ) × (slice_get xs n ≡ Some x)
+element [] n within = absurd (omega (arith, within))
+element (x ∷ xs) zero within = (x, refl)
+element (x ∷ xs) (suc n) within = element xs n (omega (arith, within))
+
+pub nothing-left : (xs : List ℕ) (n : ℕ) → length xs ≤ n → drop n xs ≡ []
+nothing-left [] zero past = refl
+nothing-left [] (suc n) past = refl
+nothing-left (x ∷ xs) zero past = absurd (omega (arith, past))
+nothing-left (x ∷ xs) (suc n) past = nothing-left xs n (omega (arith, past))
+
+-- ---- a turned list
+
+get-append : (xs ys : List ℕ) (n : ℕ) → n < length xs → slice_get (xs ++ ys) n ≡ slice_get xs n
+get-append [] ys n within = absurd (omega (arith, within))
+get-append (x ∷ xs) ys zero within = refl
+get-append (x ∷ xs) ys (suc n) within = get-append xs ys n (omega (arith, within))
+
+get-behind : (xs ys : List ℕ) (n : ℕ) → length xs ≤ n → slice_get (xs ++ ys) n ≡ slice_get ys (n - length xs)
+get-behind [] ys n past = refl
+get-behind (x ∷ xs) ys zero past = absurd (omega (arith, past))
+get-behind (x ∷ xs) ys (suc n) past =
+    let less : suc n - suc (length xs) ≡ n - length xs = omega arith in
+    get-behind xs ys n (omega (arith, past)) ∙ ap (slice_get ys) (sym less)
+
+get-drop : (xs : List ℕ) (k n : ℕ) → slice_get (drop k xs) n ≡ slice_get xs (k + n)
+get-drop xs zero n = refl
+get-drop [] (suc k) n = refl
+get-drop (x ∷ xs) (suc k) n = get-drop xs k n
+
+get-take : (xs : List ℕ) (k n : ℕ) → n < k → slice_get (take k xs) n ≡ slice_get xs n
+get-take xs zero n within = absurd (omega (arith, within))
+get-take [] (suc k) n within = refl
+get-take (x ∷ xs) (suc k) zero within = refl
+get-take (x ∷ xs) (suc k) (suc n) within = get-take xs k n (omega (arith, within))
+
+drop-count : (xs : List ℕ) (k : ℕ) → length (drop k xs) ≡ length xs - k
+drop-count xs zero = omega arith
+drop-count [] (suc k) = refl
+drop-count (x ∷ xs) (suc k) = drop-count xs k ∙ omega arith
+
+both-count : (xs : List ℕ) (k : ℕ) → length (drop k xs ++ take k xs) ≡ length xs
+both-count xs zero = append-none xs
+  where
+    append-none : (ys : List ℕ) → length (ys ++ []) ≡ length ys
+    append-none [] = refl
+    append-none (y ∷ ys) = ap suc (append-none ys)
+both-count [] (suc k) = refl
+both-count (x ∷ xs) (suc k) = one-more (drop k xs) (take k xs) ∙ ap suc (both-count xs k)
+  where
+    one-more : (ys zs : List ℕ) → length (ys ++ x ∷ zs) ≡ suc (length (ys ++ zs))
+    one-more [] zs = refl
+    one-more (y ∷ ys) zs = ap suc (one-more ys zs)
+
+pub turned-count : (start : ℕ) (xs : List ℕ) → length (turned start xs) ≡ length xs
+turned-count start xs = both-count xs start
+
+-- before its end the list goes on from where it begins
+pub turned-first : (start : ℕ) (xs : List ℕ) (n : ℕ) → n < length xs - start
+    → slice_get (turned start xs) n ≡ slice_get xs (start + n)
+turned-first start xs n within =
+    get-append (drop start xs) (take start xs) n (omega (arith, drop-count xs start, within)) ∙ get-drop xs start n
+
+-- behind it the list begins anew
+pub turned-then : (start : ℕ) (xs : List ℕ) (n : ℕ) → length xs - start ≤ n → n < length xs
+    → slice_get (turned start xs) n ≡ slice_get xs (n - (length xs - start))
+turned-then start xs n past within =
+    let count = drop-count xs start in
+    get-behind (drop start xs) (take start xs) n (omega (arith, count, past))
+    ∙ ap (λ (k : ℕ). slice_get (take start xs) (n - k)) count
+    ∙ get-take xs start (n - (length xs - start)) (omega (arith, past, within))
+
+pub turned-past : (start : ℕ) (xs : List ℕ) (n : ℕ) → length xs ≤ n → slice_get (turned start xs) n ≡ None
+turned-past start xs n past = slice_get_past (turned start xs) n (omega (arith, turned-count start xs, past))
+
+-- ---- the servers of a service
+
+place-if : (b : Bool) (place : ℕ) (rest : List ℕ) → List ℕ
+place-if b place rest = if b then place ∷ rest else rest
+
+pub places-next : (asked : Service) (servers : List ServerView) (from place : ℕ) (b : Bool) → place < length servers
+    → ((s : ServerView) → slice_get servers place ≡ Some s → b ≡ is_some (service_at asked s))
+    → places_of asked (from + place) (drop place servers)
+    ≡ (if b then (from + place) ∷ places_of asked (from + place + 1) (drop (place + 1) servers)
+    else places_of asked (from + place + 1) (drop (place + 1) servers))
+places-next asked [] from place b within serves = absurd (omega (arith, within))
+places-next asked (s ∷ ss) from zero b within serves =
+    let e : from + 0 ≡ from = omega arith in
+    rw (e, serves s refl) refl
+places-next asked (s ∷ ss) from (suc place) b within serves =
+    let e : from + suc place ≡ suc from + place = omega arith in
+    rw e (places-next asked ss (suc from) place b (omega (arith, within)) serves)
+
+pub places-end : (asked : Service) (servers : List ServerView) (place from : ℕ) → length servers ≤ place
+    → places_of asked from (drop place servers) ≡ []
+places-end asked [] zero from past = refl
+places-end asked [] (suc place) from past = refl
+places-end asked (s ∷ ss) zero from past = absurd (omega (arith, past))
+places-end asked (s ∷ ss) (suc place) from past = places-end asked ss place from (omega (arith, past))
+
+-- ---- what stands behind an element
+
+pub behind-here : (one x : ℕ) (xs : List ℕ) → (x == one) ≡ true → behind one (x ∷ xs) ≡ xs
+behind-here one x xs is = rw is refl
+
+pub behind-later : (one x : ℕ) (xs : List ℕ) → (x == one) ≡ false → behind one (x ∷ xs) ≡ behind one xs
+behind-later one x xs is = rw is refl
+
+-- ---- the links of a list of servers
+
+-- those to the server of a place, before those to the servers behind it
+pub links-next : (p : Link → Bool) (c : RealmConfig) (asked : Service) (xs : List ℕ) (n : ℕ) (found : Option Link)
+    → n < length xs
+    → ((place : ℕ) → slice_get xs n ≡ Some place → found ≡ find p (server_ways c asked place))
+    → find p (links_to c asked (drop n xs)) ≡ option_or found (find p (links_to c asked (drop (suc n) xs)))
+links-next p c asked xs n found within is =
+    let here = element xs n within in
+    ap (λ (places : List ℕ). find p (links_to c asked places)) (from-next xs n here.0 here.1)
+    ∙ find-append p (server_ways c asked here.0) (links_to c asked (drop (suc n) xs))
+    ∙ ap (λ (o : Option Link). option_or o (find p (links_to c asked (drop (suc n) xs)))) (sym (is here.0 here.1))
+
+ways-of : (c : RealmConfig) (asked : Service) (place : ℕ) (found : Option ServerView)
+    → slice_get c.realm.servers place ≡ found
+    → AllByRecursion (IsLink c)
+    (ways_to c.realm.out (server_link asked place) (option_and_then (service_at asked) found))
+ways-of c asked place None there = tt
+ways-of c asked place (Some s) there =
+    ways-to-are (IsLink c) c.realm.out (server_link asked place) (service_at asked s)
+    (λ out way. server-is c asked place out (slice_get_within c.realm.servers place s there) way)
+
+-- each of them is the realm's
+pub links-are : (c : RealmConfig) (asked : Service) (places : List ℕ)
+    → AllByRecursion (IsLink c) (links_to c asked places)
+links-are c asked [] = tt
+links-are c asked (place ∷ places) =
+    all-append (IsLink c) (server_ways c asked place) (links_to c asked places)
+    (ways-of c asked place (slice_get c.realm.servers place) refl) (links-are c asked places)
