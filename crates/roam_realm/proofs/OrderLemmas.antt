@@ -98,9 +98,6 @@ turned-past start xs n past = slice_get_past (turned start xs) n (omega (arith, 
 
 -- ---- the servers of a service
 
-place-if : (b : Bool) (place : ℕ) (rest : List ℕ) → List ℕ
-place-if b place rest = if b then place ∷ rest else rest
-
 pub places-next : (asked : Service) (servers : List ServerView) (from place : ℕ) (b : Bool) → place < length servers
     → ((s : ServerView) → slice_get servers place ≡ Some s → b ≡ is_some (service_at asked s))
     → places_of asked (from + place) (drop place servers)
@@ -113,6 +110,16 @@ places-next asked (s ∷ ss) from zero b within serves =
 places-next asked (s ∷ ss) from (suc place) b within serves =
     let e : from + suc place ≡ suc from + place = omega arith in
     rw e (places-next asked ss (suc from) place b (omega (arith, within)) serves)
+
+-- the same, counted from the first
+pub places-here : (asked : Service) (servers : List ServerView) (place : ℕ) (b : Bool) → place < length servers
+    → ((s : ServerView) → slice_get servers place ≡ Some s → b ≡ is_some (service_at asked s))
+    → places_of asked place (drop place servers)
+    ≡ (if b then place ∷ places_of asked (place + 1) (drop (place + 1) servers)
+    else places_of asked (place + 1) (drop (place + 1) servers))
+places-here asked servers place b within serves =
+    let e : 0 + place ≡ place = omega arith in
+    rw e at (places-next asked servers 0 place b within serves)
 
 pub places-end : (asked : Service) (servers : List ServerView) (place from : ℕ) → length servers ≤ place
     → places_of asked from (drop place servers) ≡ []

@@ -29,7 +29,7 @@ use roam_exchange::{
     Happening, RequestRef, Turned, code_in, nothing, one_packet, packet_to_requester, refused_turn,
 };
 use roam_pending::{Entries, Entry, Standing};
-use roam_realm::{RealmSettings, Service};
+use roam_realm::RealmSettings;
 use roam_reply::nak;
 use roam_wire::{NoMemory, Octets, Refusal, View};
 use std::alloc::Allocator;
