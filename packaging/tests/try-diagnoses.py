@@ -1,7 +1,7 @@
 #!/usr/bin/env python3
 """try-diagnoses.py PROGRAM [--table]
 
-Makes 139 mistakes in samples/visited-network.conf, one at a time, and runs `PROGRAM check` on each. The diagnosis
+Makes 137 mistakes in samples/visited-network.conf, one at a time, and runs `PROGRAM check` on each. The diagnosis
 must name the fault, and the line, the table and the key where the mistake was made, and what is wrong with it. No
 output may hold a secret of the file. --table prints a row for each.
 """

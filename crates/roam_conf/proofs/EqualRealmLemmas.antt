@@ -63,7 +63,8 @@ realm_decides a b =
     × ((v.loop_prevention ≡ w.loop_prevention) × ((v.accounting ≡ w.accounting)
     × ((v.request_without ≡ w.request_without) × ((v.reply_without ≡ w.reply_without) × ((v.share ≡ w.share)
     × ((v.peer_share ≡ w.peer_share) × ((v.own_names ≡ w.own_names) × ((v.conversations ≡ w.conversations)
-    × ((v.by_user ≡ w.by_user) × ((v.own_sessions ≡ w.own_sessions) × ((v.coa_clients ≡ w.coa_clients) × ((v.out ≡ w.out)
+    × ((v.by_user ≡ w.by_user) × ((v.own_sessions ≡ w.own_sessions) × ((v.coa_clients ≡ w.coa_clients)
+    × ((v.out ≡ w.out)
     × ((v.reverse ≡ w.reverse) × ((v.tries ≡ w.tries) × ((v.wait ≡ w.wait) × ((v.hold ≡ w.hold)
     × ((v.max_pending ≡ w.max_pending) × ((v.max_sessions ≡ w.max_sessions) × ((v.rest ≡ w.rest)
     × ((v.rest_after ≡ w.rest_after) × ((v.servers ≡ w.servers)))))))))))))))))))))))))} _

@@ -37,7 +37,7 @@ abbrev pub by_way : List Endpoint → ℕ → Endpoint → Option Endpoint
 by_way outs place endpoint = if is_way outs place endpoint then Some endpoint else None
 
 -- ## Ways out
--- Each `auth` and `acct` that a realm's servers have is of the same kind, IPv4 or IPv6, as one at least of the realm's `out`.
+-- Each `auth` and `acct` that a realm's servers have is of the same kind, IPv4 or IPv6, as one at least of its `out`.
 -- A peer whose `coa` is of a kind that none of these has is no target of the realm's reverse requests. What goes to an
 -- endpoint leaves from an `out` of its kind.
 -- Source: ours

@@ -43,7 +43,8 @@ abbrev pub realm_optional : List (List ℕ)
 realm_optional =
     codes "also" ∷ codes "peers" ∷ codes "loop_prevention" ∷ codes "accounting" ∷ codes "request_without"
     ∷ codes "reply_without" ∷ codes "share" ∷ codes "peer_share" ∷ codes "own_names" ∷ codes "conversations"
-    ∷ codes "balance" ∷ codes "own_sessions" ∷ codes "coa_client" ∷ codes "reverse" ∷ codes "tries" ∷ codes "wait" ∷ codes "hold"
+    ∷ codes "balance" ∷ codes "own_sessions" ∷ codes "coa_client" ∷ codes "reverse" ∷ codes "tries" ∷ codes "wait"
+    ∷ codes "hold"
     ∷ codes "max_pending" ∷ codes "max_sessions" ∷ codes "rest" ∷ codes "rest_after" ∷ []
 
 abbrev pub top_optional : List (List ℕ)

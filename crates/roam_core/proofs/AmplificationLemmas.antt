@@ -150,8 +150,8 @@ module _ (c : RealmConfig) (ends : Ends) (looked : ℕ → Bool) (tries : 1 ≤ 
       let next = chosen_target c now rests s.cursors (without e.ticket s.entries) (later_targets c e.request l) in
       let m = counted_links c ends (later_targets c e.request l) in
       let fits : (t : Target) → next ≡ Some t → FitsIn c e.request ends m t.link =
-      λ t chosen. chosen-holds (FitsIn c e.request ends m) c now rests s.cursors (without e.ticket s.entries) (later_targets c e.request l)
-      t (later-fit c e.request ends l) chosen in
+      λ t chosen. chosen-holds (FitsIn c e.request ends m) c now rests s.cursors (without e.ticket s.entries)
+      (later_targets c e.request l) t (later-fit c e.request ends l) chosen in
       let over = fail_over-spends now m (given_up_at c now l signs s e) e next fits in
       let might = may_follow c ends e.request e.standing in
       let old : might ≡ may_follow c ends e.request (waiting l id forwarded sends_left deadline signs) =

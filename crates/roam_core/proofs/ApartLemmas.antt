@@ -1,5 +1,5 @@
 -- The servers of a request's order are apart: none stands there twice. And there are no more of them than servers.
-use Rattle.std.proofs.Common.{◌≡◌, ℕ, suc, zero, ◌+◌, ◌<◌, ◌≤◌, Bool, true, false, List, [], ◌∷◌, ◌++◌, refl, sym, ap, ◌∙◌, inl, inr, arith, length, drop, take, is_some}
+use Rattle.std.proofs.Common.{◌≡◌, ℕ, suc, zero, ◌+◌, ◌<◌, ◌≤◌, true, false, List, [], ◌∷◌, ◌++◌, refl, sym, ap, ◌∙◌, inl, inr, arith, length, drop, take, is_some}
 use Rattle.std.specs.Prelude.{◌==◌, if◌then◌else◌}
 use Rattle.std.specs.List.{list_any}
 use Rattle.std.proofs.lemmas.Bool.{cases_Bool, or_parts, or_right}
@@ -52,7 +52,8 @@ times-turned y (suc k) [] = refl
 times-turned y (suc k) (x ∷ xs) = let rest = times-turned y k xs in omega (arith, rest)
 
 -- the places of servers rise
-places-above : (asked : Service) (ss : List ServerView) (from y : ℕ) → y < from → times_in y (places_of asked from ss) ≡ 0
+places-above : (asked : Service) (ss : List ServerView) (from y : ℕ) → y < from →
+    times_in y (places_of asked from ss) ≡ 0
 places-above asked [] from y below = refl
 places-above asked (s ∷ ss) from y below =
     let rest = places-above asked ss (from + 1) y (omega (arith, below)) in

@@ -166,7 +166,8 @@ module _ (c : RealmConfig) (Kept : List PlainEntry → Type 0) (Good : PlainEntr
     pub over :
         (e : PlainEntry) (l : Link) (id : ℕ) (forwarded : List ℕ) (sends_left deadline signs anew position : ℕ)
         (target : Target)
-        → e.standing ≡ waiting l id forwarded sends_left deadline signs → IsOneOf c e.request (later_targets c e.request l) target.link
+        → e.standing ≡ waiting l id forwarded sends_left deadline signs
+        → IsOneOf c e.request (later_targets c e.request l) target.link
         → Good e → Good (forwarded_entry c now anew e.request position e.ticket target)
     pub answered : DoneIsGood now
 
@@ -203,8 +204,8 @@ module _ (c : RealmConfig) (Kept : List PlainEntry → Type 0) (Good : PlainEntr
       let rests = after_silence c now s.rests l signs in
       let next = chosen_target c now rests s.cursors es (later_targets c e.request l) in
       let fits : (t : Target) → next ≡ Some t → IsOneOf c e.request (later_targets c e.request l) t.link =
-      λ t at. chosen-holds (IsOneOf c e.request (later_targets c e.request l)) c now rests s.cursors es (later_targets c e.request l) t
-      (later-fit c e.request all_ends l) at in
+      λ t at. chosen-holds (IsOneOf c e.request (later_targets c e.request l)) c now rests s.cursors es
+      (later_targets c e.request l) t (later-fit c e.request all_ends l) at in
       let others = less (λ x. not (has_ticket e.ticket x)) s.entries old in
       elim (cases_Bool (ltb 0 sends_left)) [
         | inl y ↦

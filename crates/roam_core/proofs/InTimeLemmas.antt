@@ -126,7 +126,8 @@ module _ (c : RealmConfig) (gap ticket until : ℕ) (tries : 1 ≤ c.realm.tries
       → Stands tick q (waits_on (now + c.realm.wait) standing)
   again-stands tick now q l id forwarded sends_left deadline signs standing not_back soon wait is some stands =
       let old : Waits tick q l sends_left deadline = rw is at stands in
-      let fewer = turns (left_at c q l (sends_left - 1)) (left_at c q l sends_left) (c.realm.wait + gap) (omega arith) in
+      let fewer = turns (left_at c q l (sends_left - 1)) (left_at c q l sends_left) (c.realm.wait + gap)
+      (omega arith) in
       rw is (record { beyond = omega arith; lasts = omega (arith, fewer, old.beyond, old.lasts) })
 
   over-stands :
@@ -156,7 +157,8 @@ module _ (c : RealmConfig) (gap ticket until : ℕ) (tries : 1 ≤ c.realm.tries
   }
 
   -- what isn't due waits beyond the moment of the tick
-  beyond-now : (tick now : ℕ) (q : PlainRequest) (standing : PlainStanding) → now < deadline_of standing → Stands tick q standing →
+  beyond-now : (tick now : ℕ) (q : PlainRequest) (standing : PlainStanding) → now < deadline_of standing →
+      Stands tick q standing →
       Stands now q standing
   beyond-now tick now q (waiting l id forwarded sends_left deadline signs) later stands =
       record { beyond = later; lasts = stands.lasts }

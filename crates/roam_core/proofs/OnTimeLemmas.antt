@@ -55,7 +55,8 @@ module _ (c : RealmConfig) (gap ticket until : ℕ) (tries : 1 ≤ c.realm.tries
   }
 
   again-stands :
-      (now : ℕ) (q : PlainRequest) (l : Link) (id : ℕ) (octets : List ℕ) (sends_left deadline signs : ℕ) (standing : PlainStanding)
+      (now : ℕ) (q : PlainRequest) (l : Link) (id : ℕ) (octets : List ℕ) (sends_left deadline signs : ℕ)
+      (standing : PlainStanding)
       → standing ≡ waiting l id octets sends_left deadline signs → 1 ≤ sends_left → StandsAt now q standing
       → StandsAt now q (waits_on (now + c.realm.wait) standing)
   again-stands now q l id octets sends_left deadline signs standing is some stands =
@@ -66,7 +67,8 @@ module _ (c : RealmConfig) (gap ticket until : ℕ) (tries : 1 ≤ c.realm.tries
       rw is (record { on_time = λ waits. omega arith; lasts = omega (arith, fewer, soon, old.lasts) })
 
   over-stands :
-      (now : ℕ) (q : PlainRequest) (l : Link) (id : ℕ) (octets : List ℕ) (sends_left deadline signs : ℕ) (standing : PlainStanding)
+      (now : ℕ) (q : PlainRequest) (l : Link) (id : ℕ) (octets : List ℕ) (sends_left deadline signs : ℕ)
+      (standing : PlainStanding)
       (next : Link) (jd : ℕ) (onward : List ℕ) (count : ℕ)
       → standing ≡ waiting l id octets sends_left deadline signs → IsOneOf c q (later_targets c q l) next
       → StandsAt now q standing
@@ -113,7 +115,8 @@ module _ (c : RealmConfig) (gap ticket until : ℕ) (tries : 1 ≤ c.realm.tries
 
   -- one that waits where a later event finds it does so in time
   found-done :
-      (later : ℕ) (q : PlainRequest) (standing : PlainStanding) → (stands_done standing ≡ false → later ≤ deadline_of standing + gap)
+      (later : ℕ) (q : PlainRequest) (standing : PlainStanding)
+      → (stands_done standing ≡ false → later ≤ deadline_of standing + gap)
       → waits_until c gap q standing ≤ until → until < later → stands_done standing ≡ true
   found-done later q (waiting l id octets sends_left deadline signs) soon lasts over =
       let there = soon refl in

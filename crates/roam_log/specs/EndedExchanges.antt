@@ -1,5 +1,5 @@
 -- The line of an exchange that ended, from the request that waited. Ours.
-use Rattle.std.specs.Prelude.{◌≡◌, ℕ, ◌-◌, ◌||◌, List, Option, Some, None, option_and_then, option_map, slice_get, nat_lt, if◌then◌else◌}
+use Rattle.std.specs.Prelude.{◌≡◌, ℕ, ◌-◌, ◌||◌, List, Option, Some, None, option_and_then, slice_get, nat_lt, if◌then◌else◌}
 use Rattle.std.specs.Option.{option_map_or}
 use Rattle.roam_wire.specs.Reading.{reading}
 use Rattle.roam_conf.specs.Config.{ConfigView, RealmView, ServerView}

@@ -439,7 +439,8 @@ module _ (c : RealmConfig) where
       (λ i. chosen_target (bare c) now (silence_same now s.rests l signs i) s.cursors es (later_same e.request l i))
       ∙ chosen_same now (after_silence c now s.rests l signs) s.cursors es (later_targets c e.request l) in
       let over : fail_over (bare c) now (given_up_at (bare c) now l signs s e) e
-      (chosen_target (bare c) now (after_silence (bare c) now s.rests l signs) s.cursors es (later_targets (bare c) e.request l))
+      (chosen_target (bare c) now (after_silence (bare c) now s.rests l signs) s.cursors es
+      (later_targets (bare c) e.request l))
       ≡ fail_over c now (given_up_at c now l signs s e) e
       (chosen_target c now (after_silence c now s.rests l signs) s.cursors es (later_targets c e.request l)) =
       (λ i. fail_over (bare c) now (given_up_at_same now l signs s e i) e (chosen i))

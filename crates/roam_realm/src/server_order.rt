@@ -135,7 +135,8 @@ impl RealmSettings<'_> {
 
     /// Returns with which of a service's servers the order for a request begins.
     fn start_of(&self, service: Service, request: &View<'_>) -> u8
-        ensures { result ≡ start_of self.now request.now.attributes (length (places_of service 0 self.now.realm.servers)) }
+        ensures { result ≡ start_of self.now request.now.attributes
+            (length (places_of service 0 self.now.realm.servers)) }
     {
         if self.is_by_user() {
             user_start(request, self.service_count(service))

@@ -1,6 +1,5 @@
 -- Of equal tables all stays.
 use Rattle.std.proofs.Common.{◌≡◌, ℕ, zero, suc, ◌&&◌, Bool, true, false, List, [], ◌∷◌, ◌++◌, Option, Some, None, not, drop, get_or, map, refl, ap, ◌∙◌, slice_get}
-use Rattle.std.specs.Cmp.Lexicographic.{pointwise}
 use Rattle.std.specs.Str.{bytes_eq}
 use Rattle.std.proofs.lemmas.Slice.Eq.{bytes_eq-Decides}
 use Rattle.roam_conf.specs.Config.{PeerView, RealmView, ServerView}

@@ -1,7 +1,7 @@
 -- The parts that stay the same between two configurations, as far as what waits in a realm, what is held there and what
 -- its ledger has depend on it: tests of the tables that stand at one number in both. Each is true of equal tables.
 -- Ours.
-use Rattle.std.specs.Prelude.{ℕ, ◌-◌, ◌&&◌, ◌||◌, not, nat_lt, Bool, true, false, List, [], length, Option, Some, None, option_and_then, option_map, slice_get, if◌then◌else◌}
+use Rattle.std.specs.Prelude.{ℕ, ◌-◌, ◌&&◌, ◌||◌, not, nat_lt, Bool, true, false, List, length, Option, Some, None, option_and_then, option_map, slice_get, if◌then◌else◌}
 use Rattle.std.specs.Cmp.Lexicographic.{pointwise}
 use Rattle.std.specs.Option.{option_map_or}
 use Rattle.std.specs.Str.{bytes_eq}
@@ -54,8 +54,8 @@ of_peer test old new peer =
 
 -- ## Same server
 -- A server of a realm is the same in both where `auth`, `acct` and `secret` are equal, an absent endpoint to an absent
--- one, wherever it stands in the order; `require_seal` may differ. What waits at a server, its cursors, its rests and counts, and which conversations
--- it has, go with it.
+-- one, wherever it stands in the order; `require_seal` may differ. What waits at a server, its cursors, its rests and
+-- counts, and which conversations it has, go with it.
 -- Source: ours
 -- Rules out: what waits at one server taken for another's, since it stands at its place; a rest lost by another order
 -- Stands in: `roam_reload` `Kept.antt`: `same_server`, `server_then`; `server_then`
