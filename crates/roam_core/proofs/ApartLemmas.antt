@@ -1,15 +1,14 @@
--- The servers of a request's order are apart: none stands there twice. And there are no more of them than servers.
+-- The servers of a request's order are apart: none stands there twice.
 use Rattle.std.proofs.Common.{◌≡◌, ℕ, suc, zero, ◌+◌, ◌<◌, ◌≤◌, true, false, List, [], ◌∷◌, ◌++◌, refl, sym, ap, ◌∙◌, inl, inr, arith, length, drop, take, is_some}
 use Rattle.std.specs.Prelude.{◌==◌, if◌then◌else◌}
 use Rattle.std.specs.List.{list_any}
 use Rattle.std.proofs.lemmas.Bool.{cases_Bool, or_parts, or_right}
 use Rattle.std.proofs.lemmas.Bool.Decides.{nat_tests}
 use Rattle.roam_conf.specs.Config.{ServerView}
-use Rattle.roam_wire.specs.Packet.{Attribute}
-use Rattle.roam_realm.specs.RealmConfig.{RealmConfig, service_at}
-use Rattle.roam_realm.specs.ServerOrder.{behind, order_by, places_of, start_of, turned}
+use Rattle.roam_realm.specs.RealmConfig.{service_at}
+use Rattle.roam_realm.specs.ServerOrder.{behind, places_of, turned}
 use Rattle.roam_realm.specs.declared.service.Service.{Service}
-use Rattle.roam_realm.proofs.OrderLemmas.{behind-later, turned-count}
+use Rattle.roam_realm.proofs.OrderLemmas.{behind-later}
 
 -- no element stands twice
 abbrev pub AreApart : List ℕ → Type 0
@@ -143,20 +142,3 @@ behind-ends one (x ∷ xs) apart y there =
           rw n (behind-later y x xs (other-first x y xs apart.0 (in-behind y one xs in_rest))
           ∙ behind-ends one xs apart.1 y in_rest)
     ]
-
--- ---- how many there are
-
-places-count : (asked : Service) (ss : List ServerView) (from : ℕ) → length (places_of asked from ss) ≤ length ss
-places-count asked [] from = omega arith
-places-count asked (s ∷ ss) from =
-    let rest = places-count asked ss (from + 1) in
-    elim (cases_Bool (is_some (service_at asked s))) [
-      | inl b ↦ rw b (omega (arith, rest))
-      | inr n ↦ rw n (omega (arith, rest))
-    ]
-
-pub order-count : (c : RealmConfig) (asked : Service) (attributes : List Attribute) →
-    length (order_by c asked attributes) ≤ length c.realm.servers
-order-count c asked attributes =
-    let places = places_of asked 0 c.realm.servers in
-    omega (arith, turned-count (start_of c attributes (length places)) places, places-count asked c.realm.servers 0)

@@ -16,13 +16,13 @@ use Rattle.roam_pending.proofs.TestLemmas.{all-append, all-weaker}
 use Rattle.roam_realm.specs.Conversing.{same_end}
 use Rattle.roam_realm.specs.RealmConfig.{RealmConfig, coa_of, peer_ways, server_link, service_at, service_of}
 use Rattle.roam_realm.specs.ServerOrder.{behind, later_targets, links_to, places_of, server_order, server_ways, start_of}
-use Rattle.roam_realm.proofs.OrderLemmas.{behind-here}
+use Rattle.roam_realm.proofs.OrderLemmas.{behind-here, turned-count}
 use Rattle.roam_exchange.specs.OnRequest.{coa_links, is_reverse, targets}
 use Rattle.roam_realm.specs.declared.service.Service.{Service}
 use Rattle.roam_realm.specs.declared.service.Service.TheVariants as service
 use Rattle.roam_core.specs.Amplification.{Ends, TargetsAreFew, counted_links, is_counted, one_each}
 use Rattle.roam_core.proofs.OneEndLemmas.{LeadElsewhere, alike-one, apart-more, each-passes, further-more, to-all, to-alike, to-none}
-use Rattle.roam_core.proofs.ApartLemmas.{AreApart, EndsSo, behind-apart, behind-ends, ends-later, order-count, turned-apart}
+use Rattle.roam_core.proofs.ApartLemmas.{AreApart, EndsSo, behind-apart, behind-ends, ends-later, turned-apart}
 use Rattle.roam_core.proofs.SentLemmas.{either}
 
 -- a link and its later targets lead to at most so many
@@ -162,7 +162,8 @@ coa-count c (Some peer) =
 pub targets_are_few : TargetsAreFew
 targets_are_few c q =
     let s = service_of (packet_of q.octets).code in
-    let few = order-count c s (packet_of q.octets).attributes in
+    let places = places_of s 0 c.realm.servers in
+    let few = turned-count (start_of c (packet_of q.octets).attributes (length places)) places in
     let all = servers-count c s (server_order c s q) in
     elim (cases_Bool (is_reverse q)) [
       | inl y ↦ rw y (coa-count c (reverse.target c.peers (packet_of q.octets).attributes))

@@ -8,13 +8,14 @@ use Rattle.roam_conf.specs.Lookup.{out_of}
 use Rattle.roam_conf.specs.declared.place.Link.{Link}
 use Rattle.roam_conf.specs.declared.place.Place.{Place}
 use Rattle.roam_conf.specs.declared.place.Place.TheVariants as place
+use Rattle.roam_wire.specs.Reading.{packet_of}
 use Rattle.roam_admission.specs.Admission.{PlainOut}
 use Rattle.roam_pending.specs.declared.key.Key.{Key}
 use Rattle.roam_pending.specs.DueOrder.{due_list}
 use Rattle.roam_pending.specs.PlainEntry.{PlainEntry, PlainRequest, PlainStanding, waiting, done}
 use Rattle.roam_realm.specs.Conversing.{same_end}
-use Rattle.roam_realm.specs.RealmConfig.{RealmConfig, link_endpoint}
-use Rattle.roam_realm.specs.ServerOrder.{later_targets}
+use Rattle.roam_realm.specs.RealmConfig.{RealmConfig, link_endpoint, service_of}
+use Rattle.roam_realm.specs.ServerOrder.{later_targets, places_of}
 use Rattle.roam_realm.specs.RealmState.{RealmState}
 use Rattle.roam_exchange.specs.Turn.{packets_of}
 use Rattle.roam_exchange.specs.OnRequest.{is_reverse, targets}
@@ -134,8 +135,10 @@ OnePacketEach =
     (c : RealmConfig) (s : RealmState) (e : RealmEvent)
     → length (packets_of (on_event c s e)) ≤ sends_at_most s e
 
--- to how many ends targets lead: those of a reverse request to one at most, of any other to the realm's servers
+-- to how many ends targets lead: those of a reverse request to one at most, of any other to the realm's servers of its
+-- service
 abbrev pub TargetsAreFew : Type 0
 TargetsAreFew =
     (c : RealmConfig) (q : PlainRequest)
-    → length (one_each (targets c q)) ≤ (if is_reverse q then 1 else length c.realm.servers)
+    → length (one_each (targets c q))
+    ≤ (if is_reverse q then 1 else length (places_of (service_of (packet_of q.octets).code) 0 c.realm.servers))
