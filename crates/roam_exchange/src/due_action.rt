@@ -82,13 +82,18 @@ fn later_target<A: Allocator + Copy>(
     ensures made { IfSome result (λ l. (lane_of settings.now numbers.now.lanes.items l).made
         ≡ true) }
 {
-    let (service, server) = match link {
-        Link::Auth(server, _) => (Service::Authentication, server),
-        Link::Acct(server, _) => (Service::Accounting, server),
-        Link::Coa(_, _) => return None,
-    };
-    let servers = settings.servers_behind(service, server, entry.request.octets.as_slice());
-    numbers.chosen(settings, now, servers, None)
+    let request = entry.request.octets.as_slice();
+    match link {
+        Link::Auth(server, _) => {
+            let servers = settings.servers_behind(Service::Authentication, server, request);
+            numbers.chosen(settings, now, servers, None)
+        }
+        Link::Acct(server, _) => {
+            let servers = settings.servers_behind(Service::Accounting, server, request);
+            numbers.chosen(settings, now, servers, None)
+        }
+        Link::Coa(_, _) => None,
+    }
 }
 
 /// Returns how a reply is held from a moment on: until `now + hold`, where replies are held.

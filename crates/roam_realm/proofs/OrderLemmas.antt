@@ -126,6 +126,38 @@ places-end asked [] (suc place) from past = refl
 places-end asked (s ∷ ss) zero from past = absurd (omega (arith, past))
 places-end asked (s ∷ ss) (suc place) from past = places-end asked ss place from (omega (arith, past))
 
+-- the server of this place is the one that is looked for, or one behind it is
+get-next : (x : ℕ) (xs : List ℕ) (m n : ℕ) → n ≡ m + 1 → slice_get (x ∷ xs) n ≡ slice_get xs m
+get-next x xs m zero is = absurd (omega (arith, is))
+get-next x xs m (suc n) is = let same : n ≡ m = omega (arith, is) in ap (slice_get xs) same
+
+module _ (asked : Service) (ss : List ServerView) (place n : ℕ) (b : Bool) (answer : Option ℕ)
+    (within : place < length ss)
+    (serves : (s : ServerView) → slice_get ss place ≡ Some s → b ≡ is_some (service_at asked s))
+    (inv : slice_get (places_of asked place (drop place ss)) n ≡ answer) where
+  pub nth-hit : b ≡ true → n ≡ 0 → Some place ≡ answer
+  nth-hit is none_before =
+      let rest = places_of asked (place + 1) (drop (place + 1) ss) in
+      let here : places_of asked place (drop place ss) ≡ place ∷ rest =
+      rw is at (places-here asked ss place b within serves) in
+      sym (ap (λ (xs : List ℕ). slice_get xs n) here ∙ ap (slice_get (place ∷ rest)) none_before) ∙ inv
+
+  pub nth-count : (m : ℕ) → b ≡ true → n ≡ m + 1
+      → slice_get (places_of asked (place + 1) (drop (place + 1) ss)) m ≡ answer
+  nth-count m is one_less =
+      let rest = places_of asked (place + 1) (drop (place + 1) ss) in
+      let here : places_of asked place (drop place ss) ≡ place ∷ rest =
+      rw is at (places-here asked ss place b within serves) in
+      sym (ap (λ (xs : List ℕ). slice_get xs n) here ∙ get-next place rest m n one_less) ∙ inv
+
+  pub nth-pass : (m : ℕ) → b ≡ false → n ≡ m
+      → slice_get (places_of asked (place + 1) (drop (place + 1) ss)) m ≡ answer
+  nth-pass m is same =
+      let rest = places_of asked (place + 1) (drop (place + 1) ss) in
+      let here : places_of asked place (drop place ss) ≡ rest =
+      rw is at (places-here asked ss place b within serves) in
+      sym (ap (λ (xs : List ℕ). slice_get xs n) here ∙ ap (slice_get rest) same) ∙ inv
+
 -- ---- what stands behind an element
 
 pub behind-here : (one x : ℕ) (xs : List ℕ) → (x == one) ≡ true → behind one (x ∷ xs) ≡ xs

@@ -5,7 +5,8 @@ ghost use Rattle.std.specs.Int.{w32, from_be_bytes};
 ghost use Rattle.roam_conf.specs.Config.{ServerView};
 ghost use Rattle.roam_wire.specs.Reading.{IsPacketText, packet_of};
 ghost use Rattle.roam_realm.specs.RealmConfig.{service_at, service_of};
-ghost use Rattle.roam_realm.specs.ServerOrder.{behind, digest_number, in_order, order_by, places_of, servers_from};
+ghost use Rattle.roam_realm.specs.ServerOrder.{behind, digest_number, in_order, links_from, links_to, order_by};
+ghost use Rattle.roam_realm.specs.ServerOrder.{places_of, servers_from};
 ghost use Rattle.roam_realm.specs.ServerOrder.{start_of, user_octets, user_start};
 
 use crate::realm_settings::RealmSettings;
@@ -160,9 +161,8 @@ impl RealmSettings<'_> {
 
     /// Returns the servers of the service that a request asks for, in the order of their use.
     pub fn servers_for(&self, request: &View<'_>) -> ServersFrom
-        ensures service { result.service ≡ service_of request.now.code }
-        ensures order { servers_from self.now result
-            ≡ order_by self.now (service_of request.now.code) request.now.attributes }
+        ensures { links_from self.now result ≡ links_to self.now (service_of request.now.code)
+            (order_by self.now (service_of request.now.code) request.now.attributes) }
     {
         self.servers_of(Service::of_code(request.code()), request)
     }
@@ -183,9 +183,8 @@ impl RealmSettings<'_> {
     /// Returns the servers behind one, in the order of their use for a request of a service, whose octets these are.
     pub fn servers_behind(&self, service: Service, server: u8, request: &[u8]) -> ServersFrom
         requires { IsPacketText request.now }
-        ensures service { result.service ≡ service }
-        ensures order { servers_from self.now result
-            ≡ behind server (order_by self.now service (packet_of request.now).attributes) }
+        ensures { links_from self.now result ≡ links_to self.now service
+            (behind server (order_by self.now service (packet_of request.now).attributes)) }
     {
         let all = self.servers_of(service, &View::of_packet(request));
         ServersFrom {
