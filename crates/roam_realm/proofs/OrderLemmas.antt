@@ -99,8 +99,8 @@ turned-past start xs n past = slice_get_past (turned start xs) n (omega (arith, 
 pub places-next : (asked : Service) (servers : List ServerView) (from place : ℕ) (b : Bool) → place < length servers
     → ((s : ServerView) → slice_get servers place ≡ Some s → b ≡ is_some (service_at asked s))
     → places_of asked (from + place) (drop place servers)
-    ≡ (if b then (from + place) ∷ places_of asked (from + place + 1) (drop (place + 1) servers)
-    else places_of asked (from + place + 1) (drop (place + 1) servers))
+    ≡ (if b then (from + place) ∷ places_of asked (from + place + 1) (drop (suc place) servers)
+    else places_of asked (from + place + 1) (drop (suc place) servers))
 places-next asked [] from place b within serves = absurd (omega (arith, within))
 places-next asked (s ∷ ss) from zero b within serves =
     let e : from + 0 ≡ from = omega arith in
@@ -117,7 +117,8 @@ pub places-here : (asked : Service) (servers : List ServerView) (place : ℕ) (b
     else places_of asked (place + 1) (drop (place + 1) servers))
 places-here asked servers place b within serves =
     let e : 0 + place ≡ place = omega arith in
-    rw e at (places-next asked servers 0 place b within serves)
+    let f : suc place ≡ place + 1 = omega arith in
+    rw (e, f) at (places-next asked servers 0 place b within serves)
 
 pub places-end : (asked : Service) (servers : List ServerView) (place from : ℕ) → length servers ≤ place
     → places_of asked from (drop place servers) ≡ []
@@ -178,6 +179,30 @@ links-next p c asked xs n found within is =
     ap (λ (places : List ℕ). find p (links_to c asked places)) (from-next xs n here.0 here.1)
     ∙ find-append p (server_ways c asked here.0) (links_to c asked (drop (suc n) xs))
     ∙ ap (λ (o : Option Link). option_or o (find p (links_to c asked (drop (suc n) xs)))) (sym (is here.0 here.1))
+
+some-first : (found rest : Option Link) → is_some found ≡ true → option_or found rest ≡ found
+some-first None rest is = absurd (cc is)
+some-first (Some l) rest is = refl
+
+none-first : (found rest : Option Link) → is_some found ≡ false → option_or found rest ≡ rest
+none-first None rest is = refl
+none-first (Some l) rest is = absurd (cc is)
+
+-- one to the server of a place passes, and none before it did; none to it passes
+module _ (p : Link → Bool) (c : RealmConfig) (asked : Service) (xs : List ℕ) (n : ℕ) (found answer : Option Link)
+    (within : n < length xs)
+    (is : (place : ℕ) → slice_get xs n ≡ Some place → found ≡ find p (server_ways c asked place))
+    (inv : find p (links_to c asked (drop n xs)) ≡ answer) where
+  pub order-hit : is_some found ≡ true → found ≡ answer
+  order-hit some =
+      let rest = find p (links_to c asked (drop (suc n) xs)) in
+      sym (some-first found rest some) ∙ sym (links-next p c asked xs n found within is) ∙ inv
+
+  pub order-skip : is_some found ≡ false → find p (links_to c asked (drop (n + 1) xs)) ≡ answer
+  order-skip none =
+      let rest = find p (links_to c asked (drop (suc n) xs)) in
+      let f : n + 1 ≡ suc n = omega arith in
+      rw f (sym (none-first found rest none) ∙ sym (links-next p c asked xs n found within is) ∙ inv)
 
 ways-of : (c : RealmConfig) (asked : Service) (place : ℕ) (found : Option ServerView)
     → slice_get c.realm.servers place ≡ found

@@ -25,9 +25,9 @@ loop-server-preserved c =
     elim c.if-serves.branch [
       | then-serves+else-before-eq0 w ↦
           nth-count c.args.service servers c.loop-server.server c.loop-server.before c.serves.result answer within
-          c.serves.ensures c.loop-server.invariant c.if-serves.before w.if-serves
-          (omega (arith, w.if-before-eq0, w.before-is))
+          c.serves.ensures c.loop-server.invariant c.if-serves.before w.if-serves.true
+          (omega (arith, w.if-before-eq0.false, w.before-is))
       | else-serves w ↦
           nth-pass c.args.service servers c.loop-server.server c.loop-server.before c.serves.result answer within
-          c.serves.ensures c.loop-server.invariant c.if-serves.before w.if-serves (omega (arith, w.before-is))
+          c.serves.ensures c.loop-server.invariant c.if-serves.before w.if-serves.false (omega (arith, w.before-is))
     ]
