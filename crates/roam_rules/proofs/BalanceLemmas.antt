@@ -1,15 +1,14 @@
 -- The targets of one user's requests are the same, and the first of them is taken.
-use Rattle.std.proofs.Common.{◌≡◌, ℕ, ◌∙◌, Bool, false, List, ◌∷◌, length, ap, sym, refl}
+use Rattle.std.proofs.Common.{◌≡◌, ℕ, ◌∙◌, false, List, length, ap, sym, refl}
 use Rattle.std.specs.Prelude.{◌%◌, nat_lt, if◌then◌else◌}
 use Rattle.roam_wire.specs.Codes.{is_reverse_request}
 use Rattle.roam_wire.specs.Packet.{Attribute}
 use Rattle.roam_wire.specs.Reading.{packet_of}
-use Rattle.roam_pending.specs.PlainEntry.{PlainRequest}
 use Rattle.roam_realm.specs.RealmConfig.{RealmConfig, service_of}
 use Rattle.roam_realm.specs.ServerOrder.{digest_number, links_to, order_by, places_of, turned, user_octets}
 use Rattle.roam_realm.specs.declared.service.Service.{Service}
-use Rattle.roam_exchange.specs.OnRequest.{is_reverse, targets}
-use Rattle.roam_rules.specs.Balance.{AreOfOneUser, FirstTargetIsTaken, OneUserHasOneList}
+use Rattle.roam_exchange.specs.OnRequest.{is_reverse}
+use Rattle.roam_rules.specs.Balance.{FirstTargetIsTaken, OneUserHasOneList}
 
 order-same : (c : RealmConfig) (asked : Service) (a b : List Attribute) → user_octets a ≡ user_octets b
     → order_by c asked a ≡ order_by c asked b

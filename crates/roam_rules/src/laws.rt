@@ -31,8 +31,8 @@ pub fn silent_servers()
     ensures access_servers { AccessServersNeverStandBack }
 {}
 
-/// States that requests of one user for one service have the same targets, in the same order; and that a request goes to
-/// the first of them where that has a free Identifier and isn't marked dead, and no conversation goes on.
+/// States that requests of one user for one service have the same targets, in the same order; and that a request goes
+/// to the first of them where that has a free Identifier and isn't marked dead, and no conversation goes on.
 pub fn one_user_goes_to_one_server()
     ensures list { OneUserHasOneList }
     ensures first { FirstTargetIsTaken }

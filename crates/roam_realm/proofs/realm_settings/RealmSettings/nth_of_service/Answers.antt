@@ -1,4 +1,4 @@
-use Rattle.std.proofs.Common.{◌≡◌, ◌<◌, ◌+◌, arith, length}
+use Rattle.std.proofs.Common.{◌<◌, ◌+◌, arith, length}
 use Rattle.std.specs.Prelude.{slice_get}
 use Rattle.roam_realm.specs.ServerOrder.{places_of}
 use Rattle.roam_realm.proofs.OrderLemmas.{nth-count, nth-hit, nth-pass}
