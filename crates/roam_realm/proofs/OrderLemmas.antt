@@ -1,9 +1,9 @@
 -- The servers of a service, the list of them that is turned, and the links of such a list.
-use Rattle.std.proofs.Common.{◌≡◌, ℕ, suc, zero, ◌+◌, ◌<◌, ◌≤◌, ◌-◌, Bool, true, false, List, [], ◌∷◌, ◌++◌, Option, Some, None, refl, ap, sym, ◌∙◌, arith, length, drop, take, is_some}
+use Rattle.std.proofs.Common.{◌≡◌, ℕ, suc, zero, ◌+◌, ◌<◌, ◌≤◌, Bool, true, false, List, [], ◌∷◌, ◌++◌, Option, Some, None, refl, ap, sym, ◌∙◌, arith, length, drop, take, is_some}
 use Rattle.std.specs.Prelude.{◌==◌, if◌then◌else◌, slice_get}
 use Rattle.std.specs.List.{AllByRecursion, find}
 use Rattle.std.specs.Option.{option_and_then, option_or}
-use Rattle.std.proofs.lemmas.Option.{slice_get_past, slice_get_within}
+use Rattle.std.proofs.lemmas.Option.{slice_get_within}
 use Rattle.roam_conf.specs.Config.{ServerView}
 use Rattle.roam_conf.specs.declared.place.Link.{Link}
 use Rattle.roam_pending.proofs.TestLemmas.{all-append}
@@ -32,34 +32,6 @@ nothing-left (x ∷ xs) (suc n) past = nothing-left xs n (omega (arith, past))
 
 -- ---- a turned list
 
-get-append : (xs ys : List ℕ) (n : ℕ) → n < length xs → slice_get (xs ++ ys) n ≡ slice_get xs n
-get-append [] ys n within = absurd (omega (arith, within))
-get-append (x ∷ xs) ys zero within = refl
-get-append (x ∷ xs) ys (suc n) within = get-append xs ys n (omega (arith, within))
-
-get-behind : (xs ys : List ℕ) (n : ℕ) → length xs ≤ n → slice_get (xs ++ ys) n ≡ slice_get ys (n - length xs)
-get-behind [] ys n past = refl
-get-behind (x ∷ xs) ys zero past = absurd (omega (arith, past))
-get-behind (x ∷ xs) ys (suc n) past =
-    let less : suc n - suc (length xs) ≡ n - length xs = omega arith in
-    get-behind xs ys n (omega (arith, past)) ∙ ap (slice_get ys) (sym less)
-
-get-drop : (xs : List ℕ) (k n : ℕ) → slice_get (drop k xs) n ≡ slice_get xs (k + n)
-get-drop xs zero n = refl
-get-drop [] (suc k) n = refl
-get-drop (x ∷ xs) (suc k) n = get-drop xs k n
-
-get-take : (xs : List ℕ) (k n : ℕ) → n < k → slice_get (take k xs) n ≡ slice_get xs n
-get-take xs zero n within = absurd (omega (arith, within))
-get-take [] (suc k) n within = refl
-get-take (x ∷ xs) (suc k) zero within = refl
-get-take (x ∷ xs) (suc k) (suc n) within = get-take xs k n (omega (arith, within))
-
-drop-count : (xs : List ℕ) (k : ℕ) → length (drop k xs) ≡ length xs - k
-drop-count xs zero = omega arith
-drop-count [] (suc k) = refl
-drop-count (x ∷ xs) (suc k) = drop-count xs k ∙ omega arith
-
 both-count : (xs : List ℕ) (k : ℕ) → length (drop k xs ++ take k xs) ≡ length xs
 both-count xs zero = append-none xs
   where
@@ -75,24 +47,6 @@ both-count (x ∷ xs) (suc k) = one-more (drop k xs) (take k xs) ∙ ap suc (bot
 
 pub turned-count : (start : ℕ) (xs : List ℕ) → length (turned start xs) ≡ length xs
 turned-count start xs = both-count xs start
-
--- before its end the list goes on from where it begins
-pub turned-first : (start : ℕ) (xs : List ℕ) (n : ℕ) → n < length xs - start
-    → slice_get (turned start xs) n ≡ slice_get xs (start + n)
-turned-first start xs n within =
-    get-append (drop start xs) (take start xs) n (omega (arith, drop-count xs start, within)) ∙ get-drop xs start n
-
--- behind it the list begins anew
-pub turned-then : (start : ℕ) (xs : List ℕ) (n : ℕ) → length xs - start ≤ n → n < length xs
-    → slice_get (turned start xs) n ≡ slice_get xs (n - (length xs - start))
-turned-then start xs n past within =
-    let count = drop-count xs start in
-    get-behind (drop start xs) (take start xs) n (omega (arith, count, past))
-    ∙ ap (λ (k : ℕ). slice_get (take start xs) (n - k)) count
-    ∙ get-take xs start (n - (length xs - start)) (omega (arith, past, within))
-
-pub turned-past : (start : ℕ) (xs : List ℕ) (n : ℕ) → length xs ≤ n → slice_get (turned start xs) n ≡ None
-turned-past start xs n past = slice_get_past (turned start xs) n (omega (arith, turned-count start xs, past))
 
 -- ---- the servers of a service
 
@@ -119,13 +73,6 @@ places-here asked servers place b within serves =
     let e : 0 + place ≡ place = omega arith in
     let f : suc place ≡ place + 1 = omega arith in
     rw (e, f) at (places-next asked servers 0 place b within serves)
-
-pub places-end : (asked : Service) (servers : List ServerView) (place from : ℕ) → length servers ≤ place
-    → places_of asked from (drop place servers) ≡ []
-places-end asked [] zero from past = refl
-places-end asked [] (suc place) from past = refl
-places-end asked (s ∷ ss) zero from past = absurd (omega (arith, past))
-places-end asked (s ∷ ss) (suc place) from past = places-end asked ss place from (omega (arith, past))
 
 -- the server of this place is the one that is looked for, or one behind it is
 get-next : (x : ℕ) (xs : List ℕ) (m n : ℕ) → n ≡ m + 1 → slice_get (x ∷ xs) n ≡ slice_get xs m
