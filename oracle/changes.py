@@ -46,7 +46,7 @@ class Change:
 
     def server_then(self, server):
         def identity(table):
-            return table["auth"], table.get("acct"), table["secret"]
+            return table.get("auth"), table.get("acct"), table["secret"]
         wanted = identity(self.old.table["server"][server])
         return next((at for at, table in enumerate(self.new.table["server"]) if identity(table) == wanted), None)
 

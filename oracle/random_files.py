@@ -1,6 +1,7 @@
 """The files of random scripts."""
 from random_access import AccessScript, VendorScript
 from random_addresses import AddressScript
+from random_balanced import BalancedScript
 from random_ends import EndsScript
 from random_federation import FederationScript, SilenceScript
 from random_logins import LoginScript
@@ -37,6 +38,9 @@ FILES = {
     "logins-and-shares": (LoginScript, "logins-and-shares", 23001, 80),
     "logins-in-two-shards": (LoginScript, "logins-in-two-shards", 24001, 80),
     "addresses": (AddressScript, "addresses", 29001, 90),
+    "balanced-logins": (BalancedScript, "balanced-realms", 30001, 90),
+    "balanced-in-two-shards": (BalancedScript, "balanced-realms-in-two-shards", 31001, 90),
+    "services-apart-in-logins": (BalancedScript, "realms-of-services-apart", 32001, 60),
     "mutated": (MutatedScript, "all", 12001, 50),
     "mutated-and-shared": (MutatedScript, "all-and-shared", 13001, 50),
     "mutated-in-two-shards": (MutatedScript, "all-in-two-shards", 14001, 50),

@@ -390,9 +390,7 @@ class Conversion:
         self.write_numbers(homes[0], "*" in items)
         # EAP needs all rounds at one server, and nobody's session may be ended but the realm's own.
         out.put(*(["conversations = true"] if len(homes) > 1 else []), *(["own_sessions = true"] if partners and (coa or self.options.reverse) else []))
-        taken = set()
-        for home in homes:
-            self.write_server(section, home, partners, taken)
+        self.write_servers(section, homes, partners)
 
     def free_port(self, address, port):
         while (address, port) in self.used:
@@ -410,34 +408,47 @@ class Conversion:
                    "rest_after": (min(max(after, 1), 256), 3), "hold": (min(hold, 60) * 1000, 10000), "max_pending": (self.options.max_pending, None)}
         self.out.put("# Three sendings in response_window.", *(f"{key} = {number}" for key, (number, usual) in numbers.items() if number != usual))
 
-    def write_server(self, section, home, partners, taken):
-        out, auth = self.out, self.endpoint(home, 1812)
+    def write_servers(self, section, homes, partners):
+        """The servers of both pools: each home server with its accounting, and behind them those for accounting alone."""
+        taken, alone = {self.endpoint(it, 1812) for it in homes}, list(partners)
+        for home in homes:
+            same = [it for it in alone if secret_of(it) == secret_of(home) and self.endpoint(it, 1813)[0] == self.endpoint(home, 1812)[0]]
+            partner = home if home in alone else (same or [None])[0]
+            if partner:
+                alone.remove(partner)
+            self.write_server(section, home, partner, taken)
+        for number, partner in enumerate(alone):
+            if len(homes) + number < SERVERS:
+                self.write_server(section, None, partner, taken)
+            else:
+                self.out.lose(f"realm {section.name}: home_server {partner.name}: roam takes {SERVERS}")
+
+    def accounting_at(self, partner, taken):
+        """Where a home server takes accounting, if no other one of the realm has that endpoint."""
+        place = self.endpoint(partner, 1812) if (partner.get("type") or "").lower() == "auth+acct" else None
+        place = (place[0], place[1] + 1) if place else self.endpoint(partner, 1813)
+        if place in taken:
+            self.out.lose(f"home_server {partner.name}: {written(place)} is an endpoint of this realm already; roam wants another for accounting")
+            return None
+        taken.add(place)
+        return place
+
+    def write_server(self, section, home, partner, taken):
+        out, named = self.out, home or partner
         out.put("")
-        self.lose_settings(home, ("proto",))
-        if (home.get("status_check") or "none").lower() != "none":
-            out.change(f"home_server {home.name}: no Status-Server and no test user is sent; `rest` of the realm is in its place")
-        if auth in taken:
-            out.lose(f"home_server {home.name}: {written(auth)} is a server of this realm already")
+        auth, acct = self.endpoint(home, 1812) if home else None, self.accounting_at(partner, taken) if partner else None
+        ends = {key: place for key, place in (("auth", auth), ("acct", acct)) if place}
+        self.lose_settings(named, ("proto",))
+        if (named.get("status_check") or "none").lower() != "none":
+            out.change(f"home_server {named.name}: no Status-Server and no test user is sent; `rest` of the realm is in its place")
+        if not ends:
             return
-        acct = None
-        if partners:
-            same = [it for it in partners if secret_of(it) == secret_of(home) and self.endpoint(it, 1813)[0] == auth[0]]
-            partner = home if home in partners else (same or [None])[0]
-            is_both = partner is not None and (partner.get("type") or "").lower() == "auth+acct"
-            acct = (auth[0], auth[1] + 1) if is_both or partner is None else self.endpoint(partner, 1813)
-            if partner is None:
-                out.change(f"home_server {home.name} had no accounting of its own; roam wants an endpoint for it")
-            if acct in taken or acct == auth:
-                acct = self.free_port(*acct)
-                out.change("roam wants an endpoint for each purpose")
-        taken |= {auth, acct}
-        if is_tls(home):
-            out.change(f"home_server {home.name}: haproxy opens its TLS, for what is sent to this address (docs/TLS.md)")
-        for it in (auth, acct):
+        if is_tls(named):
+            out.change(f"home_server {named.name}: haproxy opens its TLS, for what is sent to this address (docs/TLS.md)")
+        for it in ends.values():
             self.front.use(it, self.reverse and self.reverse[0])
-        out.put("[[realm.server]]", f"auth = {written(auth)}", *([f"acct = {written(acct)}"] if acct else []),
-                f"secret = {toml(secret_of(home)[0])}",
-                *(["require_seal = true"] if home.says("require_message_authenticator") else []))
+        out.put("[[realm.server]]", *(f"{key} = {written(it)}" for key, it in ends.items()), f"secret = {toml(secret_of(named)[0])}",
+                *(["require_seal = true"] if named.says("require_message_authenticator") else []))
 
 
 def main():

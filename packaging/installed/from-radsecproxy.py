@@ -452,7 +452,7 @@ class Conversion:
             out.put("# `name` is required, and this realm has patterns alone: this name is nobody's.")
         retries, interval = (first.get("retrycount", "2"), first.get("retryinterval", "5"))
         if any((one.get("retrycount", "2"), one.get("retryinterval", "5")) != (retries, interval)
-               for one, _ in pairs):
+               for one, _ in pairs if one):
             out.change("its servers differ in retrycount or retryinterval: the first one's count for all")
         out.put("[[realm]]", f"name = {toml(name[:253])}")
         if also:
@@ -471,10 +471,9 @@ class Conversion:
         self.write_realm_lists(block, pairs)
         self.write_numbers(int(retries) + 1, int(interval), "*" in items)
         # EAP needs all rounds at one server, and nobody's session may be ended but the realm's own.
-        out.put(*(["conversations = true"] if len(pairs) > 1 else []), *(["own_sessions = true"] if self.options.reverse and is_forwarded else []))
-        taken = set()
+        out.put(*(["conversations = true"] if len([one for one, _ in pairs if one]) > 1 else []), *(["own_sessions = true"] if self.options.reverse and is_forwarded else []))
         for server, partner in pairs:
-            self.write_server(server, partner, is_forwarded, taken)
+            self.write_server(server, partner)
 
     def write_numbers(self, tries, wait, is_of_all):
         """The numbers of a realm that aren't what counts where they are absent."""
@@ -550,8 +549,8 @@ class Conversion:
         return next((str(it.network_address) for it, name in self.addresses.items() if on and name == block.name and str(it).startswith("127.1.")), None)
 
     def pairs(self, block):
-        """Each server of the realm, with the one for its accounting, if there is one."""
-        accounting = []
+        """The servers of the realm: each with the one for its accounting, if there is one, and behind them those for accounting alone."""
+        accounting, taken = [], set()
         for name in block.all("accountingserver"):
             server, fault = self.server(name)
             if fault:
@@ -563,17 +562,16 @@ class Conversion:
             server, fault = self.server(name)
             if fault is None and len(pairs) == SERVERS:
                 fault = f"roam takes {SERVERS}"
+            elif fault is None and self.endpoint(server) in taken:
+                fault = f"{written(self.endpoint(server))} is a server of this realm already"
             if fault:
                 self.out.lose(f"realm {block.name}: server {name}: {fault}")
                 lost.append(f"server {name} of realm {block.name}")
                 continue
-            partner = self.partner(server, accounting)
-            if partner:
-                accounting.remove(partner)
-            pairs.append((server, partner))
-        for server in accounting:
-            self.out.lose(f"realm {block.name}: accountingserver {server.name}: no server of this realm has its"
-                          " secret, or each has one already")
+            taken.add(self.endpoint(server))
+            pairs.append((server, None))
+        places = [self.accounting_endpoint(it) for it in accounting]
+        pairs = self.with_accounting(block, pairs, [it for it, place in zip(accounting, places) if self.is_free(block, it, place, taken)])
         if pairs and block.all("accountingserver") and not any(partner for _, partner in pairs):
             self.out.change(f"realm {block.name}: its accounting goes to no server here")
             lost.append(f"the accounting of realm {block.name}")
@@ -581,48 +579,59 @@ class Conversion:
         self.lost_parts += lost if pairs else []
         return pairs
 
+    def is_free(self, block, server, place, taken):
+        """Whether an endpoint for accounting is no other one's of the realm: it is from then on."""
+        if place in taken:
+            self.out.lose(f"realm {block.name}: accountingserver {server.name}: {written(place)} is an endpoint of this realm already;"
+                          " roam wants another for accounting")
+            return False
+        taken.add(place)
+        return True
+
+    def with_accounting(self, block, pairs, accounting):
+        """The same servers with those for accounting: each beside its partner, or behind all of them."""
+        paired = []
+        for server, _ in pairs:
+            partner = self.partner(server, accounting)
+            if partner:
+                accounting.remove(partner)
+            paired.append((server, partner))
+        for server in accounting[SERVERS - len(pairs):] if pairs else []:
+            self.out.lose(f"realm {block.name}: accountingserver {server.name}: roam takes {SERVERS}")
+        return paired + [(None, server) for server in accounting[:SERVERS - len(pairs)]] if pairs else []
+
+    def accounting_endpoint(self, server):
+        """Where a server takes accounting: one whose TLS haproxy opens at the usual port."""
+        place = self.endpoint(server)
+        return (place[0], 1813) if self.front.has(place[0]) else place
+
     def partner(self, server, accounting):
         """The first of the same address and secret, or else of the same secret."""
         same = [one for one in accounting if secret_of(one) == secret_of(server)]
         near = [one for one in same if self.endpoint(one)[0] == self.endpoint(server)[0]]
         return (near or same or [None])[0]
 
-    def write_server(self, server, partner, is_forwarded, taken):
-        out, auth = self.out, self.endpoint(server)
-        acct = self.endpoint(partner) if partner else None
-        acct = (acct[0], 1813) if acct and self.front.has(acct[0]) else acct
+    def write_server(self, server, partner):
+        out, named = self.out, server or partner
+        auth, acct = self.endpoint(server) if server else None, self.accounting_endpoint(partner) if partner else None
         out.put("")
-        for host in server.all("host")[1:]:
-            out.lose(f"server {server.name}: host {host}: a server has one address")
+        for host in named.all("host")[1:]:
+            out.lose(f"server {named.name}: host {host}: a server has one address")
         known = {"host", "port", "type", "secret", "retrycount", "retryinterval", "source", "statusserver",
                  "requiremessageauthenticator", "loopprevention", *REWRITES}
-        out.lose_options(server, known | (OF_TLS if is_tls(server) else set()))
-        self.tell_missing(server)
-        if self.front.has(auth[0]):
-            out.change(f"server {server.name}: haproxy opens its TLS, for what is sent to this address (docs/TLS.md)")
-        if server.get("source"):
-            out.change(f"server {server.name}: source {server.get('source')}: `out` of the realm is its source")
-        if server.is_on("statusserver"):
-            out.change(f"server {server.name}: no Status-Server is sent; `rest` of the realm is in its place")
-        if auth in taken:
-            out.lose(f"server {server.name}: {written(auth)} is a server of this realm already")
-            return
-        taken.add(auth)
-        if is_forwarded and (acct is None or acct in taken):
-            wanted = acct
-            acct = auth
-            while acct in taken:
-                acct = (acct[0], acct[1] + 1 if acct[1] < 65535 else 1024)
-            if wanted:
-                out.change(f"accounting went to {written(wanted)}; roam wants an endpoint for each purpose")
-            else:
-                out.change(f"server {server.name} had no accounting of its own; roam wants an endpoint for it")
-        taken.add(acct)
-        for it in (auth, acct):
-            self.front.use(it, self.options.reverse and self.reverse[0])
-        out.put("[[realm.server]]", f"auth = {written(auth)}", *([f"acct = {written(acct)}"] if acct else []),
-                f"secret = {toml(secret_of(server)[0])}")
-        if server.is_on("requiremessageauthenticator"):
+        out.lose_options(named, known | (OF_TLS if is_tls(named) else set()))
+        self.tell_missing(named)
+        if self.front.has((auth or acct)[0]):
+            out.change(f"server {named.name}: haproxy opens its TLS, for what is sent to this address (docs/TLS.md)")
+        if named.get("source"):
+            out.change(f"server {named.name}: source {named.get('source')}: `out` of the realm is its source")
+        if named.is_on("statusserver"):
+            out.change(f"server {named.name}: no Status-Server is sent; `rest` of the realm is in its place")
+        ends = {key: place for key, place in (("auth", auth), ("acct", acct)) if place}
+        for place in ends.values():
+            self.front.use(place, self.options.reverse and self.reverse[0])
+        out.put("[[realm.server]]", *(f"{key} = {written(place)}" for key, place in ends.items()), f"secret = {toml(secret_of(named)[0])}")
+        if named.is_on("requiremessageauthenticator"):
             out.put("require_seal = true")
 
     def write_unused_servers(self):

@@ -122,6 +122,20 @@ auth = "198.51.100.1:1812"
 secret = "h1"
 """
 
+# One that takes accounting alone, and one that takes nothing.
+NO_AUTH = """\
+
+[[realm.server]]
+acct = "198.51.100.2:1813"
+secret = "h2"
+"""
+
+NEITHER = """\
+
+[[realm.server]]
+secret = "h2"
+"""
+
 # Sources of reverse requests.
 CLIENT = """\
 
@@ -328,7 +342,13 @@ OF_THE_SAMPLE = [
      'operator_name = "x"\noperator_namespace = 4\nnas_id', 'operator_name = "x"\noperator_namespace = " "\nnas_id',
      "own_names = true\nnas_id", 'nas_ids = [""]\nnas_id', "nas_ids = [1]\nnas_id", 'nas_ids = "a"\nnas_id'),
     ("tries = 2", None, "loop_prevention = true", 'accounting = "forward"', "share = 1", "share = 4096", "peer_share = 1",
-     "peer_share = 4096", "own_names = false", "conversations = true", "own_sessions = true", "coa_client = []"),
+     "peer_share = 4096", "own_names = false", "conversations = true", "own_sessions = true", "coa_client = []", 'balance = "user"',
+     'balance = "order"'),
+    ("tries = 2", "BadValue", 'balance = "User"', 'balance = ""', "balance = true", 'balance = ["user"]', "balance = 1", 'balance = "station"',
+     'balance = "user "'),
+    ("shards = 1", "BadValue", 'balance = "user"'),
+    ("nas_id", "BadValue", 'balance = "user"\nnas_id'),
+    ('secret = "h1"', "BadValue", 'balance = "user"\nsecret = "h1"'),
     ("nas_id", "DuplicatePeer", 'nas_ids = ["nas1"]\nnas_id', 'nas_ids = ["a*", "a*"]\nnas_id'),
 ]
 
@@ -376,6 +396,30 @@ DOCUMENTS = [
     ([TOP, PEER, REALM, 'accounting = "drop"\n', NO_ACCT], AS_IT_IS, AS_IT_IS, None),
     ([TOP, PEER, REALM, 'accounting = "answer"\n', SERVER], AS_IT_IS, AS_IT_IS, None),
     ([TOP, PEER, REALM, "accounting = 1\n", NO_ACCT], AS_IT_IS, AS_IT_IS, "BadValue"),
+    # Servers of one service, and services that no server of a realm has.
+    ([TOP, PEER, REALM, NO_ACCT, NO_AUTH], AS_IT_IS, AS_IT_IS, None),
+    ([TOP, PEER, REALM, SERVER, NEITHER], AS_IT_IS, AS_IT_IS, "Missing"),
+    ([TOP, PEER, REALM, 'accounting = "answer"\n', SERVER, NEITHER], AS_IT_IS, AS_IT_IS, "Missing"),
+    ([TOP, PEER, REALM, NO_AUTH], AS_IT_IS, AS_IT_IS, "Missing"),
+    ([TOP, PEER, REALM, NO_AUTH, NO_AUTH.replace("100.2", "100.3")], AS_IT_IS, AS_IT_IS, "Missing"),
+    ([TOP, PEER, REALM, 'accounting = "drop"\n', NO_AUTH], AS_IT_IS, AS_IT_IS, "Missing"),
+    ([TOP, PEER, REALM, NO_ACCT, NO_ACCT.replace("100.1", "100.2")], AS_IT_IS, AS_IT_IS, "Missing"),
+    ([TOP, PEER, REALM, 'accounting = "answer"\n', NO_ACCT, NO_ACCT.replace("100.1", "100.2")], AS_IT_IS, AS_IT_IS, None),
+    ([TOP, PEER, REALM, "accounting = 3\n", NO_AUTH], AS_IT_IS, AS_IT_IS, "Missing"),
+    ([TOP, PEER, REALM, SERVER], 'auth = "198.51.100.1:1812"', "auth = 3", "BadValue"),
+    ([TOP, PEER, REALM, "server = [3]\n"], AS_IT_IS, AS_IT_IS, "BadValue"),
+    ([TOP, PEER, REALM, "server = []\n"], AS_IT_IS, AS_IT_IS, "BadValue"),
+    ([TOP, PEER, REALM, "server = {}\n"], AS_IT_IS, AS_IT_IS, "BadValue"),
+    ([TOP, PEER, REALM, 'server = [3, {acct = "198.51.100.1:1813", secret = "s"}]\n'], AS_IT_IS, AS_IT_IS, "Missing"),
+    ([TOP, PEER, REALM, SERVER, SECOND_REALM, NO_AUTH], AS_IT_IS, AS_IT_IS, "Missing"),
+    ([TOP, PEER, REALM, SERVER, SECOND_REALM, NO_ACCT], AS_IT_IS, AS_IT_IS, "Missing"),
+    ([TOP, PEER, REALM, NO_ACCT, NO_AUTH, NO_AUTH.replace("h2", "h3")], AS_IT_IS, AS_IT_IS, "DuplicateServer"),
+    ([TOP, PEER, REALM, NO_ACCT, NO_AUTH, NO_AUTH.replace("100.2:1813", "100.1:1812")], AS_IT_IS, AS_IT_IS, "DuplicateServer"),
+    ([TOP, PEER, REALM, NO_ACCT, NO_AUTH, NO_AUTH.replace("100.2", "100.3"), NO_ACCT.replace("100.1", "100.3")], AS_IT_IS, AS_IT_IS, None),
+    ([TOP, PEER, REALM, NO_ACCT, NO_AUTH], "198.51.100.2:1813", "[2001:db8::2]:1813", "NoWayOut"),
+    ([TOP, PEER, REALM, NO_ACCT, NO_AUTH], "192.0.2.1:3799", "198.51.100.2:1813", "DuplicateLink"),
+    ([TOP, PEER, REALM, NO_ACCT, NO_AUTH], "192.0.2.1:3799", "198.51.100.1:1813", None),
+    ([TOP, PEER, REALM, NO_ACCT, NO_AUTH], 'secret = "h2"\n', "", "Missing"),
     # Names of peers that are not there, or are there twice; that is the last of the faults.
     ([TOP, PEER, SECOND_PEER, REALM, 'peers = ["nas2", "nas1"]\n', SERVER], AS_IT_IS, AS_IT_IS, None),
     ([TOP, PEER, SECOND_PEER, REALM, 'peers = ["nas2", "nas2"]\n', SERVER], AS_IT_IS, AS_IT_IS, None),
@@ -603,7 +647,7 @@ WHOLE = [
     ["max_hops = 7\nstatus_server = true\ntrace_octets = 4096\nspread = true\n", TOP, PEER, REALM,
      'also = ["c.example", "*.d.example", "*"]\nrest = 10000\nrest_after = 3\n', SERVER, "require_seal = true\n"],
     ["max_attributes = 195\nfresh = 300\n", TOP, PEER, 'nas_ids = ["wlc-1", "ap-*"]\n', REALM,
-     "peer_share = 7\nown_names = true\nconversations = true\nown_sessions = true\n", SERVER, CLIENT, OTHER_CLIENT],
+     'peer_share = 7\nown_names = true\nconversations = true\nbalance = "user"\nown_sessions = true\n', SERVER, NO_AUTH, CLIENT, OTHER_CLIENT],
     ['reject = ["*.gone"]\nwell_formed = true\nanswer_unnamed = true\n', TOP, PEER,
      'limit_proxy_state = true\noperator_name = "inst.example"\noperator_namespace = "3"\nask_cui = true\n',
      'request_without = ["26.9.1", "31"]\nreply_without = ["26.311"]\n', REALM,

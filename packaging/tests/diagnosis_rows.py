@@ -60,7 +60,14 @@ TOLD = [
     ('name = "a.example"\nout = "127.0.0.1:2000"\n',
      "",
      "Missing\na.conf:15: realm 1: name: is missing\na.conf:15: realm 1: out: is missing\n"),
-    ('acct = "198.51.100.1:1813"\n', "", 'Missing\na.conf:25: realm "a.example", server 1: acct: is missing\n'),
+    ('acct = "198.51.100.1:1813"\n', "",
+     'Missing\na.conf:25: realm "a.example": server: acct is missing in each of the realm\'s servers: one must have it\n'),
+    ('auth = "198.51.100.1:1812"\n', "",
+     'Missing\na.conf:25: realm "a.example": server: auth is missing in each of the realm\'s servers: one must have it\n'),
+    ('auth = "198.51.100.1:1812"\nacct = "198.51.100.1:1813"\n', "",
+     'Missing\na.conf:15: realm "a.example": server: auth is missing in each of the realm\'s servers: one must have it\n'
+     'a.conf:15: realm "a.example": server: acct is missing in each of the realm\'s servers: one must have it\n'
+     'a.conf:25: realm "a.example", server 1: auth: is missing, and acct too: a server has one of them, or both\n'),
     ("[[realm.server]]",
      '[[realm.coa_client]]\nip = "198.51.100.9"\n[[realm.server]]',
      'Missing\na.conf:25: realm "a.example", coa_client 1: secret: is missing\n'),

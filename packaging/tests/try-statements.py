@@ -22,7 +22,7 @@ from server import run
 ROOT = os.path.dirname(os.path.dirname(os.path.dirname(os.path.abspath(__file__))))
 FOLDERS = ("packaging/samples", "examples")
 # What counts where one of these is absent can't be written.
-WITHOUT_DEFAULT = {"max_hops", "metrics", "control", "coa", "nas_ip", "nas_ipv6", "nas_id", "reverse", "operator_name", "operator_namespace", "peers", "share", "acct",
+WITHOUT_DEFAULT = {"max_hops", "metrics", "control", "coa", "nas_ip", "nas_ipv6", "nas_id", "reverse", "operator_name", "operator_namespace", "peers", "share", "auth", "acct", "balance",
                    "max_attributes", "fresh", "peer_share", "coa_client", "state"}
 ENDPOINTS = {"auth", "acct", "out", "reverse", "coa", "metrics"}
 USAGE = "usage: roam check CONF\n"

@@ -220,6 +220,9 @@ fn state_policy(text: &mut StatedText, realm: &Realm) {
     state_number(text, "peer_share", realm.peer_share);
     text.put_value("own_names", realm.own_names);
     text.put_value("conversations", realm.conversations);
+    if realm.by_user {
+        text.put_quoted("balance", "user");
+    }
     text.put_value("own_sessions", realm.own_sessions);
 }
 
@@ -236,7 +239,8 @@ fn state_limits(text: &mut StatedText, realm: &Realm) {
 
 /// States a server.
 fn state_server(text: &mut StatedText, server: &Server) {
-    text.put("\n[[realm.server]]\nauth = \"", server.auth, "\"\n");
+    text.put("\n[[realm.server]]\n", "", "");
+    state_endpoint(text, "auth", &server.auth);
     state_endpoint(text, "acct", &server.acct);
     text.put_value("secret", BasicString(server.secret.as_str()));
     text.put_value("require_seal", server.require_seal);

@@ -20,7 +20,7 @@ use Rattle.roam_conf.proofs.EqualPartsLemmas.{list_decides, whole_list_decides, 
 -- the tests as the derives write them
 abbrev pub server_eq : Server → Server → Bool
 server_eq a b =
-    endpoint_eq a.auth b.auth &&
+    option_eq endpoint_eq a.auth b.auth &&
     (option_eq endpoint_eq a.acct b.acct &&
     (pointwise eqb a.secret b.secret &&
     (beq a.require_seal b.require_seal)))
@@ -70,7 +70,7 @@ server_decides a b =
         ),
       ),
     ))
-    (Decides-and _ _ (endpoint_decides a.auth b.auth)
+    (Decides-and _ _ (whole_option_decides endpoint_eq endpoint_decides a.auth b.auth)
     (Decides-and _ _ (whole_option_decides endpoint_eq endpoint_decides a.acct b.acct)
     (Decides-and _ _ (bytes_eq-Decides a.secret b.secret)
     (booleans_Decides a.require_seal b.require_seal))))

@@ -3,6 +3,7 @@ use Rattle.std.specs.Prelude.{ℕ, ◌&&◌, ◌||◌, not, Bool, true, false, L
 use Rattle.std.specs.List.{list_any}
 use Rattle.std.specs.Option.{option_map_or}
 use Rattle.std.specs.Str.{bytes_eq}
+use Rattle.roam_address.specs.declared.endpoint.Endpoint.{Endpoint}
 use Rattle.roam_address.specs.Prefixes.{PrefixView}
 use Rattle.roam_address.specs.Same.{is_in}
 use Rattle.roam_conf.specs.Config.{ServerView, PeerView, RealmView, ConfigView}
@@ -17,9 +18,13 @@ is_listed (Some names) name = list_any (bytes_eq name) names
 abbrev pub is_peer_of : RealmView → PeerView → Bool
 is_peer_of realm peer = is_listed realm.peers peer.name
 
+-- the endpoint is there, at an address of the prefix
+abbrev pub is_there_in : PrefixView → Option Endpoint → Bool
+is_there_in prefix endpoint = option_map_or (λ e. is_in e.ip prefix) endpoint false
+
 -- the prefix has the address of one of the server's endpoints, `auth` or `acct`
 abbrev pub is_server_in : PrefixView → ServerView → Bool
-is_server_in prefix server = is_in server.auth.ip prefix || option_map_or (λ e. is_in e.ip prefix) server.acct false
+is_server_in prefix server = is_there_in prefix server.auth || is_there_in prefix server.acct
 
 -- one of these servers has an address in the prefix
 abbrev pub some_server_in : List ServerView → PrefixView → Bool

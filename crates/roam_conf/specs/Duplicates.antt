@@ -65,19 +65,24 @@ realm_endpoints realm = if realm.gone then [] else realm.out ++ realm.reverse
 abbrev pub own_endpoints : List Endpoint → List Endpoint → List RealmView → List Endpoint
 own_endpoints auth acct realms = auth ++ acct ++ flat_map realm_endpoints realms
 
--- the endpoints of one realm's servers: `auth`, and `acct` where there is one
+-- the endpoints of one realm's servers: of each its `auth` and its `acct`, where these are there
 abbrev pub server_endpoints : List ServerView → List Endpoint
 server_endpoints [] = []
-server_endpoints (server ∷ servers) = server.auth ∷ cons_option server.acct (server_endpoints servers)
+server_endpoints (server ∷ servers) =
+    cons_option server.auth (cons_option server.acct (server_endpoints servers))
 
 -- the endpoints of those peers that take reverse requests
 abbrev pub coa_endpoints : List PeerView → List Endpoint
 coa_endpoints peers = filter_map (λ peer. peer.coa) peers
 
+-- the endpoint is there, and one of these
+abbrev pub is_there_among : List Endpoint → Option Endpoint → Bool
+is_there_among endpoints endpoint = option_map_or (is_among endpoints) endpoint false
+
 -- some server of the list is at one of these endpoints
 abbrev pub some_server_at : List Endpoint → List ServerView → Bool
 some_server_at endpoints servers =
-    list_any (λ server. is_among endpoints server.auth || option_map_or (is_among endpoints) server.acct false) servers
+    list_any (λ server. is_there_among endpoints server.auth || is_there_among endpoints server.acct) servers
 
 -- two names, two suffixes or two `*` of all realms, and of those that are rejected, are the same
 unfoldable pub has_duplicate_realm : List RealmView → List PatternView → Bool

@@ -102,11 +102,15 @@ is_source_of peers peer ip = option_map_or (λ found. found == peer) (peer_with_
 abbrev pub asker_at : List Endpoint → List PeerView → ℕ → Address → Option ℕ
 asker_at own peers place ip = option_and_then (λ here. peer_with_ip peers ip) (slice_get own place)
 
--- the first server, in the order of use, that has the address in its `auth` or its `acct` endpoint
+-- the endpoint is there, and at this address
+abbrev pub has_ip : Address → Option Endpoint → Bool
+has_ip ip endpoint = option_map_or (λ e. same_address e.ip ip) endpoint false
+
+-- the first server, in configured order, that has the address in its `auth` or its `acct` endpoint
 unfoldable pub server_with_ip : List ServerView → Address → Option ℕ
 server_with_ip servers ip =
     first_place
-    (λ server. same_address server.auth.ip ip || option_map_or (λ e. same_address e.ip ip) server.acct false) servers
+    (λ server. has_ip ip server.auth || has_ip ip server.acct) servers
 
 -- the first `coa_client` that has the address
 unfoldable pub client_with_ip : List CoaClientView → Address → Option ℕ
@@ -124,7 +128,7 @@ reverse_home realm place ip = option_and_then (λ own. home_with_ip realm ip) (s
 
 -- where what goes to a server or a peer arrives, where that is configured and takes any
 abbrev pub end_of : List PeerView → RealmView → Link → Option Endpoint
-end_of peers realm (Auth server out) = option_map (λ s. s.auth) (slice_get realm.servers server)
+end_of peers realm (Auth server out) = option_and_then (λ s. s.auth) (slice_get realm.servers server)
 end_of peers realm (Acct server out) = option_and_then (λ s. s.acct) (slice_get realm.servers server)
 end_of peers realm (Coa peer out) = option_and_then (λ p. p.coa) (slice_get peers peer)
 
@@ -159,7 +163,7 @@ acct_or_coa_at peers realm out endpoint =
 
 abbrev pub end_at : List PeerView → RealmView → ℕ → Endpoint → Option Link
 end_at peers realm out endpoint =
-    option_or (option_map (λ i. Auth i out) (first_place (λ server. same_endpoint server.auth endpoint) realm.servers))
+    option_or (option_map (λ i. Auth i out) (first_place (λ server. is_there endpoint server.auth) realm.servers))
     (acct_or_coa_at peers realm out endpoint)
 
 -- it, where the realm has that `out`, and this sends there

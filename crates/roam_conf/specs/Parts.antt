@@ -57,6 +57,7 @@ shown_realm realm = record {
   peer_share = realm.peer_share;
   own_names = realm.own_names;
   conversations = realm.conversations;
+  by_user = realm.by_user;
   own_sessions = realm.own_sessions;
   coa_clients = map shown_client realm.coa_clients.items;
   out = realm.out.items;

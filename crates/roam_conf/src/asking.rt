@@ -37,7 +37,7 @@ fn is_some_server_in(prefix: Prefix, servers: &[Server]) -> bool
     ensures { result ≡ some_server_in (map shown_server servers.now) (shown_prefix prefix) }
 {
     for server in servers {
-        if prefix.has(server.auth.ip) || is_there_in(prefix, server.acct) {
+        if is_there_in(prefix, server.auth) || is_there_in(prefix, server.acct) {
             return true;
         }
     }

@@ -3,7 +3,6 @@
 ghost use Rattle.std.specs.Prelude.{◌≡◌, ◌<◌, ◌^◌, IfSome, false, length, map, option_map};
 ghost use Rattle.std.specs.Option.{option_map_or};
 ghost use Rattle.roam_address.specs.Same.{same_address};
-ghost use Rattle.roam_conf.specs.Duplicates.{same_endpoint};
 ghost use Rattle.roam_conf.specs.Lookup.{client_with_ip, server_with_ip, first_place, is_there, is_coa};
 ghost use Rattle.roam_conf.specs.Parts.{shown_client, shown_server, shown_peer};
 
@@ -27,7 +26,7 @@ pub(crate) fn server_with_ip(servers: &[Server], ip: Address) -> Option<usize>
     ensures bound { IfSome result (λ i. i < length servers.now) }
 {
     for place in 0..servers.len() {
-        if servers[place].auth.ip == ip || is_at(ip, servers[place].acct) {
+        if is_at(ip, servers[place].auth) || is_at(ip, servers[place].acct) {
             return Some(place);
         }
     }
@@ -48,20 +47,6 @@ pub(crate) fn client_with_ip(clients: &[CoaClient], ip: Address) -> Option<usize
     None
 }
 
-/// The first server that takes Access-Requests at the endpoint.
-pub(crate) fn auth_at(servers: &[Server], endpoint: Endpoint) -> Option<usize>
-    ensures value { result ≡ first_place (λ server. same_endpoint server.auth endpoint)
-        (map shown_server servers.now) }
-    ensures bound { IfSome result (λ i. i < length servers.now) }
-{
-    for (i, server) in servers.iter().enumerate() {
-        if is_same_endpoint(server.auth, endpoint) {
-            return Some(i);
-        }
-    }
-    None
-}
-
 fn is_there(endpoint: Endpoint, other: Option<Endpoint>) -> bool
     ensures { result ≡ is_there endpoint other }
 {
@@ -69,6 +54,20 @@ fn is_there(endpoint: Endpoint, other: Option<Endpoint>) -> bool
         Some(other) => is_same_endpoint(other, endpoint),
         None => false,
     }
+}
+
+/// The first server that takes Access-Requests at the endpoint.
+pub(crate) fn auth_at(servers: &[Server], endpoint: Endpoint) -> Option<usize>
+    ensures value { result ≡ first_place (λ server. is_there endpoint server.auth)
+        (map shown_server servers.now) }
+    ensures bound { IfSome result (λ i. i < length servers.now) }
+{
+    for (i, server) in servers.iter().enumerate() {
+        if is_there(endpoint, server.auth) {
+            return Some(i);
+        }
+    }
+    None
 }
 
 /// The first server that takes Accounting-Requests at the endpoint.

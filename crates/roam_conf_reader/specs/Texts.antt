@@ -15,7 +15,7 @@ use Rattle.roam_conf_reader.specs.declared.pattern.PatternText.TheVariants.{Name
 use Rattle.roam_conf_reader.specs.declared.peer.PeerText.{PeerText}
 use Rattle.roam_conf_reader.specs.declared.realm.RealmText.{RealmText}
 use Rattle.roam_conf_reader.specs.declared.stated.TopText.{TopText}
-use Rattle.roam_conf_reader.specs.Document.{StatesEach, StatesFew, StatesClient, StatesServer, StatesPeer, StatesRealm, StatesConfig, are_accounted}
+use Rattle.roam_conf_reader.specs.Document.{StatesEach, StatesFew, StatesClient, StatesServer, StatesPeer, StatesRealm, StatesConfig, are_serving}
 use Rattle.roam_conf_reader.specs.Operators.{operator_said}
 use Rattle.roam_conf_reader.specs.Values.{pattern, list_of, rejects, removed, nas_ids, peer_names, prefixes, endpoints, endpoints_if_there, value_at, optional_at}
 
@@ -84,6 +84,7 @@ realm_in text also peers request reply clients out reverse servers = record {
   peer_share = text.peer_share;
   own_names = text.own_names;
   conversations = text.conversations;
+  by_user = text.by_user;
   own_sessions = text.own_sessions;
   coa_clients = clients;
   out = out;
@@ -98,7 +99,7 @@ realm_in text also peers request reply clients out reverse servers = record {
   servers = servers;
 }
 
--- the table states a realm, whatever lists its arrays state, in which the servers take accounting that is forwarded
+-- the table states a realm, whatever lists its arrays state, whose servers take what is forwarded to them
 abbrev pub StatesBesideLists : Members → RealmText → Type 0
 StatesBesideLists members text =
     (also : List PatternView) → (peers : Option (List (List ℕ))) → (request : List RemovedAttribute)
@@ -112,7 +113,7 @@ StatesBesideLists members text =
     → value_at (endpoints 16) (codes "out") members ≡ Some out
     → endpoints_if_there 8 (get_member (codes "reverse") members) ≡ Some reverse
     → StatesEach StatesServer (array_view text.servers.now) servers
-    → are_accounted text.accounting servers ≡ true
+    → are_serving text.accounting servers ≡ true
     → StatesRealm members (realm_in text also peers request reply clients out reverse servers)
 
 -- with these endpoints, names to reject, peers and realms

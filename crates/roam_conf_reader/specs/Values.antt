@@ -227,6 +227,17 @@ accounting None = Some kinds.Forwarded
 accounting (Some (string octets)) = accounting_in octets
 accounting (Some _) = None
 
+-- whether the user decides with which server a request's targets begin; not where the key is absent
+unfoldable pub balance_in : List ℕ → Option Bool
+balance_in octets =
+    if bytes_eq octets (codes "order") then Some false
+    else if bytes_eq octets (codes "user") then Some true else None
+
+unfoldable pub balance : Option Data → Option Bool
+balance None = Some false
+balance (Some (string octets)) = balance_in octets
+balance (Some _) = None
+
 -- what a required key states
 abbrev pub value_at : {V : Type 0} → (Data → Option V) → List ℕ → Members → Option V
 value_at reads key members = option_and_then reads (get_member key members)

@@ -6,8 +6,7 @@
 
 ghost use Rattle.std.specs.Prelude.{◌≡◌, ◌≤◌, ◌+◌, ◌++◌, ◌||◌, Some, None, IfOk, OnOk, false, length, map, drop};
 ghost use Rattle.std.specs.List.{list_any};
-ghost use Rattle.std.specs.Option.{option_map_or};
-ghost use Rattle.roam_conf.specs.Duplicates.{has_pair, same_endpoint, is_among, same_client, has_pair_of_servers};
+ghost use Rattle.roam_conf.specs.Duplicates.{has_pair, same_endpoint, is_among, is_there_among, same_client, has_pair_of_servers};
 ghost use Rattle.roam_conf.specs.Duplicates.{own_endpoints, realm_endpoints, server_endpoints, coa_endpoints, some_server_at};
 ghost use Rattle.roam_conf.specs.Duplicates.{has_duplicate_endpoint, has_duplicate_server};
 ghost use Rattle.roam_conf.specs.Duplicates.{has_duplicate_link};
@@ -102,7 +101,9 @@ fn server_endpoints(alloc: Global, servers: &[Server]) -> Result<Vec<Endpoint>, 
 {
     let mut endpoints = Vec::new(alloc);
     for server in servers {
-        endpoints.push(server.auth)?;
+        if let Some(auth) = server.auth {
+            endpoints.push(auth)?;
+        }
         if let Some(acct) = server.acct {
             endpoints.push(acct)?;
         }
@@ -124,12 +125,12 @@ fn coa_endpoints(alloc: Global, peers: &[Peer]) -> Result<Vec<Endpoint>, ConfFau
     Ok(endpoints)
 }
 
-/// Returns whether the server takes accounting at one of the endpoints.
-fn is_acct_among(endpoints: &EndpointSet, server: &Server) -> bool
-    ensures { result ≡ option_map_or (is_among endpoints.now.keys) (shown_server server.now).acct false }
+/// Returns whether an endpoint is there, and one of these.
+fn is_there_in(endpoints: &EndpointSet, endpoint: Option<Endpoint>) -> bool
+    ensures { result ≡ is_there_among endpoints.now.keys endpoint }
 {
-    match server.acct {
-        Some(acct) => is_in(endpoints, acct),
+    match endpoint {
+        Some(endpoint) => is_in(endpoints, endpoint),
         None => false,
     }
 }
@@ -139,7 +140,7 @@ fn some_server_at(endpoints: &EndpointSet, servers: &[Server]) -> bool
     ensures { result ≡ some_server_at endpoints.now.keys (map shown_server servers.now) }
 {
     for server in servers {
-        if is_in(endpoints, server.auth) || is_acct_among(endpoints, server) {
+        if is_there_in(endpoints, server.auth) || is_there_in(endpoints, server.acct) {
             return true;
         }
     }

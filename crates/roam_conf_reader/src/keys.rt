@@ -196,6 +196,18 @@ pub(crate) fn accounting(table: &Table, key: &str) -> Option<Accounting>
     }
 }
 
+/// Returns whether the user decides with which server a request's targets begin: not where the key is absent.
+#[tactic(auto, unfolding(crate::specs::Values::balance))]
+pub(crate) fn balance(table: &Table, key: &str) -> Option<bool>
+    ensures { result ≡ spec.balance (get_member key.now (table_view table.now)) }
+{
+    match value(table, key) {
+        Some(Value::String(text)) => values::balance_in(text.as_str()),
+        Some(_) => None,
+        None => Some(false),
+    }
+}
+
 /// Returns how lines have a station: as it stands where the key is absent.
 #[tactic(auto, unfolding(crate::specs::Values::station_word))]
 pub(crate) fn station_word(table: &Table, key: &str) -> Option<StationWord>

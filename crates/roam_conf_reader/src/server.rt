@@ -19,7 +19,7 @@ use toml::value::Array;
 /// The table of a home server, as stated. Its secret still stands in the document.
 #[derive(Clone, Copy)]
 struct ServerText<'a> {
-    auth: Endpoint,
+    auth: Option<Endpoint>,
     acct: Option<Endpoint>,
     secret: &'a str,
     require_seal: bool,
@@ -35,13 +35,16 @@ fn server_text(table: &Table) -> Option<ServerText<'_>>
         return None;
     }
     let (Some(auth), Some(acct), Some(secret), Some(require_seal)) = (
-        keys::endpoint(table, "auth"),
+        keys::optional_endpoint(table, "auth"),
         keys::optional_endpoint(table, "acct"),
         keys::text(table, "secret", 64, Letters::Any),
         keys::flag(table, "require_seal"),
     ) else {
         return None;
     };
+    if auth.is_none() && acct.is_none() {
+        return None;
+    }
     Some(ServerText {
         auth,
         acct,

@@ -181,6 +181,20 @@ pub(crate) fn accounting_in(text: &str) -> Option<Accounting>
     None
 }
 
+/// Returns whether the user decides with which server a request's targets begin, by a text.
+#[tactic(auto, unfolding(crate::specs::Values::balance_in))]
+pub(crate) fn balance_in(text: &str) -> Option<bool>
+    ensures { result ≡ spec.balance_in text.now }
+{
+    if text == "order" {
+        return Some(false);
+    }
+    if text == "user" {
+        return Some(true);
+    }
+    None
+}
+
 /// Returns how lines have a station, by a text.
 #[tactic(auto, unfolding(crate::specs::Values::station_word_in))]
 fn station_word_in(text: &str) -> Option<StationWord>

@@ -28,6 +28,7 @@ fn words_before(form: ValueForm) -> &'static str {
         ValueForm::Path(_) => "is not a path of ",
         ValueForm::PeerName | ValueForm::RealmName => "is not ",
         ValueForm::Accounting => "is none of \"forward\", \"answer\" and \"drop\"",
+        ValueForm::Balance => "is neither \"order\" nor \"user\"",
         ValueForm::Tables(..) => "is no array of ",
         _ => "is not in an array of ",
     }

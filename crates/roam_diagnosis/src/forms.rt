@@ -51,6 +51,8 @@ pub(crate) enum ValueForm {
     ReplyRemovals,
     /// One of three texts: what becomes of accounting.
     Accounting,
+    /// One of two texts: with which server the targets of a request begin.
+    Balance,
     /// So many to so many tables.
     Tables(u32, u32),
 }
@@ -150,6 +152,7 @@ const KEPT_OF_REPLIES: [u8; 4] = [24, 33, 79, 80];
 fn words_of(form: ValueForm) -> &'static [&'static str] {
     match form {
         ValueForm::Accounting => &["forward", "answer", "drop"],
+        ValueForm::Balance => &["order", "user"],
         ValueForm::ExchangeLines => &["all", "final", "none"],
         ValueForm::StationWord => &["clear", "hmac"],
         _ => &[],

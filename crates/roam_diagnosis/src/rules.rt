@@ -51,7 +51,7 @@ const PEER: [Rule; 15] = [
     Rule("reply_without", false, ValueForm::ReplyRemovals),
 ];
 
-const REALM: [Rule; 23] = [
+const REALM: [Rule; 24] = [
     Rule("name", true, ValueForm::RealmName),
     Rule("also", false, ValueForm::Names),
     Rule("peers", false, ValueForm::PeerNames),
@@ -63,6 +63,7 @@ const REALM: [Rule; 23] = [
     Rule("peer_share", false, ValueForm::Number(1, 4096)),
     Rule("own_names", false, ValueForm::Flag),
     Rule("conversations", false, ValueForm::Flag),
+    Rule("balance", false, ValueForm::Balance),
     Rule("own_sessions", false, ValueForm::Flag),
     Rule("out", true, ValueForm::Endpoints(16)),
     Rule("reverse", false, ValueForm::Endpoints(8)),
@@ -78,8 +79,8 @@ const REALM: [Rule; 23] = [
 ];
 
 const SERVER: [Rule; 4] = [
-    Rule("auth", true, ValueForm::Network(NetworkForm::Endpoint)),
-    Rule("acct", true, ValueForm::Network(NetworkForm::Endpoint)),
+    Rule("auth", false, ValueForm::Network(NetworkForm::Endpoint)),
+    Rule("acct", false, ValueForm::Network(NetworkForm::Endpoint)),
     Rule("secret", true, ValueForm::Secret),
     Rule("require_seal", false, ValueForm::Flag),
 ];

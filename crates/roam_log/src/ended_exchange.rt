@@ -19,7 +19,7 @@ pub fn server_endpoint(config: &Config, realm: u16, link: Link) -> Option<Endpoi
 {
     let realm = config.realms.get(usize::from(realm))?;
     match link {
-        Link::Auth(server, _) => Some(realm.servers.get(usize::from(server))?.auth),
+        Link::Auth(server, _) => realm.servers.get(usize::from(server))?.auth,
         Link::Acct(server, _) => realm.servers.get(usize::from(server))?.acct,
         Link::Coa(_, _) => None,
     }

@@ -36,11 +36,14 @@ pub(crate) fn all_named(alloc: Global, config: &Config) -> Result<Vec<Named<'_>>
         })?;
         for (place, server) in realm.servers.iter().enumerate() {
             let place = u8::try_from(place).unwrap_or(u8::MAX);
+            let Some(endpoint) = server.endpoint() else {
+                continue;
+            };
             all.push(Named {
                 scope: Scope::Server,
                 subject: Subject::Server(number, place),
                 name,
-                server: Some(format!(in alloc; "{}", server.auth)?),
+                server: Some(format!(in alloc; "{endpoint}")?),
             })?;
         }
     }

@@ -100,12 +100,14 @@ fn write_servers<C: Counts>(
         let place = u8::try_from(at).unwrap_or(u8::MAX);
         let totals = TotalsText(Totals::of(counts, Subject::Server(number, place)));
         let comma = comma(at);
-        let endpoint = server.auth;
-        write!(
-            out,
-            "{comma}{{\"endpoint\":\"{endpoint}\",{totals},\"auth\":"
-        )?;
-        write_service(out, counts, (number, place), Service::Auth, server.auth)?;
+        let Some(endpoint) = server.endpoint() else {
+            continue;
+        };
+        write!(out, "{comma}{{\"endpoint\":\"{endpoint}\",{totals}")?;
+        if let Some(auth) = server.auth {
+            out.push_str(",\"auth\":")?;
+            write_service(out, counts, (number, place), Service::Auth, auth)?;
+        }
         if let Some(acct) = server.acct {
             out.push_str(",\"acct\":")?;
             write_service(out, counts, (number, place), Service::Acct, acct)?;

@@ -183,9 +183,10 @@ fn write_servers<C: Counts>(
         let number = u16::try_from(at).unwrap_or(u16::MAX);
         for (at, server) in realm.servers.iter().enumerate() {
             let of = (number, u8::try_from(at).unwrap_or(u8::MAX));
-            let auth = server.auth;
-            table.push(format_args!("auth {auth}"))?;
-            push_service(&mut table, counts, of, realm, Service::Auth, auth)?;
+            if let Some(auth) = server.auth {
+                table.push(format_args!("auth {auth}"))?;
+                push_service(&mut table, counts, of, realm, Service::Auth, auth)?;
+            }
             if let Some(acct) = server.acct {
                 table.push(format_args!("acct {acct}"))?;
                 push_service(&mut table, counts, of, realm, Service::Acct, acct)?;

@@ -37,7 +37,7 @@ impl RealmSettings<'_> {
             → result ≡ service_at service s }
     {
         match service {
-            Service::Authentication => Some(self.server(server).auth),
+            Service::Authentication => self.server(server).auth,
             Service::Accounting => self.server(server).acct,
         }
     }

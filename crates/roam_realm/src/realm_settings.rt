@@ -167,6 +167,13 @@ impl<'c> RealmSettings<'c> {
         self.realm().conversations
     }
 
+    /// Returns whether the user of a request decides with which server its targets begin.
+    pub(crate) fn is_by_user(&self) -> bool
+        ensures { result ≡ self.now.realm.by_user }
+    {
+        self.realm().by_user
+    }
+
     /// Returns how many home servers the realm has: at most 8.
     pub fn server_count(&self) -> usize
         ensures count { result ≡ length self.now.realm.servers }

@@ -37,10 +37,3 @@ impl Service {
         }
     }
 }
-
-/// The home servers of a realm for a service, from a place in the realm's list on.
-#[derive(Clone, Copy)]
-pub struct ServersFrom {
-    pub service: Service,
-    pub first: usize,
-}

@@ -7,7 +7,7 @@ use Rattle.roam_conf.specs.Config.{ConfigView, PeerView, RealmView}
 use Rattle.roam_reload.specs.Differences.{IsOtherPeer, RealmsDiffer}
 use Rattle.roam_reload.specs.Reload.{IsCarried, IsUntouched, KeepsPeers, realm_part}
 use Rattle.roam_reload.specs.declared.keys.RealmKey.{RealmKey}
-use Rattle.roam_reload.specs.declared.keys.RealmKey.TheVariants.{Gone, Out, Reverse, Tries, Wait, Hold, MaxPending, MaxSessions, Rest, RestAfter, Servers, Peers, LoopPrevention, Accounting, RequestWithout, ReplyWithout, Share, PeerShare, OwnNames, Conversations, OwnSessions, CoaClients}
+use Rattle.roam_reload.specs.declared.keys.RealmKey.TheVariants.{Gone, Out, Reverse, Tries, Wait, Hold, MaxPending, MaxSessions, Rest, RestAfter, Servers, Peers, LoopPrevention, Accounting, RequestWithout, ReplyWithout, Share, PeerShare, OwnNames, Conversations, Balance, OwnSessions, CoaClients}
 use Rattle.roam_reload.proofs.PeerLemmas.{kept_each}
 
 -- some realm
@@ -34,6 +34,7 @@ no_realm = record {
   peer_share = None;
   own_names = false;
   conversations = false;
+  by_user = false;
   own_sessions = false;
   coa_clients = [];
   gone = false;
@@ -60,6 +61,7 @@ other_part a b Share d = λ e. d (ap (λ (x : RealmView). x.share) e)
 other_part a b PeerShare d = λ e. d (ap (λ (x : RealmView). x.peer_share) e)
 other_part a b OwnNames d = λ e. d (ap (λ (x : RealmView). x.own_names) e)
 other_part a b Conversations d = λ e. d (ap (λ (x : RealmView). x.conversations) e)
+other_part a b Balance d = λ e. d (ap (λ (x : RealmView). x.by_user) e)
 other_part a b OwnSessions d = λ e. d (ap (λ (x : RealmView). x.own_sessions) e)
 other_part a b CoaClients d = λ e. d (ap (λ (x : RealmView). x.coa_clients) e)
 other_part a b Servers d = λ e. d (ap (λ (x : RealmView). x.servers) e)

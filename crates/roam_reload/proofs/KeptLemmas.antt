@@ -1,6 +1,5 @@
 -- Of equal tables all stays.
 use Rattle.std.proofs.Common.{◌≡◌, ℕ, zero, suc, ◌&&◌, ◌||◌, Bool, true, false, List, [], ◌∷◌, ◌++◌, Option, Some, None, not, drop, get_or, map, refl, ap, ◌∙◌, slice_get}
-use Rattle.std.specs.Cmp.Lexicographic.{pointwise}
 use Rattle.std.specs.Str.{bytes_eq}
 use Rattle.std.proofs.lemmas.Bool.{and_parts}
 use Rattle.std.proofs.lemmas.Slice.Eq.{bytes_eq-Decides}
@@ -34,7 +33,11 @@ both_itself same h (Some x) = h x
 
 server_itself : (s : ServerView) → same_server s s ≡ true
 server_itself s =
-    rw (same_itself s.auth, both_itself same_endpoint same_itself s.acct, bytes_itself s.secret) refl
+    rw (
+      both_itself same_endpoint same_itself s.auth,
+      both_itself same_endpoint same_itself s.acct,
+      bytes_itself s.secret,
+    ) refl
 
 pub servers_itself : (ss : List ServerView) → same_servers ss ss ≡ true
 servers_itself [] = refl
@@ -46,12 +49,13 @@ server_stays ss s = rw (both_itself same_server server_itself (slice_get ss s)) 
 address_itself : (ip : Address) → same_address ip ip ≡ true
 address_itself ip = (address_decides ip ip).1 refl
 
-ips_itself : (ips : List Address) → pointwise same_address ips ips ≡ true
-ips_itself [] = refl
-ips_itself (ip ∷ ips) = rw (address_itself ip, ips_itself ips) refl
-
 source_itself : (s : Source) → same_source s s ≡ true
-source_itself s = rw (ips_itself s.ips, bytes_itself s.secret) refl
+source_itself s =
+    rw (
+      both_itself same_address address_itself s.ip,
+      both_itself same_address address_itself s.other_ip,
+      bytes_itself s.secret,
+    ) refl
 
 never_closes : (takes : Bool) → (takes && not takes) ≡ false
 never_closes true = refl

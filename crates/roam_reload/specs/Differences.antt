@@ -38,6 +38,7 @@ RealmsDiffer old new realm_key.Share = new.share ≢ old.share
 RealmsDiffer old new realm_key.PeerShare = new.peer_share ≢ old.peer_share
 RealmsDiffer old new realm_key.OwnNames = new.own_names ≢ old.own_names
 RealmsDiffer old new realm_key.Conversations = new.conversations ≢ old.conversations
+RealmsDiffer old new realm_key.Balance = new.by_user ≢ old.by_user
 RealmsDiffer old new realm_key.OwnSessions = new.own_sessions ≢ old.own_sessions
 RealmsDiffer old new realm_key.CoaClients = new.coa_clients ≢ old.coa_clients
 

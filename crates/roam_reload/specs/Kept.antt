@@ -1,13 +1,14 @@
 -- The parts that stay the same between two configurations, as far as what waits in a realm, what is held there and what
 -- its ledger has depend on it: tests of the tables that stand at one number in both. Each is true of equal tables.
 -- Ours.
-use Rattle.std.specs.Prelude.{◌≡◌, ℕ, ◌-◌, ◌&&◌, ◌||◌, not, nat_lt, Bool, true, false, List, [], ◌∷◌, length, Option, Some, None, option_and_then, option_map, slice_get, if◌then◌else◌}
+use Rattle.std.specs.Prelude.{◌≡◌, ℕ, ◌-◌, ◌&&◌, ◌||◌, not, nat_lt, Bool, true, false, List, length, Option, Some, None, option_and_then, option_map, slice_get, if◌then◌else◌}
 use Rattle.std.specs.Cmp.Lexicographic.{pointwise}
 use Rattle.std.specs.List.{list_all, list_any}
-use Rattle.std.specs.Option.{option_map_or, option_to_list}
+use Rattle.std.specs.Option.{option_map_or}
 use Rattle.std.specs.Str.{bytes_eq}
 use Rattle.roam_address.specs.declared.address.Address.{Address}
 use Rattle.roam_address.specs.Prefixes.{PrefixView}
+use Rattle.roam_address.specs.declared.endpoint.Endpoint.{Endpoint}
 use Rattle.roam_address.specs.Same.{same_address, same_prefix}
 use Rattle.roam_conf.specs.Config.{CoaClientView, PeerView, RealmView, ServerView}
 use Rattle.roam_conf.specs.Duplicates.{same_endpoint}
@@ -76,16 +77,16 @@ abbrev pub same_prefixes : List PrefixView → List PrefixView → Bool
 same_prefixes a b = are_among b a && are_among a b
 
 -- ## Same server
--- A server of a realm is the same in both where `auth`, `acct` and `secret` are equal, wherever it stands in the order
--- of use; `require_seal` may differ. What waits at a server, its cursors, its rests and counts, and which conversations
--- it has, go with it.
+-- A server of a realm is the same in both where `auth`, `acct` and `secret` are equal, an absent endpoint to an absent
+-- one, wherever it stands in the order; `require_seal` may differ. What waits at a server, its cursors, its rests and
+-- counts, and which conversations it has, go with it.
 -- Source: ours
 -- Rules out: what waits at one server taken for another's, since it stands at its place; a rest lost by another order
 -- Stands in: `roam_reload` `Kept.antt`: `same_server`, `server_then`; `server_then`
 --
 abbrev pub same_server : ServerView → ServerView → Bool
 same_server a b =
-    same_endpoint a.auth b.auth && both_or_none same_endpoint a.acct b.acct && bytes_eq a.secret b.secret
+    both_or_none same_endpoint a.auth b.auth && both_or_none same_endpoint a.acct b.acct && bytes_eq a.secret b.secret
 
 -- the place where a server of the old list stands in the new one: its own, if it is the same there, else the first
 abbrev pub server_then : List ServerView → List ServerView → ℕ → Option ℕ
@@ -97,16 +98,22 @@ server_then old new server =
 abbrev pub same_servers : List ServerView → List ServerView → Bool
 same_servers old new = pointwise same_server old new
 
--- a source of a realm's reverse requests: its addresses, and the secret shared with it
+-- a source of a realm's reverse requests: its address or, of a server, those of its `auth` and of its `acct`, where it
+-- has them; and the secret shared with it
 pub record Source : Type 0 where
-  pub ips : List Address
+  pub ip : Option Address
+  pub other_ip : Option Address
   pub secret : List ℕ
 
+-- the address of an endpoint that may be there
+abbrev pub ip_of : Option Endpoint → Option Address
+ip_of endpoint = option_map (λ e. e.ip) endpoint
+
 abbrev pub server_source : ServerView → Source
-server_source s = record { ips = s.auth.ip ∷ option_to_list (option_map (λ e. e.ip) s.acct); secret = s.secret }
+server_source s = record { ip = ip_of s.auth; other_ip = ip_of s.acct; secret = s.secret }
 
 abbrev pub client_source : CoaClientView → Source
-client_source c = record { ips = c.ip ∷ []; secret = c.secret }
+client_source c = record { ip = Some c.ip; other_ip = None; secret = c.secret }
 
 abbrev pub source : RealmView → ℕ → Option Source
 source realm home =
@@ -114,7 +121,8 @@ source realm home =
     else option_map client_source (slice_get realm.coa_clients (home - length realm.servers))
 
 abbrev pub same_source : Source → Source → Bool
-same_source a b = pointwise same_address a.ips b.ips && bytes_eq a.secret b.secret
+same_source a b =
+    both_or_none same_address a.ip b.ip && both_or_none same_address a.other_ip b.other_ip && bytes_eq a.secret b.secret
 
 -- a realm takes reverse requests; it does no more
 abbrev pub takes_reverse : RealmView → Bool

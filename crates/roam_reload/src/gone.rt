@@ -62,6 +62,7 @@ pub(crate) fn gone_realm(alloc: Global, realm: &Realm) -> Result<Realm, AllocErr
         peer_share: realm.peer_share,
         own_names: realm.own_names,
         conversations: realm.conversations,
+        by_user: realm.by_user,
         own_sessions: realm.own_sessions,
         coa_clients: Vec::new(alloc),
         out,

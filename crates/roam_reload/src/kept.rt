@@ -85,7 +85,7 @@ pub fn peer_keeps_sessions(old: &[Peer], new: &[Peer], peer: u16) -> bool
 fn is_same_server(a: &Server, b: &Server) -> bool
     ensures { result ≡ same_server (shown_server a.now) (shown_server b.now) }
 {
-    is_same_endpoint(a.auth, b.auth) && is_same_if_any(a.acct, b.acct) && a.secret == b.secret
+    is_same_if_any(a.auth, b.auth) && is_same_if_any(a.acct, b.acct) && a.secret == b.secret
 }
 
 /// The server of a place.

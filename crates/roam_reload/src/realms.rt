@@ -67,6 +67,8 @@ fn part_difference(old: &Realm, new: &Realm) -> Option<RealmKey>
         Some(RealmKey::OwnNames)
     } else if old.conversations != new.conversations {
         Some(RealmKey::Conversations)
+    } else if old.by_user != new.by_user {
+        Some(RealmKey::Balance)
     } else if old.own_sessions != new.own_sessions {
         Some(RealmKey::OwnSessions)
     } else if old.coa_clients != new.coa_clients {
@@ -135,6 +137,7 @@ pub fn is_other_in(old: &Realm, new: &Realm, key: RealmKey) -> bool
         RealmKey::PeerShare => old.peer_share != new.peer_share,
         RealmKey::OwnNames => old.own_names != new.own_names,
         RealmKey::Conversations => old.conversations != new.conversations,
+        RealmKey::Balance => old.by_user != new.by_user,
         RealmKey::OwnSessions => old.own_sessions != new.own_sessions,
         RealmKey::CoaClients => old.coa_clients != new.coa_clients,
     }

@@ -4,29 +4,35 @@ ghost use Rattle.std.specs.Prelude.{◌≡◌, option_map};
 ghost use Rattle.roam_conf.specs.Parts.{shown_client, shown_realm, shown_server};
 ghost use Rattle.roam_conf.specs.Secrets.{home_secret};
 ghost use Rattle.roam_reload.specs.Kept.{both_or_none, client_source, closes_reverse, home_at, home_then, same_source};
-ghost use Rattle.roam_reload.specs.Kept.{server_source, source, takes_reverse};
+ghost use Rattle.roam_reload.specs.Kept.{ip_of, server_source, source, takes_reverse};
 ghost use Rattle.roam_reload.specs.Sources.{shown_source};
 
-use roam_conf::{Address, CoaClient, Realm, Server};
+use roam_conf::{Address, CoaClient, Endpoint, Realm, Server};
 
-/// A source of reverse requests: its addresses, and the secret shared with it.
+/// A source of reverse requests: its address or those of its `auth` and of its `acct`, and the secret shared with it.
 #[derive(Clone, Copy)]
 struct SourceRef<'a> {
-    ip: Address,
+    ip: Option<Address>,
     other_ip: Option<Address>,
     secret: &'a [u8],
+}
+
+/// Returns the address of an endpoint that may be there.
+fn ip_of(endpoint: Option<Endpoint>) -> Option<Address>
+    ensures { result ≡ ip_of endpoint }
+{
+    match endpoint {
+        Some(endpoint) => Some(endpoint.ip),
+        None => None,
+    }
 }
 
 fn server_source(server: &Server) -> SourceRef<'_>
     ensures { shown_source result ≡ server_source (shown_server server.now) }
 {
-    let other_ip = match server.acct {
-        Some(acct) => Some(acct.ip),
-        None => None,
-    };
     SourceRef {
-        ip: server.auth.ip,
-        other_ip,
+        ip: ip_of(server.auth),
+        other_ip: ip_of(server.acct),
         secret: server.secret().octets(),
     }
 }
@@ -35,7 +41,7 @@ fn client_source(client: &CoaClient) -> SourceRef<'_>
     ensures { shown_source result ≡ client_source (shown_client client.now) }
 {
     SourceRef {
-        ip: client.ip,
+        ip: Some(client.ip),
         other_ip: None,
         secret: client.secret().octets(),
     }

@@ -2,6 +2,7 @@
 //!
 //! Each is a function that does nothing: its contract is the law.
 
+ghost use Rattle.roam_rules.specs.Balance.{FirstTargetIsTaken, OneUserHasOneList};
 ghost use Rattle.roam_rules.specs.BookView.{EventIsTaken};
 ghost use Rattle.roam_rules.specs.LeastFirst.{LeastDueFirst, NoneIsDueAfter};
 ghost use Rattle.roam_rules.specs.LostTicks.{NothingIsLost, OnlyDoneGo};
@@ -28,6 +29,13 @@ pub fn silent_servers()
     ensures none { WithoutRestAllStayUp }
     ensures first { UpTheFirstIsChosen }
     ensures access_servers { AccessServersNeverStandBack }
+{}
+
+/// States that requests of one user for one service have the same targets, in the same order; and that a request goes
+/// to the first of them where that has a free Identifier and isn't marked dead, and no conversation goes on.
+pub fn one_user_goes_to_one_server()
+    ensures list { OneUserHasOneList }
+    ensures first { FirstTargetIsTaken }
 {}
 
 /// A link stands back only where its end, by whichever `out`, kept silent: of the requests there at least `rest_after`

@@ -19,7 +19,7 @@ use crate::rules::targets::Targets;
 use roam_conf::Link;
 use roam_exchange::RequestRef;
 use roam_pending::{Entries, Requester};
-use roam_realm::{RealmSettings, ServersFrom, Wanted};
+use roam_realm::{RealmSettings, Wanted};
 use roam_wire::View;
 use roam_wire::attribute_type::STATE;
 use roam_wire::code::ACCESS_REQUEST;
@@ -90,8 +90,7 @@ impl<A: Allocator + Copy, E: Entries<A>> RealmBroker<'_, '_, '_, '_, A, E> {
         ensures link { IfSome result (λ l. IsLink self.now.settings.now l) }
     {
         match targets {
-            Targets::HomeServers(service) => {
-                let servers = ServersFrom { service, first: 0 };
+            Targets::HomeServers(servers) => {
                 self.numbers
                     .first_sought(self.settings, servers, wanted, freed)
             }

@@ -29,7 +29,7 @@ use roam_exchange::{
     Happening, RequestRef, Turned, code_in, nothing, one_packet, packet_to_requester, refused_turn,
 };
 use roam_pending::{Entries, Entry, Standing};
-use roam_realm::{RealmSettings, Service};
+use roam_realm::RealmSettings;
 use roam_reply::nak;
 use roam_wire::{NoMemory, Octets, Refusal, View};
 use std::alloc::Allocator;
@@ -146,7 +146,7 @@ impl<A: Allocator + Copy, E: Entries<A>> RealmBroker<'_, '_, '_, '_, A, E> {
             let peer = self.settings.route_of(request.named, &view, sessions)?;
             return Ok(Targets::AccessServer(peer));
         }
-        Ok(Targets::HomeServers(Service::of_code(view.code())))
+        Ok(Targets::HomeServers(self.settings.servers_for(&view)))
     }
 
     /// A request that is no duplicate: a reverse request that can't be forwarded is answered by a
