@@ -13,7 +13,7 @@ returns-in_default-clause-bad c = λ is_bad.
     let is : c.value-item.result ≡ get_or items c.loop-value.value-index c.value-item.result = c.value-item.is
     ∙ ap (λ xs. get_or xs c.loop-value.value-index c.value-item.result) c.deref-value-items.ensures.value in
     read_bad prefix _ items c.loop-value.value-index c.value-item.result (map shown_prefix c.loop-value.all.items)
-    (omega arith) is (grind (arith, common_steps)) c.loop-value.invariant
+    (omega arith) is (sym c.in_default.ensures) c.loop-value.invariant
 
 -- One more item was read.
 pub loop-value-preserved : goal.loop-value-preserved

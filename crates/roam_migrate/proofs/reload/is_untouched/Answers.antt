@@ -17,5 +17,5 @@ returns-in-None c = λ _.
       table = ap realm_part (sym c.realm-2.ensures) ∙ c.in-None.ensures.none ∙ ap realm_part c.realm.ensures;
       peers = keeps-peers c.args.old.now.peers c.args.new.now.peers
           (subst (λ (l : List ℕ). AreChanged c.args.old.now.peers c.args.new.now.peers l) none c.requires);
-      count = omega (arith, was, is, c.len.ensures, c.len-2.ensures, c.if-peers.false);
+      count = omega (arith, was, is, c.if-peers.false);
     }
