@@ -13,7 +13,7 @@ use Rattle.roam_sessions.specs.Sessions.{Session}
 use Rattle.roam_sessions.specs.Stands.{AreTickets, HaveRoom, IsSound, session_at, whole_rows}
 use Rattle.roam_sessions.specs.declared.chain.Chain.{Chain}
 use Rattle.roam_sessions.specs.declared.facets.Facets.{Facets}
-use Rattle.roam_sessions.specs.declared.open_session.OpenSession.{OpenSession}
+use Rattle.roam_sessions.specs.declared.packed_session.OpenSession.{OpenSession}
 
 -- what is so of the sessions of a map, where its entries are others'
 same-sessions : {A H : Type 0} (m n : IndexMap ℕ (OpenSession A) H) (P : (ℕ → Option Session) → Type 0)

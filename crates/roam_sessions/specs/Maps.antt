@@ -10,7 +10,7 @@ use Rattle.roam_sessions.specs.declared.ends.Ends.{Ends}
 use Rattle.roam_sessions.specs.declared.neighbours.Beside.{Beside}
 use Rattle.roam_sessions.specs.declared.groups.Groups.{Groups}
 use Rattle.roam_sessions.specs.declared.kept_row.KeptRow.{KeptRow}
-use Rattle.roam_sessions.specs.declared.open_session.OpenSession.{OpenSession}
+use Rattle.roam_sessions.specs.declared.packed_session.OpenSession.{OpenSession}
 
 -- the ends of the group of a row
 abbrev pub ends_at : {Z H : Type 0} → IndexMap (KeptRow Z) Ends H → List ℕ → Option Ends

@@ -1,4 +1,5 @@
 -- Words of private functions and of invariants: no contract of a public call names one.
+pub mod Packed
 pub mod Masks
 pub mod Row
 pub mod Tickets

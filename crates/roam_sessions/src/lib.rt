@@ -50,6 +50,7 @@ mod nas_target;
 mod neighbours;
 mod newest;
 mod open_session;
+mod packed_session;
 mod parts;
 mod reading;
 mod row;
