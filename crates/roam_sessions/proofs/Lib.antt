@@ -26,6 +26,7 @@ pub mod LargestLemmas
 pub mod GrownLemmas
 pub mod OneSessionLemmas
 pub mod MapLemmas
+pub mod NotedLemmas
 pub mod PackedLemmas
 pub mod ShortLemmas
 pub mod PairLemmas

@@ -12,9 +12,17 @@ use Rattle.roam_sessions.specs.declared.groups.Groups.{Groups}
 use Rattle.roam_sessions.specs.declared.kept_row.KeptRow.{KeptRow}
 use Rattle.roam_sessions.specs.declared.packed_session.OpenSession.{OpenSession}
 
+-- what a row has
+abbrev pub row_at : {Z X H : Type 0} → IndexMap (KeptRow Z) X H → List ℕ → Option X
+row_at m row = map.get_by (λ k. pointwise nat_eq row k.octets.items) m
+
 -- the ends of the group of a row
 abbrev pub ends_at : {Z H : Type 0} → IndexMap (KeptRow Z) Ends H → List ℕ → Option Ends
-ends_at m row = map.get_by (λ k. pointwise nat_eq row k.octets.items) m
+ends_at m = row_at m
+
+-- the number of a row
+abbrev pub number_at : {Z H : Type 0} → IndexMap (KeptRow Z) ℕ H → List ℕ → Option ℕ
+number_at m = row_at m
 
 -- the neighbours of a number
 abbrev pub beside_at : {H : Type 0} → IndexMap ℕ Beside H → ℕ → Option Beside

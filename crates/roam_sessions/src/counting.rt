@@ -13,6 +13,7 @@ use crate::ended::agrees;
 use crate::groups::Groups;
 use crate::row::Row;
 use crate::table::Table;
+use crate::wholes::number_of;
 use std::alloc::Allocator;
 
 /// Returns the next newer number of the group of a number, if that is given.
@@ -61,7 +62,7 @@ impl<A: Allocator + Copy> Table<A> {
             → result ≡ length (filter (agrees (shown_asked asked.entry)) (open_sessions self.now)) }
     {
         let row = Row::of(asked.without_names());
-        let unnamed = self.count_agreeing(asked, &self.chain.whole, row.as_slice());
+        let unnamed = self.agreeing_of(asked, number_of(&self.chain.whole, row.as_slice()));
         let named = self.count_agreeing(asked, &self.chain.of_peer.by_id, row.as_slice());
         unnamed.saturating_add(named)
     }

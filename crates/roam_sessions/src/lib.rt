@@ -59,6 +59,7 @@ mod session_laws;
 mod short;
 mod short_copies;
 mod table;
+mod wholes;
 mod writing;
 
 pub use error_cause::route_of;

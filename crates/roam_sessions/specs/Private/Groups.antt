@@ -56,8 +56,8 @@ pub record Goes (f g : ℕ → Option (List ℕ)) (t : ℕ) (row : Option (List 
   pub was : f t ≡ row
   pub puts : PutsAt f g t None
 
--- a group's ends are these now, and every other one's as they were
-abbrev pub PutsRow : (List ℕ → Option Ends) → (List ℕ → Option Ends) → List ℕ → Option Ends → Type 0
+-- a row has this now, and every other one what it had
+abbrev pub PutsRow : {X : Type 0} → (List ℕ → Option X) → (List ℕ → Option X) → List ℕ → Option X → Type 0
 PutsRow I J row w = (other : List ℕ) → J other ≡ (if bytes_eq row other then w else I other)
 
 -- whether a number is the one that is given
