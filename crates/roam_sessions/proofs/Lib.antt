@@ -24,6 +24,9 @@ pub mod CauseLemmas
 pub mod BufferLemmas
 pub mod LargestLemmas
 pub mod GrownLemmas
+pub mod GrownFacetLemmas
+pub mod LinkLemmas
+pub mod LinkedLemmas
 pub mod OneSessionLemmas
 pub mod MapLemmas
 pub mod NotedLemmas

@@ -4,3 +4,4 @@ pub mod Masks
 pub mod Row
 pub mod Tickets
 pub mod Groups
+pub mod Links

@@ -46,6 +46,8 @@ mod item;
 mod kept_row;
 mod ledger;
 mod ledger_laws;
+mod linked;
+mod links;
 mod nas_target;
 mod neighbours;
 mod newest;

@@ -100,9 +100,12 @@ ends_left beside ends = ends_between beside.older beside.newer ends
 abbrev pub oldest_of : PlainGroups → List ℕ → Option ℕ
 oldest_of groups row = option_map (λ (e : Ends). e.oldest) (groups.ends row)
 
--- the next newer number of a number's group
+-- the next newer number of a number's group, by the neighbours of each
+abbrev pub newer_at : (ℕ → Option Beside) → ℕ → Option ℕ
+newer_at beside t = option_and_then (λ (b : Beside). b.newer) (beside t)
+
 abbrev pub newer_of : PlainGroups → ℕ → Option ℕ
-newer_of groups t = option_and_then (λ (b : Beside). b.newer) (groups.beside t)
+newer_of groups = newer_at groups.beside
 
 abbrev pub count_of : PlainGroups → List ℕ → ℕ
 count_of groups row = option_map_or (λ (e : Ends). e.count) (groups.ends row) 0

@@ -74,22 +74,11 @@ append-requires g c =
     let room = c.requires.sound.room.of_peer in
     let some = c.requires.room in
     record {
-      by_peer = record {
-        ends = omega (arith, room.by_peer.ends, some);
-        beside = omega (arith, room.by_peer.beside, some);
-      };
-      by_address = record {
-        ends = omega (arith, room.by_address.ends, some);
-        beside = omega (arith, room.by_address.beside, some);
-      };
-      by_identifier = record {
-        ends = omega (arith, room.by_identifier.ends, some);
-        beside = omega (arith, room.by_identifier.beside, some);
-      };
-      by_both = record {
-        ends = omega (arith, room.by_both.ends, some);
-        beside = omega (arith, room.by_both.beside, some);
-      };
+      links = omega (arith, room.links, some);
+      by_peer = omega (arith, room.by_peer, some);
+      by_address = omega (arith, room.by_address, some);
+      by_identifier = omega (arith, room.by_identifier, some);
+      by_both = omega (arith, room.by_both, some);
       by_ipv6 = record {
         ends = omega (arith, room.by_ipv6.ends, some);
         beside = omega (arith, room.by_ipv6.beside, some);
@@ -106,8 +95,5 @@ append-requires g c =
         ends = omega (arith, room.by_all.ends, some);
         beside = omega (arith, room.by_all.beside, some);
       };
-      by_id = record {
-        ends = omega (arith, room.by_id.ends, some);
-        beside = omega (arith, room.by_id.beside, some);
-      };
+      by_id = omega (arith, room.by_id, some);
     }

@@ -32,15 +32,16 @@ returns-clause-sound g c =
         by_ticket = omega arith;
         whole = omega arith;
         of_peer = record {
-          by_peer = record { ends = omega arith; beside = omega arith };
-          by_address = record { ends = omega arith; beside = omega arith };
-          by_identifier = record { ends = omega arith; beside = omega arith };
-          by_both = record { ends = omega arith; beside = omega arith };
+          links = omega arith;
+          by_peer = omega arith;
+          by_address = omega arith;
+          by_identifier = omega arith;
+          by_both = omega arith;
           by_ipv6 = record { ends = omega arith; beside = omega arith };
           by_address_ipv6 = record { ends = omega arith; beside = omega arith };
           by_identifier_ipv6 = record { ends = omega arith; beside = omega arith };
           by_all = record { ends = omega arith; beside = omega arith };
-          by_id = record { ends = omega arith; beside = omega arith };
+          by_id = omega arith;
         };
       };
       ticket_room = omega arith;

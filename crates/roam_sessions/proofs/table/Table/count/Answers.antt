@@ -39,7 +39,7 @@ returns g c = λ sound is.
     (bounded F table.chain.next sound.chain.tickets)
     ∙ ap (λ (r : List ℕ). length (all_listed (in_group (where_open (agreeing_at q table) (whole_rows F)) r))) row
     ∙ unnamed-open table.ended F q is in
-    let named = c.count_agreeing-named.ensures sound (id_rows F) sound.chain.of_peer.by_id
+    let named = c.count_agreeing-named.ensures sound
     ∙ ap (λ (r : List ℕ). length (all_listed (in_group (where_open (agreeing_at q table) (id_rows F)) r))) row-2
     ∙ named-open table.ended F q is in
     let both = parted-counted (agrees q) (λ (s : Session). is_named s) xs in
