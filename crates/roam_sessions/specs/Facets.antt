@@ -9,7 +9,7 @@ use Rattle.roam_sessions.specs.Private.Groups.{IsGrouped}
 use Rattle.roam_sessions.specs.Private.Row.{id_row, row_under}
 use Rattle.roam_sessions.specs.declared.asked.Mask.{Mask}
 use Rattle.roam_sessions.specs.declared.facets.Facets.{Facets}
-use Rattle.roam_sessions.specs.declared.facets.FacetRows.{FacetRows}
+use Rattle.roam_sessions.specs.declared.session_rows.FacetRows.{FacetRows}
 use Rattle.roam_sessions.specs.declared.ends.Ends.{Ends}
 use Rattle.roam_sessions.specs.declared.links.Facet.TheVariants as facet
 

@@ -58,6 +58,7 @@ mod reading;
 mod row;
 mod session;
 mod session_laws;
+mod session_rows;
 mod short;
 mod short_copies;
 mod table;

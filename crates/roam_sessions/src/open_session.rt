@@ -8,9 +8,9 @@ ghost use Rattle.roam_sessions.specs.Kept.{kept_session, shown_session};
 ghost use Rattle.roam_sessions.specs.Short.{shown_short};
 
 use crate::asked::{NasRef, SessionRef};
-use crate::facets::{FacetRows, facet_rows};
 use crate::packed_session::OpenSession;
 use crate::row::row_of;
+use crate::session_rows::{FacetRows, facet_rows};
 use crate::short::Short;
 use roam_wire::{NoMemory, Octets};
 use std::alloc::Allocator;
