@@ -17,7 +17,7 @@ pub(crate) struct PeerIndex {
     pub(crate) places: Vec<u16>,
 }
 
-/// The prefixes of the peers that are here, in their order.
+/// Lists the prefixes of the peers that aren't gone, in their order.
 fn prefixes_of(alloc: Global, peers: &[Peer]) -> Result<Vec<Prefix>, AllocError>
     ensures { IfOk result (λ prefixes. prefixes.items ≡ prefixes_in peers.now) }
 {
@@ -30,7 +30,7 @@ fn prefixes_of(alloc: Global, peers: &[Peer]) -> Result<Vec<Prefix>, AllocError>
     Ok(prefixes)
 }
 
-/// The indexes of the peers that are here.
+/// Lists the indexes of the peers that aren't gone.
 fn places_of(alloc: Global, peers: &[Peer]) -> Result<Vec<u16>, AllocError>
     requires { length peers.now ≤ 2 ^ 16 }
     ensures { IfOk result (λ places. places.items ≡ places_in 0 peers.now) }
@@ -44,7 +44,7 @@ fn places_of(alloc: Global, peers: &[Peer]) -> Result<Vec<u16>, AllocError>
     Ok(places)
 }
 
-/// The index of the prefixes of the peers that are here, of which no two are the same.
+/// Makes the index of the prefixes of the peers that aren't gone, of which no two are the same.
 #[tactic(auto, using(crate::proofs::PrefixLemmas::none_twice))]
 fn index_of(alloc: Global, peers: &[Peer]) -> Result<PrefixIndex<Global>, AllocError>
     requires { has_duplicate_peer (map shown_peer peers.now) ≡ false }
@@ -57,7 +57,7 @@ fn index_of(alloc: Global, peers: &[Peer]) -> Result<PrefixIndex<Global>, AllocE
     }
 }
 
-/// The index at a place, where there is one.
+/// Returns the index at a place, where there is one.
 fn index_at(indexes: &[u16], place: usize) -> Option<u16>
     ensures { result ≡ slice_get indexes.now place }
 {
@@ -72,7 +72,7 @@ impl PeerIndex {
     ghost use Rattle.roam_conf.specs.Lookup.{peer_with_ip};
     ghost use Rattle.roam_conf.specs.declared.peer.Peer.{Peer};
 
-    /// The index of these peers.
+    /// Makes the index of these peers.
     pub(crate) fn new(alloc: Global, peers: &[Peer]) -> Result<PeerIndex, AllocError>
         requires few { length peers.now ≤ 2 ^ 16 }
         requires distinct { has_duplicate_peer (map shown_peer peers.now) ≡ false }
@@ -82,7 +82,7 @@ impl PeerIndex {
         let places = places_of(alloc, peers)?;
         Ok(PeerIndex { prefixes, places })
     }
-    /// The index of the peer whose prefix is the longest of those that have the address.
+    /// Finds the index of the peer whose prefix is the longest of those that have the address.
     pub(crate) fn longest(&self, ip: Address) -> Option<u16>
         ensures { (peers : List Peer) → FindsPeers self.now peers → has_duplicate_peer (map shown_peer peers) ≡ false
             → result ≡ peer_with_ip (map shown_peer peers) ip }

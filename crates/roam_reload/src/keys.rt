@@ -76,7 +76,7 @@ pub const REALM_KEYS: [RealmKey; 21] = [
 ];
 
 impl RealmKey {
-    /// The key as it is written in a configuration.
+    /// Returns the key as it is written in a configuration.
     pub fn name(self) -> &'static str {
         match self {
             RealmKey::Gone => "gone",
@@ -106,7 +106,7 @@ impl RealmKey {
 }
 
 impl PeerKey {
-    /// The key as it is written in a configuration.
+    /// Returns the key as it is written in a configuration.
     pub fn name(self) -> &'static str {
         match self {
             PeerKey::Gone => "gone",

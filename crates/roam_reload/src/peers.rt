@@ -8,7 +8,7 @@ ghost use Rattle.roam_reload.specs.Reload.{KeepsPeers, peer_part};
 use crate::keys::PeerKey;
 use roam_conf::Peer;
 
-/// The first key in which two tables of a peer differ, its `require_seal` and `limit_proxy_state` aside.
+/// Returns the first key in which two tables of a peer differ, except `require_seal` and `limit_proxy_state`.
 pub fn peer_difference(old: &Peer, new: &Peer) -> Option<PeerKey>
     ensures none { IfNone result (peer_part (shown_peer new.now) ≡ peer_part (shown_peer old.now)) }
     ensures some { IfSome result (PeersDiffer (shown_peer old.now) (shown_peer new.now)) }
@@ -44,8 +44,8 @@ pub fn peer_difference(old: &Peer, new: &Peer) -> Option<PeerKey>
     }
 }
 
-/// The first of the old peers that the new ones don't have at its index, or have there with another table, its
-/// `require_seal` and `limit_proxy_state` aside.
+/// Finds the first of the old peers that the new ones don't have at its index, or have there with another table. A
+/// different `require_seal` or `limit_proxy_state` doesn't count.
 pub fn other_peer(old: &[Peer], new: &[Peer]) -> Option<usize>
     ensures none { IfNone result (KeepsPeers (map shown_peer old.now) (map shown_peer new.now)) }
     ensures some { IfSome result (IsOtherPeer (map shown_peer old.now) (map shown_peer new.now)) }

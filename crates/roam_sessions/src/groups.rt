@@ -28,7 +28,7 @@ impl<A: Allocator> Drop for Groups<A> {
 }
 
 impl<A: Allocator + Copy> Groups<A> {
-    /// No numbers. Takes no memory.
+    /// Makes groups without numbers. Takes no memory.
     pub(crate) fn new(alloc: A, key: HashKey) -> Groups<A>
         ensures { (f : ℕ → Option (List ℕ)) → ((t : ℕ) → f t ≡ None)
             → IsGrouped f (groups_of result) }
@@ -49,7 +49,7 @@ impl<A: Allocator + Copy> Groups<A> {
         }
     }
 
-    /// The oldest number of a group.
+    /// Returns the oldest number of a group.
     pub(crate) fn oldest(&self, row: &[u8]) -> Option<u64>
         ensures { result ≡ oldest_of (groups_of self.now) row.now }
     {
@@ -59,7 +59,7 @@ impl<A: Allocator + Copy> Groups<A> {
         }
     }
 
-    /// The next newer number of the group of a number.
+    /// Returns the next newer number of the group of a number.
     pub(crate) fn newer(&self, number: u64) -> Option<u64>
         ensures { result ≡ newer_of (groups_of self.now) number }
     {
@@ -69,8 +69,8 @@ impl<A: Allocator + Copy> Groups<A> {
         }
     }
 
-    /// The oldest number of the group that has most; of several that have most, the oldest of all theirs. Looks at each
-    /// group once.
+    /// Finds the oldest number of the group that has most. Where several groups have most, it is the oldest of all
+    /// theirs. Looks at each group once.
     pub(crate) fn oldest_of_largest(&self) -> Option<u64>
         ensures { IsLargest (groups_of self.now) result }
     {

@@ -24,7 +24,7 @@ pub(crate) struct OpenSession<A: Allocator> {
     pub(crate) id: KeptShort<A>,
 }
 
-/// A copy of octets, where there are any.
+/// Copies octets, where there are any.
 fn kept<A: Allocator + Copy>(
     alloc: A,
     part: Option<Short<'_>>,
@@ -37,7 +37,7 @@ fn kept<A: Allocator + Copy>(
     }
 }
 
-/// Octets where they lie, where there are any.
+/// Returns octets where they lie, where there are any.
 fn lent<A: Allocator>(part: &Option<KeptShort<A>>) -> Option<Short<'_>>
     ensures { option_map shown_short result ≡ option_map kept_octets part.now }
 {
@@ -48,7 +48,7 @@ fn lent<A: Allocator>(part: &Option<KeptShort<A>>) -> Option<Short<'_>>
 }
 
 impl<A: Allocator + Copy> OpenSession<A> {
-    /// A copy of a session.
+    /// Makes a copy of a session.
     pub(crate) fn copy_of(alloc: A, session: SessionRef<'_>) -> Result<OpenSession<A>, NoMemory>
         ensures { IfOk result (λ kept. kept_session kept ≡ shown_session session.entry) }
     {
@@ -67,7 +67,7 @@ impl<A: Allocator + Copy> OpenSession<A> {
 }
 
 impl<A: Allocator> OpenSession<A> {
-    /// The session where it lies.
+    /// Returns the session where it lies.
     pub(crate) fn lend(&self) -> SessionRef<'_>
         ensures { shown_session result ≡ kept_session self.now }
     {
@@ -94,7 +94,7 @@ pub(crate) struct NewSession<A: Allocator> {
 }
 
 impl<A: Allocator + Copy> NewSession<A> {
-    /// A copy of a session, with its rows.
+    /// Makes a copy of a session, with its rows.
     pub(crate) fn copy_of(alloc: A, session: SessionRef<'_>) -> Result<NewSession<A>, NoMemory>
         ensures { IfOk result (λ new. kept_session new.session ≡ shown_session session.entry) }
     {

@@ -8,7 +8,7 @@ use crate::short::{KeptShort, Short, ShortArray};
 use roam_wire::{NoMemory, Octets, View};
 use std::alloc::Allocator;
 
-/// The Value of a packet's first attribute of a Type, if there is one.
+/// Returns the Value of a packet's first attribute of a Type, if there is one.
 pub(crate) fn first_short<'a>(request: &View<'a>, kind: u8) -> Option<Short<'a>>
     ensures { option_map shown_short result ≡ first_value kind request.now.attributes }
 {
@@ -21,7 +21,7 @@ pub(crate) fn first_short<'a>(request: &View<'a>, kind: u8) -> Option<Short<'a>>
 }
 
 impl<A: Allocator + Copy> KeptShort<A> {
-    /// A copy.
+    /// Makes a copy.
     pub(crate) fn copy_of(alloc: A, short: Short<'_>) -> Result<KeptShort<A>, NoMemory>
         ensures { IfOk result (λ kept. kept_octets kept ≡ shown_short short.entry) }
     {
@@ -43,7 +43,7 @@ impl<A: Allocator> KeptShort<A> {
 }
 
 impl ShortArray {
-    /// A copy. Takes no memory.
+    /// Makes a copy. Takes no memory.
     pub(crate) fn copy_of(short: Short<'_>) -> ShortArray
         ensures { short_octets result ≡ shown_short short.entry }
     {

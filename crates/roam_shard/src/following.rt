@@ -77,7 +77,7 @@ fn clear_others<A: Allocator + Copy>(entries: &mut Tables<A>, change: Succession
     }
 }
 
-/// The numbers of a realm that goes on, with the memory that was taken for it. Takes no memory.
+/// Carries the numbers of a realm that goes on over, with the memory that was taken for it. Takes no memory.
 fn carried<A: Allocator + Copy>(
     change: Succession<'_, '_>,
     changed: &[u16],
