@@ -49,7 +49,7 @@ impl<'p> Overview<'p> {
         }
     }
 
-    /// The place of a server's `acct` among the links of its realm.
+    /// Returns the place of a server's `acct` among the links of its realm.
     fn acct_place(&self, realm: u16, server: u8) -> Option<usize> {
         let realm = self.config.realms.get(usize::from(realm))?;
         Some(realm.servers.len().saturating_add(usize::from(server)))
