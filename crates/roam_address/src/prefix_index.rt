@@ -83,8 +83,8 @@ impl<A: Allocator + Copy> PrefixIndex<A> {
         None
     }
 
-    /// Counts the look-ups that an address of a kind costs at most: one for each length of which there is a prefix.
-    /// For tests.
+    /// For tests. Counts the look-ups that an address of a kind costs at most: one for each length of which there is
+    /// a prefix.
     pub fn look_ups(&self, of_ipv6: bool) -> usize
         ensures { result ≡ count_marked (marks_of (marks self.now) of_ipv6) }
     {

@@ -113,8 +113,8 @@ fn is_stopping(alloc: Global) -> Reply {
     declined_with(alloc, b"roam: asked to stop\n")
 }
 
-/// Binds what a configuration needs that follows the one that is served: its sockets and its counts. Sockets that
-/// both want are the same.
+/// Binds the sockets of a configuration that follows the one that is served, and makes its counts. Sockets that both
+/// want are the same.
 fn bind_next<R: Net + Log, H: HubCalls<N>, N: Opened>(
     rt: &R,
     shared: &Shared<'_, '_, H, N>,

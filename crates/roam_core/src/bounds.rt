@@ -31,8 +31,8 @@ pub fn bounded_waits()
     ensures { NoneWaitsLonger }
 {}
 
-/// States, from any state on, and where moments go back: while no event finds an entry overdue by more than a gap, no
-/// request waits longer than its sends and their waits take. Rounds of ticks meet that premise.
+/// States that, from any state on, and also where moments go back, no request waits longer than its sends and their
+/// waits take, while no event finds an entry overdue by more than a gap. Rounds of ticks meet that premise.
 pub fn waits_on_time()
     ensures entries { NoneWaitsLongerFrom }
     ensures requests { NoRequestWaitsLonger }

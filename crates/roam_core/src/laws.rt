@@ -92,9 +92,9 @@ pub fn own_sessions()
     ensures each { EachSentIsOfOwnSession }
 {}
 
-/// States this over a realm's life, while its configuration changes any number of times, whether it goes on in its
-/// state or begins anew: where each entry comes from what happened, so do those that are held later, and each packet
-/// that is sent then has its origin in what happened, under the configuration of its time.
+/// States that this holds over a realm's life, while its configuration changes any number of times, and whether it
+/// goes on in its state or begins anew: where each entry comes from what happened, so do those that are held later,
+/// and each packet that is sent then has its origin in what happened, under the configuration of its time.
 pub fn life_provenance()
     ensures entries { EntriesKeepOrigin }
     ensures packets { EachPacketHasOriginFrom }

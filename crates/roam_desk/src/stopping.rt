@@ -41,7 +41,7 @@ fn earlier(end: Option<u64>, other: u64) -> Option<u64>
 }
 
 impl Stopping {
-    /// Makes it not asked to stop.
+    /// Begins with no request to stop.
     pub fn new() -> Stopping {
         Stopping {
             is_asked: AtomicBool::new(false),

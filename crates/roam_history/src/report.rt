@@ -58,7 +58,7 @@ impl<A: Allocator, N: Opened> Report<A, N> {
     ghost use Rattle.roam_history.specs.Shown.{recorded, shown_receipts, whole_of};
     ghost use Rattle.roam_history.specs.Audit.{IsInOrder, IsFirstUneven, AreOfFirstWrong};
 
-    /// Compares what was recorded with what the callers have. Takes no memory. For tests.
+    /// For tests. Compares what was recorded with what the callers have. Takes no memory.
     ///
     /// Each shard is looked at before any receipt. All steps count, also those that were dropped, and how often steps
     /// were dropped. A receipt costs a comparison of its number and a look at the receipts before it.

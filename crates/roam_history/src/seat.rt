@@ -52,7 +52,7 @@ impl<A: Allocator, N: Opened> Model for Seat<A, N> {
 }
 
 impl<A: Allocator, N: Opened> Seat<A, N> {
-    /// Returns what is counted, by shard. For tests.
+    /// For tests. Returns what is counted, by shard.
     pub fn tallies(&self) -> &[Tally]
         ensures tallies { result.now ≡ self.now.tallies }
         ensures shards { length result.now ≡ N.opening.config.shards }

@@ -75,8 +75,10 @@ impl<'c, A: Allocator + Copy, N: Opened> Hub<'c, A, N> {
         kept.take(call, seat, shard, job)
     }
 
+    /// For tests and rows.
+    ///
     /// Gives a job that stays the caller's to its shard, and answers with a receipt. The job's octets are copied
-    /// before the lock is taken, for the stored step and for the receipt. For tests and rows.
+    /// before the lock is taken, for the stored step and for the receipt.
     ///
     /// # Errors
     ///
@@ -117,7 +119,9 @@ impl<'c, A: Allocator + Copy, N: Opened> Hub<'c, A, N> {
         }
     }
 
-    /// Does a tick of a shard, at a moment in milliseconds, for whose lock it waits. For tests and rows.
+    /// For tests and rows.
+    ///
+    /// Does a tick of a shard, at a moment in milliseconds, for whose lock it waits.
     ///
     /// # Errors
     ///

@@ -25,8 +25,8 @@ pub fn realms_from_any_states()
     ensures { EachGoesAlone }
 {}
 
-/// States this for a configuration that changes any number of times: the packets that were sent for a realm which
-/// goes on at each change are those of its own written broker over all its events, before and after, in what is
+/// States that, while the configuration changes any number of times, the packets that were sent for a realm which
+/// goes on at each change are those of its own written broker over all its events, before and after: in what is
 /// carried over of its state. Where no change touches the realm, they are what it would have sent had nothing
 /// changed. A realm that is new, or went, has nothing.
 pub fn realms_over_changes()

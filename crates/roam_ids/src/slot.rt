@@ -21,7 +21,7 @@ impl Model for IdSlot {
 }
 
 impl IdSlot {
-    /// Returns the tag of the lane that gave the slot out, for tests.
+    /// For tests. Returns the tag of the lane that gave the slot out.
     pub fn tag(&self) -> u32
         ensures { result ≡ self.now.tag }
     {

@@ -57,7 +57,7 @@ fn coa_of(old: &RealmSettings<'_>, new: &RealmSettings<'_>, peer: u16, out: u8) 
     }
 }
 
-/// Returns the link that a link is then, if it is there and the same.
+/// Returns the link under the new settings that a link of the old ones is, if it is there and the same.
 pub(crate) fn link_then(
     old: &RealmSettings<'_>,
     new: &RealmSettings<'_>,
@@ -72,7 +72,7 @@ pub(crate) fn link_then(
     }
 }
 
-/// Returns the link that a link was before, if it was there and the same.
+/// Returns the link under the old settings that a link of the new ones was, if it was there and the same.
 pub(crate) fn link_before(
     old: &RealmSettings<'_>,
     new: &RealmSettings<'_>,
@@ -87,8 +87,8 @@ pub(crate) fn link_before(
     }
 }
 
-/// Returns the link that a link is then, if it is there and the same, and forwarded packets leave from the same
-/// `out`.
+/// Returns the link under the new settings that a link of the old ones is, if it is there and the same, and forwarded
+/// packets leave from the same `out`.
 fn way_then(old: &RealmSettings<'_>, new: &RealmSettings<'_>, link: Link) -> Option<Link>
     ensures { result ≡ way_then old.now new.now link }
 {
@@ -99,8 +99,8 @@ fn way_then(old: &RealmSettings<'_>, new: &RealmSettings<'_>, link: Link) -> Opt
     }
 }
 
-/// Returns the link that a link was before, if it was there and the same, and forwarded packets leave from the same
-/// `out`.
+/// Returns the link under the old settings that a link of the new ones was, if it was there and the same, and
+/// forwarded packets left from the same `out`.
 pub(crate) fn way_before(
     old: &RealmSettings<'_>,
     new: &RealmSettings<'_>,
@@ -146,8 +146,8 @@ fn peer_stays<A: Allocator>(
     }
 }
 
-/// Returns the sender of a request then: the number of the home server, where one sent it. Returns `None` where its
-/// requests don't stay.
+/// Returns the sender of a request under the new settings: the number of the home server, where one sent it. Returns
+/// `None` where its requests don't stay.
 fn sender_then<A: Allocator>(
     old: &RealmSettings<'_>,
     new: &RealmSettings<'_>,
@@ -175,7 +175,7 @@ fn sender_then<A: Allocator>(
     }
 }
 
-/// Returns the link that a held reply keeps then, of the one from which it came.
+/// Returns the link that a held reply keeps under the new settings, of the one from which it came.
 fn held_link(old: &RealmSettings<'_>, new: &RealmSettings<'_>, from: Option<Link>) -> Option<Link>
     ensures { result ≡ option_and_then (way_then old.now new.now) from }
 {
@@ -185,7 +185,8 @@ fn held_link(old: &RealmSettings<'_>, new: &RealmSettings<'_>, from: Option<Link
     }
 }
 
-/// Returns the ends then of an entry whose request stays. Returns `None` where it waits at a link that doesn't stay.
+/// Returns the ends, under the new settings, of an entry whose request stays. Returns `None` where it waits at a link
+/// that doesn't stay.
 fn standing_ends<A: Allocator>(
     old: &RealmSettings<'_>,
     new: &RealmSettings<'_>,
@@ -219,7 +220,7 @@ fn standing_ends<A: Allocator>(
     }
 }
 
-/// Returns the ends of an entry then. Returns `None` where it doesn't stay.
+/// Returns the ends of an entry under the new settings. Returns `None` where it doesn't stay.
 pub(crate) fn ends_then<A: Allocator>(
     old: &RealmSettings<'_>,
     new: &RealmSettings<'_>,

@@ -64,7 +64,8 @@ fn let_go<A: Allocator + Copy, E: Entries<A>>(
     }
 }
 
-/// Returns the ends of the entry of a ticket then. Returns `None` where it isn't there or doesn't stay.
+/// Returns the ends, under the new settings, of the entry of a ticket. Returns `None` where it isn't there or doesn't
+/// stay.
 fn ends_at<A: Allocator + Copy, E: Entries<A>>(
     old: &RealmSettings<'_>,
     new: &RealmSettings<'_>,
@@ -86,7 +87,7 @@ fn ends_at<A: Allocator + Copy, E: Entries<A>>(
     }
 }
 
-/// Takes the entry of a ticket out, or gives it the numbers that its ends have then.
+/// Takes the entry of a ticket out, or gives it the numbers that its ends have under the new settings.
 fn carry_one<A: Allocator + Copy, E: Entries<A>>(
     old: &RealmSettings<'_>,
     new: &RealmSettings<'_>,
@@ -116,8 +117,8 @@ fn carry_one<A: Allocator + Copy, E: Entries<A>>(
     }
 }
 
-/// Gives all entries of a realm that stay the numbers that their ends have then, and takes all others out. Takes no
-/// memory.
+/// Gives all entries of a realm that stay the numbers that their ends have under the new settings, and takes all
+/// others out. Takes no memory.
 fn carry_each<A: Allocator + Copy, E: Entries<A>>(
     old: &RealmSettings<'_>,
     new: &RealmSettings<'_>,

@@ -40,7 +40,7 @@ pub(crate) fn stand_as_before(old: &RealmSettings<'_>, new: &RealmSettings<'_>) 
         && old.peer_count() <= new.peer_count()
 }
 
-/// Makes lanes in which no Identifier is in use, and marks no link dead.
+/// Makes lanes in which no Identifier is in use, and the states of links that aren't marked dead.
 pub(crate) fn fresh_lanes<A: Allocator + Copy>(
     alloc: A,
     new: &RealmSettings<'_>,

@@ -68,7 +68,7 @@ fn take_empty(waiting: &mut Vec<Steps>) -> Option<Steps> {
 }
 
 impl OldHistory {
-    /// Makes it with nothing that waits, and with room for the steps of so many shards.
+    /// Begins with nothing that waits, and with room for the steps of so many shards.
     pub fn new(alloc: Global, shards: u16) -> Result<OldHistory, AllocError> {
         Ok(OldHistory {
             waiting: Mutex::new(Vec::with_capacity(alloc, usize::from(shards))?),

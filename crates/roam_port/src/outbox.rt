@@ -244,7 +244,7 @@ impl<A: Allocator> Outbox<A> {
         }
     }
 
-    /// Returns what became of all packets that were put so far. For tests.
+    /// For tests. Returns what became of all packets that were put so far.
     pub fn account(&self) -> Account
         ensures { result ≡ account_of self.now }
     {

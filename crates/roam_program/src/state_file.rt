@@ -57,7 +57,7 @@ pub(crate) struct StateFiles {
 }
 
 impl StateFiles {
-    /// Makes the list without files.
+    /// Begins with no files.
     pub(crate) fn new(alloc: Global) -> StateFiles {
         StateFiles {
             own: Vec::new(alloc),

@@ -58,7 +58,7 @@ fn put_if_elsewhere(
 }
 
 impl KeptWords {
-    /// Makes it with no words kept yet.
+    /// Begins with no words kept.
     pub fn new() -> KeptWords {
         let seed = [0; 32];
         KeptWords {

@@ -78,8 +78,8 @@ impl<'c, N: Opened> OpenHub<'c, N> {
         }
     }
 
-    /// Opens a hub over shards that stand under its configuration, with that memory. Where more is wanting they come
-    /// back as they were.
+    /// Opens a hub over shards that stand under its configuration, with the room that was taken for it. Where memory
+    /// is wanting they come back as they were.
     fn with(
         room: HubRoom<'c, N>,
         alloc: Global,

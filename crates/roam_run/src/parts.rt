@@ -132,7 +132,7 @@ impl<N: Opened> Left<N> {
 }
 
 impl Served {
-    /// Adds so many steps more to it.
+    /// Adds so many steps.
     pub fn with_more(self, steps: u64) -> Served
         ensures end { result.end ≡ self.end }
         ensures shards { result.shards ≡ self.shards }

@@ -189,10 +189,10 @@ impl<A: Allocator + Copy> Sessions<A> {
         }
     }
 
-    /// Applies what an Accounting-Request of a peer does once it was answered. Takes memory as [`Sessions::prepare`]
-    /// does.
-    ///
     /// For tests and callers that have the memory anyway; a realm's rules prepare a change before they carry it out.
+    ///
+    /// Changes the sessions as an Accounting-Request of a peer does once it was answered. Takes memory as
+    /// [`Sessions::prepare`] does.
     pub fn apply(&mut self, own: bool, peer: u16, request: &View<'_>) -> Result<(), NoMemory>
         ensures ok { OnOk result (self.new.sessions
             ≡ applied self.old.limit own peer request.now.attributes self.old.sessions) }
@@ -207,8 +207,8 @@ impl<A: Allocator + Copy> Sessions<A> {
         Ok(())
     }
 
-    /// Returns whether the session is open that an Accounting-Request of a peer names, as [`Sessions::apply`] would
-    /// open or close it. Takes no memory. For tests.
+    /// For tests. Returns whether the session is open that an Accounting-Request of a peer names, as
+    /// [`Sessions::apply`] would open or close it. Takes no memory.
     pub fn is_open(&self, own: bool, peer: u16, request: &View<'_>) -> bool
         ensures { result ≡ is_open own peer request.now.attributes self.now.sessions }
     {

@@ -113,7 +113,7 @@ impl<'c, A: Allocator + Copy> Traced<'c, A> {
         self.gone + self.steps.len() as u64
     }
 
-    /// Returns the stored steps, of which contracts see the events. Takes no memory. For tests.
+    /// For tests. Returns the stored steps, of which contracts see the events. Takes no memory.
     pub fn steps(&self) -> &[Step<A>]
         ensures { result.now ≡ self.now.events }
     {
@@ -187,9 +187,10 @@ impl<'c, A: Allocator + Copy> Traced<'c, A> {
         }
     }
 
-    /// Gives a job of the shard that is handed in to its realm, at a moment in milliseconds, and stores the step: its
-    /// octets go into the stored step, and only what is answered is copied. With the answer comes what happened, with
-    /// the octets of a request where these lines tell of it. A job whose step isn't stored comes back as it was.
+    /// Takes a job of the shard that is handed in, gives it to its realm, at a moment in milliseconds, and stores the
+    /// step: the job's octets go into the stored step, and only what is answered is copied. With the answer comes
+    /// what happened, with the octets of a request where these lines tell of it. A job whose step isn't stored comes
+    /// back as it was.
     pub fn take(
         &mut self,
         now: u64,

@@ -275,7 +275,7 @@ impl Exchanges {
         self.queue.dropped
     }
 
-    /// Notes that it is said how many lines were dropped.
+    /// Sets the count of dropped lines back to 0, once it was said.
     pub fn forget_dropped(&mut self) {
         self.queue.dropped = 0;
     }

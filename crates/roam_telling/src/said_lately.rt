@@ -37,7 +37,7 @@ fn is_recent(said: &Said, replies: &TurnedAway, now: u64) -> bool
 }
 
 impl SaidLately {
-    /// Makes the rows of no server.
+    /// Begins with no server of which anything was said.
     pub fn new() -> SaidLately {
         let none = Said {
             realm: 0,

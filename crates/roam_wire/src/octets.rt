@@ -33,7 +33,7 @@ impl<A: Allocator> Octets<A> {
         Octets { octets }
     }
 
-    /// Returns the `Vec` again, for tests. Takes no memory.
+    /// For tests. Returns the `Vec` again. Takes no memory.
     pub fn into_vec(self) -> Vec<u8, A>
         ensures { result.items ≡ self }
     {

@@ -49,8 +49,8 @@ impl<A: Allocator + Copy> Tables<A> {
         None
     }
 
-    /// Counts the entries at which a look for a peer's round of a State looks, besides the index: those of its hash.
-    /// For tests.
+    /// For tests. Counts the entries at which a look for a peer's round of a State looks, besides the index: those of
+    /// its hash.
     pub fn round_looks(&self, realm: u16, peer: u16, state: &[u8]) -> usize
         ensures { result ≡ 0 → last_round peer state.now (entries_in self.now realm) ≡ None }
     {
