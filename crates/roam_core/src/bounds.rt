@@ -26,7 +26,7 @@ pub fn sent_for_one_request()
 {}
 
 /// States that while ticks come in time, no request waits longer than its sends and their waits take: it is answered
-/// or given up, whoever keeps silent.
+/// or given up, whichever server keeps silent.
 pub fn bounded_waits()
     ensures { NoneWaitsLonger }
 {}

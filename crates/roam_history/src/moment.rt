@@ -71,9 +71,9 @@ fn parted<A: Allocator + Copy>(shard: &Shard<'_, A>, quiet: u64, now: u64) -> u6
 }
 
 /// Returns the moment of a tick of a shard in which something is due at `now`, in milliseconds: `now`, where few
-/// entries are due. Else the last moment at which few were, or the first at which any was. What has been due for long
-/// is worked off at `now`, however much it is: at the moments of long ago a request would be due again at once, and
-/// be sent twice in a row.
+/// entries are due. Else the last moment at which few were, or the first at which any was. Entries that have been due
+/// for long are worked off at `now`, however many there are: at the moments of long ago a request would be due again
+/// at once, and be sent twice in a row.
 pub fn moment_of_tick<A: Allocator + Copy>(shard: &Shard<'_, A>, now: u64) -> u64
     requires { NothingDue now shard.now.states → ⊥ }
     ensures { IsTickMoment now shard.now.states result }

@@ -80,7 +80,7 @@ fn serve_watched<
     serve(rt, rt.alloc(), config, options, source)
 }
 
-/// Serves a configuration, once there is the control socket that is wanted. What the server does is counted, since
+/// Serves a configuration, once there is the control socket that is wanted. The server counts what it does, since
 /// somebody may ask for the counts.
 fn serve_asked<
     R: Files + AllocGlobal + KeepsFiles + Threads + Wait + Clock + Net + RandomSource + Log + Sync,

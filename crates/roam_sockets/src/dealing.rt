@@ -59,8 +59,8 @@ fn ports_of<'s>(
 
 /// Lists the sockets from which a worker sends, each at the number of its place, and there at its place of those of
 /// that number, of so many numbers: of a place that has several, its own. The timer, whose number is above those of
-/// the workers, has those of the first one. The number of a `reverse` that isn't there is nobody's, so no packet
-/// leaves by what stands there.
+/// the workers, has those of the first one. The number of a `reverse` that isn't there is no socket's, so no packet
+/// leaves by the socket that stands there.
 ///
 /// # Errors
 ///
