@@ -20,8 +20,8 @@ call little (they have a line `only: FUNCTION`); `mistakes/try.py --gate --all` 
 So whoever asks whether a mistake could be made unseen finds here what was tried; `rt plant` lists more, made by rule.
 """
 # Up to this crate each has a mistake that the gate can choose, but those whose mistakes weren't yet tried by their function alone.
-LAST = "roam_serve"
-UNTRIED = {f"roam_{it}" for it in ("attendant", "kits", "run", "serve", "threads")}
+LAST = "roam_server"
+UNTRIED = {f"roam_{it}" for it in ("admin_thread", "epoch", "server")}
 
 
 def crates() -> list[str]:
