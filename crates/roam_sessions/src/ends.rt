@@ -1,14 +1,18 @@
 //! The ends of groups.
 
-ghost use Rattle.std.specs.Prelude.{◌≡◌, ◌<◌, ◌≤◌, ◌+◌, None, Some, IsSome};
+ghost use Rattle.std.specs.Prelude.{◌≡◌, ℕ, ◌<◌, ◌≤◌, ◌+◌, Option, None, Some, IsSome, OnOk, option_map};
+ghost use Rattle.std.specs.Option.{option_map_or};
 ghost use Rattle.indexmap.specs.IndexMap.{spare};
-ghost use Rattle.roam_sessions.specs.Private.Groups.{PutsRow, ends_behind, ends_left, larger, newest_of};
+ghost use Rattle.roam_sessions.specs.Private.Groups.{IsLargest, PutsRow, ends_behind, ends_left, larger, newest_of};
 ghost use Rattle.roam_sessions.specs.Maps.{ends_at};
+ghost use Rattle.roam_sessions.specs.declared.ends.Ends.{Ends};
+ghost use Rattle.roam_sessions.specs.declared.neighbours.Beside.{Beside};
 
 use crate::kept_row::{KeptRow, SoughtRow};
 use crate::neighbours::Beside;
 use indexmap::IndexMap;
 use roam_random::HashKey;
+use roam_wire::NoMemory;
 use std::alloc::Allocator;
 
 /// The oldest and the newest number of a group, and how many it has.
@@ -83,6 +87,54 @@ pub(crate) fn ends_of<A: Allocator + Copy>(map: &GroupEnds<A>, row: &[u8]) -> Op
     ensures { result ≡ ends_at map.now row.now }
 {
     map.get(SoughtRow { octets: row }).copied()
+}
+
+/// Returns how many numbers a group has.
+pub(crate) fn count_in<A: Allocator + Copy>(map: &GroupEnds<A>, row: &[u8]) -> usize
+    ensures { result ≡ option_map_or (λ (e : Ends). e.count) (ends_at map.now row.now) 0 }
+{
+    match ends_of(map, row) {
+        None => 0,
+        Some(ends) => ends.count,
+    }
+}
+
+/// The oldest number of a group.
+pub(crate) fn oldest_in<A: Allocator + Copy>(map: &GroupEnds<A>, row: &[u8]) -> Option<u64>
+    ensures { result ≡ option_map (λ (e : Ends). e.oldest) (ends_at map.now row.now) }
+{
+    match ends_of(map, row) {
+        None => None,
+        Some(ends) => Some(ends.oldest),
+    }
+}
+
+/// The oldest number of the group that has most; of several that have most, the oldest of all theirs. Looks at each
+/// group once.
+pub(crate) fn oldest_of_largest<A: Allocator + Copy>(map: &GroupEnds<A>) -> Option<u64>
+    ensures { (beside : ℕ → Option Beside)
+        → IsLargest (record { ends = ends_at map.now; beside = beside }) result }
+{
+    let mut best: Option<Ends> = None;
+    for i in 0..map.len() {
+        if let Some((_row, ends)) = map.get_index(i) {
+            best = Some(larger(best, *ends));
+        }
+    }
+    match best {
+        None => None,
+        Some(ends) => Some(ends.oldest),
+    }
+}
+
+/// Makes room for one group more. Nothing changes.
+pub(crate) fn reserve_ends<A: Allocator + Copy>(map: &mut GroupEnds<A>) -> Result<(), NoMemory>
+    ensures ok { OnOk result (1 ≤ spare map.new) }
+    ensures room { spare map.old ≤ spare map.new }
+    ensures same { ends_at map.new ≡ ends_at map.old }
+{
+    map.reserve(1)?;
+    Ok(())
 }
 
 /// Notes the ends of a group, where there is room. Takes no memory.

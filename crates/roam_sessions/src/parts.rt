@@ -4,13 +4,13 @@ ghost use Rattle.std.specs.Prelude.{◌≡◌, ◌≤◌, IfNone, IfSome, OnErr,
 ghost use Rattle.roam_sessions.specs.Kept.{kept_session, shown_session};
 ghost use Rattle.roam_sessions.specs.Parts.{AreShort, IsShortIfAny, shown_parts};
 ghost use Rattle.roam_sessions.specs.Sessions.{has_session, with_session};
-ghost use Rattle.roam_sessions.specs.Short.{kept_octets, shown_short};
+ghost use Rattle.roam_sessions.specs.Short.{shown_short};
 ghost use Rattle.roam_sessions.specs.ShownSessions.{shown_octets};
 
 use crate::asked::{NasRef, SessionRef};
 use crate::ledger::Sessions;
-use crate::open_session::OpenSession;
-use crate::short::{KeptShort, Short};
+use crate::packed_session::OpenSession;
+use crate::short::Short;
 use roam_wire::NoMemory;
 use std::alloc::Allocator;
 
@@ -72,12 +72,12 @@ fn session_of(parts: SessionParts<'_>) -> Option<SessionRef<'_>>
 }
 
 /// Octets where they lie, where there are any.
-fn lent<A: Allocator>(part: &Option<KeptShort<A>>) -> Option<&[u8]>
-    ensures { option_map shown_octets result ≡ option_map kept_octets part.now }
+fn lent<'a>(part: Option<Short<'a>>) -> Option<&'a [u8]>
+    ensures { option_map shown_octets result ≡ option_map shown_short part.entry }
 {
     match part {
         None => None,
-        Some(part) => Some(part.lend().octets),
+        Some(part) => Some(part.octets),
     }
 }
 
@@ -86,12 +86,13 @@ impl<A: Allocator> OpenSession<A> {
     pub(crate) fn parts(&self) -> SessionParts<'_>
         ensures { shown_parts result ≡ kept_session self.now }
     {
+        let session = self.lend();
         SessionParts {
-            peer: self.peer,
-            address: lent(&self.address),
-            identifier: lent(&self.identifier),
-            ipv6: lent(&self.ipv6),
-            id: self.id.lend().octets,
+            peer: session.peer,
+            address: lent(session.nas.address),
+            identifier: lent(session.nas.identifier),
+            ipv6: lent(session.nas.ipv6),
+            id: session.id.octets,
         }
     }
 }
