@@ -3,8 +3,17 @@ use Rattle.std.proofs.lemmas.Grind.{common_steps}
 use Rattle.std.proofs.lemmas.List.{map-append}
 use Rattle.roam_address.specs.Prefixes.{shown_prefix}
 use Rattle.roam_conf_reader.specs.Values.{prefix}
-use Rattle.roam_conf_reader.proofs.ItemsLemmas.{read_more, read_end}
+use Rattle.roam_conf_reader.proofs.ItemsLemmas.{read_more, read_bad, read_end}
 use Rattle.roam_conf_reader.proofs.prefixes.each_from.Goals as goal
+
+-- An item states no prefix.
+pub returns-in_default-clause-bad : goal.returns-in_default-clause-bad
+returns-in_default-clause-bad c = λ is_bad.
+    let items = c.args.items.now.items in
+    let is : c.value-item.result ≡ get_or items c.loop-value.value-index c.value-item.result = c.value-item.is
+    ∙ ap (λ xs. get_or xs c.loop-value.value-index c.value-item.result) c.deref-value-items.ensures.value in
+    read_bad prefix _ items c.loop-value.value-index c.value-item.result (map shown_prefix c.loop-value.all.items)
+    (omega arith) is (sym c.in_default.ensures) c.loop-value.invariant
 
 -- One more item was read.
 pub loop-value-preserved : goal.loop-value-preserved
