@@ -1,8 +1,8 @@
 -- The parts at hand when a realm goes on under another part of a configuration: words of private functions alone
 -- (ours).
-use Rattle.std.specs.Prelude.{◌≡◌, ◌⊎◌, Bool, true, false, ℕ, ◌<◌, ◌≤◌, List, [], ◌∷◌, ◌++◌, if◌then◌else◌, length, Option, Some, None, vec_capacity}
+use Rattle.std.specs.Prelude.{◌≡◌, ◌⊎◌, ◌||◌, Bool, true, false, ℕ, ◌<◌, ◌≤◌, List, [], ◌∷◌, ◌++◌, if◌then◌else◌, length, Option, Some, None, is_some, vec_capacity}
 use Rattle.std.specs.List.{AllByRecursion}
-use Rattle.roam_conf.specs.Config.{PeerView}
+use Rattle.roam_conf.specs.Config.{PeerView, RealmView, ServerView}
 use Rattle.roam_conf.specs.Duplicates.{has_pair_of_servers}
 use Rattle.roam_pending.specs.ListLaws.{IsIn}
 use Rattle.roam_reload.specs.Kept.{same_outs, same_servers}
@@ -43,9 +43,18 @@ pub record StandsAsItIs (old new : RealmConfig) : Type 0 where
   pub peers : KeepsPeers old.peers new.peers
   pub count : length new.peers ≡ length old.peers
 
--- in neither part two servers are at one endpoint: so each has one place in the other part, if any
+-- a server takes requests of one service at least
+abbrev pub Serves : ServerView → Type 0
+Serves server = is_some server.auth || is_some server.acct ≡ true
+
+-- each server of a realm has an endpoint, and no two are at one
+pub record AreDistinct (realm : RealmView) : Type 0 where
+  pub once : has_pair_of_servers realm ≡ false
+  pub serve : AllByRecursion Serves realm.servers
+
+-- the servers of both parts are distinct: so each has one place in the other part, if any
 abbrev pub HaveDistinctServers : RealmConfig → RealmConfig → Type 0
-HaveDistinctServers old new = (has_pair_of_servers old.realm ≡ false) × (has_pair_of_servers new.realm ≡ false)
+HaveDistinctServers old new = AreDistinct old.realm × AreDistinct new.realm
 
 -- each server and each `out` stands where it stood, and no peer's place is gone
 pub record StandAsBefore (old new : RealmConfig) : Type 0 where
