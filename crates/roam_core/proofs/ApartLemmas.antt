@@ -20,7 +20,7 @@ abbrev pub EndsSo : List ℕ → List ℕ → Type 0
 EndsSo whole xs = (y : ℕ) → list_any (λ z. y == z) xs ≡ true → behind y whole ≡ behind y xs
 
 -- how often an element stands in a list
-times_in : ℕ → List ℕ → ℕ
+abbrev times_in : ℕ → List ℕ → ℕ
 times_in y [] = 0
 times_in y (x ∷ xs) = (if y == x then 1 else 0) + times_in y xs
 
@@ -42,12 +42,12 @@ once-apart (x ∷ xs) once =
     (none_in x xs (omega (arith, here)), once-apart xs fewer)
 
 times-append : (y : ℕ) (xs ys : List ℕ) → times_in y (xs ++ ys) ≡ times_in y xs + times_in y ys
-times-append y [] ys = refl
+times-append y [] ys = omega arith
 times-append y (x ∷ xs) ys = let rest = times-append y xs ys in omega (arith, rest)
 
 times-turned : (y k : ℕ) (xs : List ℕ) → times_in y (drop k xs) + times_in y (take k xs) ≡ times_in y xs
 times-turned y zero xs = omega arith
-times-turned y (suc k) [] = refl
+times-turned y (suc k) [] = omega arith
 times-turned y (suc k) (x ∷ xs) = let rest = times-turned y k xs in omega (arith, rest)
 
 -- the places of servers rise
@@ -69,20 +69,24 @@ places-once asked (s ∷ ss) from y =
     elim (cases_Bool (is_some (service_at asked s))) [
       | inr n ↦ rw n rest
       | inl b ↦ elim (cases_Bool (y == from)) [
-          | inr other ↦ rw (b, other) (omega (arith, rest))
-          | inl is ↦
-              let same : y ≡ from = grind (arith, nat_tests, is) in
-              let none = places-above asked ss (from + 1) y (omega (arith, same)) in
-              rw (b, is) (omega (arith, none))
-        ]
+        | inr other ↦ rw (b, other) (omega (arith, rest))
+        | inl is ↦
+            let same : y ≡ from = grind (arith, nat_tests, is) in
+            let none = places-above asked ss (from + 1) y (omega (arith, same)) in
+            rw (b, is) (omega (arith, none))
+      ]
     ]
 
 pub turned-apart : (asked : Service) (ss : List ServerView) (start : ℕ) → AreApart (turned start (places_of asked 0 ss))
 turned-apart asked ss start =
     let places = places_of asked 0 ss in
     once-apart (turned start places)
-    (λ y. omega (arith, places-once asked ss 0 y, times-append y (drop start places) (take start places),
-    times-turned y start places))
+    (λ y. omega (
+      arith,
+      places-once asked ss 0 y,
+      times-append y (drop start places) (take start places),
+      times-turned y start places,
+    ))
 
 -- ---- what stands behind an element
 
