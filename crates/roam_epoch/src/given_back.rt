@@ -13,7 +13,7 @@ use roam_hub::Opened;
 use roam_sockets::ServeFault;
 use roam_workers::{Ended, LockedQueue, Rests, WorkerEnd, audit_jobs, has_given_up_after};
 
-/// The first of two, or the other one where it is missing.
+/// Returns the first of two, or the other one where it is missing.
 fn first_of(one: Option<Rests>, other: Option<Rests>) -> Option<Rests> {
     match one {
         Some(rests) => {
@@ -82,7 +82,8 @@ fn gather<N: Opened>(results: Results<N>) -> Result<Ended<N>, ServeFault>
     Ok(ended)
 }
 
-/// The same, where no socket was given up, and of each queue as many jobs were taken over as were handed on.
+/// Returns what the workers gave back, where no socket was given up, and of each queue as many jobs were taken over
+/// as were handed on.
 ///
 /// # Errors
 ///
