@@ -49,14 +49,14 @@ impl<'p> Overview<'p> {
         }
     }
 
-    /// The place of a server's `auth` among the links of its realm, where it has one.
+    /// Returns the place of a server's `auth` among the links of its realm, where it has one.
     fn auth_place(&self, realm: u16, server: u8) -> Option<usize> {
         let realm = self.config.realms.get(usize::from(realm))?;
         let _there = realm.servers.get(usize::from(server))?.auth?;
         Some(usize::from(server))
     }
 
-    /// The place of its `acct`, where it has one.
+    /// Returns the place of its `acct`, where it has one.
     fn acct_place(&self, realm: u16, server: u8) -> Option<usize> {
         let realm = self.config.realms.get(usize::from(realm))?;
         let _there = realm.servers.get(usize::from(server))?.acct?;

@@ -99,7 +99,7 @@ fn print_peer_since<W: Write>(writer: &mut W, old: Option<&Peer>, new: &Peer) ->
     }
 }
 
-/// The peer that loses the addresses of a prefix to the peer of this index, as far as the first of them tells: it was
+/// Returns the peer that loses the addresses of a prefix to the peer of this index, as far as the first of them tells: it was
 /// the peer of that one, and is still here.
 fn loser<'c>(old: &Config, new: &'c Config, index: u16, prefix: Prefix) -> Option<&'c Peer> {
     let first = prefix.network();

@@ -284,8 +284,8 @@ fn state(text: &mut StatedText, config: &Config, settings: &Settings) {
     }
 }
 
-/// The text that states a configuration, and how it is served, with every key that has a value; nothing where memory is
-/// wanting. The order of the keys is that of the page on files.
+/// Makes the text that states a configuration, and how it is served, with every key that has a value. Returns `None`
+/// where memory is wanting. The order of the keys is that of the page on files.
 pub fn statement(alloc: Global, config: &Config, settings: &Settings) -> Option<String> {
     let mut text = StatedText::new(alloc);
     state(&mut text, config, settings);

@@ -122,7 +122,7 @@ impl Config {
     ghost use Rattle.roam_conf.specs.Parts.{shown_peer, shown_realm};
     ghost use Rattle.roam_conf.specs.Shown.{shown};
 
-    /// The realm of an index, where it is configured.
+    /// Returns the realm of an index, where it is configured.
     fn realm_at(&self, realm: u16) -> Option<&Realm>
         ensures { option_map (λ r. shown_realm r.now) result ≡ slice_get (shown self.now).realms realm }
     {
@@ -132,7 +132,7 @@ impl Config {
         }
     }
 
-    /// The peer of an index, where it is configured.
+    /// Returns the peer of an index, where it is configured.
     fn peer_at(&self, peer: u16) -> Option<&Peer>
         ensures { option_map (λ p. shown_peer p.now) result ≡ slice_get (shown self.now).peers peer }
     {

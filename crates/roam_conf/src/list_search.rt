@@ -19,7 +19,7 @@ fn is_at(ip: Address, endpoint: Option<Endpoint>) -> bool
     }
 }
 
-/// The first server that has the address in one of its endpoints.
+/// Finds the first server that has the address in one of its endpoints.
 #[tactic(auto, unfolding(crate::specs::Lookup::server_with_ip))]
 pub(crate) fn server_with_ip(servers: &[Server], ip: Address) -> Option<usize>
     ensures value { result ≡ server_with_ip (map shown_server servers.now) ip }
@@ -33,7 +33,7 @@ pub(crate) fn server_with_ip(servers: &[Server], ip: Address) -> Option<usize>
     None
 }
 
-/// The first `coa_client` that has the address.
+/// Finds the first `coa_client` that has the address.
 #[tactic(auto, unfolding(crate::specs::Lookup::client_with_ip))]
 pub(crate) fn client_with_ip(clients: &[CoaClient], ip: Address) -> Option<usize>
     ensures value { result ≡ client_with_ip (map shown_client clients.now) ip }
@@ -56,7 +56,7 @@ fn is_there(endpoint: Endpoint, other: Option<Endpoint>) -> bool
     }
 }
 
-/// The first server that takes Access-Requests at the endpoint.
+/// Finds the first server that takes Access-Requests at the endpoint.
 pub(crate) fn auth_at(servers: &[Server], endpoint: Endpoint) -> Option<usize>
     ensures value { result ≡ first_place (λ server. is_there endpoint server.auth)
         (map shown_server servers.now) }
@@ -70,7 +70,7 @@ pub(crate) fn auth_at(servers: &[Server], endpoint: Endpoint) -> Option<usize>
     None
 }
 
-/// The first server that takes Accounting-Requests at the endpoint.
+/// Finds the first server that takes Accounting-Requests at the endpoint.
 pub(crate) fn acct_at(servers: &[Server], endpoint: Endpoint) -> Option<usize>
     ensures value { result ≡ first_place (λ server. is_there endpoint server.acct)
         (map shown_server servers.now) }
@@ -84,7 +84,7 @@ pub(crate) fn acct_at(servers: &[Server], endpoint: Endpoint) -> Option<usize>
     None
 }
 
-/// The first peer that takes reverse requests at the endpoint.
+/// Finds the first peer that takes Disconnect- and CoA-Requests at the endpoint.
 pub(crate) fn coa_at(peers: &[Peer], endpoint: Endpoint) -> Option<usize>
     ensures value { result ≡ first_place (is_coa endpoint) (map shown_peer peers.now) }
     ensures bound { IfSome result (λ i. i < length peers.now) }
@@ -97,7 +97,7 @@ pub(crate) fn coa_at(peers: &[Peer], endpoint: Endpoint) -> Option<usize>
     None
 }
 
-/// The link to a peer of this index, by the `out` of this place.
+/// Returns the link to the peer of this index, by the `out` of this place, if there is a peer.
 pub(crate) fn link_to_peer(peer: Option<usize>, out: u8) -> Option<Link>
     requires { IfSome peer (λ i. i < 2 ^ 16) }
     ensures { result ≡ option_map (λ i. Link.Coa i out) peer }

@@ -18,7 +18,7 @@ pub(crate) struct PeerIndex {
     pub(crate) places: Vec<u16>,
 }
 
-/// The prefixes of the peers that are here, in their order.
+/// Lists the prefixes of the peers that aren't gone, in their order.
 fn prefixes_of(alloc: Global, peers: &[Peer]) -> Result<Vec<Prefix>, AllocError>
     ensures { IfOk result (λ prefixes. prefixes.items ≡ prefixes_in peers.now) }
 {
@@ -41,7 +41,7 @@ fn push_each(places: &mut Vec<u16>, place: u16, count: usize) -> Result<(), Allo
     Ok(())
 }
 
-/// For each prefix of the peers that are here, the index of its peer.
+/// Returns the index of its peer for each prefix of the peers that are here.
 fn places_of(alloc: Global, peers: &[Peer]) -> Result<Vec<u16>, AllocError>
     requires { length peers.now ≤ 2 ^ 16 }
     ensures { IfOk result (λ places. places.items ≡ places_in 0 peers.now) }
@@ -55,7 +55,7 @@ fn places_of(alloc: Global, peers: &[Peer]) -> Result<Vec<u16>, AllocError>
     Ok(places)
 }
 
-/// The index of the prefixes of the peers that are here; none where two of them are the same.
+/// Returns the index of the prefixes of the peers that are here; none where two of them are the same.
 fn index_if_distinct(
     alloc: Global,
     peers: &[Peer],
@@ -78,7 +78,7 @@ pub fn has_duplicate_prefix(alloc: Global, peers: &[Peer]) -> Result<bool, Alloc
     }
 }
 
-/// The index of the prefixes of the peers that are here, of which no two are the same.
+/// Makes the index of the prefixes of the peers that aren't gone, of which no two are the same.
 #[tactic(auto, using(crate::proofs::PrefixLemmas::not_twice))]
 fn index_of(alloc: Global, peers: &[Peer]) -> Result<PrefixIndex<Global>, AllocError>
     requires { has_duplicate_peer (map shown_peer peers.now) ≡ false }
@@ -90,7 +90,7 @@ fn index_of(alloc: Global, peers: &[Peer]) -> Result<PrefixIndex<Global>, AllocE
     }
 }
 
-/// The index at a place, where there is one.
+/// Returns the index at a place, where there is one.
 fn index_at(indexes: &[u16], place: usize) -> Option<u16>
     ensures { result ≡ slice_get indexes.now place }
 {
@@ -105,7 +105,7 @@ impl PeerIndex {
     ghost use Rattle.roam_conf.specs.Lookup.{peer_with_ip};
     ghost use Rattle.roam_conf.specs.declared.peer.Peer.{Peer};
 
-    /// The index of these peers.
+    /// Makes the index of these peers.
     pub(crate) fn new(alloc: Global, peers: &[Peer]) -> Result<PeerIndex, AllocError>
         requires few { length peers.now ≤ 2 ^ 16 }
         requires distinct { has_duplicate_peer (map shown_peer peers.now) ≡ false }
@@ -116,7 +116,7 @@ impl PeerIndex {
         Ok(PeerIndex { prefixes, places })
     }
 
-    /// The index of the peer that has the longest of the prefixes that have the address.
+    /// Returns the index of the peer that has the longest of the prefixes that have the address.
     pub(crate) fn longest(&self, ip: Address) -> Option<u16>
         ensures { (peers : List Peer) → FindsPeers self.now peers → has_duplicate_peer (map shown_peer peers) ≡ false
             → result ≡ peer_with_ip (map shown_peer peers) ip }

@@ -66,7 +66,6 @@ text_at most letters key members octets is =
     option_and_then_some (text most letters) (get_member key members) octets is
     (λ value there states. text_range most letters value octets states)
 
-
 pub count_at : (most : ℕ) (key : List ℕ) (members : Members) (items : Items) →
     value_at (array_of most) key members ≡ Some items → (1 ≤ item_count items) × (item_count items ≤ most)
 count_at most key members items is =

@@ -24,7 +24,7 @@ use roam_conf::{
 };
 use std::alloc::Global;
 
-/// The items from a place on.
+/// Returns the items from a place on.
 pub(crate) fn from_place<T>(items: &[T], place: usize) -> &[T]
     requires { place ≤ length items.now }
     ensures { result.now ≡ drop place items.now }
@@ -75,7 +75,7 @@ fn push_realm(endpoints: &mut Vec<Endpoint>, realm: &Realm) -> Result<(), ConfFa
     push_all(endpoints, realm.reverse.as_slice())
 }
 
-/// The endpoints of the broker's own sockets.
+/// Lists the endpoints of the broker's own sockets.
 fn own_endpoints(
     alloc: Global,
     auth: &[Endpoint],
@@ -94,7 +94,7 @@ fn own_endpoints(
     Ok(endpoints)
 }
 
-/// The endpoints of a realm's servers.
+/// Lists the endpoints of a realm's servers.
 fn server_endpoints(alloc: Global, servers: &[Server]) -> Result<Vec<Endpoint>, ConfFault>
     ensures ok { IfOk result (λ v. v.items ≡ server_endpoints (map shown_server servers.now)) }
     ensures causes { IsMemoryFault result }
@@ -111,7 +111,7 @@ fn server_endpoints(alloc: Global, servers: &[Server]) -> Result<Vec<Endpoint>, 
     Ok(endpoints)
 }
 
-/// The endpoints of those peers that take reverse requests.
+/// Lists the endpoints of those peers that take Disconnect- and CoA-Requests.
 fn coa_endpoints(alloc: Global, peers: &[Peer]) -> Result<Vec<Endpoint>, ConfFault>
     ensures ok { IfOk result (λ v. v.items ≡ coa_endpoints (map shown_peer peers.now)) }
     ensures causes { IsMemoryFault result }
@@ -237,8 +237,8 @@ fn has_duplicate_link(alloc: Global, peers: &[Peer], realms: &[Realm]) -> Result
     }
 }
 
-/// The first duplicate that is there, in the order of the faults, or else that a server is where its realm's `out`
-/// sends nothing, or that a peer is named that isn't there.
+/// Finds the first duplicate that is there, in the order of the faults, or else that a server is where its realm's
+/// `out` sends nothing, or that a peer is named that isn't there.
 #[tactic(auto, unfolding(crate::specs::Faults::first_duplicate))]
 pub(crate) fn first_duplicate(
     alloc: Global,

@@ -79,7 +79,7 @@ fn peer_text(table: &Table) -> Option<PeerText<'_>>
     })
 }
 
-/// A copy of a text that may be absent.
+/// Copies a text that may be absent.
 pub(crate) fn copied(alloc: Global, text: Option<&str>) -> Result<Option<String>, ConfFault>
     ensures ok { IfOk result (λ o. option_map string_bytes o ≡ option_copied text.entry) }
     ensures causes { IsMemoryFault result }
@@ -90,7 +90,7 @@ pub(crate) fn copied(alloc: Global, text: Option<&str>) -> Result<Option<String>
     }
 }
 
-/// The peer that a table states. Memory is asked for only where the table's own values are good.
+/// Reads the peer that a table states. Asks for memory only where the table's own values are good.
 fn from_table(alloc: Global, table: &Table) -> Result<Peer, ConfFault>
     ensures ok { IfOk result (λ p. StatesPeer (table_view table.now) (shown_peer p)) }
     ensures bad { result ≡ Err ConfFault.BadValue
@@ -121,7 +121,7 @@ fn from_table(alloc: Global, table: &Table) -> Result<Peer, ConfFault>
     })
 }
 
-/// The peers that the tables of an array state, in its order.
+/// Reads the peers that the tables of an array state, in its order.
 pub(crate) fn all_from(alloc: Global, items: &Array) -> Result<Vec<Peer>, ConfFault>
     ensures ok { IfOk result
         (λ v. StatesEach StatesPeer (array_view items.now) (map shown_peer v.items)) }

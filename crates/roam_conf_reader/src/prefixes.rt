@@ -16,7 +16,7 @@ use toml::{Table, Value};
 /// The most prefixes that a peer may have.
 const MOST: usize = 8;
 
-/// The prefixes that the items of an array state, in its order.
+/// Reads the prefixes that the items of an array state, in its order.
 fn each_from(alloc: Global, items: &Array) -> Result<Vec<Prefix>, ConfFault>
     ensures ok { IfOk result
         (λ v. spec.each_of spec.prefix (array_view items.now) ≡ Some (map shown_prefix v.items)) }
@@ -33,7 +33,7 @@ fn each_from(alloc: Global, items: &Array) -> Result<Vec<Prefix>, ConfFault>
     Ok(all)
 }
 
-/// The one prefix that a value states.
+/// Reads the one prefix that a value states.
 fn one_from(alloc: Global, value: &Value) -> Result<Vec<Prefix>, ConfFault>
     ensures ok { IfOk result
         (λ v. spec.one_of (spec.prefix (view value.now)) ≡ Some (map shown_prefix v.items)) }
@@ -48,7 +48,7 @@ fn one_from(alloc: Global, value: &Value) -> Result<Vec<Prefix>, ConfFault>
     Ok(one)
 }
 
-/// The prefixes that a value states: one, or an array of 1 to 8.
+/// Reads the prefixes that a value states: one, or an array of 1 to 8.
 #[tactic(auto, using(crate::proofs::ArrayLemmas::item_count_of), unfolding(crate::specs::Values::prefixes))]
 fn from_value(alloc: Global, value: &Value) -> Result<Vec<Prefix>, ConfFault>
     ensures ok { IfOk result (λ v. spec.prefixes (view value.now) ≡ Some (map shown_prefix v.items)) }
@@ -66,7 +66,7 @@ fn from_value(alloc: Global, value: &Value) -> Result<Vec<Prefix>, ConfFault>
     }
 }
 
-/// The prefixes that a key of a table states: one, or an array of 1 to 8.
+/// Reads the prefixes that a key of a table states: one, or an array of 1 to 8.
 pub(crate) fn at(alloc: Global, table: &Table, key: &str) -> Result<Vec<Prefix>, ConfFault>
     ensures ok { IfOk result
         (λ v. spec.value_at spec.prefixes key.now (table_view table.now) ≡ Some (map shown_prefix v.items)) }

@@ -136,7 +136,7 @@ fn are_serving(accounting: Accounting, servers: &[Server]) -> bool
     }
 }
 
-/// The realm that a table states. Memory is asked for only where the table's own values are good.
+/// Reads the realm that a table states. Asks for memory only where the table's own values are good.
 fn from_table(alloc: Global, table: &Table) -> Result<Realm, ConfFault>
     ensures ok { IfOk result (λ r. StatesRealm (table_view table.now) (shown_realm r)) }
     ensures bad { result ≡ Err ConfFault.BadValue
@@ -181,7 +181,7 @@ fn from_table(alloc: Global, table: &Table) -> Result<Realm, ConfFault>
     })
 }
 
-/// The realms that the tables of an array state, in its order.
+/// Reads the realms that the tables of an array state, in its order.
 pub(crate) fn all_from(alloc: Global, items: &Array) -> Result<Vec<Realm>, ConfFault>
     ensures ok { IfOk result
         (λ v. StatesEach StatesRealm (array_view items.now) (map shown_realm v.items)) }

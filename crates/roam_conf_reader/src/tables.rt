@@ -143,7 +143,7 @@ fn some_misses(items: &Array, keys: &[&str]) -> bool
     false
 }
 
-/// The same of what a key of a table has, if that is an array.
+/// Returns whether a key of a table has an array with a table that misses one of these keys.
 fn some_misses_within(table: &Table, key: &str, keys: &[&str]) -> bool
     ensures { result ≡ within (misses (shown_keys keys.now)) (get_member key.now (table_view table.now)) }
 {
@@ -229,7 +229,7 @@ fn lacks_service(forwarded: bool, items: &Array) -> bool
     some_is_nowhere(items) || none_has(items, "auth") || forwarded && none_has(items, "acct")
 }
 
-/// The same of what a realm has as `server`, if that is an array.
+/// Returns the same of what a realm has as `server`, if that is an array.
 fn servers_lack(table: &Table, forwarded: bool) -> bool
     ensures { result ≡ servers_lack forwarded (get_member (codes "server") (table_view table.now)) }
 {
@@ -268,7 +268,7 @@ fn some_realm_misses(items: &Array) -> bool
     false
 }
 
-/// The same of the document's realms, if they are an array.
+/// Returns whether the document's realms are an array with a realm's table that misses a key.
 fn realms_miss(table: &Table) -> bool
     ensures { result ≡ within spec.realm_misses (get_member (codes "realm") (table_view table.now)) }
 {

@@ -67,7 +67,7 @@ pub(crate) enum Unwise {
     Absent,
 }
 
-/// The numbers of a realm that the advice is about, also where they aren't written.
+/// Returns the number of a realm that the advice is about, also where it isn't written.
 fn number(at: Located<'_>, key: &str) -> u64 {
     let default = match key {
         "tries" => 3,

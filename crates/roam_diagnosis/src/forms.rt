@@ -148,7 +148,7 @@ const KEPT_OF_REQUESTS: [u8; 8] = [1, 2, 3, 24, 33, 60, 79, 80];
 /// The same of replies.
 const KEPT_OF_REPLIES: [u8; 4] = [24, 33, 79, 80];
 
-/// The words of a form that has some.
+/// Returns the words of a form that has some.
 fn words_of(form: ValueForm) -> &'static [&'static str] {
     match form {
         ValueForm::Accounting => &["forward", "answer", "drop"],
@@ -190,7 +190,7 @@ fn is_of_tables(form: ValueForm) -> bool {
     }
 }
 
-/// The first of the items that isn't a text of the form, or a table where that is one of tables.
+/// Finds the first of the items that isn't a text of the form, or a table where that is one of tables.
 fn first_misfit(form: ValueForm, items: &[Value]) -> Option<&Value> {
     for item in items {
         let fits = match item {

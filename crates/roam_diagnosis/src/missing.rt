@@ -8,7 +8,7 @@ use crate::quoted::quote;
 use crate::rules::{has_rule, rules_of};
 use toml::Value;
 
-/// The first key of a table that its kind doesn't have: what is absent may be misspelt there.
+/// Finds the first key of a table that its kind doesn't have: an absent key may be misspelt there.
 fn first_unknown<'a>(at: Located<'a>) -> Option<&'a str> {
     for name in at.keys.names() {
         if !has_rule(at.place.kind, name.as_str()) {

@@ -122,7 +122,7 @@ const KINDS: [TableKind; 5] = [
     TableKind::Client,
 ];
 
-/// The keys of the tables of a kind.
+/// Returns the keys of the tables of a kind.
 pub(crate) fn rules_of(kind: TableKind) -> &'static [Rule] {
     match kind {
         TableKind::Top => &TOP,
@@ -154,7 +154,7 @@ fn kinds_beside(here: TableKind) -> &'static [TableKind] {
     }
 }
 
-/// The kind of tables, other than this, that have the key; the first where several have it.
+/// Finds the kind of tables, other than this, that have the key; the first where several have it.
 pub(crate) fn owner_of(here: TableKind, key: &str) -> Option<TableKind> {
     for kind in kinds_beside(here) {
         if *kind != here && has_rule(*kind, key) {

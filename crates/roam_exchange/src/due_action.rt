@@ -46,7 +46,7 @@ pub enum DueAction<A: Allocator> {
     Refused(Out<A>, Option<Done<A>>),
 }
 
-/// The forwarded packet of a waiting request, once more.
+/// Makes the forwarded packet of a waiting request once more.
 fn packet_again<A: Allocator>(
     settings: &RealmSettings<'_>,
     waiting: &Waiting<A>,
@@ -62,7 +62,7 @@ fn packet_again<A: Allocator>(
     packet_to_link(settings, waiting.link, bytes)
 }
 
-/// The target that is chosen at a moment among those of a request after a link.
+/// Returns the target that is chosen at a moment among those of a request after a link.
 fn later_target<A: Allocator + Copy>(
     settings: &RealmSettings<'_>,
     numbers: &RealmNumbers<A>,
@@ -116,7 +116,7 @@ fn held_for<A: Allocator>(
     })
 }
 
-/// The NAK of a reverse request that no access server answered (RFC 5176, section 3.5): it is sent,
+/// Makes the NAK of a Disconnect- or CoA-Request that no access server answered (RFC 5176, section 3.5): it is sent,
 /// and held until `now + hold` where replies are held.
 fn refuse<A: Allocator>(
     settings: &RealmSettings<'_>,
@@ -143,7 +143,7 @@ fn refuse<A: Allocator>(
     DueAction::Refused(out, held)
 }
 
-/// A request that no target answers: a reverse request is answered by a NAK, any other just goes.
+/// Gives up a request that no target answers. A Disconnect- or CoA-Request is answered by a NAK, any other just goes.
 fn give_up<A: Allocator>(
     settings: &RealmSettings<'_>,
     now: u64,

@@ -63,7 +63,7 @@ struct Filling {
 }
 
 impl Filling {
-    /// A table with these heads.
+    /// Makes a table with these heads.
     fn new(alloc: Global, heads: &[&str]) -> Result<Filling, AllocError> {
         let mut filling = Filling {
             alloc,

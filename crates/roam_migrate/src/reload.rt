@@ -66,8 +66,8 @@ fn note<A: Allocator>(numbers: &mut Vec<u16, A>, number: u16, counts: bool) -> R
     Ok(())
 }
 
-/// The peers whose tables aren't what they were, but for which of their Access-Requests need a Message-Authenticator:
-/// few at most changes.
+/// Lists the peers whose tables aren't what they were, except in which of their Access-Requests need a
+/// Message-Authenticator: few at most changes.
 pub fn changed_peers<A: Allocator + Copy>(
     alloc: A,
     old: &[Peer],
@@ -83,7 +83,7 @@ pub fn changed_peers<A: Allocator + Copy>(
     Ok(changed)
 }
 
-/// A lane for each further link.
+/// Adds a lane for each further link.
 pub(crate) fn add_lanes<A: Allocator + Copy>(
     settings: &RealmSettings<'_>,
     numbers: &mut RealmNumbers<A>,
@@ -179,7 +179,7 @@ fn stands_as_it_is<A: Allocator>(
     }
 }
 
-/// A realm goes on that a change touches: entries, lanes, rests and sessions stay or go.
+/// Carries a realm over that a change touches: entries, lanes, links that are marked dead, and sessions stay or go.
 fn carry_touched<A: Allocator + Copy, E: Entries<A>>(
     old: &RealmSettings<'_>,
     new: &RealmSettings<'_>,
@@ -204,8 +204,9 @@ fn carry_touched<A: Allocator + Copy, E: Entries<A>>(
     carry_sessions(old, new, changed, numbers);
 }
 
-/// A realm goes on under other settings, with the memory that was taken: entries, lanes, rests and sessions stay or
-/// go, as `carried` says. `changed` are the peers whose tables are other ones. Takes no memory.
+/// Carries a realm over to other settings, with the memory that was taken: entries, lanes, links that are marked
+/// dead, and sessions stay or go, as `carried` says. `changed` are the peers whose tables are other ones. Takes no
+/// memory.
 pub fn carry_over<A: Allocator + Copy, E: Entries<A>>(
     old: &RealmSettings<'_>,
     new: &RealmSettings<'_>,
@@ -233,7 +234,7 @@ pub fn carry_over<A: Allocator + Copy, E: Entries<A>>(
     }
 }
 
-/// A realm that a change doesn't touch goes on as it stands unless a further peer has a longer prefix for an address of
+/// Shows that a realm that a change doesn't touch goes on as it stands unless a further peer has a longer prefix for an address of
 /// another, and where no peer is new it is sent what it would have been sent had nothing changed. This function does
 /// nothing.
 pub fn untouched_realms_go_on()
@@ -244,7 +245,7 @@ pub fn untouched_realms_go_on()
     ensures over_both { AsIfNothingChanged }
 {}
 
-/// Nothing comes by a change, and nothing goes whose sender and link stay. This function does nothing.
+/// States that nothing comes by a change, and nothing goes whose sender and link stay. This function does nothing.
 pub fn carried_takes_no_more()
     ensures adds_nothing { CarriedAddsNothing }
     ensures takes_no_more { CarriedTakesNoMore }

@@ -41,7 +41,7 @@ impl<'c> Model for RealmSettings<'c> {
 }
 
 impl<'c> RealmSettings<'c> {
-    /// Those of the realm of this index, which is configured.
+    /// Makes the settings of the realm of this index, which is configured.
     pub fn new(config: &'c Config, realm: u16) -> RealmSettings<'c>
         requires { realm < vec_len config.now.realms }
         ensures { result ≡ realm_config (shown config.now) realm }
@@ -49,14 +49,14 @@ impl<'c> RealmSettings<'c> {
         RealmSettings { config, realm }
     }
 
-    /// The realm's index.
+    /// Returns the realm's index.
     pub fn index(&self) -> u16
         ensures { result ≡ self.now.index }
     {
         self.realm
     }
 
-    /// The realm's entry of the configuration.
+    /// Returns the realm's entry of the configuration.
     pub fn realm(&self) -> &Realm
         ensures { shown_realm result.now ≡ self.now.realm }
     {
@@ -70,7 +70,7 @@ impl<'c> RealmSettings<'c> {
         self.config.is_source_of(peer, ip)
     }
 
-    /// The seed of the random words.
+    /// Returns the seed of the random words.
     pub fn seed(&self) -> [u8; 32]
         ensures { result ≡ self.now.seed }
     {
@@ -84,21 +84,21 @@ impl<'c> RealmSettings<'c> {
         self.realm().tries
     }
 
-    /// The time from one sending to the next, in milliseconds.
+    /// Returns the time from one sending to the next, in milliseconds.
     pub fn wait(&self) -> u32
         ensures { result ≡ self.now.realm.wait }
     {
         self.realm().wait
     }
 
-    /// The time for which a reply is held, in milliseconds.
+    /// Returns the time for which a reply is held, in milliseconds.
     pub fn hold(&self) -> u32
         ensures { result ≡ self.now.realm.hold }
     {
         self.realm().hold
     }
 
-    /// The time for which a link rests that keeps silent, in milliseconds.
+    /// Returns the time for which a link that doesn't answer is marked dead, in milliseconds.
     pub(crate) fn rest(&self) -> u32
         ensures { result ≡ self.now.realm.rest }
     {
@@ -190,7 +190,7 @@ impl<'c> RealmSettings<'c> {
         self.config.peers.len()
     }
 
-    /// All peers.
+    /// Returns all peers.
     pub fn peers(&self) -> &[Peer]
         ensures peers { map shown_peer result.now ≡ self.now.peers }
         ensures few { length result.now ≤ 1024 }
@@ -198,7 +198,7 @@ impl<'c> RealmSettings<'c> {
         self.config.peers.as_slice()
     }
 
-    /// The home server of a place.
+    /// Returns the home server of a place.
     pub(crate) fn server(&self, server: u8) -> &Server
         requires { server < length self.now.realm.servers }
         ensures secret { server_secret self.now server ≡ (shown_server result.now).secret }
@@ -208,7 +208,7 @@ impl<'c> RealmSettings<'c> {
         &self.realm().servers[usize::from(server)]
     }
 
-    /// The peer of an index.
+    /// Returns the peer of an index.
     pub(crate) fn peer(&self, peer: u16) -> &Peer
         requires { peer < length self.now.peers }
         ensures secret { peer_secret self.now peer ≡ (shown_peer result.now).secret }
@@ -217,7 +217,7 @@ impl<'c> RealmSettings<'c> {
         &self.config.peers[usize::from(peer)]
     }
 
-    /// The secret shared with a link of the realm, of 1 to 64 octets.
+    /// Returns the secret shared with a link of the realm, of 1 to 64 octets.
     pub fn secret_of_link(&self, link: Link) -> &Secret
         requires { IsLink self.now link }
         ensures text { result.now ≡ link_secret self.now link }
@@ -240,7 +240,7 @@ impl<'c> RealmSettings<'c> {
         }
     }
 
-    /// The secret shared with the sender of a request, of 1 to 64 octets.
+    /// Returns the secret shared with the sender of a request, of 1 to 64 octets.
     pub fn secret_of_requester(&self, requester: Requester) -> &Secret
         requires { IsRequester self.now requester }
         ensures text { result.now ≡ requester_secret self.now requester }
@@ -252,7 +252,8 @@ impl<'c> RealmSettings<'c> {
         }
     }
 
-    /// The peer that a reverse request is for, or the Error-Cause, by the realm that it names (RFC 5176, section 3.5).
+    /// Returns the peer that a Disconnect- or CoA-Request is for, or the Error-Cause, by the realm that it names (RFC
+    /// 5176, section 3.5).
     pub fn route_of<A: Allocator + Copy>(
         &self,
         named: Option<u16>,

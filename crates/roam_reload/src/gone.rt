@@ -34,7 +34,7 @@ pub(crate) fn gone_peer(alloc: Global, peer: &Peer) -> Result<Peer, AllocError>
     })
 }
 
-/// The same endpoints once more.
+/// Copies the endpoints.
 fn copies_of(alloc: Global, endpoints: &[Endpoint]) -> Result<Vec<Endpoint>, AllocError>
     ensures { IfOk result (λ copies. copies.items ≡ endpoints.now) }
 {

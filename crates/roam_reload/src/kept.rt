@@ -41,7 +41,7 @@ fn keeps_coa(old: &Peer, new: &Peer) -> bool
     stays(old, new) && is_same_if_any(old.coa, new.coa) && old.secret == new.secret
 }
 
-/// The peer of an index.
+/// Returns the peer of an index, where there is one.
 fn peer_at(peers: &[Peer], peer: u16) -> Option<&Peer>
     ensures { option_map (λ p. shown_peer p.now) result ≡ slice_get (map shown_peer peers.now) peer }
 {
@@ -88,7 +88,7 @@ fn is_same_server(a: &Server, b: &Server) -> bool
     is_same_if_any(a.auth, b.auth) && is_same_if_any(a.acct, b.acct) && a.secret == b.secret
 }
 
-/// The server of a place.
+/// Returns the server of a place, where there is one.
 fn server_at(servers: &[Server], server: u8) -> Option<&Server>
     ensures { option_map (λ s. shown_server s.now) result ≡ slice_get (map shown_server servers.now) server }
 {
@@ -122,7 +122,7 @@ pub fn has_same_servers(old: &Realm, new: &Realm) -> bool
     true
 }
 
-/// The first place of a server.
+/// Finds the first place of a server.
 fn place_of(server: &Server, servers: &[Server]) -> Option<u8>
     requires { length servers.now ≤ 8 }
     ensures { result ≡ first_place (same_server (shown_server server.now)) (map shown_server servers.now) }
@@ -135,7 +135,7 @@ fn place_of(server: &Server, servers: &[Server]) -> Option<u8>
     None
 }
 
-/// The place where a server of the old realm stands in the new one, if it does.
+/// Returns the place where a server of the old realm stands in the new one, if it does.
 pub fn server_then(old: &Realm, new: &Realm, server: u8) -> Option<u8>
     ensures { result ≡ server_then (shown_realm old.now).servers (shown_realm new.now).servers server }
 {
@@ -148,7 +148,7 @@ pub fn server_then(old: &Realm, new: &Realm, server: u8) -> Option<u8>
     }
 }
 
-/// The `out` of a place.
+/// Returns the `out` of a place, where there is one.
 fn out_at(realm: &Realm, out: u8) -> Option<Endpoint>
     ensures { result ≡ slice_get (shown_realm realm.now).out out }
 {

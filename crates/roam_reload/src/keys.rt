@@ -78,7 +78,7 @@ pub const REALM_KEYS: [RealmKey; 22] = [
 ];
 
 impl RealmKey {
-    /// The key as it is written in a configuration.
+    /// Returns the key as it is written in a configuration.
     pub fn name(self) -> &'static str {
         match self {
             RealmKey::Gone => "gone",
@@ -109,7 +109,7 @@ impl RealmKey {
 }
 
 impl PeerKey {
-    /// The key as it is written in a configuration.
+    /// Returns the key as it is written in a configuration.
     pub fn name(self) -> &'static str {
         match self {
             PeerKey::Gone => "gone",

@@ -9,7 +9,7 @@ use crate::keys::PeerKey;
 use crate::prefixes::has_same_prefixes;
 use roam_conf::Peer;
 
-/// The first key in which two tables of a peer differ, its `require_seal` and `limit_proxy_state` and the order of its
+/// Returns the first key in which two tables of a peer differ, its `require_seal` and `limit_proxy_state` and the order of its
 /// addresses aside.
 pub fn peer_difference(old: &Peer, new: &Peer) -> Option<PeerKey>
     ensures none { IfNone result (IsSamePeer (shown_peer old.now) (shown_peer new.now)) }
@@ -46,8 +46,8 @@ pub fn peer_difference(old: &Peer, new: &Peer) -> Option<PeerKey>
     }
 }
 
-/// The first of the old peers that the new ones don't have at its index, or have there with another table, its
-/// `require_seal` and `limit_proxy_state` aside.
+/// Finds the first of the old peers that the new ones don't have at its index, or have there with another table. A
+/// different `require_seal` or `limit_proxy_state` doesn't count.
 pub fn other_peer(old: &[Peer], new: &[Peer]) -> Option<usize>
     ensures none { IfNone result (KeepsPeers (map shown_peer old.now) (map shown_peer new.now)) }
     ensures some { IfSome result (IsOtherPeer (map shown_peer old.now) (map shown_peer new.now)) }

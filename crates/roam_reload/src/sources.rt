@@ -47,7 +47,7 @@ fn client_source(client: &CoaClient) -> SourceRef<'_>
     }
 }
 
-/// The source of a number: a server or, behind the servers, a `coa_client`.
+/// Returns the source of a number: a server or, behind the servers, a `coa_client`.
 fn source_of(realm: &Realm, home: u8) -> Option<SourceRef<'_>>
     ensures { option_map shown_source result ≡ source (shown_realm realm.now) home }
 {
@@ -89,7 +89,7 @@ fn closes_reverse(old: &Realm, new: &Realm) -> bool
     takes_reverse(old) && !takes_reverse(new)
 }
 
-/// The secret shared with the source of a number; none of its octets where there is no such source.
+/// Returns the secret shared with the source of a number, and no octets where there is no such source.
 fn secret_of(realm: &Realm, home: u8) -> &[u8]
     ensures { result.now ≡ home_secret (shown_realm realm.now) home }
 {
@@ -99,7 +99,7 @@ fn secret_of(realm: &Realm, home: u8) -> &[u8]
     }
 }
 
-/// The source at an address, if the secret shared with it is that of a source of the old realm.
+/// Finds the source at an address, if the secret shared with it is that of a source of the old realm.
 fn home_at(old: &Realm, new: &Realm, ip: Address, home: u8) -> Option<u8>
     ensures { result ≡ home_at (shown_realm new.now) ip (home_secret (shown_realm old.now) home) }
 {
@@ -111,8 +111,8 @@ fn home_at(old: &Realm, new: &Realm, ip: Address, home: u8) -> Option<u8>
     }
 }
 
-/// The source of the new realm that a source of the old one is, whose request came from this address; none where its
-/// requests don't stay.
+/// Finds the source of the new realm that a source of the old one is, whose request came from this address. Returns
+/// `None` where its requests don't stay.
 pub fn home_then(old: &Realm, new: &Realm, ip: Address, home: u8) -> Option<u8>
     ensures { result ≡ home_then (shown_realm old.now) (shown_realm new.now) ip home }
 {

@@ -78,7 +78,7 @@ fn take<A: Allocator + Copy>(map: &mut ByTicket<A>, ticket: u64) -> OpenSession<
 }
 
 impl<A: Allocator + Copy> Chain<A> {
-    /// No sessions. Takes no memory.
+    /// Makes a chain without sessions. Takes no memory.
     pub(crate) fn new(alloc: A, key: HashKey) -> Chain<A>
         ensures sound { IsSound result }
         ensures empty { sessions_of result ≡ [] }
@@ -99,14 +99,14 @@ impl<A: Allocator + Copy> Chain<A> {
         self.by_ticket.len()
     }
 
-    /// The ticket of a session.
+    /// Finds the ticket of a session.
     pub(crate) fn find(&self, session: SessionRef<'_>) -> Option<u64>
         ensures { IsSound self.now → IsTicketOf (shown_session session.entry) (session_at self.now) result }
     {
         number_of(&self.whole, Row::of(session.asked()).as_slice())
     }
 
-    /// The ticket of a session that is to be opened, where it is there: by the row that it has.
+    /// Finds the ticket of a session that is to be opened, where it is there: by the row that it has.
     pub(crate) fn find_new(&self, new: &NewSession<A>) -> Option<u64>
         ensures { IsSound self.now → IsTicketOf (kept_session new.now.session) (session_at self.now) result }
     {
@@ -203,7 +203,8 @@ impl<A: Allocator + Copy> Chain<A> {
         }
     }
 
-    /// The ticket of the oldest session that agrees with what is asked, which names no id. Looks at no other one.
+    /// Finds the ticket of the oldest session that agrees with what is asked, which names no id. Looks at no other
+    /// session.
     pub(crate) fn oldest(&self, asked: AskedRef<'_>) -> Option<u64>
         ensures agrees { IsSound self.now → (shown_asked asked.entry).id ≡ None
             → IsOneOf (agrees (shown_asked asked.entry)) (session_at self.now) result }
@@ -229,7 +230,7 @@ impl<A: Allocator + Copy> Chain<A> {
         }
     }
 
-    /// The session of a ticket, where it lies.
+    /// Returns the session of a ticket, where it lies.
     pub(crate) fn session(&self, ticket: u64) -> Option<SessionRef<'_>>
         ensures { option_map shown_session result ≡ session_at self.now ticket }
     {
@@ -239,7 +240,7 @@ impl<A: Allocator + Copy> Chain<A> {
         }
     }
 
-    /// The session of a ticket, where there is one.
+    /// Returns the session of a ticket, where there is one.
     pub(crate) fn parts_of(&self, ticket: u64) -> Option<SessionParts<'_>>
         ensures { option_map shown_parts result ≡ session_at self.now ticket }
     {

@@ -26,7 +26,7 @@ pub(crate) struct Ends {
 /// The ends of each group, by its row. Peers pick what stands in a row, so the hash is keyed.
 pub(crate) type GroupEnds<A> = IndexMap<KeptRow<A>, Ends, HashKey, A>;
 
-/// The newest number of a group, which may have none yet.
+/// Returns the newest number of a group, which may have none yet.
 pub(crate) fn newest_of(ends: Option<Ends>) -> Option<u64>
     ensures { result ≡ newest_of ends }
 {
@@ -36,7 +36,7 @@ pub(crate) fn newest_of(ends: Option<Ends>) -> Option<u64>
     }
 }
 
-/// The ends of a group, which may have none yet, with a number behind all that it has.
+/// Returns the ends of a group, which may have none yet, with a number behind all that it has.
 pub(crate) fn ends_behind(ends: Option<Ends>, number: u64) -> Ends
     ensures { result ≡ ends_behind number ends }
 {
@@ -54,7 +54,7 @@ pub(crate) fn ends_behind(ends: Option<Ends>, number: u64) -> Ends
     }
 }
 
-/// The ends of a group once a number with these neighbours went; none where it was the only one.
+/// Returns the ends of a group once a number with these neighbours went. Returns `None` where it was the only one.
 pub(crate) fn ends_left(ends: Ends, beside: Beside) -> Option<Ends>
     ensures { result ≡ ends_left beside ends }
 {
@@ -71,7 +71,8 @@ pub(crate) fn ends_left(ends: Ends, beside: Beside) -> Option<Ends>
     })
 }
 
-/// Of the ends that were the best so far, and others: those of the group that has more, or as many and the older one.
+/// Returns the better of the ends that were the best so far, and others: those of the group that has more, or as many
+/// and the older one.
 pub(crate) fn larger(best: Option<Ends>, ends: Ends) -> Ends
     ensures { result ≡ larger best ends }
 {
@@ -82,7 +83,7 @@ pub(crate) fn larger(best: Option<Ends>, ends: Ends) -> Ends
     }
 }
 
-/// The ends of a group.
+/// Returns the ends of a group.
 pub(crate) fn ends_of<A: Allocator + Copy>(map: &GroupEnds<A>, row: &[u8]) -> Option<Ends>
     ensures { result ≡ ends_at map.now row.now }
 {
@@ -99,7 +100,7 @@ pub(crate) fn count_in<A: Allocator + Copy>(map: &GroupEnds<A>, row: &[u8]) -> u
     }
 }
 
-/// The oldest number of a group.
+/// Returns the oldest number of a group.
 pub(crate) fn oldest_in<A: Allocator + Copy>(map: &GroupEnds<A>, row: &[u8]) -> Option<u64>
     ensures { result ≡ option_map (λ (e : Ends). e.oldest) (ends_at map.now row.now) }
 {
@@ -109,8 +110,8 @@ pub(crate) fn oldest_in<A: Allocator + Copy>(map: &GroupEnds<A>, row: &[u8]) -> 
     }
 }
 
-/// The oldest number of the group that has most; of several that have most, the oldest of all theirs. Looks at each
-/// group once.
+/// Finds the oldest number of the group that has most. Where several groups have most, it is the oldest of all
+/// theirs. Looks at each group once.
 pub(crate) fn oldest_of_largest<A: Allocator + Copy>(map: &GroupEnds<A>) -> Option<u64>
     ensures { (beside : ℕ → Option Beside)
         → IsLargest (record { ends = ends_at map.now; beside = beside }) result }
@@ -165,7 +166,7 @@ fn forget<A: Allocator + Copy>(map: &mut GroupEnds<A>, row: &[u8])
     map.swap_remove(SoughtRow { octets: row });
 }
 
-/// The ends of a group are these from now on, or it has none any more.
+/// Gives a group these ends from now on, or none any more.
 pub(crate) fn set<A: Allocator + Copy>(map: &mut GroupEnds<A>, row: &[u8], ends: Option<Ends>)
     ensures puts { IsSome (ends_at map.old row.now)
         → PutsRow (ends_at map.old) (ends_at map.new) row.now ends }

@@ -83,7 +83,7 @@ impl<A: Allocator + Copy> Groups<A> {
 }
 
 impl<A: Allocator + Copy> Facets<A> {
-    /// No sessions. Takes no memory.
+    /// Makes the groups without sessions. Takes no memory.
     pub(crate) fn new(alloc: A, key: HashKey) -> Facets<A>
         ensures { (F : ℕ → Option Session) → ((t : ℕ) → F t ≡ None) → AreFaceted F result }
     {
@@ -226,7 +226,7 @@ impl<A: Allocator + Copy> Facets<A> {
             .leave(ticket, session.narrowed(mask(true, true, true, false)));
     }
 
-    /// The ends of the groups in which sessions are found by the names that are asked for.
+    /// Returns the ends of the groups in which sessions are found by the names that are asked for.
     fn ends_for(&self, asked: AskedRef<'_>) -> &GroupEnds<A>
         ensures { ends_at result.now ≡ facet_of (shown_asked asked.entry) self.now }
     {
@@ -251,7 +251,7 @@ impl<A: Allocator + Copy> Facets<A> {
         count_in(self.ends_for(asked), Row::of(asked).as_slice())
     }
 
-    /// The ticket of the oldest session that agrees with what is asked, which names no id.
+    /// Finds the ticket of the oldest session that agrees with what is asked, which names no id.
     pub(crate) fn oldest(&self, asked: AskedRef<'_>) -> Option<u64>
         ensures agrees { (F : ℕ → Option Session) → AreFaceted F self.now
             → is_some (shown_asked asked.entry).id ≡ false
@@ -263,8 +263,8 @@ impl<A: Allocator + Copy> Facets<A> {
         oldest_in(self.ends_for(asked), Row::of(asked).as_slice())
     }
 
-    /// The ticket of the oldest session of the peer that has most; of several that have most, of the oldest of
-    /// all theirs.
+    /// Finds the ticket of the oldest session of the peer that has most. Where several peers have most, it is the
+    /// oldest of all theirs.
     pub(crate) fn oldest_of_most(&self) -> Option<u64>
         ensures { IsLargest (linked facet.Peer self.now.by_peer self.now.links) result }
     {

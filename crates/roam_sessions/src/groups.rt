@@ -28,7 +28,7 @@ impl<A: Allocator> Drop for Groups<A> {
 }
 
 impl<A: Allocator + Copy> Groups<A> {
-    /// No numbers. Takes no memory.
+    /// Makes groups without numbers. Takes no memory.
     pub(crate) fn new(alloc: A, key: HashKey) -> Groups<A>
         ensures { (f : ℕ → Option (List ℕ)) → ((t : ℕ) → f t ≡ None)
             → IsGrouped f (groups_of result) }

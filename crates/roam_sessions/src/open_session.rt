@@ -72,7 +72,7 @@ fn behind(octets: &[u8], size: Option<u8>) -> &[u8]
 }
 
 impl<A: Allocator + Copy> OpenSession<A> {
-    /// A copy of a session.
+    /// Makes a copy of a session.
     pub(crate) fn copy_of(alloc: A, session: SessionRef<'_>) -> Result<OpenSession<A>, NoMemory>
         ensures { IfOk result (λ kept. kept_session kept ≡ shown_session session.entry) }
     {
@@ -97,7 +97,7 @@ impl<A: Allocator + Copy> OpenSession<A> {
 }
 
 impl<A: Allocator> OpenSession<A> {
-    /// The session where it lies.
+    /// Returns the session where it lies.
     pub(crate) fn lend(&self) -> SessionRef<'_>
         ensures { shown_session result ≡ kept_session self.now }
     {
@@ -129,7 +129,7 @@ pub(crate) struct NewSession<A: Allocator> {
 }
 
 impl<A: Allocator + Copy> NewSession<A> {
-    /// A copy of a session, with its rows.
+    /// Makes a copy of a session, with its rows.
     pub(crate) fn copy_of(alloc: A, session: SessionRef<'_>) -> Result<NewSession<A>, NoMemory>
         ensures { IfOk result (λ new. kept_session new.session ≡ shown_session session.entry) }
     {

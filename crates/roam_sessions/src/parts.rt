@@ -25,7 +25,7 @@ pub struct SessionParts<'a> {
     pub id: &'a [u8],
 }
 
-/// Octets that an attribute has room for.
+/// Returns octets, where an attribute has room for them.
 fn short(octets: &[u8]) -> Option<Short<'_>>
     ensures some { IfSome result (λ s. shown_short s ≡ octets.entry.now) }
     ensures none { IfNone result (length octets.now ≤ 253 → ⊥) }
@@ -37,7 +37,7 @@ fn short(octets: &[u8]) -> Option<Short<'_>>
     }
 }
 
-/// The same, where there are any: none where an attribute has no room for them.
+/// Returns octets, where there are any. Returns `None` where there are some and an attribute has no room for them.
 fn short_if_any(octets: Option<&[u8]>) -> Option<Option<Short<'_>>>
     ensures some { IfSome result (λ s. option_map shown_short s ≡ option_map shown_octets octets.entry) }
     ensures none { IfNone result (IsShortIfAny (option_map shown_octets octets.entry) → ⊥) }
@@ -51,7 +51,7 @@ fn short_if_any(octets: Option<&[u8]>) -> Option<Option<Short<'_>>>
     }
 }
 
-/// A session of these parts, if an attribute has room for each of them.
+/// Makes a session of these parts, if an attribute has room for each of them.
 fn session_of(parts: SessionParts<'_>) -> Option<SessionRef<'_>>
     ensures some { IfSome result (λ s. shown_session s ≡ shown_parts parts.entry) }
     ensures none { IfNone result (AreShort (shown_parts parts.entry) → ⊥) }
@@ -71,7 +71,7 @@ fn session_of(parts: SessionParts<'_>) -> Option<SessionRef<'_>>
     })
 }
 
-/// Octets where they lie, where there are any.
+/// Returns octets where they lie, where there are any.
 fn lent<'a>(part: Option<Short<'a>>) -> Option<&'a [u8]>
     ensures { option_map shown_octets result ≡ option_map shown_short part.entry }
 {
@@ -82,7 +82,7 @@ fn lent<'a>(part: Option<Short<'a>>) -> Option<&'a [u8]>
 }
 
 impl<A: Allocator> OpenSession<A> {
-    /// Its parts, where they lie.
+    /// Returns the session's parts, where they lie.
     pub(crate) fn parts(&self) -> SessionParts<'_>
         ensures { shown_parts result ≡ kept_session self.now }
     {
@@ -121,7 +121,7 @@ impl<A: Allocator + Copy> Sessions<A> {
         self.table.add_tickets(tickets)
     }
 
-    /// The session of a ticket, where that is still open. Takes no memory.
+    /// Returns the session of a ticket, where that is still open. Takes no memory.
     pub fn parts_of(&self, ticket: u64) -> Option<SessionParts<'_>>
         ensures { IfSome result (λ parts. has_session (shown_parts parts) self.now.sessions ≡ true) }
     {

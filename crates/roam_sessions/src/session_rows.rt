@@ -36,7 +36,7 @@ pub(crate) fn mask(address: bool, identifier: bool, ipv6: bool, id: bool) -> Mas
     }
 }
 
-/// The row of what is asked, if anything is.
+/// Makes the row of what is asked, if anything is.
 fn row_if_any<A: Allocator>(
     alloc: A,
     asked: Option<AskedRef<'_>>,
@@ -49,7 +49,7 @@ fn row_if_any<A: Allocator>(
     }
 }
 
-/// The row of some of a session's parts, where it has them.
+/// Makes the row of some of a session's parts, where it has them.
 fn row_under<A: Allocator>(
     alloc: A,
     session: SessionRef<'_>,
@@ -63,7 +63,7 @@ fn row_under<A: Allocator>(
     }
 }
 
-/// The rows of a session.
+/// Makes the rows of a session.
 pub(crate) fn facet_rows<A: Allocator + Copy>(
     alloc: A,
     session: SessionRef<'_>,

@@ -7,7 +7,7 @@ ghost use Rattle.roam_sessions.specs.Short.{shown_short, short_octets};
 use crate::short::{Short, ShortArray};
 use roam_wire::View;
 
-/// The Value of a packet's first attribute of a Type, if there is one.
+/// Returns the Value of a packet's first attribute of a Type, if there is one.
 pub(crate) fn first_short<'a>(request: &View<'a>, kind: u8) -> Option<Short<'a>>
     ensures { option_map shown_short result ≡ first_value kind request.now.attributes }
 {
@@ -20,7 +20,7 @@ pub(crate) fn first_short<'a>(request: &View<'a>, kind: u8) -> Option<Short<'a>>
 }
 
 impl ShortArray {
-    /// A copy. Takes no memory.
+    /// Makes a copy. Takes no memory.
     pub(crate) fn copy_of(short: Short<'_>) -> ShortArray
         ensures { short_octets result ≡ shown_short short.entry }
     {
