@@ -14,10 +14,11 @@ HEAD = """<!-- Made by tools/pages.py from the edits of mistakes/NAME: change th
 
 # Mistakes that the prover refuses
 
-Each is an edit of one function of the code, in no contract, definition or proof: a file of `mistakes/NAME`. They stand here by their crate,
-each as the function and the mistake: {count}. In bold type are the {chosen} of which the gate tries a third in each run, in functions that
-call little (they have a line `only: FUNCTION`); `mistakes/try.py --gate --all` tries these all, and `mistakes/try.py NAME` all of a crate.
-So whoever asks whether a mistake could be made unseen finds here what was tried; `rt plant` lists more, made by rule.
+These {count} edits show that the contracts catch mistakes: each changes one function of the code, and no contract, definition or proof, and the
+prover has to refuse it. A file of `mistakes/NAME` has one edit for the crate `NAME`; its name is the function and the mistake.
+
+`mistakes/try.py NAME` tries all of a crate. The gate tries a third of the {chosen} in bold type in each run, in functions that call little (they
+have a line `only: FUNCTION`); `mistakes/try.py --gate --all` tries all of these. `rt plant` makes more mistakes, by rule.
 """
 # Up to this crate each has a mistake that the gate can choose, but those whose mistakes weren't yet tried by their function alone.
 LAST = "roam_serve"

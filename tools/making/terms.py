@@ -24,6 +24,18 @@ TIES = [
     (("roam_reply", "ReplyCheck", "reply_fault"), ("roam_reply", "ReplyCheck", "TakenHasNoFault")),
 ]
 
+# Functions that stand under one comment in their file, and each one's own on a page.
+OWN_WORDS = {
+    ("roam_exchange", "packets_of"): "the packets of a turn",
+    ("roam_exchange", "refusal_of"): "why a turn sends nothing",
+    ("roam_exchange", "state_after"): "the state after a turn, from the one before it",
+    ("roam_core", "packets_in_turn"): "the packets of a broker's turn",
+    ("roam_core", "refusal_given"): "why a broker's turn sends nothing",
+    ("roam_core", "states_after"): "the states after a broker's turn, from those before it",
+    ("roam_core", "fresh_starts"): "where the realms of a fresh broker begin",
+    ("roam_core", "fresh"): "the states of a fresh broker's realms",
+}
+
 # Values for a place that isn't there, in functions that have to answer something: no premise reaches them.
 FILLERS = {"no_realm", "nowhere", "first_start", "no_state", "no_entry"}
 
@@ -108,7 +120,8 @@ class SpecFile:
             while at < len(lines) and lines[at] and not HEAD.match(lines[at]) and not lines[at].startswith("--"):
                 text.append(lines[at])
                 at += 1
-            one = Definition(crate, path, name, comment, text)
+            own = OWN_WORDS.get((crate, name))
+            one = Definition(crate, path, name, [f"-- {own}"] if own else comment, text)
             comment = []
             self.definitions[name] = one
             if head.group(1) == "data":
