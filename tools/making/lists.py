@@ -57,7 +57,7 @@ def in_mdoc(text: str) -> str:
             part = "\\&" + part
         if part:
             # A sentence begins a line.
-            for sentence in re.sub(r"([a-z0-9)]\.) (?=[A-Za-z0-9])", "\\1\n", part).split("\n"):
+            for sentence in re.sub(r"([A-Za-z0-9)]\.) (?=[A-Za-z0-9])", "\\1\n", part).split("\n"):
                 lines += textwrap.wrap(sentence, 78, break_on_hyphens=False)
     return "\n".join(lines)
 
