@@ -75,7 +75,7 @@ def labelled(expression: str) -> str:
 
 
 def places() -> list[tuple[int, int, int, int]]:
-    """Where each panel stands: from the left to the right, row under row."""
+    """Returns where each panel stands: from the left to the right, row under row."""
     found, x, y, high = [], 0, 0, 0
     for _, _, _, wide, height, _ in PANELS:
         if x + wide > 24:
@@ -156,7 +156,7 @@ def lacking(what: dict, wanted: dict, where: str) -> list[str]:
 
 
 def metrics_known() -> set[str]:
-    """The names of all metrics that the sources have."""
+    """Returns the names of all metrics that the sources have."""
     sources = (ROOT / "crates" / "roam_metrics" / "src").glob("*.rt")
     text = "\n".join(source.read_text(encoding="utf-8") for source in sources)
     names = set(re.findall(r'"((?:roam|process)_[a-z_]+)"', text))

@@ -21,7 +21,7 @@ def source(name: str) -> str:
 
 
 def row(name: str, label: str, values: list[str], told: str) -> str:
-    """A row of a table. Of a few values each stands there, of codes and numbers none."""
+    """Returns a row of a table. Of a few values each stands there, of codes and numbers none."""
     said = f"`{label}`" + (": " + ", ".join(f"`{it}`" for it in values) if 0 < len(values) < 6 else "") if label else ""
     return f"| `{name}` | {said} | {told} |".replace("|  |", "| |")
 
@@ -73,7 +73,7 @@ def written() -> str:
 
 
 def faults() -> list[str]:
-    """What is wrong."""
+    """Returns what is wrong."""
     page = written()
     told = {it.replace("_WHO_", who) for it in re.findall(r"`(\w+)`", page) for who in ("_realm_", "_server_", "_peer_")}
     names = {it for path in SOURCES.glob("*.rt") for it in re.findall(r'"((?:roam|process)_\w+)"', path.read_text(encoding="utf-8"))}

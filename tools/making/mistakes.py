@@ -26,7 +26,7 @@ UNTRIED = {f"roam_{it}" for it in ("attendant", "kits", "run", "serve", "threads
 
 
 def crates() -> list[str]:
-    """The crates in their order."""
+    """Returns the crates in their order."""
     return re.findall(r"^(\w+):", (ROOT / "crates.txt").read_text(encoding="utf-8"), re.M)
 
 
@@ -41,7 +41,7 @@ def kept() -> dict[str, list[tuple[str, str, bool, pathlib.Path]]]:
 
 
 def is_edit(crate: str, path: pathlib.Path) -> bool:
-    """Whether each text that an edit changes is in its file, once."""
+    """Says whether each text that an edit changes is in its file, once."""
     text = path.read_text(encoding="utf-8")
     file = re.search(r"^file: (.*)$", text, re.M)
     olds = re.findall(r"(?:^old:.*\n)+", text, re.M)
@@ -53,12 +53,12 @@ def is_edit(crate: str, path: pathlib.Path) -> bool:
 
 
 def has_function(crate: str, function: str) -> bool:
-    """Whether a crate has a function of this name."""
+    """Says whether a crate has a function of this name."""
     return any(re.search(rf"\bfn {function}\b", path.read_text(encoding="utf-8")) for path in (ROOT / "crates" / crate / "src").rglob("*.rt"))
 
 
 def made() -> dict[pathlib.Path, str]:
-    """The page."""
+    """Returns the page."""
     mistakes = kept()
     every = [it for of in mistakes.values() for it in of]
     lines = [HEAD.format(count=len(every), chosen=sum(it[2] for it in every))]
@@ -71,7 +71,7 @@ def made() -> dict[pathlib.Path, str]:
 
 
 def faults() -> list[str]:
-    """What is wrong."""
+    """Returns what is wrong."""
     mistakes, names, said = kept(), crates(), []
     for crate, of in mistakes.items():
         said += [f"mistakes/{crate}: there is no such crate"] if crate not in names else []

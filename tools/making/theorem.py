@@ -63,7 +63,7 @@ say "ours". Left out are values for a place that isn't there ({fillers}).
 
 @functools.cache
 def book():
-    """All chapters: the three of this page, and those of the definitions that these leave closed."""
+    """Returns all chapters: the three of this page, and those of the definitions that these leave closed."""
     sources, lines = Sources(), lines_of(*RUN)
     read = Book(sources)
 
@@ -158,7 +158,7 @@ def print_bridge(page, lines):
 
 
 def written():
-    """The page."""
+    """Returns the page."""
     lines, chapters = lines_of(*RUN), book().chapters[:3]
     rows = "\n".join("| %d. %s | %d | %d |" % (number, it.title, it.definitions(), it.words()) for number, it in enumerate(chapters, 1))
     page = [INTRODUCTION.format(rows=rows, fillers=", ".join("`%s`" % it for it in sorted(FILLERS)))]
