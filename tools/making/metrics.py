@@ -18,7 +18,8 @@ turn them on, and which of them add up.
 """
 
 ABOUT_WHO = """
-Only those that aren't 0 are there, each with the label `realm`, or `realm` and `server` (the home server's `auth`), or `peer`.
+Only those that aren't 0 are there, each with the label `realm`, or `realm` and `server` (the home server's `auth`,
+or `acct` if it has no `auth`), or `peer`.
 """
 
 
