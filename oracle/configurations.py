@@ -577,6 +577,25 @@ RANDOM = {
         realm("b", servers(3), wait=8, hold=30, tries=2, max_pending=9, max_sessions=1, rest=25, rest_after=2, balance="user",
               share=4, request_without=["31"]),
         peers=(NAS1, N2, HOME1), seed="4b" * 32, max_attributes=8, status_server=True),
+    "every-key": with_own(configuration(
+        with_places(realm("a", [of_access(1), MIXED, of_accounting(3, "b3"), of_access(5), of_accounting(4, require_seal=True),
+                                client("198.51.100.9", "pc"), client("198.51.100.3", "zz")],
+                          wait=10, hold=80, tries=1, max_pending=12, max_sessions=4, rest=40, rest_after=2, also=["*.a", "*"],
+                          balance="user", conversations=True, own_names=True, own_sessions=True, peer_share=7, share=5,
+                          reply_without=["6", "26.9"]),
+                    out=["127.0.0.1:2000", "[::1]:2000", "127.0.0.1:2001"], reverse=["127.0.0.1:3000", "127.0.0.3:3000"]),
+        with_places(realm("b", [server("198.51.100.1", "h1", require_seal=True), of_accounting(3), *servers(2)[1:]], wait=8, hold=30,
+                          tries=2, max_pending=9, max_sessions=3, rest=25, also=["*.b"], balance="user", own_sessions=True,
+                          loop_prevention=True, request_without=["30"], peers_of="nas1 n2 home1"),
+                    out=["127.0.0.1:2005", "127.0.0.2:2005"]),
+        peers=(at_addresses(NAS1, "192.0.2.0/29", "192.0.2.9", "2001:db8::/126")
+               + stated(nas_ids=["wlc-*"], operator_name="Inst.example", ask_cui=True),
+               at_addresses(N2_COA, "192.0.2.2", "192.0.2.8/30", "2001:db8::2", "10.0.0.0/8")
+               + stated(nas_ids=["wlc-7", "ap*"], operator_name="INST:ex", operator_namespace="4", limit_proxy_state=True,
+                        request_without=["126"]),
+               at_addresses(HOME1, "10.0.0.0/30", "198.51.100.1", "192.0.2.4/31") + stated(operator_name="inst:EX", operator_namespace="0")),
+        seed="e5" * 32, shards=2, fresh=10, max_attributes=12, max_hops=6, status_server=True, answer_unnamed=True, well_formed=True,
+        reject=["*.t"]), auth=["127.0.0.1:1812", "[::1]:1812"], acct=["127.0.0.1:1813", "127.0.0.1:1646"]),
     "balanced-realms-in-two-shards": configuration(
         realm("a", servers(3), wait=10, hold=100, tries=1, max_pending=9, rest=40, rest_after=1, conversations=True, own_names=True,
               balance="user", also=["*.x"]),

@@ -362,9 +362,10 @@ class Conversion:
         whole = [it for it in items if not it.startswith("*")]
         name = whole[0] if whole else "default.invalid" if "*" in items else f"under.{items[0][2:]}.invalid"
         also, pool = [it for it in items if it != name], self.pools[section.get("auth_pool") or section.get("pool")]
-        if (pool.get("type") or "fail-over").lower() != "fail-over":
-            out.change(f"realm {section.name}: its pool is of type {pool.get('type')}; roam asks its servers in order, and the next one where one is silent"
-                       + ("; a login stays at the server that it began at (conversations)" if len(homes) > 1 else ""))
+        balances = (pool.get("type") or "fail-over").lower() != "fail-over" and len(homes) > 1
+        if balances:
+            out.change(f"realm {section.name}: its pool is of type {pool.get('type')}; here a hash of the station, or of the user, says with which server"
+                       " a request begins (balance), and a login stays at the server that it began at (conversations)")
         self.lose_settings(pool, ())
         if not any(key == "nostrip" for key, _ in section.settings):
             out.change(f"realm {section.name}: FreeRADIUS strips the realm of its names; roam never does")
@@ -389,7 +390,7 @@ class Conversion:
             out.put('accounting = "answer"')
         self.write_numbers(homes[0], "*" in items)
         # EAP needs all rounds at one server, and nobody's session may be ended but the realm's own.
-        out.put(*(["conversations = true"] if len(homes) > 1 else []), *(["own_sessions = true"] if partners and (coa or self.options.reverse) else []))
+        out.put(*(['balance = "user"'] if balances else []), *(["conversations = true"] if len(homes) > 1 else []), *(["own_sessions = true"] if partners and (coa or self.options.reverse) else []))
         self.write_servers(section, homes, partners)
 
     def free_port(self, address, port):

@@ -314,7 +314,7 @@ def keeps_the_rules(conf):
         want(re.fullmatch(r"[A-Za-z0-9._-]{1,64}", peer["name"]) and 1 <= len(peer["secret"].encode()) <= 64)
     names, endpoints = [], [*all_of(conf, "auth"), *all_of(conf, "acct")]
     for realm in conf["realm"]:
-        want(set(realm) <= {"name", "also", "out", "reverse", "tries", "wait", "rest", "rest_after", "hold", "max_pending", "accounting",
+        want(set(realm) <= {"name", "also", "out", "reverse", "tries", "wait", "rest", "rest_after", "balance", "hold", "max_pending", "accounting",
                               "loop_prevention", "request_without", "reply_without", "conversations", "own_sessions", "server"})
         want(realm.get("conversations", False) == (sum("auth" in server for server in realm["server"]) > 1))
         want(realm.get("own_sessions", False) == ("reverse" in realm and "accounting" not in realm))

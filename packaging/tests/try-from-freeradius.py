@@ -310,6 +310,7 @@ def main():
     want(x["accounting"] == every["accounting"] == "answer" and every["also"] == ["*"] and every["rest_after"] == 50)
     want(conf["reject"] == ["here.example"] and conf["log_exchanges"] == "none" and "status_server" not in conf)
     want(conf["log_station"] == "hmac" and "18120" not in str(conf["auth"]))
+    want([it["name"] for it in conf["realm"] if it.get("balance")] == ["b.example"] and b["balance"] == "user")
     want(b["conversations"] and "conversations" not in a and a["own_sessions"] and "own_sessions" not in x and conf["max_attributes"] == 150)
     print(f"{agree(converter.realms_in_roam(conf))} names mean the same realm")
     over_tls(roam)
