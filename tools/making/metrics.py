@@ -12,12 +12,8 @@ PAGE = ROOT / "docs" / "FILES.md"
 BEGIN, END = "<!-- metrics: made by tools/pages.py -->\n", "<!-- metrics: end -->\n"
 TEXT = r'"([^"]*)"'
 ABOUT_WHO = """
-<<<<<<< HEAD
-Only those above 0 are there, each with the label `realm`, or `realm` and `server` (the home server's `auth`), or `peer`.
-=======
-Only those that aren't 0 are there, each with the label `realm`, or `realm` and `server` (the home server's `auth`,
+Only those above 0 are there, each with the label `realm`, or `realm` and `server` (the home server's `auth`,
 or `acct` if it has no `auth`), or `peer`.
->>>>>>> 222ad5c4681d5d3d93e9c7c424081225389a4e80
 """
 
 
