@@ -287,7 +287,8 @@ target_at l i = record { link = l; id = i }
 pub record IsSent {A : Type 0} (c : RealmConfig) (now : ℕ) (es : List PlainEntry) (q : PlainRequest)
     (t : ℕ) (l : Link) (old new : RealmNumbers A) (o : Out A) (w : Waiting A) : Type 0 where
   pub next : next_toward c (cursors_of old.lanes.items) es l ≡ Some w.id
-  pub out : shown_out o ≡ packet_to_link c l (forwarded_octets c q old.stream_position t (target_at l w.id))
+  pub out : shown_out o
+      ≡ packet_to_link c l (forwarded_octets c q old.stream_position t (target_at l w.id))
   pub standing : shown_standing (standing.Waiting w)
       ≡ (forwarded_entry c now (signs_of c old.rests.items l) q old.stream_position t (target_at l w.id)).standing
   pub waits : IsWaiting c q l w.id w.forwarded
