@@ -296,6 +296,9 @@ TOLD = [
     ('server"\nrequire_seal = true\n',
      'server"\nrequire_seal = false\n',
      "a.conf:29: advice: realm \"a.example\", server 1: require_seal: isn't true: an Access-Accept without a Message-Authenticator, which can be forged, is taken\n"),
+    # Nothing is asked of one that takes accounting alone.
+    ('server"\nrequire_seal = true\n',
+     'server"\nrequire_seal = true\n\n[[realm.server]]\nacct = "198.51.100.2:1813"\nsecret = "the secret of the second server"\n', ""),
     ("hold = 5000", "hold = 30000", ""),
     ("hold = 5000", "hold = 30001", 'a.conf:21: advice: realm "a.example": hold: is over 30000: RFC 5080 says 5 to 30 seconds\n'),
     ("max_pending = 300",
