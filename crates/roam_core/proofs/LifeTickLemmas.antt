@@ -87,8 +87,7 @@ module _ (b : Stage) (before : List Happening) (at : Stage) (is_at : stage_then 
   }
 
   -- what the tick sends for it, to another target
-  abbrev over-forwarded :
-      (e : PlainEntry) (position : ℕ) (target : Target) (known : IsKnown e)
+  abbrev over-forwarded : (e : PlainEntry) (position : ℕ) (target : Target) (known : IsKnown e)
       → ForwardsIn b c e.request position e.ticket target before (tick_came now)
       → IsForwardedIn b life c known.came e.request position e.ticket target
   over-forwarded e position target known forwards = record {

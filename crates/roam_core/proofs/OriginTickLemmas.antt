@@ -44,8 +44,7 @@ module _ (c : RealmConfig) (start : Start) (before : List RealmEvent) (now : ℕ
     pub entries : AllByRecursion IsKnown p.state.entries
 
   -- what the tick does for a held entry
-  at-tick :
-      (e : PlainEntry) (known : IsKnown e) (Does : List RealmEvent → RealmEvent → Type 0)
+  at-tick : (e : PlainEntry) (known : IsKnown e) (Does : List RealmEvent → RealmEvent → Type 0)
       → Does before (tick_came now)
       → AtLaterTick c start known.request.first known.request.asked_at known.request.named e.request
       (known.request.rest ++ tick_came now ∷ []) e.ticket Does
@@ -61,8 +60,7 @@ module _ (c : RealmConfig) (start : Start) (before : List RealmEvent) (now : ℕ
       }
 
   -- what the tick sends for it, to another target
-  over-forwarded :
-      (e : PlainEntry) (position : ℕ) (target : Target) → IsKnown e
+  over-forwarded : (e : PlainEntry) (position : ℕ) (target : Target) → IsKnown e
       → Forwards c start e.request position e.ticket target before (tick_came now)
       → IsForwarded c start (before ++ tick_came now ∷ []) e.request position e.ticket target
   over-forwarded e position target known forwards =
@@ -87,8 +85,7 @@ module _ (c : RealmConfig) (start : Start) (before : List RealmEvent) (now : ℕ
     given_up = at-tick e known (λ bs x. IsSentBy c start bs x (nak_out e)) sent;
   })
 
-  once_refused-keeps :
-      (s : RealmState) (e : PlainEntry)
+  once_refused-keeps : (s : RealmState) (e : PlainEntry)
       → AllByRecursion IsKnown s.entries → IsKnown e → is_reverse e.request ≡ true
       → IsSentBy c start before (tick_came now) (nak_out e)
       → AllByRecursion IsKnown

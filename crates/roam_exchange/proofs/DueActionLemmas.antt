@@ -48,8 +48,7 @@ pub record IsSameBut {A : Type 0} (old new : RealmNumbers A) : Type 0 where
   pub sessions : new.sessions ≡ old.sessions
   pub marks : marks_of new.lanes.items ≡ marks_of old.lanes.items
 
-sound-drawn :
-    {A : Type 0} (c : RealmConfig) (es fs : List PlainEntry) (n m : RealmNumbers A) → IsSound c es n
+sound-drawn : {A : Type 0} (c : RealmConfig) (es fs : List PlainEntry) (n m : RealmNumbers A) → IsSound c es n
     → length m.lanes.items ≡ length n.lanes.items → m.ticket ≡ n.ticket
     → m.stream_position < 2 ^ 68 → m.sessions ≡ n.sessions
     → marks_of m.lanes.items ≡ marks_of n.lanes.items
@@ -64,8 +63,7 @@ sound-drawn c es fs n m sound count ticket position sessions marks each tells = 
   ledger = ap (λ (l : Ledger). l.limit) sessions ∙ sound.ledger;
 }
 
-pub sound-changed :
-    {A : Type 0} (c : RealmConfig) (es fs : List PlainEntry) (n m : RealmNumbers A) → IsSound c es n
+pub sound-changed : {A : Type 0} (c : RealmConfig) (es fs : List PlainEntry) (n m : RealmNumbers A) → IsSound c es n
     → IsSameBut n m → AllByRecursion (IsEntry c n.ticket) fs → LanesTell c fs m.lanes.items
     → IsSound c fs m
 sound-changed c es fs n m sound same each tells =
@@ -287,8 +285,7 @@ target_at l i = record { link = l; id = i }
 pub record IsSent {A : Type 0} (c : RealmConfig) (now : ℕ) (es : List PlainEntry) (q : PlainRequest)
     (t : ℕ) (l : Link) (old new : RealmNumbers A) (o : Out A) (w : Waiting A) : Type 0 where
   pub next : next_toward c (cursors_of old.lanes.items) es l ≡ Some w.id
-  pub out : shown_out o
-      ≡ packet_to_link c l (forwarded_octets c q old.stream_position t (target_at l w.id))
+  pub out : shown_out o ≡ packet_to_link c l (forwarded_octets c q old.stream_position t (target_at l w.id))
   pub standing : shown_standing (standing.Waiting w)
       ≡ (forwarded_entry c now (signs_of c old.rests.items l) q old.stream_position t (target_at l w.id)).standing
   pub waits : IsWaiting c q l w.id w.forwarded

@@ -32,7 +32,8 @@ invariant_of-result c =
     let identifiers = c.in_ok-of_access_servers.field-0 in
     let prefixes = c.in_ok-at.field-0 in
     let stated = c.in-Some.ensures (map shown_prefix prefixes.items) (map string_bytes identifiers.items) request.items
-    reply.items c.in_ok-at.ensures.ok c.in_ok-of_access_servers.ensures.ok c.in_ok-of_requests.ensures.ok c.in_ok-of_replies.ensures.ok in
+    reply.items c.in_ok-at.ensures.ok c.in_ok-of_access_servers.ensures.ok c.in_ok-of_requests.ensures.ok
+    c.in_ok-of_replies.ensures.ok in
     let of_identifiers = is_list_of (text 253 (letters_of Any)) is_nas_text stated_nas_text 1024
     (get_member (codes "nas_ids") members) (map string_bytes identifiers.items) c.in_ok-of_access_servers.ensures.ok in
     let of_requests = is_list_of (removed is_removal_in_requests) is_removal_in_requests
