@@ -232,7 +232,8 @@ impl Config {
         }
     }
 
-    /// Returns the index of the peer that has the longest of all prefixes, of peers that are here, that have the address.
+    /// Returns the index of the peer that has the longest of all prefixes, of peers that are here, that have the
+    /// address.
     pub fn peer_by_ip(&self, ip: Address) -> Option<u16>
         ensures value { result ≡ peer_with_ip (shown self.now).peers ip }
         ensures bound { IfSome result (λ p. p < vec_len self.now.peers) }

@@ -9,8 +9,8 @@ use crate::keys::PeerKey;
 use crate::prefixes::has_same_prefixes;
 use roam_conf::Peer;
 
-/// Returns the first key in which two tables of a peer differ, its `require_seal` and `limit_proxy_state` and the order of its
-/// addresses aside.
+/// Returns the first key in which two tables of a peer differ, its `require_seal` and `limit_proxy_state` and the
+/// order of its addresses aside.
 pub fn peer_difference(old: &Peer, new: &Peer) -> Option<PeerKey>
     ensures none { IfNone result (IsSamePeer (shown_peer old.now) (shown_peer new.now)) }
     ensures some { IfSome result (PeersDiffer (shown_peer old.now) (shown_peer new.now)) }
