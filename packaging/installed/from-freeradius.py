@@ -36,12 +36,12 @@ SEALS = ("require_message_authenticator", "limit_proxy_state")
 
 
 def stated_address(section):
-    """What a section has of the keys of an address, or an empty text."""
+    """Returns what a section has of the keys of an address, or an empty text."""
     return next((section.get(key) for key in ADDRESSES if section.get(key)), "")
 
 
 def is_tls(section):
-    """Whether a client or home server speaks TLS."""
+    """Says whether a client or home server speaks TLS."""
     return (section.get("proto") or "udp").lower() == "tls" or bool(section.own("tls"))
 
 
@@ -109,12 +109,12 @@ class Conversion:
     # The top of the file
 
     def all_listening(self, kinds):
-        """The listen sections of such a type, but for those that haproxy has."""
+        """Returns the listen sections of such a type, but for those that haproxy has."""
         return [it for it in self.root.of("listen")
                 if (it.get("type") or "").lower() in kinds and it not in self.inner and not it.own("tls")]
 
     def listening(self, kinds):
-        """The first of them with its endpoint's parts."""
+        """Returns the first of them with its endpoint's parts."""
         return next(iter(self.all_listening(kinds)), None)
 
     def endpoint_at(self, section, port):
@@ -189,14 +189,14 @@ class Conversion:
             self.lost_tables.append(f"client {section.name}")
 
     def group_of(self, section):
-        """What the clients of one peer have in common: the shortname, the secret and the seals. None for one that stands alone."""
+        """Returns what the clients of one peer have in common: the shortname, the secret and the seals. None for one that stands alone."""
         (secret, fault), short = secret_of(section), section.get("shortname")
         if not short or fault or is_tls(section) or section.get("coa_server") or (section.get("proto") or "udp").lower() not in ("udp", "*"):
             return None
         return short, secret, *(self.said(section, key).lower() for key in SEALS)
 
     def with_those_beside(self, section, network):
-        """The prefix of a client, and those of further clients of its group, which are this peer's too."""
+        """Returns the prefix of a client, and those of further clients of its group, which are this peer's too."""
         networks, group = [network], self.group_of(section)
         for other in self.clients[self.clients.index(section) + 1:] if group else []:
             if len(networks) == PREFIXES:
@@ -215,14 +215,14 @@ class Conversion:
         return networks
 
     def network_of_tls(self, section):
-        """The address that haproxy gives the connections of a client's certificate."""
+        """Returns the address that haproxy gives the connections of a client's certificate."""
         name = peer_name(section.get("shortname") or section.name, set(self.names))
         self.out.change(f"client {section.name}: haproxy has its TLS, and gives its connections this address, from wherever they come (docs/TLS.md):"
                         " write the common name of its certificate into names.map")
         return network_of(self.front.peer(name, []))
 
     def network(self, section, text):
-        """The address or prefix of a client, if requests from there can come to `auth`."""
+        """Returns the address or prefix of a client, if requests from there can come to `auth`."""
         text = f"{text}/{section.get('netmask')}" if section.get("netmask") and "/" not in text else text
         found = None if "/" in text else endpoint_of(text, 1, self.options)
         network = network_of(found[0] if found else text)
@@ -234,18 +234,18 @@ class Conversion:
         return network
 
     def said(self, section, key):
-        """What is said of a client: by itself, or else for all."""
+        """Returns what is said of a client: by itself, or else for all."""
         return section.get(key) or self.security and self.security.get(key) or "no"
 
     def wants(self, section, key):
-        """Whether yes is said of a client."""
+        """Says whether yes is said of a client."""
         said = self.said(section, key)
         if said.lower() == "auto":
             self.out.change(f"client {section.name}: {key} auto: there is no auto, so it isn't required")
         return said.lower() in ("yes", "on", "1")
 
     def coa_of(self, section, network):
-        """Where Disconnects go for a client, with the key and the address that they name it by."""
+        """Returns where Disconnects go for a client, with the key and the address that they name it by."""
         name, is_one = section.get("coa_server"), network.prefixlen == network.max_prefixlen
         coa = self.homes.get(name or "")
         place = coa and endpoint_of(stated_address(coa), int(coa.get("port") or 3799), self.options)
@@ -288,7 +288,7 @@ class Conversion:
         return ([name.lower()], []) if NAME.match(name) else (None, [])
 
     def members(self, section, key):
-        """The home servers of a realm's pool, in order."""
+        """Returns the home servers of a realm's pool, in order."""
         name = section.get(key) or section.get("pool")
         pool = self.pools.get(name or "")
         return [self.homes[it] for it in pool.all("home_server") if it in self.homes] if pool else []
@@ -315,7 +315,7 @@ class Conversion:
         return endpoint_of(stated_address(home), int(home.get("port") or port), self.options)
 
     def fallen(self, items, own=()):
-        """What becomes of names whose own realm isn't there."""
+        """Returns what becomes of names whose own realm isn't there."""
         after = [it for it in self.forwarded if it not in own and any(covers(it, one) for one in items)]
         return f". The realm of {after[0]} takes its names" if after else ""
 
@@ -425,7 +425,7 @@ class Conversion:
                 self.out.lose(f"realm {section.name}: home_server {partner.name}: roam takes {SERVERS}")
 
     def accounting_at(self, partner, taken):
-        """Where a home server takes accounting, if no other one of the realm has that endpoint."""
+        """Returns where a home server takes accounting, if no other one of the realm has that endpoint."""
         place = self.endpoint(partner, 1812) if (partner.get("type") or "").lower() == "auth+acct" else None
         place = (place[0], place[1] + 1) if place else self.endpoint(partner, 1813)
         if place in taken:

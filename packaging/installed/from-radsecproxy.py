@@ -75,7 +75,7 @@ OF_TLS = {"tls", "certificatenamecheck", "matchcertificateattribute", "tcpkeepal
 
 
 def subjects_of(block):
-    """The names of its certificate, where the block says them."""
+    """Returns the names of its certificate, where the block says them."""
     matched = [literal(it.rpartition(":")[2]) for it in block.all("matchcertificateattribute")]
     if matched:
         return [it for it in matched if it]
@@ -174,7 +174,7 @@ class Conversion:
     # What is rewritten
 
     def rewrite_named(self, block, option):
-        """The rewrite block that counts for requests or replies of a client or server, if one does."""
+        """Returns the rewrite block that counts for requests or replies of a client or server, if one does."""
         name = block.get(option) or (block.get("rewrite") if option == "rewritein" else None)
         if name is not None:
             return self.rewrites.get(name)
@@ -182,7 +182,7 @@ class Conversion:
         return next((self.rewrites[it] for it in defaults if it in self.rewrites), None)
 
     def rewriting(self, block, way):
-        """What is rewritten of its requests or replies: none where no block says so."""
+        """Returns what is rewritten of its requests or replies: none where no block says so."""
         is_client = block.kind == "client"
         named = self.rewrite_named(block, "rewritein" if (way == "request") == is_client else "rewriteout")
         return named and rewriting_of(named, way, is_client)
@@ -278,7 +278,7 @@ class Conversion:
             self.front.checks_revoked |= block.is_on("crlcheck")
 
     def networks_of(self, block, hosts):
-        """The prefixes of a client that no client before it has, and whether one before it has any."""
+        """Returns the prefixes of a client that no client before it has, and whether one before it has any."""
         networks, is_known = [], False
         for network in (it for host in hosts for it in [self.network(block, host)] if it):
             text, before = network_text(network), self.first_around(network)
@@ -291,7 +291,7 @@ class Conversion:
         return networks, is_known
 
     def write_peer_at(self, block, networks, secret):
-        """Whether there is a table left for a client at these prefixes, which it then has."""
+        """Says whether there is a table left for a client at these prefixes, which it then has."""
         if self.peers == TABLES:
             texts = ", ".join(network_text(it) for it in networks)
             self.out.lose(f"client {block.name}: {texts}: roam takes {TABLES} peers")
@@ -300,16 +300,16 @@ class Conversion:
         return True
 
     def first_around(self, network):
-        """The first prefix of a client that the network lies in."""
+        """Returns the first prefix of a client that the network lies in."""
         return next((it for it in self.addresses if it.version == network.version and network.subnet_of(it)), None)
 
     def client_at(self, address):
-        """The client of the longest prefix that the address lies in."""
+        """Returns the client of the longest prefix that the address lies in."""
         around = [it for it in self.addresses if ipaddress.ip_address(address) in it]
         return self.addresses[max(around, key=lambda it: it.prefixlen)] if around else None
 
     def network(self, block, host):
-        """The address or prefix of a client, if requests from there can come to `auth`."""
+        """Returns the address or prefix of a client, if requests from there can come to `auth`."""
         found = None if "/" in host else endpoint_of(host, 1, self.options)
         network = network_of(found[0] if found else re.sub(r"[][]", "", host))
         if network is None:
@@ -424,7 +424,7 @@ class Conversion:
             self.lost_tables.append(f"realm {block.name}")
 
     def fallen(self, items):
-        """What becomes of names whose own realm isn't there."""
+        """Returns what becomes of names whose own realm isn't there."""
         after = [item for item in self.forwarding if any(covers(item, one) for one in items)]
         return f". The realm of {after[0]} takes its names" if after else ""
 
@@ -523,7 +523,7 @@ class Conversion:
     # Servers
 
     def server(self, name):
-        """The block, and why it can't be a server of roam, or None."""
+        """Returns the block, and why it can't be a server of roam, or None."""
         block = self.servers.get(name.lower())
         if block is None:
             return Block("server", name), "there is no such server"
@@ -544,12 +544,12 @@ class Conversion:
         return endpoint_of(host, int(block.get("port", "1812")), self.options)
 
     def looping(self, block):
-        """The address of the client of a server's name, which the server has too where nothing is to go back to it."""
+        """Returns the address of the client of a server's name, which the server has too where nothing is to go back to it."""
         on = block.is_on("loopprevention") if block.get("loopprevention") else self.top.is_on("loopprevention")
         return next((str(it.network_address) for it, name in self.addresses.items() if on and name == block.name and str(it).startswith("127.1.")), None)
 
     def pairs(self, block):
-        """The servers of the realm: each with the one for its accounting, if there is one, and behind them those for accounting alone."""
+        """Returns the servers of the realm: each with the one for its accounting, if there is one, and behind them those for accounting alone."""
         accounting, taken = [], set()
         for name in block.all("accountingserver"):
             server, fault = self.server(name)
@@ -580,7 +580,7 @@ class Conversion:
         return pairs
 
     def is_free(self, block, server, place, taken):
-        """Whether an endpoint for accounting is no other one's of the realm: it is from then on."""
+        """Says whether an endpoint for accounting is no other one's of the realm: it is from then on."""
         if place in taken:
             self.out.lose(f"realm {block.name}: accountingserver {server.name}: {written(place)} is an endpoint of this realm already;"
                           " roam wants another for accounting")
@@ -589,7 +589,7 @@ class Conversion:
         return True
 
     def with_accounting(self, block, pairs, accounting):
-        """The same servers with those for accounting: each beside its partner, or behind all of them."""
+        """Returns the same servers with those for accounting: each beside its partner, or behind all of them."""
         paired = []
         for server, _ in pairs:
             partner = self.partner(server, accounting)
@@ -601,12 +601,12 @@ class Conversion:
         return paired + [(None, server) for server in accounting[:SERVERS - len(pairs)]] if pairs else []
 
     def accounting_endpoint(self, server):
-        """Where a server takes accounting: one whose TLS haproxy opens at the usual port."""
+        """Returns where a server takes accounting: one whose TLS haproxy opens at the usual port."""
         place = self.endpoint(server)
         return (place[0], 1813) if self.front.has(place[0]) else place
 
     def partner(self, server, accounting):
-        """The first of the same address and secret, or else of the same secret."""
+        """Returns the first of the same address and secret, or else of the same secret."""
         same = [one for one in accounting if secret_of(one) == secret_of(server)]
         near = [one for one in same if self.endpoint(one)[0] == self.endpoint(server)[0]]
         return (near or same or [None])[0]

@@ -65,8 +65,8 @@ TOLD = [
     ('auth = "198.51.100.1:1812"\n', "",
      'Missing\na.conf:25: realm "a.example": server: auth is missing in each of the realm\'s servers: one must have it\n'),
     ('auth = "198.51.100.1:1812"\nacct = "198.51.100.1:1813"\n', "",
-     'Missing\na.conf:15: realm "a.example": server: auth is missing in each of the realm\'s servers: one must have it\n'
-     'a.conf:15: realm "a.example": server: acct is missing in each of the realm\'s servers: one must have it\n'
+     'Missing\na.conf:25: realm "a.example": server: auth is missing in each of the realm\'s servers: one must have it\n'
+     'a.conf:25: realm "a.example": server: acct is missing in each of the realm\'s servers: one must have it\n'
      'a.conf:25: realm "a.example", server 1: auth: is missing, and acct too: a server has one of them, or both\n'),
     ("[[realm.server]]",
      '[[realm.coa_client]]\nip = "198.51.100.9"\n[[realm.server]]',

@@ -99,8 +99,8 @@ fn print_peer_since<W: Write>(writer: &mut W, old: Option<&Peer>, new: &Peer) ->
     }
 }
 
-/// Returns the peer that loses the addresses of a prefix to the peer of this index, as far as the first of them tells: it was
-/// the peer of that one, and is still here.
+/// Returns the peer that loses the addresses of a prefix to the peer of this index, as far as the first of them tells:
+/// it was the peer of that one, and is still here.
 fn loser<'c>(old: &Config, new: &'c Config, index: u16, prefix: Prefix) -> Option<&'c Peer> {
     let first = prefix.network();
     match old.peer_by_ip(first) {
@@ -111,6 +111,28 @@ fn loser<'c>(old: &Config, new: &'c Config, index: u16, prefix: Prefix) -> Optio
             }
         }
         _ => None,
+    }
+}
+
+/// Prints that a peer, where there is one, loses the addresses of a prefix to another.
+fn print_loser<W: Write>(
+    writer: &mut W,
+    other: Option<&Peer>,
+    prefix: Prefix,
+    peer: &Peer,
+) -> io::Result<()>
+    ensures { OnOk result (IsPrinted (W.contents writer.old) (W.contents writer.new)) }
+{
+    match other {
+        Some(other) => {
+            let name = other.name.as_str();
+            let by = peer.name.as_str();
+            writeln!(
+                writer,
+                "peer {name}: loses what came from {prefix}, which is {by}'s"
+            )
+        }
+        None => Ok(()),
     }
 }
 
@@ -125,14 +147,7 @@ fn print_losers<W: Write>(
     ensures { OnOk result (IsPrinted (W.contents writer.old) (W.contents writer.new)) }
 {
     for prefix in peer.ips.as_slice() {
-        if let Some(other) = loser(old, new, index, *prefix) {
-            let name = other.name.as_str();
-            let by = peer.name.as_str();
-            writeln!(
-                writer,
-                "peer {name}: loses what came from {prefix}, which is {by}'s"
-            )?;
-        }
+        print_loser(writer, loser(old, new, index, *prefix), *prefix, peer)?;
     }
     Ok(())
 }

@@ -150,9 +150,10 @@ module _ (c : RealmConfig) (gap ticket until : ℕ) (tries : 1 ≤ c.realm.tries
       → TickIsGood c (AllInTime tick) (IsInTime tick) (all-less tick) (all-more tick) (all-each tick) now
   tick-good tick now not_back soon wait = record {
     again = λ e l id forwarded k d signs is some good at.
-        again-stands tick now q l id forwarded k d signs e.standing not_back soon wait is some (good at);
+        again-stands tick now e.request l id forwarded k d signs e.standing not_back soon wait is some (good at);
     over = λ e l id forwarded k d signs anew position target is fits good at.
-        over-stands tick now q l id forwarded k d signs e.standing target.link not_back soon wait is fits (good at);
+        over-stands tick now e.request l id forwarded k d signs e.standing target.link not_back soon wait is fits
+        (good at);
     answered = λ e octets from at. tt;
   }
 
@@ -206,11 +207,11 @@ module _ (c : RealmConfig) (gap ticket until : ℕ) (tries : 1 ≤ c.realm.tries
 
   -- an entry that waits at the end does so in time
   at-end :
-      (tick before : ℕ) (standing : PlainStanding) → before ≤ tick + gap → until ≤ before
+      (tick before : ℕ) (q : PlainRequest) (standing : PlainStanding) → before ≤ tick + gap → until ≤ before
       → Stands tick q standing → stands_done standing ≡ true
-  at-end tick before (waiting l id forwarded sends_left deadline signs) soon over stands =
+  at-end tick before q (waiting l id forwarded sends_left deadline signs) soon over stands =
       absurd (omega (arith, stands.beyond, stands.lasts))
-  at-end tick before (done reply deadline from) soon over stands = refl
+  at-end tick before q (done reply deadline from) soon over stands = refl
 
   last-later : (tick before : ℕ) (es : List RealmEvent) → AreInTime gap tick before es → before ≤ last_moment before es
   last-later tick before [] h = omega arith
@@ -237,7 +238,7 @@ module _ (c : RealmConfig) (gap ticket until : ℕ) (tries : 1 ≤ c.realm.tries
       → until ≤ last_moment before es → IsIn e (one_realm_run c s es).state.entries → e.ticket ≡ ticket
       → is_done e ≡ true
   run-in-time tick before s [] e from soon ordered late wait given order old over at is =
-      at-end tick before e.standing soon over (all-each tick e s.entries old at is)
+      at-end tick before e.request e.standing soon over (all-each tick e s.entries old at is)
   run-in-time tick before s (x ∷ xs) e from soon ordered late wait given order old over at is =
       let next = state_after s (on_event c s x) in
       let later = last-later (last_tick tick x) (moment_of x) xs ordered.2 in

@@ -105,9 +105,10 @@ module _ (c : RealmConfig) (gap ticket until : ℕ) (tries : 1 ≤ c.realm.tries
       let kept = tick-keeps c (AllGood c Good) Good (all-less c Good) (all-more c Good) (all-each c Good) now s
       (record {
         again = λ e l id octets k d signs is some good at.
-            again-stands now q l id octets k d signs e.standing is some (good at);
+            again-stands now e.request l id octets k d signs e.standing is some (good at);
         over = λ e l id octets k d signs anew position target is fits good at.
-            over-stands now q l id octets k d signs e.standing target.link target.id _ anew is fits (good at);
+            over-stands now e.request l id octets k d signs e.standing target.link target.id _ anew is fits
+            (good at);
         answered = λ e octets from at. answered now e.request octets _ from;
       }) both in
       let es = (state_after s (on_event c s (tick_came now))).entries in

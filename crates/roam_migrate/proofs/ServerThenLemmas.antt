@@ -218,7 +218,8 @@ turned ss ts s t h =
     record { before = h.after; after = h.before; was = h.is; is = h.was; same = other_way h.before h.after h.same }
 
 -- it is one relation
-pub server_back : (ss ts : List ServerView) (s t : ℕ) → StandOnce ss → server_then ss ts s ≡ Some t → s < length ss → (server_then ts ss t ≡ Some s) × (t < length ts)
+pub server_back : (ss ts : List ServerView) (s t : ℕ) → StandOnce ss → server_then ss ts s ≡ Some t → s < length ss
+    → (server_then ts ss t ≡ Some s) × (t < length ts)
 server_back ss ts s t once h below =
     let at = stands_then ss ts s t h below in
     (then_is ts ss t s once (turned ss ts s t at), below_of ts t at.after at.is)

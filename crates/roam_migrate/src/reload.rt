@@ -234,9 +234,9 @@ pub fn carry_over<A: Allocator + Copy, E: Entries<A>>(
     }
 }
 
-/// Shows that a realm that a change doesn't touch goes on as it stands unless a further peer has a longer prefix for an address of
-/// another, and where no peer is new it is sent what it would have been sent had nothing changed. This function does
-/// nothing.
+/// Shows that a realm that a change doesn't touch goes on as it stands, unless a further peer has a longer prefix for
+/// an address of another; and where no peer is new, it sends what it would have sent had nothing changed. This function
+/// does nothing.
 pub fn untouched_realms_go_on()
     ensures parts { UntouchedRealmsGoOn }
     ensures state { TakesNothing }
