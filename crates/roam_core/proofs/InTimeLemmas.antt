@@ -145,8 +145,7 @@ module _ (c : RealmConfig) (gap ticket until : ℕ) (tries : 1 ≤ c.realm.tries
       record { beyond = omega arith; lasts = omega (arith, less, old.beyond, old.lasts) }
 
   -- so a tick that comes in time keeps it
-  tick-good :
-      (tick now : ℕ) → tick ≤ now → now ≤ tick + gap → 1 ≤ c.realm.wait
+  tick-good : (tick now : ℕ) → tick ≤ now → now ≤ tick + gap → 1 ≤ c.realm.wait
       → TickIsGood c (AllInTime tick) (IsInTime tick) (all-less tick) (all-more tick) (all-each tick) now
   tick-good tick now not_back soon wait = record {
     again = λ e l id forwarded k d signs is some good at.
@@ -165,17 +164,15 @@ module _ (c : RealmConfig) (gap ticket until : ℕ) (tries : 1 ≤ c.realm.tries
       record { beyond = later; lasts = stands.lasts }
   beyond-now tick now q (done reply deadline from) later stands = tt
 
-  not-due :
-      (now : ℕ) (e : PlainEntry) (es : List PlainEntry) → due_list now es ≡ [] → IsIn e es
+  not-due : (now : ℕ) (e : PlainEntry) (es : List PlainEntry) → due_list now es ≡ [] → IsIn e es
       → now < deadline_of e.standing
-  not-due now e es none at =
-      elim (cases_Bool (ltb now (deadline_of e.standing))) [
-        | inl y ↦ grind (arith, nat_tests, y)
-        | inr n ↦
-            let reached : deadline_of e.standing ≤ now = grind (arith, nat_tests, n) in
-            let listed : IsIn (due_at e) (due_list now es) = in-due now es (due_at e) e at refl reached in
-            absurd (rw none at listed)
-      ]
+  not-due now e es none at = elim (cases_Bool (ltb now (deadline_of e.standing))) [
+    | inl y ↦ grind (arith, nat_tests, y)
+    | inr n ↦
+        let reached : deadline_of e.standing ≤ now = grind (arith, nat_tests, n) in
+        let listed : IsIn (due_at e) (due_list now es) = in-due now es (due_at e) e at refl reached in
+        absurd (rw none at listed)
+  ]
 
   dues-in-time :
       (tick now : ℕ) (s : RealmState) → tick ≤ now → now ≤ tick + gap → 1 ≤ c.realm.wait → IsInOrder s.entries
@@ -190,8 +187,7 @@ module _ (c : RealmConfig) (gap ticket until : ℕ) (tries : 1 ≤ c.realm.tries
       beyond-now tick now e.request e.standing (not-due now e es none at) (all-each tick e es kept at is))
 
   -- an event that comes in time keeps it, of a ticket that was given
-  event-in-time :
-      (tick before : ℕ) (s : RealmState) (e : RealmEvent)
+  event-in-time : (tick before : ℕ) (s : RealmState) (e : RealmEvent)
       → tick ≤ before → before ≤ moment_of e → moment_of e ≤ tick + gap → moment_of e ≤ 2 ^ 62
       → 1 ≤ c.realm.wait → ticket < s.ticket → IsInOrder s.entries → AllInTime tick s.entries
       → AllInTime (last_tick tick e) (state_after s (on_event c s e)).entries

@@ -104,8 +104,7 @@ module _ (c : RealmConfig) where
   shaping_to_same : (code : ℕ) (l : Link) → shaping_to (bare c) code l ≡ shaping_to c code l
   shaping_to_same code (link.Auth s out) = refl
   shaping_to_same code (link.Acct s out) = refl
-  shaping_to_same code (link.Coa p out) = λ i.
-      if code == COA_REQUEST
+  shaping_to_same code (link.Coa p out) = λ i. if code == COA_REQUEST
       then record no_shaping { removed = without_sessions (list_same c.peers p i ++ c.realm.reply_without) }
       else no_shaping
 
@@ -132,8 +131,7 @@ module _ (c : RealmConfig) where
 
   silence_same : (now : ℕ) (rests : List Rest) (l : Link) (signs : ℕ) →
       after_silence (bare c) now rests l signs ≡ after_silence c now rests l signs
-  silence_same now rests l signs = λ i.
-      if nat_lt 0 c.realm.rest && signs_same rests l i == signs
+  silence_same now rests l signs = λ i. if nat_lt 0 c.realm.rest && signs_same rests l i == signs
       then slice_set rests (end_same l i) (once_silent c now (rest_same rests l i)) else rests
 
   sign_same : (rests : List Rest) (l : Link) → after_sign (bare c) rests l ≡ after_sign c rests l
@@ -168,8 +166,7 @@ module _ (c : RealmConfig) where
     realm = Some c.index;
     from = place.Out c.index (out_of l);
     to = endpoint_same l i;
-    bytes =
-        octets;
+    bytes = octets;
   }
 
   octets_same : (q : PlainRequest) (position ticket : ℕ) (target : Target) →
@@ -221,8 +218,7 @@ module _ (c : RealmConfig) where
   at_target_same : (now : ℕ) (s : RealmState) (entries : List PlainEntry) (q : PlainRequest) (t : Option Target) →
       at_target (bare c) now s entries q t ≡ at_target c now s entries q t
   at_target_same now s entries q None = refl
-  at_target_same now s entries q (Some t) = λ i.
-      if nat_lt (length entries) c.realm.max_pending
+  at_target_same now s entries q (Some t) = λ i. if nat_lt (length entries) c.realm.max_pending
       then admit_same now s entries q t i
       else way_same now s entries q t (first_done entries) i
 
@@ -323,8 +319,7 @@ module _ (c : RealmConfig) where
   of_key_same : (now : ℕ) (s : RealmState) (named : Option ℕ) (q : PlainRequest) (e : Option PlainEntry) →
       of_key (bare c) now s named q e ≡ of_key c now s named q e
   of_key_same now s named q None = first_seen_same now s named q
-  of_key_same now s named q (Some e) = λ i.
-      if pointwise nat_eq e.request.octets q.octets
+  of_key_same now s named q (Some e) = λ i. if pointwise nat_eq e.request.octets q.octets
       then sends (held_same q e.standing i) s
       else first_seen_same now s named q i
 
@@ -447,8 +442,7 @@ module _ (c : RealmConfig) where
       ∙ chosen_same now (after_silence c now s.rests l signs) s.cursors es (later_targets c e.request l) in
       let over : fail_over (bare c) now (given_up_at (bare c) now l signs s e) e
       (chosen_target (bare c) now (after_silence (bare c) now s.rests l signs) s.cursors es
-      (later_targets (bare c) e.request l))
-      ≡ fail_over c now (given_up_at c now l signs s e) e
+      (later_targets (bare c) e.request l)) ≡ fail_over c now (given_up_at c now l signs s e) e
       (chosen_target c now (after_silence c now s.rests l signs) s.cursors es (later_targets c e.request l)) =
       (λ i. fail_over (bare c) now (given_up_at_same now l signs s e i) e (chosen i))
       ∙ fail_over_same now (given_up_at c now l signs s e) e
@@ -499,17 +493,15 @@ bare_same b c k count = λ i. record {
   index = k.index i;
   realm = k.table i;
   peers = same i;
-}
-  where
-    same : map peer_part c.peers ≡ map peer_part b.peers
-    same =
-        let both : length (map peer_part c.peers) ≡ length (map peer_part b.peers) + length k.peers.more =
-        ap length k.peers.same ∙ length-append (map peer_part b.peers) k.peers.more in
-        let none : length k.peers.more ≡ 0 =
-        omega (arith, both, count, length-map c.peers peer_part, length-map b.peers peer_part) in
-        k.peers.same
-        ∙ ap (λ (xs : List PeerView). map peer_part b.peers ++ xs) (nil_from_length k.peers.more none)
-        ∙ append-nil (map peer_part b.peers)
+} where
+  same : map peer_part c.peers ≡ map peer_part b.peers
+  same =
+      let both : length (map peer_part c.peers) ≡ length (map peer_part b.peers) + length k.peers.more =
+      ap length k.peers.same ∙ length-append (map peer_part b.peers) k.peers.more in
+      let none : length k.peers.more ≡ 0 =
+      omega (arith, both, count, length-map c.peers peer_part, length-map b.peers peer_part) in
+      k.peers.same ∙ ap (λ (xs : List PeerView). map peer_part b.peers ++ xs) (nil_from_length k.peers.more none)
+      ∙ append-nil (map peer_part b.peers)
 
 -- then the written broker is the same
 pub stays_the_same : (b c : RealmConfig) → Carries b c → length c.peers ≡ length b.peers →
@@ -530,8 +522,7 @@ run_parts c s (e ∷ es) fs =
     ∙ sym (append_assoc (packets_of turn) others.packets (one_realm_run c others.state fs).packets)
 
 pub as_if_nothing : (b c : RealmConfig) → Carries b c → length c.peers ≡ length b.peers →
-    (s : RealmState) (before after : List RealmEvent)
-    → (one_realm_run b s (before ++ after)).packets
+    (s : RealmState) (before after : List RealmEvent) → (one_realm_run b s (before ++ after)).packets
     ≡ (one_realm_run b s before).packets ++ (one_realm_run c (one_realm_run b s before).state after).packets
 as_if_nothing b c k count s before after =
     let then' = one_realm_run b s before in
