@@ -69,7 +69,7 @@ def lines_of(code: str, name: str) -> set[int]:
     """Returns the lines of the functions of this name, with their attributes, from 1."""
     found, above, end = set(), [], ""
     for number, line in enumerate(code.splitlines(), 1):
-        begin = re.match(rf"( *)(?:pub(?:\(\w+\))? )?(?:const )?fn {name}\b", line)
+        begin = re.match(rf"( *)(?:pub(?:\(\w+\))? )?(?:const |unsafe )?fn {name}\b", line)
         if begin:
             found.update(above)
             end = begin[1] + "}"

@@ -64,7 +64,7 @@ def rewriting_of(block, way, is_client):
         number, _, text = value.partition(":")
         if option in ADDING and is_client and way == "request":
             only_where_absent = option == "supplementattribute" or number in removed
-            why = f"{option} {value}: what is added is an Operator-Name of a realm ('1 and its name) and an empty Chargeable-User-Identity (%00)"
+            why = f"{option} {value}: what is added is an Operator-Name ('1 and a realm, or another digit and its name) and an empty Chargeable-User-Identity (%00)"
             if not only_where_absent:
                 done.lost.append(f"{option} {value}: roam adds one only where none stands there (supplementAttribute)")
             else:
